@@ -1,0 +1,4 @@
+-- appends one after the other
+pub mod Appends
+-- fronts of files
+pub mod Fronts

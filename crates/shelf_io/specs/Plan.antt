@@ -1,0 +1,12 @@
+use Rattle.std.specs.Prelude.{◌==◌, Bool}
+use Rattle.std.specs.List.{list_any}
+use Rattle.shelf_io.specs.Count.{raised}
+use Rattle.shelf_io.specs.declared.plan.Plan.{Plan}
+
+-- the next call is a marked one
+abbrev pub is_marked : Plan → Bool
+is_marked plan = list_any (λ mark. mark == plan.calls) plan.marks.items
+
+-- the plan after one more call
+abbrev pub counted : Plan → Plan
+counted plan = record plan { calls = raised plan.calls }

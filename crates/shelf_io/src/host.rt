@@ -1,0 +1,148 @@
+//! Real files and standard output. What they hold is untold: no clause says what a file gives or
+//! takes.
+
+ghost use Rattle.std.specs.Prelude.{◌≡◌, ◌<◌, ◌≤◌, List, ℕ, length, None, IfSome};
+
+use crate::plan::raise;
+use crate::traits::{Failed, Shelf, Sink};
+use std::fs::{self, Files, OpenOptions};
+use std::io::{Print, Read, Seek, SeekFrom, Write};
+
+/// The files of the system, by their paths. It keeps one count of failed reading and one of failed
+/// writing; each stands for every name.
+#[derive(Drop)]
+pub struct HostShelf<'r, R: Files> {
+    system: &'r R,
+    reads: u64,
+    writes: u64,
+}
+
+impl<'r, R: Files> HostShelf<'r, R> {
+    /// The files that the runtime reaches. Nothing has failed yet.
+    pub fn new(system: &'r R) -> HostShelf<'r, R>
+        ensures reads { (name : List ℕ) → ⟦<HostShelf<'r, R> as Shelf>⟧.read_faults result name
+            ≡ 0 }
+        ensures writes { (name : List ℕ) → ⟦<HostShelf<'r, R> as Shelf>⟧.write_faults result name
+            ≡ 0 }
+    {
+        HostShelf {
+            system,
+            reads: 0,
+            writes: 0,
+        }
+    }
+}
+
+impl<'r, R: Files> Shelf for HostShelf<'r, R> {
+    ghost holds = { λ shelf name. None };
+
+    ghost read_faults = { λ shelf name. shelf.reads };
+
+    ghost write_faults = { λ shelf name. shelf.writes };
+
+    fn take(&mut self, name: &str, at: u64, into: &mut [u8]) -> Result<usize, Failed> {
+        match read_at(self.system, name, at, into) {
+            Some(n) => Ok(n),
+            None => {
+                self.reads = raise(self.reads);
+                Err(Failed)
+            }
+        }
+    }
+
+    fn begin(&mut self, name: &str) -> Result<(), Failed> {
+        match fs::create(self.system, name) {
+            Ok(_) => Ok(()),
+            Err(_) => {
+                self.writes = raise(self.writes);
+                Err(Failed)
+            }
+        }
+    }
+
+    fn put(&mut self, name: &str, piece: &[u8]) -> Result<usize, Failed> {
+        match write_end(self.system, name, piece) {
+            Some(n) => Ok(n),
+            None => {
+                self.writes = raise(self.writes);
+                Err(Failed)
+            }
+        }
+    }
+}
+
+/// Reads once from place `at` of the file; `None` where the system reports an error.
+fn read_at<R: Files>(system: &R, name: &str, at: u64, into: &mut [u8]) -> Option<usize>
+    ensures { IfSome result (λ n. n ≤ length into.old) }
+{
+    let mut file = fs::open(system, name).ok()?;
+    file.seek(SeekFrom::Start(at)).ok()?;
+    file.read(into).ok()
+}
+
+/// Writes once at the end of a file that exists; `None` where the system reports an error, or takes
+/// nothing of a piece that is not empty.
+fn write_end<R: Files>(system: &R, name: &str, piece: &[u8]) -> Option<usize>
+    ensures fits { IfSome result (λ n. n ≤ length piece.now) }
+    ensures some { IfSome result (λ n. 0 < length piece.now → 0 < n) }
+{
+    let mut file = OpenOptions::new().append(true).open(system, name).ok()?;
+    let n = file.write(piece).ok()?;
+    written(n, piece)
+}
+
+/// How much of the piece was written; `None` where it is nothing of a piece that is not empty.
+fn written(n: usize, piece: &[u8]) -> Option<usize>
+    ensures same { IfSome result (λ m. m ≡ n) }
+    ensures some { IfSome result (λ m. 0 < length piece.now → 0 < m) }
+{
+    if n == 0 && !piece.is_empty() {
+        return None;
+    }
+    Some(n)
+}
+
+/// The standard output. It keeps a count of failed puts.
+#[derive(Drop)]
+pub struct HostSink<'r, P: Print> {
+    output: &'r P,
+    failures: u64,
+}
+
+impl<'r, P: Print> HostSink<'r, P> {
+    /// The standard output of the runtime. Nothing has failed yet.
+    pub fn new(output: &'r P) -> HostSink<'r, P>
+        ensures { ⟦<HostSink<'r, P> as Sink>⟧.faults result ≡ 0 }
+    {
+        HostSink {
+            output,
+            failures: 0,
+        }
+    }
+}
+
+impl<'r, P: Print> Sink for HostSink<'r, P> {
+    ghost written = { λ sink. None };
+
+    ghost faults = { λ sink. sink.failures };
+
+    fn put(&mut self, piece: &[u8]) -> Result<usize, Failed> {
+        match write_out(self.output, piece) {
+            Some(n) => Ok(n),
+            None => {
+                self.failures = raise(self.failures);
+                Err(Failed)
+            }
+        }
+    }
+}
+
+/// Writes once; `None` where the system reports an error, or takes nothing of a piece that is not
+/// empty.
+fn write_out<P: Print>(output: &P, piece: &[u8]) -> Option<usize>
+    ensures fits { IfSome result (λ n. n ≤ length piece.now) }
+    ensures some { IfSome result (λ n. 0 < length piece.now → 0 < n) }
+{
+    let n = output.write_some(piece).ok()?;
+    written(n, piece)
+}
