@@ -1,0 +1,8 @@
+use Rattle.std.specs.Prelude.{ℤ}
+
+-- a rectangle as its four sides: left, lower, right and upper
+pub record Extent : Type 0 where
+  pub x0 : ℤ
+  pub y0 : ℤ
+  pub x1 : ℤ
+  pub y1 : ℤ
