@@ -1,0 +1,73 @@
+use Rattle.std.proofs.Common.{◌≡◌, ℕ, zero, suc, List, [], ◌∷◌, ◌++◌, Bool, true, false, cond, ◌||◌, Some, None, map, ap, refl, subst}
+use Rattle.std.specs.List.{AllByRecursion, filter, list_any, slice_get}
+use Rattle.std.specs.Str.{bytes_eq}
+use Rattle.list_facts.proofs.Mentioned.{bytes_same}
+
+pub every-weaker : {X : Type 0} (P Q : X → Type 0) → ((x : X) → P x → Q x) → (xs : List X) → AllByRecursion P xs → AllByRecursion Q xs
+every-weaker P Q f [] h = tt
+every-weaker P Q f (x ∷ xs) h = (f x h.0, every-weaker P Q f xs h.1)
+
+pub every-both : {X : Type 0} (P Q : X → Type 0) (xs : List X) → AllByRecursion P xs → AllByRecursion Q xs → AllByRecursion (λ x. P x × Q x) xs
+every-both P Q [] h k = tt
+every-both P Q (x ∷ xs) h k = ((h.0, k.0), every-both P Q xs h.1 k.1)
+
+pub every-append : {X : Type 0} (P : X → Type 0) (xs ys : List X) → AllByRecursion P xs → AllByRecursion P ys → AllByRecursion P (xs ++ ys)
+every-append P [] ys h k = k
+every-append P (x ∷ xs) ys h k = (h.0, every-append P xs ys h.1 k)
+
+pub every-push : {X : Type 0} (P : X → Type 0) (xs : List X) (x : X) → AllByRecursion P xs → P x → AllByRecursion P (xs ++ x ∷ [])
+every-push P xs x h last = every-append P xs (x ∷ []) h (last, tt)
+
+-- the item behind a front
+pub every-at : {X : Type 0} (P : X → Type 0) (xs rest : List X) (x : X) → AllByRecursion P (xs ++ x ∷ rest) → P x
+every-at P [] rest x h = h.0
+every-at P (y ∷ ys) rest x h = every-at P ys rest x h.1
+
+pub every-filter : {X Y : Type 0} (P : Y → Type 0) (f : X → Y) (p : X → Bool) (xs : List X) → AllByRecursion P (map f xs) → AllByRecursion P (map f (filter p xs))
+every-filter P f p [] h = tt
+every-filter P f p (x ∷ xs) h = by (p x) (every-filter P f p xs h.1)
+  where
+    by : (b : Bool) → AllByRecursion P (map f (filter p xs)) → AllByRecursion P (map f (cond b (x ∷ filter p xs) (filter p xs)))
+    by true rest = (h.0, rest)
+    by false rest = rest
+
+pub every-map : {X Y : Type 0} (P : Y → Type 0) (f : X → Y) (xs : List X) → AllByRecursion (λ x. P (f x)) xs → AllByRecursion P (map f xs)
+every-map P f [] h = tt
+every-map P f (x ∷ xs) h = (h.0, every-map P f xs h.1)
+
+pub every-get : {X : Type 0} (P : X → Type 0) (xs : List X) (n : ℕ) (x : X) → AllByRecursion P xs → slice_get xs n ≡ Some x → P x
+every-get P [] n x h is = absurd (no is)
+  where
+    no : None ≡ Some x → ⊥
+    no e = cc
+every-get P (y ∷ ys) zero x h is = subst P (same is) h.0
+  where
+    same : Some y ≡ Some x → y ≡ x
+    same e = cc
+every-get P (y ∷ ys) (suc n) x h is = every-get P ys n x h.1 is
+
+-- the name of each item is among the names of all
+pub every-own : {X : Type 0} (name : X → List ℕ) (xs : List X) → AllByRecursion (λ x. list_any (bytes_eq (name x)) (map name xs) ≡ true) xs
+every-own name [] = tt
+every-own name (x ∷ xs) = (
+  ap (λ (b : Bool). b || list_any (bytes_eq (name x)) (map name xs)) (bytes_same (name x)),
+  every-weaker (λ y. list_any (bytes_eq (name y)) (map name xs) ≡ true) (λ y. list_any (bytes_eq (name y)) (name x ∷ map name xs) ≡ true)
+      (λ y h. or_true (bytes_eq (name y) (name x)) _ h) xs (every-own name xs),
+)
+  where
+    or_true : (a b : Bool) → b ≡ true → (a || b) ≡ true
+    or_true true b h = refl
+    or_true false b h = h
+
+-- what holds of the item at each place holds of every item
+pub every-from-get : {X : Type 0} (P : X → Type 0) (xs : List X) → ((n : ℕ) (x : X) → slice_get xs n ≡ Some x → P x) → AllByRecursion P xs
+every-from-get P [] h = tt
+every-from-get P (x ∷ xs) h = (h zero x refl, every-from-get P xs (λ n y is. h (suc n) y is))
+
+pub every-left : {X : Type 0} (P : X → Type 0) (xs ys : List X) → AllByRecursion P (xs ++ ys) → AllByRecursion P xs
+every-left P [] ys h = tt
+every-left P (x ∷ xs) ys h = (h.0, every-left P xs ys h.1)
+
+pub every-right : {X : Type 0} (P : X → Type 0) (xs ys : List X) → AllByRecursion P (xs ++ ys) → AllByRecursion P ys
+every-right P [] ys h = h
+every-right P (x ∷ xs) ys h = every-right P xs ys h.1

@@ -1,0 +1,4 @@
+-- names in the order of their first mention
+pub mod Names
+-- a set of borrowed names, as its texts
+pub mod Texts
