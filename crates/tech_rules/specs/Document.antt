@@ -1,0 +1,48 @@
+use Rattle.std.specs.Prelude.{ℕ, pos, List, length, Bool, ◌&&◌, ◌==◌, nat_le, if◌then◌else◌, Option, Some, None, Result, Ok, Err}
+use Rattle.std.specs.Option.{option_and_then}
+use Rattle.std.specs.Str.Lossy.{utf8_valid_len}
+use Rattle.toml.specs.Data.{Data, Members, integer, string, as_table, get_member}
+use Rattle.toml.specs.Parse.{parse_document}
+use Rattle.tech_rules.specs.Keys.{section_of, word_of}
+use Rattle.tech_rules.specs.declared.fault.RulesFault.{RulesFault}
+use Rattle.tech_rules.specs.declared.fault.RulesFault.TheVariants.{Missing, Range}
+use Rattle.tech_rules.specs.declared.key.Key.{Key}
+
+-- the table of a text, if the bytes are UTF-8 and TOML has a table for them
+abbrev pub document_of : List ℕ → Option Members
+document_of bytes = if utf8_valid_len bytes == length bytes then parse_document bytes else None
+
+-- what stands under a word at the top, or in a table; none where the table is no table, too
+abbrev pub data_in : Members → Option (List ℕ) → List ℕ → Option Data
+data_in document None word = get_member word document
+data_in document (Some section) word = option_and_then (get_member word) (option_and_then as_table (get_member section document))
+
+abbrev pub data_of : Members → Key → Option Data
+data_of document key = data_in document (section_of key) (word_of key)
+
+-- an integer from low to high
+abbrev pub number_within : ℕ → ℕ → Data → Option ℕ
+number_within low high (integer (pos n)) = if nat_le low n && nat_le n high then Some n else None
+number_within low high _ = None
+
+-- a text that passes a test
+abbrev pub text_where : (List ℕ → Bool) → Data → Option (List ℕ)
+text_where test (string text) = if test text then Some text else None
+text_where test _ = None
+
+abbrev pub or_range : {A : Type 0} → Key → Option A → Result A RulesFault
+or_range key (Some value) = Ok value
+or_range key None = Err (Range key)
+
+-- the value of a key: Missing where nothing stands there, Range where it is no such value
+abbrev pub or_missing : {A : Type 0} → Key → (Data → Option A) → Option Data → Result A RulesFault
+or_missing key value_of (Some found) = or_range key (value_of found)
+or_missing key value_of None = Err (Missing key)
+
+-- the number at a key
+unfoldable pub number_of : Members → Key → ℕ → ℕ → Result ℕ RulesFault
+number_of document key low high = or_missing key (number_within low high) (data_of document key)
+
+-- the text at a key
+unfoldable pub text_of : Members → Key → (List ℕ → Bool) → Result (List ℕ) RulesFault
+text_of document key test = or_missing key (text_where test) (data_of document key)
