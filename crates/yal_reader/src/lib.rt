@@ -1,0 +1,26 @@
+//! The reader of YAL, the design text of MCNC.
+//!
+//! A text is tested for bytes above 127, its comments become blanks (`plain`), words and semicolons are found (`tokens`), and
+//! the grammar is read from them: words and numbers, the lists of lines and calls, sections, modules. A fault's place is kept as
+//! the number of bytes that are left from it on.
+#![tactic(auto)]
+
+pub mod fault;
+pub mod file;
+mod lists;
+mod modules;
+mod numbers;
+mod parts;
+mod plain;
+mod sections;
+mod stuck;
+mod tokens;
+mod word;
+mod words;
+
+pub use fault::{YalFault, YalKind};
+pub use file::{Call, Flow, Kind, Line, Module, Spot, YalFile};
+pub use modules::read_yal;
+
+#[cfg(test)]
+mod tests;

@@ -1,0 +1,128 @@
+ghost use Rattle.std.specs.List.{prefix_len};
+ghost use Rattle.std.specs.Prelude.{◌≡◌, ◌<◌, ◌≤◌, false, length, IfOk};
+ghost use Rattle.yal_reader.specs.Reading.{Finds};
+ghost use Rattle.yal_reader.specs.Seen.{begins_blank, seen};
+ghost use Rattle.yal_reader.specs.Tokens.{is_blank as is_blank_byte, is_word_byte as is_in_word, tokens};
+ghost use Rattle.yal_reader.specs.Words.{a_word, an_end, is_empty, statement, stuck_of};
+
+use crate::fault::YalKind;
+use crate::stuck::Stuck;
+use crate::word::Word;
+
+/// Whether a byte parts words.
+fn is_blank(byte: u8) -> bool
+    ensures { result ≡ is_blank_byte byte }
+{
+    byte <= 32 || byte == 127
+}
+
+/// Whether a byte belongs to a word.
+fn is_word_byte(byte: u8) -> bool
+    ensures { result ≡ is_in_word byte }
+{
+    !is_blank(byte) && byte != b';'
+}
+
+/// How many blanks stand first.
+fn blank_len(bytes: &[u8]) -> usize
+    ensures { result ≡ prefix_len is_blank_byte bytes.now }
+{
+    bytes.iter().take_while(|byte| is_blank(**byte)).count()
+}
+
+/// How long the word is that stands first.
+fn word_len(bytes: &[u8]) -> usize
+    ensures { result ≡ prefix_len is_in_word bytes.now }
+{
+    bytes.iter().take_while(|byte| is_word_byte(**byte)).count()
+}
+
+/// The text from its first byte on that is no blank.
+fn skip_blanks(bytes: &[u8]) -> &[u8]
+    ensures same { tokens result.now ≡ tokens bytes.now }
+    ensures bare { begins_blank result.now ≡ false }
+    ensures shorter { length result.now ≤ length bytes.now }
+{
+    bytes.split_at(blank_len(bytes)).1
+}
+
+/// That this word is at fault.
+pub fn bad(kind: YalKind, word: Word<'_>) -> Stuck
+    ensures { result ≡ record { kind = kind; left = word.entry.left } }
+{
+    Stuck {
+        kind,
+        left: word.left,
+    }
+}
+
+/// That no reading goes on here.
+fn stuck_at(bytes: &[u8]) -> Stuck
+    requires { begins_blank bytes.now ≡ false }
+    ensures { result ≡ stuck_of (tokens bytes.now) }
+{
+    if bytes.is_empty() {
+        return Stuck {
+            kind: YalKind::Ends,
+            left: 0,
+        };
+    }
+    Stuck {
+        kind: YalKind::Word,
+        left: bytes.len(),
+    }
+}
+
+/// The word that comes next, and the text behind it; or that none does. Takes no memory.
+pub fn word_at(bytes: &[u8]) -> Result<(Word<'_>, &[u8]), Stuck>
+    ensures gives { Finds (λ x. (seen x.0, tokens x.1.now)) result (a_word (tokens bytes.now)) }
+    ensures shorter { IfOk result (λ x. length x.1.now < length bytes.now) }
+{
+    let rest = skip_blanks(bytes);
+    let len = word_len(rest);
+    if len == 0 {
+        return Err(stuck_at(rest));
+    }
+    let (text, after) = rest.split_at(len);
+    Ok((
+        Word {
+            text,
+            left: rest.len(),
+        },
+        after,
+    ))
+}
+
+/// The text behind the semicolon that comes next; or that none does. Takes no memory.
+pub fn end_at(bytes: &[u8]) -> Result<&[u8], Stuck>
+    ensures gives { Finds (λ rest. tokens rest.now) result (an_end (tokens bytes.now)) }
+    ensures shorter { IfOk result (λ rest. length rest.now < length bytes.now) }
+{
+    let rest = skip_blanks(bytes);
+    if rest.is_empty() {
+        return Err(stuck_at(rest));
+    }
+    if rest[0] != b';' {
+        return Err(stuck_at(rest));
+    }
+    Ok(rest.split_at(1).1)
+}
+
+/// Whether nothing but blanks is left.
+pub fn is_at_end(bytes: &[u8]) -> bool
+    ensures { result ≡ is_empty (tokens bytes.now) }
+{
+    skip_blanks(bytes).is_empty()
+}
+
+/// The text behind the semicolons that come next: statements without words are passed over. Takes no memory.
+pub fn statement_at(bytes: &[u8]) -> &[u8]
+    ensures gives { tokens result.now ≡ statement (tokens bytes.now) }
+    ensures shorter { length result.now ≤ length bytes.now }
+{
+    let mut rest = bytes;
+    while let Ok(after) = end_at(rest) {
+        rest = after;
+    }
+    rest
+}
