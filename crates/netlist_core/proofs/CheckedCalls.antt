@@ -1,0 +1,73 @@
+use Rattle.std.proofs.Common.{◌≡◌, ◌≤◌, ◌-◌, ◌^◌, ℕ, List, [], ◌∷◌, length, Bool, true, false, cond, None, Result, Ok, Err, ap, sym, subst, arith}
+use Rattle.std.specs.List.{AllByRecursion, IsDistinct, filter}
+use Rattle.std.specs.Str.{bytes_eq}
+use Rattle.yal_reader.specs.Kept.{IsKeptCall, IsKeptModule, call_names, module_names}
+use Rattle.yal_reader.specs.declared.file.Call.{Call}
+use Rattle.yal_reader.specs.declared.file.Module.{Module}
+use Rattle.netlist_core.specs.Calls.{calls_fault, is_parent_module, only_parent}
+use Rattle.netlist_core.specs.Checked.{IsChecked}
+use Rattle.netlist_core.specs.OnGrid.{used_modules}
+use Rattle.netlist_core.specs.Signals.{PinWord, all_signals}
+use Rattle.netlist_core.specs.declared.fault.DesignFault.{DesignFault}
+use Rattle.netlist_core.specs.declared.fault.DesignFault.TheVariants as faults
+use Rattle.netlist_core.proofs.PinPlaces.{called-all, places-all}
+use Rattle.netlist_core.proofs.StandardModules.{used-standard}
+use Rattle.netlist_core.proofs.UsesOfKinds.{kinds-called}
+use Rattle.netlist_core.proofs.UsedNames.{few-used, used-different, used-every}
+
+checked : (modules : List Module) (calls : List Call) → calls_fault modules calls ≡ None → length calls ≤ 20000 → length (all_signals modules calls) ≤ 200000
+    → AllByRecursion IsKeptModule modules → length modules ≤ 2 ^ 32 - 1 → IsDistinct bytes_eq (module_names modules)
+    → AllByRecursion IsKeptCall calls → IsDistinct bytes_eq (call_names calls)
+    → IsChecked (used_modules modules calls) (all_signals modules calls) calls
+checked modules calls good few_calls few_signals kept few different kept_calls different_calls = record {
+  few_calls = few_calls;
+  few_signals = few_signals;
+  few_modules = omega (arith, few-used modules calls, few);
+  kept = used-every IsKeptModule modules calls kept;
+  standard = used-standard modules calls different good;
+  different_modules = used-different modules calls different;
+  different_calls = different_calls;
+  kept_calls = kept_calls;
+  called = called-all modules calls good;
+  uses = kinds-called modules calls different;
+  pins = places-all modules calls good;
+}
+
+-- what the checks of calls give
+pub checked-calls : (modules : List Module) (calls : List Call) (used : List (ℕ × Module)) (signals : List PinWord)
+    → used ≡ used_modules modules calls → signals ≡ all_signals modules calls
+    → calls_fault modules calls ≡ None → length calls ≤ 20000 → length signals ≤ 200000
+    → AllByRecursion IsKeptModule modules → length modules ≤ 2 ^ 32 - 1 → IsDistinct bytes_eq (module_names modules)
+    → AllByRecursion IsKeptCall calls → IsDistinct bytes_eq (call_names calls) → IsChecked used signals calls
+checked-calls modules calls used signals is_used is_signals good few_calls few_signals kept few different kept_calls different_calls =
+    subst (λ u. IsChecked u signals calls) (sym is_used)
+    (subst (λ s. IsChecked (used_modules modules calls) s calls) (sym is_signals)
+    (checked modules calls good few_calls (subst (λ s. length s ≤ 200000) is_signals few_signals) kept few different kept_calls different_calls))
+
+every-some : {X : Type 0} (P : X → Type 0) (p : X → Bool) (xs : List X) → AllByRecursion P xs → AllByRecursion P (filter p xs)
+every-some P p [] h = tt
+every-some P p (x ∷ xs) h = by (p x) (every-some P p xs h.1)
+  where
+    by : (b : Bool) → AllByRecursion P (filter p xs) → AllByRecursion P (cond b (x ∷ filter p xs) (filter p xs))
+    by true more = (h.0, more)
+    by false more = more
+
+-- the one PARENT is the only one of its list
+pub one-parent : (parents : List Module) (m : Module) → only_parent parents ≡ Ok m → parents ≡ m ∷ []
+one-parent [] m is = absurd (no is)
+  where
+    no : ◌≡◌ {A = Result Module DesignFault} (Err faults.NoParent) (Ok m) → ⊥
+    no e = cc
+one-parent (x ∷ []) m is = ap (λ (x : Module). x ∷ []) (same is)
+  where
+    same : ◌≡◌ {A = Result Module DesignFault} (Ok x) (Ok m) → x ≡ m
+    same e = cc
+one-parent (x ∷ other ∷ ms) m is = absurd (no is)
+  where
+    no : ◌≡◌ {A = Result Module DesignFault} (Err faults.ManyParents) (Ok m) → ⊥
+    no e = cc
+
+-- and a module of the file
+pub parent-kept : (modules : List Module) (m : Module) → AllByRecursion IsKeptModule modules → only_parent (filter is_parent_module modules) ≡ Ok m → IsKeptModule m
+parent-kept modules m kept is =
+    (subst (λ l. AllByRecursion IsKeptModule l) (one-parent (filter is_parent_module modules) m is) (every-some IsKeptModule is_parent_module modules kept)).0

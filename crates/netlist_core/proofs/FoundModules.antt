@@ -1,0 +1,58 @@
+use Rattle.std.proofs.Common.{◌≡◌, ℕ, zero, suc, ◌+◌, ◌-◌, ◌^◌, ◌<◌, ◌≤◌, List, [], ◌∷◌, length, true, false, not, cond, Some, refl, ap, ◌∙◌, subst, arith}
+use Rattle.std.proofs.lemmas.Option.{slice_get-map}
+use Rattle.std.proofs.lemmas.List.{length-map}
+use Rattle.std.specs.List.{AllByRecursion, slice_get}
+use Rattle.std.specs.Option.{option_map}
+use Rattle.std.specs.Str.{bytes_eq}
+use Rattle.yal_reader.specs.Kept.{IsShort, module_names}
+use Rattle.yal_reader.specs.declared.file.Module.{Module}
+use Rattle.yal_reader.specs.declared.file.Line.{Line}
+use Rattle.list_facts.specs.Names.{place_among}
+use Rattle.list_facts.specs.Texts.{texts}
+use Rattle.list_facts.proofs.Mentioned.{one-more}
+use Rattle.list_facts.proofs.Different.{length-mentions}
+use Rattle.netlist_core.specs.Calls.{module_named}
+use Rattle.netlist_core.specs.Cells.{line_names, terminal_in, terminals_of, terminal_names, power_names}
+use Rattle.netlist_core.specs.LibraryView.{IsLibrary}
+use Rattle.netlist_core.specs.declared.design.Terminal.{Terminal}
+use Rattle.netlist_core.specs.declared.library.Library.TheInside.{Inside}
+
+-- a module stands where its name does
+pub found-at : (ms : List Module) (name : List ℕ) → slice_get ms (place_among (module_names ms) name) ≡ module_named ms name
+found-at [] name = refl
+found-at (m ∷ ms) name =
+    elim (bytes_eq name m.name) as (λ b. slice_get (m ∷ ms) (cond (not b) (1 + place_among (module_names ms) name) 0) ≡ cond b (Some m) (module_named ms name)) [
+      | true ↦ refl
+      | false ↦ ap (slice_get (m ∷ ms)) (one-more (place_among (module_names ms) name)) ∙ found-at ms name
+    ]
+
+-- what stands at a name's place in a library is the module of this name
+pub library-found : (a : Inside) → IsLibrary a → (place : ℕ) (name : List ℕ) → place ≡ place_among (texts a.names.keys) name
+    → slice_get a.modules.now place ≡ module_named a.modules.now name
+library-found a is place name at =
+    ap (slice_get a.modules.now) (at ∙ ap (λ (names : List (List ℕ)). place_among names name) is.names) ∙ found-at a.modules.now name
+
+-- and there stand its terminals
+pub library-terminals : (a : Inside) → IsLibrary a → (place : ℕ) (m : Module) → slice_get a.modules.now place ≡ Some m
+    → slice_get a.terminals.items place ≡ Some (terminals_of m.lines)
+library-terminals a is place m at =
+    ap (λ (all : List (List Terminal)). slice_get all place) is.terminals
+    ∙ slice_get-map (λ (m : Module). terminals_of m.lines) a.modules.now place
+    ∙ ap (option_map (λ (m : Module). terminals_of m.lines)) at
+
+-- a module has at most as many terminals as lines
+pub few-terminals : (lines : List Line) → length (terminals_of lines) ≤ length lines
+few-terminals lines =
+    omega (arith, length-map (terminal_names lines) (terminal_in (power_names lines)), length-mentions (line_names lines), length-map lines (λ (l : Line). l.name))
+
+short-at : (most : ℕ) (ms : List Module) (place : ℕ) (m : Module) → AllByRecursion (IsShort most) ms → slice_get ms place ≡ Some m → length m.lines ≤ most
+short-at most [] place m short at = cc
+short-at most (x ∷ ms) zero m short at = subst (λ (n : Module). length n.lines ≤ most) (same at) short.0.lines
+  where
+    same : Some x ≡ Some m → x ≡ m
+    same e = cc
+short-at most (x ∷ ms) (suc place) m short at = short-at most ms place m short.1 at
+
+-- and fewer than 2 ^ 32
+pub library-few : (a : Inside) → IsLibrary a → (place : ℕ) (m : Module) → slice_get a.modules.now place ≡ Some m → length (terminals_of m.lines) < 2 ^ 32
+library-few a is place m at = omega (arith, few-terminals m.lines, short-at (2 ^ 32 - 1) a.modules.now place m is.short at)

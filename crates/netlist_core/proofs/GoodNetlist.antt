@@ -1,0 +1,127 @@
+use Rattle.std.proofs.Common.{◌≡◌, ◌<◌, ◌≤◌, ℕ, ◌^◌, ◌==◌, List, [], ◌∷◌, length, map, true, Result, Ok, refl, ap, sym, ◌∙◌, subst, arith}
+use Rattle.std.proofs.lemmas.List.Elements.{All-from_recursion}
+use Rattle.std.proofs.lemmas.List.{length-map}
+use Rattle.std.specs.List.{AllByRecursion, AllZip, IsDistinct, list_any}
+use Rattle.std.specs.Str.{bytes_eq}
+use Rattle.tech_rules.specs.Rules.{RuleValues, ValidRules}
+use Rattle.yal_reader.specs.Kept.{IsKeptCall, IsKeptModule, IsName, call_names, is_standard}
+use Rattle.yal_reader.specs.declared.file.Call.{Call}
+use Rattle.yal_reader.specs.declared.file.Module.{Module}
+use Rattle.list_facts.specs.Names.{place_among}
+use Rattle.list_facts.proofs.Different.{distinct-mentions, distinct-none}
+use Rattle.list_facts.proofs.Every.{every-map, every-weaker}
+use Rattle.list_facts.proofs.Mentioned.{place-below}
+use Rattle.netlist_core.specs.Answers.{◌>>=◌}
+use Rattle.netlist_core.specs.Cells.{terminals_of}
+use Rattle.netlist_core.specs.Checked.{IsChecked, pin_place}
+use Rattle.netlist_core.specs.Netlist.{IsKind, IsNetlist, Netlist}
+use Rattle.netlist_core.specs.OnGrid.{design_of, height_of, inst_in, kind_for, kinds_for, used_design, used_names}
+use Rattle.netlist_core.specs.Signals.{PinWord, nets_of, pin_in, words_of}
+use Rattle.netlist_core.specs.declared.design.CellKind.{CellKind}
+use Rattle.netlist_core.specs.declared.design.Inst.{Inst}
+use Rattle.netlist_core.specs.declared.design.Pin.{Pin}
+use Rattle.netlist_core.specs.declared.fault.DesignFault.{DesignFault}
+use Rattle.netlist_core.proofs.EachLaws.{each-zip}
+use Rattle.netlist_core.proofs.KindLaws.{kind-good, kind-low, kind-terminals}
+use Rattle.netlist_core.proofs.NetLaws.{nets-range, nets-used}
+use Rattle.netlist_core.proofs.PinPlaces.{pins-used, zip-terminals}
+
+-- what the kind of a used module has
+record Suits (height : ℕ) (m : ℕ × Module) (k : CellKind) : Type 0 where
+  good : IsKeptModule m.1 → is_standard m.1.kind ≡ true → IsKind k
+  low : IsKeptModule m.1 → height ≤ 200000000
+  terminals : k.terminals ≡ terminals_of m.1.lines
+
+suits : (rules : RuleValues) → ValidRules rules → (used : List (ℕ × Module)) (kinds : List CellKind) → kinds_for rules used ≡ Ok kinds
+    → AllZip (Suits (height_of used)) used kinds
+unfolding kinds_for kind_for
+suits rules valid used kinds is =
+    each-zip (kind_for rules (height_of used)) (Suits (height_of used)) (λ m k at. record {
+      good = λ kept standard. kind-good rules (height_of used) m.0 m.1 k valid kept standard at;
+      low = λ kept. kind-low rules (height_of used) m.0 m.1 k kept at;
+      terminals = kind-terminals rules (height_of used) m.0 m.1 k at;
+    }) used kinds is
+
+zip-length : {A B : Type 0} (R : A → B → Type 0) (xs : List A) (ys : List B) → AllZip R xs ys → length ys ≡ length xs
+zip-length R [] [] h = refl
+zip-length R [] (y ∷ ys) h = absurd h
+zip-length R (x ∷ xs) [] h = absurd h
+zip-length R (x ∷ xs) (y ∷ ys) h = let more = zip-length R xs ys h.1 in omega arith
+
+zip-weaker : {A B : Type 0} (R S : A → B → Type 0) → ((a : A) (b : B) → R a b → S a b) → (xs : List A) (ys : List B) → AllZip R xs ys → AllZip S xs ys
+zip-weaker R S f [] [] h = tt
+zip-weaker R S f [] (y ∷ ys) h = h
+zip-weaker R S f (x ∷ xs) [] h = h
+zip-weaker R S f (x ∷ xs) (y ∷ ys) h = (f x y h.0, zip-weaker R S f xs ys h.1)
+
+good-kinds : (height : ℕ) (used : List (ℕ × Module)) (kinds : List CellKind) → AllZip (Suits height) used kinds
+    → AllByRecursion (λ (m : ℕ × Module). IsKeptModule m.1) used → AllByRecursion (λ (m : ℕ × Module). is_standard m.1.kind ≡ true) used → AllByRecursion IsKind kinds
+good-kinds height [] [] h kept standard = tt
+good-kinds height [] (k ∷ ks) h kept standard = absurd h
+good-kinds height (m ∷ ms) [] h kept standard = tt
+good-kinds height (m ∷ ms) (k ∷ ks) h kept standard = (h.0.good kept.0 standard.0, good-kinds height ms ks h.1 kept.1 standard.1)
+
+low-height : (used : List (ℕ × Module)) (kinds : List CellKind) → AllZip (Suits (height_of used)) used kinds
+    → AllByRecursion (λ (m : ℕ × Module). IsKeptModule m.1) used → height_of used ≤ 200000000
+unfolding height_of
+low-height [] kinds h kept = omega arith
+low-height (m ∷ ms) [] h kept = absurd h
+low-height (m ∷ ms) (k ∷ ks) h kept = h.0.low kept.0
+
+names-of : (names : List (List ℕ)) (calls : List Call) → map (λ (i : Inst). i.name) (map (inst_in names) calls) ≡ call_names calls
+names-of names [] = refl
+names-of names (c ∷ cs) = ap (λ (l : List (List ℕ)). c.name ∷ l) (names-of names cs)
+
+places-of-pins : (nets : List (List ℕ)) (signals : List PinWord) → map (λ (p : Pin). (p.instance, p.terminal)) (map (pin_in nets) signals) ≡ map pin_place signals
+places-of-pins nets [] = refl
+places-of-pins nets (s ∷ ss) = ap (λ (l : List (ℕ × ℕ)). pin_place s ∷ l) (places-of-pins nets ss)
+
+different-nets : (signals : List PinWord) → IsDistinct bytes_eq (nets_of signals)
+unfolding nets_of
+different-nets signals = distinct-mentions [] (words_of signals) distinct-none
+
+-- a design of checked calls and of their modules' kinds is a good one
+pub good-netlist : (rules : RuleValues) → ValidRules rules → (used : List (ℕ × Module)) (signals : List PinWord) (calls : List Call) (kinds : List CellKind)
+    → IsChecked used signals calls → kinds_for rules used ≡ Ok kinds → IsNetlist (design_of used signals calls kinds)
+good-netlist rules valid used signals calls kinds checked is =
+    let suit = suits rules valid used kinds is in
+    let count : length kinds ≡ length used = zip-length (Suits (height_of used)) used kinds suit in
+    record {
+      few_kinds = subst (λ n. n < 2 ^ 32) (sym count) checked.few_modules;
+      called = subst (λ k. (n : ℕ) → n < k → list_any (λ (i : Inst). i.kind == n) (map (inst_in (used_names used)) calls) ≡ true) (sym count) checked.uses;
+      few_instances = subst (λ n. n ≤ 20000) (sym (length-map calls (inst_in (used_names used)))) checked.few_calls;
+      few_pins = subst (λ n. n ≤ 200000) (sym (length-map signals (pin_in (nets_of signals)))) checked.few_signals;
+      low = low-height used kinds suit checked.kept;
+      kinds = All-from_recursion IsKind kinds (good-kinds (height_of used) used kinds suit checked.kept checked.standard);
+      instances = All-from_recursion (λ (i : Inst). i.kind < length kinds) (map (inst_in (used_names used)) calls)
+          (every-map (λ (i : Inst). i.kind < length kinds) (inst_in (used_names used)) calls
+          (every-weaker (λ (c : Call). list_any (bytes_eq c.«module») (used_names used) ≡ true) (λ (c : Call). place_among (used_names used) c.«module» < length kinds)
+          (λ c among. subst (λ n. place_among (used_names used) c.«module» < n) (length-map used (λ (m : ℕ × Module). m.1.name) ∙ sym count) (place-below (used_names used) c.«module» among))
+          calls checked.called));
+      instance_names = All-from_recursion (λ (i : Inst). IsName i.name) (map (inst_in (used_names used)) calls)
+          (every-map (λ (i : Inst). IsName i.name) (inst_in (used_names used)) calls (every-weaker IsKeptCall (λ (c : Call). IsName c.name) (λ c kept. kept.name) calls checked.kept_calls));
+      different_instances = subst (λ names. IsDistinct bytes_eq names) (sym (names-of (used_names used) calls)) checked.different_calls;
+      different_nets = different-nets signals;
+      pins = places-of-pins (nets_of signals) signals ∙ checked.pins
+          ∙ sym (pins-used used kinds (zip-terminals used kinds (zip-weaker (Suits (height_of used)) _ (λ m k suit. suit.terminals) used kinds suit)) 0 calls);
+      nets = All-from_recursion (λ (p : Pin). (0 < p.net) × (p.net ≤ length (nets_of signals))) (map (pin_in (nets_of signals)) signals) (nets-range signals);
+      used = nets-used signals;
+    }
+
+-- a design is the one of these parts where each field is
+pub same-design : (used : List (ℕ × Module)) (signals : List PinWord) (calls : List Call) (kinds : List CellKind) (d : Netlist)
+    → d.kinds ≡ kinds → d.height ≡ height_of used → d.instances ≡ map (inst_in (used_names used)) calls
+    → d.pins ≡ map (pin_in (nets_of signals)) signals → d.nets ≡ nets_of signals → d ≡ design_of used signals calls kinds
+same-design used signals calls kinds d is_kinds is_height is_instances is_pins is_nets =
+    ap (λ (x : List CellKind). record d { kinds = x }) is_kinds
+    ∙ ap (λ (x : ℕ). record d { kinds = kinds; height = x }) is_height
+    ∙ ap (λ (x : List Inst). record d { kinds = kinds; height = height_of used; instances = x }) is_instances
+    ∙ ap (λ (x : List Pin). record d { kinds = kinds; height = height_of used; instances = map (inst_in (used_names used)) calls; pins = x }) is_pins
+    ∙ ap (λ (x : List (List ℕ)). record (design_of used signals calls kinds) { nets = x }) is_nets
+
+-- and it is what is said
+pub used-said : (rules : RuleValues) (used : List (ℕ × Module)) (signals : List PinWord) (calls : List Call) (kinds : List CellKind) (d : Netlist)
+    → kinds_for rules used ≡ Ok kinds → d ≡ design_of used signals calls kinds → used_design rules used signals calls ≡ Ok d
+unfolding used_design
+used-said rules used signals calls kinds d good is =
+    ap (λ (all : Result (List CellKind) DesignFault). all >>= (λ kinds. Ok (design_of used signals calls kinds))) good ∙ ap (λ (n : Netlist). Ok n) (sym is)

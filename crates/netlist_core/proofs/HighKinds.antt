@@ -1,0 +1,73 @@
+use Rattle.std.proofs.Common.{◌≡◌, ◌<◌, ◌≤◌, ◌+◌, ◌*◌, ℕ, List, [], ◌∷◌, length, Option, Some, None, Result, Ok, Err, refl, subst, arith}
+use Rattle.std.specs.List.{AllZip, filter}
+use Rattle.std.specs.Result.{IfOk}
+use Rattle.tech_rules.specs.Rules.{RuleValues}
+use Rattle.yal_reader.specs.declared.file.Call.{Call}
+use Rattle.yal_reader.specs.declared.file.Module.{Module}
+use Rattle.yal_reader.specs.declared.file.YalFile.{YalFile}
+use Rattle.netlist_core.specs.Answers.{◌>>=◌, Agrees, unless}
+use Rattle.netlist_core.specs.Calls.{calls_fault, is_parent_module, only_parent, over}
+use Rattle.netlist_core.specs.Netlist.{Netlist}
+use Rattle.netlist_core.specs.OnGrid.{calls_design, design_of, height_of, kind_for, kinds_for, on_grid, used_design, used_modules}
+use Rattle.netlist_core.specs.Signals.{PinWord, all_signals}
+use Rattle.netlist_core.specs.declared.design.CellKind.{CellKind}
+use Rattle.netlist_core.specs.declared.fault.Count.TheVariants.{Instances, Pins}
+use Rattle.netlist_core.specs.declared.fault.DesignFault.{DesignFault}
+use Rattle.netlist_core.proofs.EachLaws.{each-zip}
+use Rattle.netlist_core.proofs.KindLaws.{kind-high}
+
+-- where there is a kind, its height has room for two pins and the space between them
+abbrev pub HasRoom : RuleValues → Netlist → Type 0
+HasRoom rules d = 0 < length d.kinds → 2 * rules.grid_pin + rules.vertical_space ≤ d.height
+
+no-answer : {A : Type 0} (fault : DesignFault) (a : A) → ◌≡◌ {A = Result A DesignFault} (Err fault) (Ok a) → ⊥
+no-answer fault a e = cc
+
+first-high : (rules : RuleValues) (height : ℕ) (used : List (ℕ × Module)) (kinds : List CellKind)
+    → AllZip (λ (m : ℕ × Module) (k : CellKind). 2 * rules.grid_pin + rules.vertical_space ≤ height) used kinds → 0 < length kinds
+    → 2 * rules.grid_pin + rules.vertical_space ≤ height
+first-high rules height [] [] h some = absurd (omega (arith, some))
+first-high rules height [] (k ∷ ks) h some = absurd h
+first-high rules height (m ∷ ms) [] h some = absurd h
+first-high rules height (m ∷ ms) (k ∷ ks) h some = h.0
+
+used-high : (rules : RuleValues) (used : List (ℕ × Module)) (signals : List PinWord) (calls : List Call) (d : Netlist)
+    → used_design rules used signals calls ≡ Ok d → HasRoom rules d
+unfolding used_design kinds_for kind_for
+used-high rules used signals calls d is = by (kinds_for rules used) refl is
+  where
+    by : (all : Result (List CellKind) DesignFault) → kinds_for rules used ≡ all → (all >>= (λ kinds. Ok (design_of used signals calls kinds))) ≡ Ok d → HasRoom rules d
+    by (Err fault) good e = absurd (no-answer fault d e)
+    by (Ok kinds) good e = subst (λ (d : Netlist). HasRoom rules d) (same e)
+        (first-high rules (height_of used) used kinds
+        (each-zip (kind_for rules (height_of used)) (λ m k. 2 * rules.grid_pin + rules.vertical_space ≤ height_of used)
+        (λ m k at. kind-high rules (height_of used) m.0 m.1 k at) used kinds good))
+      where
+        same : ◌≡◌ {A = Result Netlist DesignFault} (Ok (design_of used signals calls kinds)) (Ok d) → design_of used signals calls kinds ≡ d
+        same e = cc
+
+unless-ok : {A : Type 0} (o : Option DesignFault) (r : Result A DesignFault) (a : A) → unless o r ≡ Ok a → r ≡ Ok a
+unless-ok None r a e = e
+unless-ok (Some fault) r a e = absurd (no-answer fault a e)
+
+calls-high : (rules : RuleValues) (modules : List Module) (calls : List Call) (d : Netlist) → calls_design rules modules calls ≡ Ok d → HasRoom rules d
+unfolding calls_design
+calls-high rules modules calls d is =
+    used-high rules (used_modules modules calls) (all_signals modules calls) calls d
+    (unless-ok (over Pins 200000 (length (all_signals modules calls))) _ d
+    (unless-ok (calls_fault modules calls) _ d (unless-ok (over Instances 20000 (length calls)) _ d is)))
+
+-- a design on the grid has room in its kinds
+pub grid-high : (rules : RuleValues) (file : YalFile) (d : Netlist) → on_grid rules file ≡ Ok d → HasRoom rules d
+unfolding on_grid
+grid-high rules file d is = by (only_parent (filter is_parent_module file.modules)) is
+  where
+    by : (all : Result Module DesignFault) → (all >>= (λ parent. calls_design rules file.modules parent.calls)) ≡ Ok d → HasRoom rules d
+    by (Err fault) e = absurd (no-answer fault d e)
+    by (Ok parent) e = calls-high rules file.modules parent.calls d e
+
+-- and so does an answer that agrees with one
+pub agrees-high : (rules : RuleValues) (modules : List Module) (calls : List Call) (answer : Result Netlist DesignFault)
+    → Agrees (λ d. d) answer (calls_design rules modules calls) → IfOk answer (HasRoom rules)
+agrees-high rules modules calls (Ok d) is = calls-high rules modules calls d is
+agrees-high rules modules calls (Err fault) is = tt

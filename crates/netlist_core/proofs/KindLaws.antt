@@ -1,0 +1,114 @@
+use Rattle.std.proofs.Common.{◌≡◌, ℕ, zero, suc, ◌+◌, ◌*◌, ◌/◌, ◌%◌, ◌<◌, ◌≤◌, List, [], ◌∷◌, true, false, Ok, All, refl, ap, sym, ◌∙◌, subst, arith}
+use Rattle.std.proofs.Math.Nat.{mul-le-mul_right, mul-div-le}
+use Rattle.std.proofs.lemmas.List.{length-map}
+use Rattle.std.proofs.lemmas.List.Elements.{All-nil, All-cons}
+use Rattle.std.specs.List.{AllByRecursion}
+use Rattle.tech_rules.specs.Rules.{RuleValues, ValidRules}
+use Rattle.yal_reader.specs.Kept.{IsKeptModule, is_standard}
+use Rattle.yal_reader.specs.declared.file.Module.{Module}
+use Rattle.list_facts.proofs.Every.{every-weaker}
+use Rattle.netlist_core.specs.Cells.{height_of_module, kind_at, kind_of, power_names, spots_of, terminal_in, terminal_names, terminals_of}
+use Rattle.netlist_core.specs.Netlist.{IsKind, IsPosition}
+use Rattle.netlist_core.specs.Outline.{height_of_outline}
+use Rattle.netlist_core.specs.declared.design.CellKind.{CellKind}
+use Rattle.netlist_core.specs.declared.design.Position.{Position}
+use Rattle.netlist_core.specs.declared.design.Terminal.{Terminal}
+use Rattle.netlist_core.specs.declared.outline.Outline.{Outline}
+use Rattle.netlist_core.proofs.ClashLaws.{clash-free}
+use Rattle.netlist_core.proofs.KindParts.{IsFaultless, IsGridded, IsMade, faultless, grid-made, kind-made}
+use Rattle.netlist_core.proofs.OutlineLaws.{IsSmall, outline-small}
+use Rattle.netlist_core.proofs.PositionLaws.{positions-hold, positions-reach}
+use Rattle.netlist_core.proofs.TerminalLaws.{IsFree, IsNamed, free-spots, known-lines, terminal-named, terminal-spot}
+
+every-all : {X : Type 0} (P : X → Type 0) (xs : List X) → AllByRecursion P xs → All P xs
+every-all P [] h = All-nil P
+every-all P (x ∷ xs) h = All-cons P x xs h.0 (every-all P xs h.1)
+
+-- whole columns, of a width that is above 0, are at least one
+some-columns : (width pitch : ℕ) → 0 < width → width % pitch ≡ 0 → 2 ≤ pitch → 0 < width / pitch
+some-columns width pitch some whole wide = by (width / pitch) refl
+  where
+    by : (n : ℕ) → width / pitch ≡ n → 0 < n
+    by zero none = absurd (no (ap (λ (k : ℕ). pitch * k) none))
+      where
+        no : pitch * (width / pitch) ≡ pitch * 0 → ⊥
+        no e = omega arith
+    by (suc n) is = omega arith
+
+few-columns : (width pitch : ℕ) → width ≤ 200000000 → 2 ≤ pitch → width / pitch ≤ 100000000
+few-columns width pitch low wide = omega (arith, mul-le-mul_right (width / pitch) wide, mul-div-le width pitch)
+
+-- the position of a free terminal, in a column of the kind, is one of the kind
+good-position : (rules : RuleValues) (box : Outline) (m : Module) (ps : List Position) (p : Position)
+    → IsFree (terminal_names m.lines) (power_names m.lines) p.terminal × (p.column < box.width / rules.grid_column)
+    → IsPosition (kind_at rules box m ps) p
+good-position rules box m ps p h = record {
+  column = h.1;
+  terminal = λ t at. free t (terminal-named (terminal_names m.lines) (power_names m.lines) p.terminal t at);
+  within = subst (λ (n : ℕ). p.terminal < n) (sym (length-map (terminal_names m.lines) (terminal_in (power_names m.lines)))) h.0.within;
+}
+  where
+    free : (t : Terminal) → IsNamed (terminal_names m.lines) (power_names m.lines) p.terminal t → t.power ≡ false
+    free t named = sym named.powered ∙ h.0.free named.name named.stands
+
+good-kind : (rules : RuleValues) (height n : ℕ) (m : Module) (box : Outline) (ps : List Position) → ValidRules rules → IsKeptModule m
+    → is_standard m.kind ≡ true → IsSmall box → IsGridded rules.grid_column box (spots_of m.lines) ps
+    → IsFaultless rules height box (spots_of m.lines) ps → IsKind (kind_at rules box m ps)
+good-kind rules height n m box ps valid kept standard small grid whole = record {
+  name = kept.name;
+  some = some-columns box.width rules.grid_column small.wide grid.whole valid.ranges.grid_column.0;
+  few = few-columns box.width rules.grid_column small.width valid.ranges.grid_column.0;
+  positions = every-all (IsPosition (kind_at rules box m ps)) ps
+      (every-weaker (λ (p : Position). IsFree (terminal_names m.lines) (power_names m.lines) p.terminal × (p.column < box.width / rules.grid_column))
+      (IsPosition (kind_at rules box m ps)) (good-position rules box m ps) ps
+      (positions-hold (IsFree (terminal_names m.lines) (power_names m.lines)) rules.grid_column box (spots_of m.lines) ps grid.positions
+      (free-spots (terminal_names m.lines) (power_names m.lines) m.lines (known-lines m.lines))));
+  apart = clash-free [] ps whole.apart;
+  reached = λ k t at free.
+      sym (positions-reach k rules.grid_column box (spots_of m.lines) ps grid.positions) ∙ terminal-spot m.kind m.lines standard kept.lines k t at free;
+}
+
+-- what a STANDARD module gives is a good kind
+pub kind-good : (rules : RuleValues) (height n : ℕ) (m : Module) (k : CellKind) → ValidRules rules → IsKeptModule m → is_standard m.kind ≡ true
+    → kind_of rules height n m ≡ Ok k → IsKind k
+kind-good rules height n m k valid kept standard h =
+    let made : IsMade rules height n m k = kind-made rules height n m k h in
+    subst IsKind made.kind
+    (good-kind rules height n m made.box made.positions valid kept standard (outline-small m.corners made.box kept.corners made.outline)
+    (grid-made rules.grid_column made.box (spots_of m.lines) made.positions made.grid)
+    (faultless rules height n made.box (spots_of m.lines) made.positions made.fault))
+
+-- a kind's height is that of its module
+pub kind-height : (rules : RuleValues) (height n : ℕ) (m : Module) (k : CellKind) → kind_of rules height n m ≡ Ok k → height_of_module m ≡ height
+kind-height rules height n m k h =
+    let made : IsMade rules height n m k = kind-made rules height n m k h in
+    let whole : IsFaultless rules height made.box (spots_of m.lines) made.positions = faultless rules height n made.box (spots_of m.lines) made.positions made.fault in
+    ap height_of_outline made.outline ∙ whole.same
+
+-- and it is at most 200,000,000
+pub kind-low : (rules : RuleValues) (height n : ℕ) (m : Module) (k : CellKind) → IsKeptModule m → kind_of rules height n m ≡ Ok k → height ≤ 200000000
+kind-low rules height n m k kept h =
+    let made : IsMade rules height n m k = kind-made rules height n m k h in
+    let small : IsSmall made.box = outline-small m.corners made.box kept.corners made.outline in
+    let whole : IsFaultless rules height made.box (spots_of m.lines) made.positions = faultless rules height n made.box (spots_of m.lines) made.positions made.fault in
+    subst (λ (y : ℕ). y ≤ 200000000) whole.same small.height
+
+-- and it has room for two pins and the space between them
+pub kind-high : (rules : RuleValues) (height n : ℕ) (m : Module) (k : CellKind) → kind_of rules height n m ≡ Ok k
+    → 2 * rules.grid_pin + rules.vertical_space ≤ height
+kind-high rules height n m k h =
+    let made : IsMade rules height n m k = kind-made rules height n m k h in
+    let whole : IsFaultless rules height made.box (spots_of m.lines) made.positions = faultless rules height n made.box (spots_of m.lines) made.positions made.fault in
+    subst (λ (y : ℕ). 2 * rules.grid_pin + rules.vertical_space ≤ y) whole.same whole.high
+
+-- a kind's terminals are those of its module
+pub kind-terminals : (rules : RuleValues) (height n : ℕ) (m : Module) (k : CellKind) → kind_of rules height n m ≡ Ok k → k.terminals ≡ terminals_of m.lines
+kind-terminals rules height n m k h =
+    let made : IsMade rules height n m k = kind-made rules height n m k h in
+    ap (λ (c : CellKind). c.terminals) (sym made.kind)
+
+-- a kind's name is its module's
+pub kind-name : (rules : RuleValues) (height n : ℕ) (m : Module) (k : CellKind) → kind_of rules height n m ≡ Ok k → k.name ≡ m.name
+kind-name rules height n m k h =
+    let made : IsMade rules height n m k = kind-made rules height n m k h in
+    ap (λ (c : CellKind). c.name) (sym made.kind)

@@ -1,0 +1,19 @@
+use Rattle.std.proofs.Common.{rules, w64}
+use Rattle.std.proofs.lemmas.Int.{to_z-of_z}
+use Rattle.netlist_core.proofs.OutlineLaws.{apart, made}
+use Rattle.netlist_core.proofs.outline.between.Goals as goal
+use mir.Val.{SFits}
+
+pub returns : goal.returns
+returns c =
+    let ax : SFits w64 c.args.a.0 = search rules in
+    let ay : SFits w64 c.args.a.1 = search rules in
+    let cx : SFits w64 c.args.c.0 = search rules in
+    let cy : SFits w64 c.args.c.1 = search rules in
+    let left : SFits w64 c.min.result = search rules in
+    let low : SFits w64 c.min-2.result = search rules in
+    let x = simp to_z-of_z at c.min.ensures.value in
+    let y = simp to_z-of_z at c.min-2.ensures.value in
+    let width = simp to_z-of_z at c.abs_diff.ensures in
+    let height = simp to_z-of_z at c.abs_diff-2.ensures in
+    simp to_z-of_z (made c.args.a.0 c.args.a.1 c.args.c.0 c.args.c.1 _ _ _ _ (apart c.args.a.0 c.args.c.0 c.if-a-c.false) (apart c.args.a.1 c.args.c.1 c.if-a-c-2.false) x y width height)

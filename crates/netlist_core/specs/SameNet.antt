@@ -1,0 +1,23 @@
+use Rattle.std.specs.Prelude.{◌≡◌, ◌↔◌, ℕ, List, [], ◌∷◌, filter, Option, Some, slice_get}
+use Rattle.std.specs.Option.{option_and_then}
+use Rattle.yal_reader.specs.declared.file.Call.{Call}
+use Rattle.yal_reader.specs.declared.file.Module.{Module}
+use Rattle.yal_reader.specs.declared.file.YalFile.{YalFile}
+use Rattle.netlist_core.specs.Calls.{is_parent_module}
+use Rattle.netlist_core.specs.declared.design.Pin.{Pin}
+
+-- the signal word of a pin: the one that its instance's call has at its terminal
+abbrev pub word_of : List Call → Pin → Option (List ℕ)
+word_of calls pin = option_and_then (λ (call : Call). slice_get call.signals pin.terminal) (slice_get calls pin.instance)
+
+abbrev pub first_calls : List Module → List Call
+first_calls [] = []
+first_calls (m ∷ ms) = m.calls
+
+-- the calls of the first PARENT
+abbrev pub parent_calls : YalFile → List Call
+parent_calls file = first_calls (filter is_parent_module file.modules)
+
+-- two pins are in one net exactly where their signal words are equal
+abbrev pub SameNet : List Call → List Pin → Type 0
+SameNet calls pins = (p q : ℕ) (a b : Pin) → slice_get pins p ≡ Some a → slice_get pins q ≡ Some b → (a.net ≡ b.net) ↔ (word_of calls a ≡ word_of calls b)

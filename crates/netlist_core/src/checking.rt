@@ -1,0 +1,107 @@
+ghost use Rattle.netlist_core.specs.Answers.{Agrees};
+ghost use Rattle.netlist_core.specs.Checked.{IsChecked};
+ghost use Rattle.netlist_core.specs.OnGrid.{calls_design, on_grid, used_design};
+ghost use Rattle.netlist_core.specs.SameNet.{parent_calls, SameNet};
+ghost use Rattle.netlist_core.specs.Signals.{nets_of, pin_in};
+ghost use Rattle.std.specs.List.{AllByRecursion, IsDistinct};
+ghost use Rattle.std.specs.Prelude.{◌≡◌, ◌<◌, ◌≤◌, ◌+◌, ◌-◌, ◌*◌, ◌^◌, length, map, IfOk};
+ghost use Rattle.std.specs.Str.{bytes_eq};
+ghost use Rattle.yal_reader.specs.Kept.{call_names, module_names, HasAtMost, IsKept, IsKeptCall, IsKeptModule, IsShort};
+
+use crate::calls::{calls_fault, instances_of, the_parent};
+use crate::library::Library;
+use crate::signals::{Signal, copies, nets_of, pins_of, signals_of};
+use crate::used::{Numbered, height_of, kinds_of, names_of, used_modules};
+use crate::{Count, Design, DesignFault};
+use geom_core::Items;
+use std::alloc::Global;
+use tech_rules::Rules;
+use yal_reader::{Call, Module, YalFile};
+
+/// The most instances that a design may have.
+pub const MOST_INSTANCES: usize = 20000;
+
+/// The most pins that a design may have.
+pub const MOST_PINS: usize = 200000;
+
+/// The checked design of a file: its PARENT's calls as instances, the modules that they use as kinds on the column grid of the
+/// rules, and the pins with the nets that their signal words make. Two pins have one net exactly where their words are equal.
+/// The height of a design with kinds has room for two pins and the space between them.
+///
+/// It errs with the first of these that holds: NoParent, ManyParents, Limit(Instances) above 20,000; then by instance
+/// UnknownModule, NotStandard or SignalCount; Limit(Pins) above 200,000; then by used module, in the order of the file, NoShape,
+/// OffGrid, Height, TooLow, PinClash or WrongLayer; and with Memory where memory runs out.
+#[tactic(auto, unfolding(crate::specs::OnGrid::on_grid))]
+pub fn to_design(alloc: Global, file: &YalFile, rules: &Rules) -> Result<Design, DesignFault>
+    requires file { IsKept file.now }
+    requires few { HasAtMost (2 ^ 32 - 1) file.now }
+    ensures is { Agrees (λ design. design) result (on_grid rules.now file.now) }
+    ensures nets { IfOk result (λ design. SameNet (parent_calls file.now) design.pins) }
+    ensures high { IfOk result (λ design. 0 < length design.kinds → 2 * rules.now.grid_pin + rules.now.vertical_space ≤ design.height) }
+{
+    let parent = the_parent(file)?;
+    calls_design(alloc, rules, file.modules.items(), parent.calls.items())
+}
+
+// The design of these calls.
+#[tactic(auto, unfolding(crate::specs::OnGrid::calls_design))]
+fn calls_design(
+    alloc: Global,
+    rules: &Rules,
+    modules: &[Module],
+    calls: &[Call],
+) -> Result<Design, DesignFault>
+    requires kept { AllByRecursion IsKeptModule modules.now }
+    requires short { AllByRecursion (IsShort (2 ^ 32 - 1)) modules.now }
+    requires few { length modules.now ≤ 2 ^ 32 - 1 }
+    requires modules { IsDistinct bytes_eq (module_names modules.now) }
+    requires names { AllByRecursion IsKeptCall calls.now }
+    requires calls { IsDistinct bytes_eq (call_names calls.now) }
+    ensures is { Agrees (λ design. design) result (calls_design rules.now modules.now calls.now) }
+    ensures nets { IfOk result (λ design. SameNet calls.now design.pins) }
+{
+    if calls.len() > MOST_INSTANCES {
+        return Err(DesignFault::Limit(Count::Instances, calls.len() as u64));
+    }
+    let library = Library::new(alloc, modules)?;
+    match calls_fault(&library, calls) {
+        Some(fault) => return Err(fault),
+        None => {}
+    }
+    let signals = signals_of(alloc, &library, calls)?;
+    if signals.len() > MOST_PINS {
+        return Err(DesignFault::Limit(Count::Pins, signals.len() as u64));
+    }
+    let used = used_modules(alloc, modules, calls)?;
+    used_design(alloc, rules, &used, &signals, calls)
+}
+
+// The design of these calls with these words at their pins, where these are the used modules.
+#[tactic(auto, unfolding(crate::specs::OnGrid::used_design))]
+fn used_design(
+    alloc: Global,
+    rules: &Rules,
+    used: &[Numbered],
+    signals: &[Signal],
+    calls: &[Call],
+) -> Result<Design, DesignFault>
+    requires { IsChecked used.now signals.now calls.now }
+    ensures is { Agrees (λ design. design) result (used_design rules.now used.now signals.now calls.now) }
+    ensures pins { IfOk result (λ design. design.pins ≡ map (pin_in (nets_of signals.now)) signals.now) }
+{
+    // A look at the rules tells that they are valid.
+    let _ = &rules.version;
+    let kinds = match kinds_of(alloc, rules, used) {
+        Ok(kinds) => kinds,
+        Err(fault) => return Err(fault),
+    };
+    let names = names_of(alloc, used)?;
+    let nets = nets_of(alloc, signals)?;
+    Ok(Design {
+        kinds: Items::new(kinds),
+        height: height_of(used),
+        instances: Items::new(instances_of(alloc, &names, calls)?),
+        pins: Items::new(pins_of(alloc, &nets, signals)?),
+        nets: Items::new(copies(alloc, &nets)?),
+    })
+}

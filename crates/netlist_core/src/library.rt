@@ -1,0 +1,121 @@
+ghost use Rattle.list_facts.specs.Names.{mentions};
+ghost use Rattle.list_facts.specs.Texts.{texts};
+ghost use Rattle.netlist_core.specs.Calls.{module_named, terminals_in};
+ghost use Rattle.netlist_core.specs.Cells.{terminals_of};
+ghost use Rattle.netlist_core.specs.LibraryView.{all_terminals};
+ghost use Rattle.std.specs.List.{AllByRecursion, IsDistinct, slice_get};
+ghost use Rattle.std.specs.Option.{option_copied, option_map};
+ghost use Rattle.std.specs.Prelude.{◌≡◌, ◌<◌, ◌-◌, ◌^◌, length, IfOk, IfSome};
+ghost use Rattle.std.specs.Str.{bytes_eq};
+ghost use Rattle.yal_reader.specs.Kept.{module_names, IsShort};
+
+use crate::Terminal;
+use crate::terminals::{power_names, terminal_names, terminals};
+use geom_core::Items;
+use indexmap::IndexSet;
+use list_facts::{number, place_of};
+use std::alloc::{AllocError, Global};
+use std::marker::Model;
+use yal_reader::{Line, Module};
+
+/// The modules of a file with their names, by which they are found, and the terminals of each.
+#[derive(Drop)]
+pub struct Library<'a> {
+    modules: &'a [Module],
+    names: IndexSet<&'a [u8]>,
+    terminals: Vec<Items<Terminal>>,
+}
+
+impl<'a> Model for Library<'a> {
+    ghost use Rattle.std.specs.Prelude.{List};
+    ghost use Rattle.yal_reader.specs.declared.file.Module.{Module};
+
+    ghost Value = { List Module };
+
+    ghost use Rattle.netlist_core.specs.LibraryView.{modules_of, IsLibrary};
+
+    ghost view = { modules_of };
+
+    ghost invariant = { IsLibrary };
+}
+
+impl<'a> Library<'a> {
+    /// The library of these modules. The one error is want of memory.
+    pub fn new(alloc: Global, modules: &'a [Module]) -> Result<Library<'a>, AllocError>
+        requires names { IsDistinct bytes_eq (module_names modules.now) }
+        requires short { AllByRecursion (IsShort (2 ^ 32 - 1)) modules.now }
+        ensures { IfOk result (λ library. library ≡ modules.entry.now) }
+    {
+        let names = names_of(alloc, modules)?;
+        let terminals = all_terminals(alloc, modules)?;
+        Ok(Library {
+            modules,
+            names,
+            terminals,
+        })
+    }
+
+    /// The module of this name with its terminals, or None where there is no such module. Takes no memory.
+    pub fn find(&self, name: &[u8]) -> Option<(&Module, &[Terminal])>
+        ensures is { option_map (λ f. f.0.now) result ≡ module_named self.now name.now }
+        ensures terminals { IfSome result (λ f. f.1.now ≡ terminals_in (Some f.0.now)) }
+        ensures few { IfSome result (λ f. length f.1.now < 2 ^ 32) }
+    {
+        let place = place_of(&self.names, name);
+        let Some(module) = item_at(self.modules, place) else {
+            return None;
+        };
+        let Some(terminals) = item_at(self.terminals.as_slice(), place) else {
+            return None;
+        };
+        Some((module, terminals.items()))
+    }
+
+    /// The terminals of the module of this name, or none where there is no such module. Takes no memory.
+    pub fn terminals(&self, name: &[u8]) -> &[Terminal]
+        ensures is { result.now ≡ terminals_in (module_named self.now name.now) }
+        ensures few { length result.now < 2 ^ 32 }
+    {
+        match self.find(name) {
+            Some((_, terminals)) => terminals,
+            None => &[],
+        }
+    }
+}
+
+// The item at a place, if there is one.
+fn item_at<T>(items: &[T], i: usize) -> Option<&T>
+    ensures { option_copied result ≡ slice_get items.now i }
+{
+    items.get(i)
+}
+
+// The names of the modules, in the order of the file. The one error is want of memory.
+fn names_of<'a>(alloc: Global, modules: &'a [Module]) -> Result<IndexSet<&'a [u8]>, AllocError>
+    ensures { IfOk result (λ names. texts names.keys ≡ mentions (module_names modules.entry.now)) }
+{
+    let mut names = IndexSet::new(alloc);
+    for module in modules {
+        number(&mut names, module.name.items())?;
+    }
+    Ok(names)
+}
+
+// The terminals of each module. The one error is want of memory.
+fn all_terminals(alloc: Global, modules: &[Module]) -> Result<Vec<Items<Terminal>>, AllocError>
+    ensures { IfOk result (λ all. all.items ≡ all_terminals modules.now) }
+{
+    let mut all = Vec::with_capacity(alloc, modules.len())?;
+    for module in modules {
+        all.push(Items::new(terminals_of(alloc, module.lines.items())?))?;
+    }
+    Ok(all)
+}
+
+fn terminals_of(alloc: Global, lines: &[Line]) -> Result<Vec<Terminal>, AllocError>
+    ensures { IfOk result (λ terminals. terminals.items ≡ terminals_of lines.now) }
+{
+    let names = terminal_names(alloc, lines)?;
+    let power = power_names(alloc, lines)?;
+    terminals(alloc, &names, &power)
+}

@@ -1,0 +1,92 @@
+ghost use Rattle.netlist_core.specs.Outline.{are_pairs, between, has_turns, IsOutlineOf, outline_of};
+ghost use Rattle.std.specs.List.{AllByRecursion};
+ghost use Rattle.std.specs.Prelude.{◌≡◌, ◌≤◌, IfSome};
+ghost use Rattle.yal_reader.specs.Kept.{IsNear};
+
+/// The rectangle of a module, in units: its least x and y, and its sides, which are above 0.
+#[derive(Clone, Copy, Debug, PartialEq, Eq)]
+pub struct Outline {
+    pub left: i64,
+    pub low: i64,
+    pub width: u32,
+    pub height: u32,
+}
+
+/// The outline whose four corners these are, as pairs of x and y in order, in either direction and from any corner on; None
+/// where they are no corners of a rectangle with sides along the axes, in order. Takes no memory.
+pub fn outline_of(corners: &[i64]) -> Option<Outline>
+    requires { AllByRecursion IsNear corners.now }
+    ensures is { result ≡ outline_of corners.now }
+    ensures corners { IsOutlineOf corners.now result }
+{
+    match corners {
+        [x0, y0, x1, y1, x2, y2, x3, y3] => {
+            if !has_turns((*x0, *y0), (*x1, *y1), (*x2, *y2), (*x3, *y3)) {
+                return None;
+            }
+            between((*x0, *y0), (*x2, *y2))
+        }
+        _ => None,
+    }
+}
+
+// Whether each pair is of one number twice.
+#[tactic(auto, unfolding(crate::specs::Outline::are_pairs))]
+fn are_pairs(a: (i64, i64), b: (i64, i64), c: (i64, i64), d: (i64, i64)) -> bool
+    ensures { result ≡ are_pairs a.0 a.1 b.0 b.1 c.0 c.1 d.0 d.1 }
+{
+    a.0 == a.1 && b.0 == b.1 && c.0 == c.1 && d.0 == d.1
+}
+
+// Whether the sides between these corners go along x and along y in turn.
+#[tactic(auto, unfolding(crate::specs::Outline::has_turns))]
+fn has_turns(a: (i64, i64), b: (i64, i64), c: (i64, i64), d: (i64, i64)) -> bool
+    ensures { result ≡ has_turns a.0 a.1 b.0 b.1 c.0 c.1 d.0 d.1 }
+{
+    are_pairs((a.1, b.1), (b.0, c.0), (c.1, d.1), (d.0, a.0))
+        || are_pairs((a.0, b.0), (b.1, c.1), (c.0, d.0), (d.1, a.1))
+}
+
+// The outline between opposite corners, if they differ in x and in y.
+#[tactic(auto, unfolding(crate::specs::Outline::between))]
+fn between(a: (i64, i64), c: (i64, i64)) -> Option<Outline>
+    requires ax { IsNear a.0 }
+    requires ay { IsNear a.1 }
+    requires cx { IsNear c.0 }
+    requires cy { IsNear c.1 }
+    ensures { result ≡ between a.0 a.1 c.0 c.1 }
+{
+    if a.0 == c.0 {
+        return None;
+    }
+    if a.1 == c.1 {
+        return None;
+    }
+    Some(Outline {
+        left: a.0.min(c.0),
+        low: a.1.min(c.1),
+        width: a.0.abs_diff(c.0) as u32,
+        height: a.1.abs_diff(c.1) as u32,
+    })
+}
+
+#[cfg(test)]
+mod tests {
+    use super::*;
+    use std::test::Fail;
+
+    #[test]
+    fn corners_have_an_outline(rt: HostRuntime) -> Result<(), Fail> {
+        let want = Outline {
+            left: -4,
+            low: 0,
+            width: 16,
+            height: 40,
+        };
+        assert_eq!(rt; outline_of(&[-4, 0, 12, 0, 12, 40, -4, 40]), Some(want));
+        assert_eq!(rt; outline_of(&[12, 40, 12, 0, -4, 0, -4, 40]), Some(want));
+        assert_eq!(rt; outline_of(&[-4, 0, 12, 40, 12, 0, -4, 40]), None);
+        assert_eq!(rt; outline_of(&[-4, 0, 12, 0, 12, 40]), None);
+        Ok(())
+    }
+}

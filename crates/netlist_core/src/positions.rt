@@ -1,0 +1,214 @@
+ghost use Rattle.netlist_core.specs.Cells.{clashes, column_of, edge_of, grid_positions, is_on_layer, position_of, positions_of, same_point};
+ghost use Rattle.std.specs.List.{list_all, list_any};
+ghost use Rattle.std.specs.Option.{option_map};
+ghost use Rattle.std.specs.Prelude.{◌≡◌, ◌<◌, ◌/◌, [], ◌++◌, ◌∷◌, not, IfOk, IsTrue, Vec};
+ghost use Rattle.std.specs.Str.{str_eq_ignore_ascii_case};
+
+use crate::design::Position;
+use crate::outline::Outline;
+use crate::terminals::NumberedSpot;
+use indexmap::IndexSet;
+use std::alloc::{AllocError, Global};
+
+/// Where a position meets the cell's edge: at the top or at the bottom, in the middle of a column.
+#[derive(Clone, Copy, Debug, PartialEq, Eq, Hash)]
+pub struct Point {
+    pub top: bool,
+    pub column: u32,
+}
+
+/// The positions at these spots of a module with this outline, in columns of this pitch; None where the width is not whole
+/// columns or a spot is off the grid: not on the top or the bottom edge, or not in the middle of a column inside.
+/// The one error is want of memory.
+#[tactic(auto, unfolding(crate::specs::Cells::grid_positions))]
+pub fn grid_positions(
+    alloc: Global,
+    pitch: u32,
+    outline: Outline,
+    spots: &[NumberedSpot],
+) -> Result<Option<Vec<Position>>, AllocError>
+    requires { 0 < pitch }
+    ensures { IfOk result (λ positions. option_map (λ (v : Vec Position Global). v.items) positions ≡ grid_positions pitch outline spots.now) }
+{
+    if outline.width % pitch != 0 {
+        return Ok(None);
+    }
+    positions_of(alloc, pitch, outline, spots)
+}
+
+// The positions at spots, or None where one is off the grid.
+#[tactic(auto, using(crate::proofs::Fronts::fronts))]
+fn positions_of(
+    alloc: Global,
+    pitch: u32,
+    outline: Outline,
+    spots: &[NumberedSpot],
+) -> Result<Option<Vec<Position>>, AllocError>
+    requires { 0 < pitch }
+    ensures { IfOk result (λ positions. option_map (λ (v : Vec Position Global). v.items) positions ≡ positions_of pitch outline spots.now) }
+{
+    let mut positions = Vec::new(alloc);
+    for spot in spots {
+        let Some(position) = position_of(pitch, outline, spot) else {
+            return Ok(None);
+        };
+        positions.push(position)?;
+    }
+    Ok(Some(positions))
+}
+
+// The position at a spot, or None where that is off the grid.
+fn position_of(pitch: u32, outline: Outline, spot: &NumberedSpot) -> Option<Position>
+    requires { 0 < pitch }
+    ensures { result ≡ position_of pitch outline spot.now }
+{
+    let Some(top) = edge_of(outline.height, outline.low, spot.spot.y) else {
+        return None;
+    };
+    let Some(column) = column_of(pitch, outline.width / pitch, outline.left, spot.spot.x) else {
+        return None;
+    };
+    Some(Position {
+        terminal: spot.terminal,
+        top,
+        column,
+    })
+}
+
+// Whether y is the top edge, or None where it is neither edge.
+fn edge_of(height: u32, low: i64, y: i64) -> Option<bool>
+    ensures { result ≡ edge_of height low y }
+{
+    if y == low {
+        return Some(false);
+    }
+    if low < y && y.abs_diff(low) == u64::from(height) {
+        return Some(true);
+    }
+    None
+}
+
+// The column in whose middle x lies, or None where there is none.
+fn column_of(pitch: u32, columns: u32, left: i64, x: i64) -> Option<u32>
+    requires { 0 < pitch }
+    ensures { result ≡ column_of pitch columns left x }
+{
+    if x < left {
+        return None;
+    }
+    let distance = x.abs_diff(left);
+    let column = distance / u64::from(pitch);
+    if distance % u64::from(pitch) == u64::from(pitch / 2) && column < u64::from(columns) {
+        return Some(column as u32);
+    }
+    None
+}
+
+/// Whether two of these positions share a point. The one error is want of memory.
+pub fn has_clash(alloc: Global, positions: &[Position]) -> Result<bool, AllocError>
+    ensures { IfOk result (λ clash. clash ≡ clashes [] positions.now) }
+{
+    let mut points = IndexSet::new(alloc);
+    let mut rest = positions;
+    while let Some((position, after)) = rest.split_first() {
+        let point = Point {
+            top: position.top,
+            column: position.column,
+        };
+        if !is_new(&mut points, point)? {
+            return Ok(true);
+        }
+        rest = after;
+    }
+    Ok(false)
+}
+
+// Whether this point is new among these, which have it then.
+fn is_new(points: &mut IndexSet<Point>, point: Point) -> Result<bool, AllocError>
+    ensures new { IfOk result (λ new. new ≡ not (list_any (same_point point) points.old.keys)) }
+    ensures grown { IfOk result (λ new. IsTrue new → points.new.keys ≡ points.old.keys ++ point ∷ []) }
+{
+    match points.insert(point) {
+        Ok(new) => Ok(new),
+        Err(_) => Err(AllocError),
+    }
+}
+
+/// Whether each of these spots is on the layer with this word, ASCII case aside. Takes no memory.
+pub fn are_on_layer(word: &[u8], spots: &[NumberedSpot]) -> bool
+    ensures { result ≡ list_all (is_on_layer word.now) spots.now }
+{
+    for spot in spots {
+        if !is_same_word(spot.spot.layer.items(), word) {
+            return false;
+        }
+    }
+    true
+}
+
+// Whether two words are the same, ASCII case aside.
+fn is_same_word(word: &[u8], other: &[u8]) -> bool
+    ensures { result ≡ str_eq_ignore_ascii_case word.now other.now }
+{
+    word.eq_ignore_ascii_case(other)
+}
+
+#[cfg(test)]
+mod tests {
+    use super::*;
+    use geom_core::Name;
+    use std::test::Fail;
+    use yal_reader::Spot;
+
+    #[test]
+    fn spots_have_positions(rt: HostRuntime) -> Result<(), Fail> {
+        let outline = Outline {
+            left: 0,
+            low: 0,
+            width: 16,
+            height: 40,
+        };
+        let low = Spot {
+            x: 12,
+            y: 0,
+            layer: Name::new(b"poly".to_vec(rt.alloc())?),
+        };
+        let high = Spot {
+            x: 4,
+            y: 40,
+            layer: Name::new(b"POLY".to_vec(rt.alloc())?),
+        };
+        let spots = [
+            NumberedSpot {
+                terminal: 0,
+                spot: &low,
+            },
+            NumberedSpot {
+                terminal: 1,
+                spot: &high,
+            },
+            NumberedSpot {
+                terminal: 0,
+                spot: &low,
+            },
+        ];
+        assert!(rt; are_on_layer(b"Poly", &spots));
+        assert!(rt; !are_on_layer(b"PolyS", &spots));
+        assert!(rt; grid_positions(rt.alloc(), 6, outline, &spots)?.is_none());
+        let bottom = Position {
+            terminal: 0,
+            top: false,
+            column: 1,
+        };
+        let top = Position {
+            terminal: 1,
+            top: true,
+            column: 0,
+        };
+        let positions = grid_positions(rt.alloc(), 8, outline, &spots)?.expect(&rt, "on the grid");
+        assert_eq!(rt; positions.as_slice(), [bottom, top, bottom].as_slice());
+        assert!(rt; has_clash(rt.alloc(), &positions)?);
+        assert!(rt; !has_clash(rt.alloc(), &[bottom, top])?);
+        Ok(())
+    }
+}
