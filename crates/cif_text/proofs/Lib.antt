@@ -1,0 +1,17 @@
+-- whole texts, what each reads as, and what each means
+pub mod Samples
+pub mod MeaningSamples
+-- fronts of lists, and the numbers that stand in a printed line
+pub mod SpanLemmas
+pub mod NumberLemmas
+-- what a printed form reads as
+pub mod FormLemmas
+-- printed bytes are of ASCII
+pub mod PlainLemmas
+-- the printed text of commands reads as those commands
+pub mod ReadBack
+-- a written layout is a text, and means that layout
+pub mod WrittenText
+pub mod WrittenMeaning
+-- what callers need: texts in parts, names, and the symbols of a written layout
+pub mod TextLemmas

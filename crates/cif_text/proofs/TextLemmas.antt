@@ -1,0 +1,62 @@
+use Rattle.std.proofs.Common.{◌≡◌, refl, ap, sym, ◌∙◌, append_assoc, ℕ, zero, suc, ◌+◌, ◌≤◌, List, [], ◌∷◌, ◌++◌, length, Bool, true, false, not, arith}
+use Rattle.std.proofs.lemmas.Bool.Decides.{nat_tests}
+use Rattle.std.specs.List.{list_all}
+use Rattle.std.specs.Prelude.{Some, slice_get, ◌&&◌, ◌==◌, nat_le}
+use Rattle.cif_text.specs.declared.command.Command.{Command}
+use Rattle.cif_text.specs.Bytes.{is_white, begins, without_tail}
+use Rattle.cif_text.specs.Printing.{line, text_of}
+use Rattle.cif_text.specs.Printable.{is_plain_byte, IsNameText}
+use Rattle.cif_text.specs.Symbols.{symbol_of}
+use Rattle.cif_text.specs.Written.{Drawn}
+use Rattle.cif_text.specs.WrittenLayout.{symbol_at, symbols_from}
+use Rattle.cif_text.proofs.SpanLemmas.{and-both, skip-stop, list_all-weaker}
+
+-- the text of commands in two parts
+pub text_of-append : (xs ys : List Command) → text_of (xs ++ ys) ≡ text_of xs ++ text_of ys
+text_of-append [] ys = refl
+text_of-append (c ∷ xs) ys = ap (λ (text : List ℕ). line c ++ text) (text_of-append xs ys) ∙ sym (append_assoc (line c) (text_of xs) (text_of ys))
+
+-- a byte that shows, and is no semicolon
+abbrev pub is_shown : ℕ → Bool
+is_shown c = nat_le 33 c && nat_le c 126 && not (c == 59)
+
+shown-plain : (c : ℕ) → is_shown c ≡ true → is_plain_byte c ≡ true
+shown-plain c shown = grind (arith, nat_tests)
+
+shown-bare : (c : ℕ) → is_shown c ≡ true → is_white c ≡ false
+shown-bare c shown = grind (arith, nat_tests)
+
+shown-begins : (text : List ℕ) → list_all is_shown text ≡ true → begins is_white text ≡ false
+shown-begins [] shown = refl
+shown-begins (c ∷ cs) shown = shown-bare c (and-both (is_shown c) (list_all is_shown cs) shown).0
+
+shown-ends : (text : List ℕ) → list_all is_shown text ≡ true → without_tail text ≡ text
+shown-ends [] shown = refl
+shown-ends (c ∷ cs) shown =
+    let parts : (is_shown c ≡ true) × (list_all is_shown cs ≡ true) = and-both (is_shown c) (list_all is_shown cs) shown in
+    rw (shown-bare c parts.0) (ap (λ (rest : List ℕ). c ∷ rest) (shown-ends cs parts.1))
+
+-- a word of bytes that show can be a name
+pub name-shown : (text : List ℕ) → 1 ≤ length text → list_all is_shown text ≡ true → IsNameText text
+name-shown text some shown = record {
+  some = some;
+  plain = list_all-weaker is_shown is_plain_byte shown-plain text shown;
+  bare = ap without_tail (skip-stop is_white text (shown-begins text shown)) ∙ shown-ends text shown;
+}
+
+-- the symbol of a number is the one that was written with it
+symbol_of-from : (first k m : ℕ) (ds : List Drawn) (d : Drawn) → m ≡ first + k → slice_get ds k ≡ Some d
+    → symbol_of m (symbols_from first ds) ≡ Some (symbol_at m d)
+symbol_of-from first zero m [] d at there = cc
+symbol_of-from first (suc k) m [] d at there = cc
+symbol_of-from first zero m (e ∷ ds) d at there =
+    let test : (first == m) ≡ true = grind (arith, nat_tests) in
+    let same : first ≡ m = omega arith in
+    let drawn : e ≡ d = cc in
+    rw (test, same, drawn) refl
+symbol_of-from first (suc k) m (e ∷ ds) d at there =
+    let test : (first == m) ≡ false = grind (arith, nat_tests) in
+    rw test (symbol_of-from (suc first) k m ds d (omega arith) there)
+
+pub symbol_of-written : (k : ℕ) (ds : List Drawn) (d : Drawn) → slice_get ds k ≡ Some d → symbol_of (suc k) (symbols_from 1 ds) ≡ Some (symbol_at (suc k) d)
+symbol_of-written k ds d there = symbol_of-from 1 k (suc k) ds d (omega arith) there

@@ -1,0 +1,26 @@
+-- how commands are printed
+pub mod Printing
+-- bytes and what separates numbers
+pub mod Bytes
+-- one step after another, and numbers
+pub mod InOrder
+pub mod Numbers
+-- the forms of boxes, layers, definitions and user commands
+pub mod Forms
+-- the form of calls
+pub mod Calls
+-- a command, by its first byte, and its faults
+pub mod Commands
+-- the reading of a whole text
+pub mod CifReads
+-- the commands whose printed text reads as they are
+pub mod Printable
+-- the numbers of boxes and calls at a scale
+pub mod Scales
+-- symbols, and what stands behind some commands
+pub mod Symbols
+-- the layout that commands mean
+pub mod Meaning
+-- the commands of a written layout, and what they mean
+pub mod Written
+pub mod WrittenLayout

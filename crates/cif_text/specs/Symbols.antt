@@ -1,0 +1,39 @@
+use Rattle.std.specs.Prelude.{if◌then◌else◌, ℕ, ◌==◌, List, [], ◌∷◌, Option, Some, None, map}
+use Rattle.geom_core.specs.declared.layout.Shape.{Shape}
+use Rattle.geom_core.specs.declared.layout.Cell.{Cell}
+use Rattle.geom_core.specs.Turning.{Turning, moved}
+
+-- a symbol whose definition has ended: its number, its name if it has one, and its shapes, with those of what it calls
+pub record Symbol : Type 0 where
+  pub number : ℕ
+  pub name : Option (List ℕ)
+  pub shapes : List Shape
+
+-- a definition that is open: what its symbol has so far, its scale, and its present layer
+pub record Definition : Type 0 where
+  pub symbol : Symbol
+  pub a : ℕ
+  pub b : ℕ
+  pub layer : Option (List ℕ)
+
+-- the symbol of a number
+abbrev pub symbol_of : ℕ → List Symbol → Option Symbol
+symbol_of n [] = None
+symbol_of n (s ∷ ss) = if s.number == n then Some s else symbol_of n ss
+
+-- what stands behind the commands so far: the cells, the shapes, the layer and the waiting name of the main level, the
+-- symbols whose definitions have ended, and the definition that is open
+pub record State : Type 0 where
+  pub cells : List Cell
+  pub shapes : List Shape
+  pub layer : Option (List ℕ)
+  pub waiting : Option (List ℕ)
+  pub symbols : List Symbol
+  pub inside : Option Definition
+
+-- a shape, and a symbol's shapes, under a turn
+abbrev pub moved_shape : Turning → Shape → Shape
+moved_shape turn s = record { layer = s.layer; rect = moved turn s.rect }
+
+abbrev pub moved_shapes : Turning → List Shape → List Shape
+moved_shapes turn shapes = map (moved_shape turn) shapes

@@ -1,0 +1,70 @@
+use Rattle.std.specs.Prelude.{if◌then◌else◌, ℕ, suc, pos, ◌+ℤ◌, ◌-ℤ◌, int_div, false, List, [], ◌∷◌, ◌++◌, Option, Some, None}
+use Rattle.std.specs.Str.{bytes_eq}
+use Rattle.geom_core.specs.declared.layout.Shape.{Shape}
+use Rattle.geom_core.specs.declared.turn.Place.{Place}
+use Rattle.geom_core.specs.Extent.{Extent}
+use Rattle.cif_text.specs.declared.command.Command.{Command}
+use Rattle.cif_text.specs.declared.command.Command.TheVariants as commands
+use Rattle.cif_text.specs.declared.command.UserKind.{UserKind}
+use Rattle.cif_text.specs.declared.command.UserKind.TheVariants as users
+
+-- a symbol that is written: its name, if it has one, and its shapes
+pub record Drawn : Type 0 where
+  pub name : Option (List ℕ)
+  pub shapes : List Shape
+
+-- what is written at the main level: a shape alone, or a copy of the symbol of a number, with its own name if it has one
+pub data Item : Type 0 where
+  alone : Shape → Item
+  copy : Option (List ℕ) → ℕ → Place → Item
+
+-- the box of a rectangle, with its length along x; a rectangle counts in half centimicrons, and a box in centimicrons
+abbrev pub box_of : Extent → Command
+box_of e =
+    commands.Box (int_div (e.x1 -ℤ e.x0) (pos 2)) (int_div (e.y1 -ℤ e.y0) (pos 2))
+    (int_div (e.x0 +ℤ e.x1) (pos 4)) (int_div (e.y0 +ℤ e.y1) (pos 4)) false
+
+-- the call of a symbol at a place
+abbrev pub call_to : ℕ → Place → Command
+call_to n place = commands.Call n place.mirror 0 (int_div place.dx (pos 2)) (int_div place.dy (pos 2))
+
+-- the layer's command, where it is not the one that was last written
+abbrev pub change : Option (List ℕ) → List ℕ → List Command
+change None layer = commands.Layer layer ∷ []
+change (Some old) layer = if bytes_eq old layer then [] else commands.Layer layer ∷ []
+
+abbrev pub name_commands : UserKind → Option (List ℕ) → List Command
+name_commands kind None = []
+name_commands kind (Some name) = commands.User kind name ∷ []
+
+abbrev pub shape_commands : Option (List ℕ) → Shape → List Command
+shape_commands layer s = change layer s.layer ++ (box_of s.rect ∷ [])
+
+-- shapes behind this layer
+abbrev pub shapes_commands : Option (List ℕ) → List Shape → List Command
+shapes_commands layer [] = []
+shapes_commands layer (s ∷ ss) = shape_commands layer s ++ shapes_commands (Some s.layer) ss
+
+-- the definition of a symbol, which begins without a layer
+abbrev pub symbol_commands : ℕ → Drawn → List Command
+symbol_commands n d =
+    commands.Start n 1 1 ∷ (name_commands users.SymbolName d.name ++ (shapes_commands None d.shapes ++ (commands.Finish ∷ [])))
+
+-- symbols, of which the first has this number
+abbrev pub symbols_commands : ℕ → List Drawn → List Command
+symbols_commands n [] = []
+symbols_commands n (d ∷ ds) = symbol_commands n d ++ symbols_commands (suc n) ds
+
+-- a copy, behind its name
+abbrev pub copy_commands : Option (List ℕ) → ℕ → Place → List Command
+copy_commands name n place = name_commands users.InstanceName name ++ (call_to n place ∷ [])
+
+-- the main level, behind this layer; copies leave the layer as it is
+abbrev pub items_commands : Option (List ℕ) → List Item → List Command
+items_commands layer [] = []
+items_commands layer (alone s ∷ is) = shape_commands layer s ++ items_commands (Some s.layer) is
+items_commands layer (copy name n place ∷ is) = copy_commands name n place ++ items_commands layer is
+
+-- the whole text: a comment, the symbols, numbered from 1, the main level and the end
+abbrev pub layout_commands : List Drawn → List Item → List Command
+layout_commands ds is = commands.Comment ∷ (symbols_commands 1 ds ++ (items_commands None is ++ (commands.End ∷ [])))

@@ -1,0 +1,11 @@
+//! The commands of a text in Caltech Intermediate Form, how each is printed, and what a text reads as
+//! (Mead and Conway, Introduction to VLSI Systems, 1980: CIF 2.0).
+#![tactic(auto)]
+
+pub mod command;
+pub mod fault;
+pub mod print;
+
+pub use command::{Command, UserKind};
+pub use fault::{CifFault, CifKind};
+pub use print::print_command;

@@ -1,0 +1,237 @@
+ghost use Rattle.cif_text.specs.Printing.{blanked, line, flip_parts, quarter_parts, upright_parts, HasLine};
+ghost use Rattle.cif_text.specs.declared.command.Command.TheVariants as commands;
+ghost use Rattle.std.specs.Fmt.{signed_decimal};
+ghost use Rattle.std.specs.Prelude.{◌≡◌, ◌+◌, ◌≤◌, ◌++◌, ◌∷◌, [], length, take, decimal};
+
+use crate::command::Command;
+use itoa::Buffer;
+
+/// Writes the command's line to the front of `into`, and gives the length of the line. Takes no memory.
+///
+/// It needs a command that is no user command, and a call with at most three quarters.
+pub fn print_command(command: &Command, into: &mut [u8; 160]) -> usize
+    requires { HasLine command.now }
+    ensures line { take result into.new ≡ line command.now }
+    ensures fits { result ≤ 160 }
+{
+    match command {
+        Command::Box {
+            length,
+            width,
+            cx,
+            cy,
+            upright,
+        } => print_box(*length, *width, *cx, *cy, *upright, into),
+        Command::Layer(layer) => print_layer(layer.text(), into),
+        Command::Start { n, a, b } => print_start(*n, *a, *b, into),
+        Command::Finish => put(into, 0, b"DF;\n"),
+        Command::Call {
+            n,
+            flip,
+            quarters,
+            dx,
+            dy,
+        } => print_call(*n, *flip, *quarters, *dx, *dy, into),
+        Command::Comment => put(into, 0, b"(cellroute 1);\n"),
+        Command::User { .. } => unreachable!(),
+        Command::End => put(into, 0, b"E\n"),
+    }
+}
+
+fn print_box(
+    length: i64,
+    width: i64,
+    cx: i64,
+    cy: i64,
+    upright: bool,
+    into: &mut [u8; 160],
+) -> usize
+    ensures line { take result into.new ≡ line (commands.Box length width cx cy upright) }
+    ensures fits { result ≤ 160 }
+{
+    let end = put(into, 0, b"B");
+    let end = put_number(into, end, length);
+    let end = put_number(into, end, width);
+    let end = put_number(into, end, cx);
+    let end = put_number(into, end, cy);
+    let end = put_upright(into, end, upright);
+    put(into, end, b";\n")
+}
+
+fn print_layer(text: &[u8], into: &mut [u8; 160]) -> usize
+    requires { length text.now ≤ 4 }
+    ensures line { take result into.new ≡ line (commands.Layer text.now) }
+    ensures fits { result ≤ 160 }
+{
+    let end = put(into, 0, b"L ");
+    let end = put(into, end, text);
+    put(into, end, b";\n")
+}
+
+fn print_start(n: u64, a: u64, b: u64, into: &mut [u8; 160]) -> usize
+    ensures line { take result into.new ≡ line (commands.Start n a b) }
+    ensures fits { result ≤ 160 }
+{
+    let end = put(into, 0, b"DS");
+    let end = put_natural(into, end, n);
+    let end = put_natural(into, end, a);
+    let end = put_natural(into, end, b);
+    put(into, end, b";\n")
+}
+
+fn print_call(n: u64, flip: bool, quarters: u8, dx: i64, dy: i64, into: &mut [u8; 160]) -> usize
+    requires { quarters ≤ 3 }
+    ensures line { take result into.new ≡ line (commands.Call n flip quarters dx dy) }
+    ensures fits { result ≤ 160 }
+{
+    let end = put(into, 0, b"C");
+    let end = put_natural(into, end, n);
+    let end = put_flip(into, end, flip);
+    let end = put_quarters(into, end, quarters);
+    let end = put(into, end, b" T");
+    let end = put_number(into, end, dx);
+    let end = put_number(into, end, dy);
+    put(into, end, b";\n")
+}
+
+fn put_upright(into: &mut [u8; 160], at: usize, upright: bool) -> usize
+    requires { at + 4 ≤ 160 }
+    ensures text { take result into.new ≡ take at into.old ++ blanked (upright_parts upright) }
+    ensures short { result ≤ at + 4 }
+{
+    if upright { put(into, at, b" 0 1") } else { at }
+}
+
+fn put_flip(into: &mut [u8; 160], at: usize, flip: bool) -> usize
+    requires { at + 4 ≤ 160 }
+    ensures text { take result into.new ≡ take at into.old ++ blanked (flip_parts flip []) }
+    ensures short { result ≤ at + 4 }
+{
+    if flip { put(into, at, b" M X") } else { at }
+}
+
+fn put_quarters(into: &mut [u8; 160], at: usize, quarters: u8) -> usize
+    requires few { quarters ≤ 3 }
+    requires room { at + 7 ≤ 160 }
+    ensures text { take result into.new ≡ take at into.old ++ blanked (quarter_parts quarters []) }
+    ensures short { result ≤ at + 7 }
+{
+    match quarters {
+        0 => at,
+        1 => put(into, at, b" R 0 1"),
+        2 => put(into, at, b" R -1 0"),
+        _ => put(into, at, b" R 0 -1"),
+    }
+}
+
+// A blank and the number.
+fn put_natural(into: &mut [u8; 160], at: usize, n: u64) -> usize
+    requires { at + 21 ≤ 160 }
+    ensures text { take result into.new ≡ take at into.old ++ 32 ∷ decimal n }
+    ensures short { result ≤ at + 21 }
+{
+    let end = put(into, at, b" ");
+    let mut buffer = Buffer::new();
+    put(into, end, buffer.format(n).as_bytes())
+}
+
+// A blank and the number.
+fn put_number(into: &mut [u8; 160], at: usize, n: i64) -> usize
+    requires { at + 21 ≤ 160 }
+    ensures text { take result into.new ≡ take at into.old ++ 32 ∷ signed_decimal n }
+    ensures short { result ≤ at + 21 }
+{
+    let end = put(into, at, b" ");
+    let mut buffer = Buffer::new();
+    put(into, end, buffer.format(n).as_bytes())
+}
+
+fn put(into: &mut [u8; 160], at: usize, piece: &[u8]) -> usize
+    requires { at + length piece.now ≤ 160 }
+    ensures text { take result into.new ≡ take at into.old ++ piece.now }
+    ensures end { result ≡ at + length piece.now }
+{
+    let end = at + piece.len();
+    into[at..end].copy_from_slice(piece);
+    end
+}
+
+#[cfg(test)]
+mod tests {
+    use super::*;
+    use geom_core::LayerName;
+
+    fn boxed(length: i64, width: i64, cx: i64, cy: i64, upright: bool) -> Command
+        ensures { HasLine result }
+    {
+        Command::Box {
+            length,
+            width,
+            cx,
+            cy,
+            upright,
+        }
+    }
+
+    fn call(n: u64, flip: bool, quarters: u8, dx: i64, dy: i64) -> Command
+        requires { quarters ≤ 3 }
+        ensures { HasLine result }
+    {
+        Command::Call {
+            n,
+            flip,
+            quarters,
+            dx,
+            dy,
+        }
+    }
+
+    fn is_printed(command: &Command, wanted: &[u8]) -> bool
+        requires { HasLine command.now }
+    {
+        let mut line = [0; 160];
+        let end = print_command(command, &mut line);
+        &line[..end] == wanted
+    }
+
+    // The lines of the text of one inverter, all but those of the two names.
+    #[test]
+    fn prints_the_text_of_one_inverter(rt: HostRuntime) {
+        let outline = LayerName::new(b"XP").unwrap();
+        let wire = LayerName::new(b"NP").unwrap();
+        assert!(rt; is_printed(&Command::Comment, b"(cellroute 1);\n"));
+        assert!(rt; is_printed(&Command::Start { n: 1, a: 1, b: 1 }, b"DS 1 1 1;\n"));
+        assert!(rt; is_printed(&Command::Layer(outline), b"L XP;\n"));
+        assert!(rt;
+            is_printed(
+                &boxed(800, 4000, 400, 2000, false),
+                b"B 800 4000 400 2000;\n"
+            )
+        );
+        assert!(rt; is_printed(&Command::Layer(wire), b"L NP;\n"));
+        assert!(rt; is_printed(&boxed(300, 400, 400, 200, false), b"B 300 400 400 200;\n"));
+        assert!(rt; is_printed(&Command::Finish, b"DF;\n"));
+        assert!(rt; is_printed(&call(1, false, 0, 0, 800), b"C 1 T 0 800;\n"));
+        assert!(rt; is_printed(&Command::End, b"E\n"));
+    }
+
+    #[test]
+    fn prints_signs_directions_and_turns(rt: HostRuntime) {
+        assert!(rt; is_printed(&boxed(2, 4, -5, 2, true), b"B 2 4 -5 2 0 1;\n"));
+        assert!(rt; is_printed(&call(7, true, 1, -12, 0), b"C 7 M X R 0 1 T -12 0;\n"));
+        assert!(rt; is_printed(&call(7, false, 2, 0, -1), b"C 7 R -1 0 T 0 -1;\n"));
+        assert!(rt; is_printed(&call(7, true, 3, 1, 1), b"C 7 M X R 0 -1 T 1 1;\n"));
+    }
+
+    // The longest line: a call with the least offsets that a number of the type can be.
+    #[test]
+    fn prints_the_longest_line(rt: HostRuntime) {
+        let least = call(u64::MAX, true, 2, i64::MIN, i64::MIN);
+        assert!(rt;
+            is_printed(
+                &least,
+                b"C 18446744073709551615 M X R -1 0 T -9223372036854775808 -9223372036854775808;\n"
+            )
+        );
+    }
+}
