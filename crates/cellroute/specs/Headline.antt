@@ -1,0 +1,34 @@
+use Rattle.std.specs.Prelude.{◌≡◌, ℕ, List, Ok}
+use Rattle.geom_core.specs.declared.layout.Layout.{Layout}
+use Rattle.tech_rules.specs.Rules.{RuleValues}
+use Rattle.tech_rules.specs.Sample.{sample}
+use Rattle.yal_reader.specs.YalReads.{yal_reads}
+use Rattle.yal_reader.specs.declared.file.YalFile.{YalFile}
+use Rattle.netlist_core.specs.Good.{Good}
+use Rattle.netlist_core.specs.Netlist.{Netlist}
+use Rattle.netlist_core.specs.OnGrid.{on_grid}
+use Rattle.netlist_core.specs.SameNet.{SameNet, parent_calls}
+use Rattle.cif_text.specs.CifReads.{cif_reads}
+use Rattle.cif_text.specs.Meaning.{meaning}
+use Rattle.cif_text.specs.declared.command.Command.{Command}
+
+-- a text is a good layout of a design: it reads as commands of CIF, these mean a layout, and that is good for the design and the rules
+pub record IsGoodText (rules : RuleValues) (d : Netlist) (text : List ℕ) : Type 0 where
+  pub commands : List Command
+  pub layout : Layout
+  pub reads : cif_reads text ≡ Ok commands
+  pub means : meaning commands ≡ Ok layout
+  pub good : Good rules d layout
+
+-- a text is a good layout of what a file says: the file is a design on the grid, whose nets are its pins of equal signal words
+pub record IsGoodFor (rules : RuleValues) (file : YalFile) (text : List ℕ) : Type 0 where
+  pub design : Netlist
+  pub checked : on_grid rules file ≡ Ok design
+  pub nets : SameNet (parent_calls file) design.pins
+  pub good : IsGoodText rules design text
+
+-- the headline: the bytes are a design, and the text is a good layout of it, under the sample rules
+pub record Headline (bytes text : List ℕ) : Type 0 where
+  pub file : YalFile
+  pub read : yal_reads bytes ≡ Ok file
+  pub good : IsGoodFor sample file text
