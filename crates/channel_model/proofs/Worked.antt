@@ -1,0 +1,22 @@
+use Rattle.std.proofs.Common.{◌≡◌, ◌∷◌, [], ℕ, List, refl}
+use Rattle.channel_model.specs.Pins.{Pins, are_matched}
+use Rattle.channel_model.specs.Density.{density_of}
+use Rattle.std.specs.Prelude.{true, false}
+
+-- the channel with bottom pins 1, 2 and top pins 2, 1
+abbrev pub crossed : Pins
+crossed = record { top = 2 ∷ (1 ∷ []); bottom = 1 ∷ (2 ∷ []) }
+
+-- its nets
+abbrev pub both : List ℕ
+both = 1 ∷ (2 ∷ [])
+
+pub crossed-matched : are_matched crossed ≡ true
+crossed-matched = refl
+
+pub crossed-density : density_of crossed both ≡ 2
+crossed-density = refl
+
+-- a net that stands once
+pub alone-matched : are_matched (record { top = 2 ∷ (1 ∷ []); bottom = 1 ∷ (0 ∷ []) }) ≡ false
+alone-matched = refl

@@ -1,0 +1,26 @@
+use Rattle.std.specs.Prelude.{◌&&◌, ℕ, zero, suc, List, length, Bool, nat_le, count_by, max}
+use Rattle.std.specs.List.{filter_map}
+use Rattle.channel_model.specs.declared.reach.Reach.{Reach}
+use Rattle.channel_model.specs.Pins.{Pins}
+use Rattle.channel_model.specs.Reach.{span_of}
+
+-- the first pin is not right of the column, and the last is not left of it
+abbrev pub is_over : ℕ → Reach → Bool
+is_over column span = nat_le span.first column && nat_le column span.last
+
+-- the spans of nets
+abbrev pub spans_of : Pins → List ℕ → List Reach
+spans_of pins nets = filter_map (span_of pins) nets
+
+-- the greatest value of a function below a number, 0 where there is none
+abbrev pub greatest : (ℕ → ℕ) → ℕ → ℕ
+greatest f zero = 0
+greatest f (suc n) = max (greatest f n) (f n)
+
+-- the greatest number, over all columns, of spans over a column
+abbrev pub most_over : List Reach → ℕ → ℕ
+most_over spans columns = greatest (λ column. count_by (is_over column) spans) columns
+
+-- the greatest number, over all columns, of these nets over a column
+abbrev pub density_of : Pins → List ℕ → ℕ
+density_of pins nets = most_over (spans_of pins nets) (length pins.top)

@@ -1,0 +1,119 @@
+ghost use Rattle.channel_model.specs.Pins.{IsChannel, are_matched, is_matched};
+ghost use Rattle.std.specs.List.{list_all};
+ghost use Rattle.std.specs.Prelude.{◌≡◌, ◌<◌, ◌+◌, ◌^◌, ◌↔◌, ◌==◌, IsSome, IfSome, length, count_by};
+
+use geom_core::Items;
+use std::marker::Model;
+
+/// A channel between two rows: for each column the net of the pin at its upper edge and that of the pin at its lower edge,
+/// 0 where there is none. Both lists have one length, at most 4,000,000, and no net has one pin alone.
+#[derive(Debug, Drop)]
+pub struct Channel {
+    pub top: Items<u32>,
+    pub bottom: Items<u32>,
+}
+
+impl Model for Channel {
+    ghost use Rattle.channel_model.specs.Pins.{Pins};
+
+    ghost Value = { Pins };
+
+    ghost use Rattle.channel_model.specs.ChannelView.{pins_in, IsValid};
+
+    ghost view = { pins_in };
+
+    ghost invariant = { IsValid };
+}
+
+/// The most columns of a channel.
+pub const MOST_COLUMNS: usize = 4_000_000;
+
+impl Channel {
+    /// The channel with these pins. `None` exactly where the lengths differ, a length is above 4,000,000, or a net has one
+    /// pin alone. Takes no memory, so that each pin's net is looked for anew, and the time is quadratic where a net's pins
+    /// lie far apart; `from_paired` is for lists that are known to make a channel.
+    pub fn new(top: Vec<u32>, bottom: Vec<u32>) -> Option<Channel>
+        ensures valid { IsSome result ↔ IsChannel (record { top = top.items; bottom = bottom.items }) }
+        ensures pins { IfSome result (λ channel. channel ≡ record { top = top.items; bottom = bottom.items }) }
+    {
+        if top.len() != bottom.len() || top.len() > MOST_COLUMNS {
+            return None;
+        }
+        if !are_matched(&top, &bottom) {
+            return None;
+        }
+        Some(Channel::from_paired(top, bottom))
+    }
+
+    /// The channel with these pins, which make one. Takes no memory and looks at no pin.
+    pub fn from_paired(top: Vec<u32>, bottom: Vec<u32>) -> Channel
+        requires { IsChannel (record { top = top.items; bottom = bottom.items }) }
+        ensures { result ≡ record { top = top.items; bottom = bottom.items } }
+    {
+        Channel {
+            top: Items::new(top),
+            bottom: Items::new(bottom),
+        }
+    }
+}
+
+// Whether the net of each pin has other pins.
+fn are_matched(top: &[u32], bottom: &[u32]) -> bool
+    requires { length top.now + length bottom.now < 2 ^ 63 }
+    ensures { result ≡ are_matched (record { top = top.now; bottom = bottom.now }) }
+{
+    are_matched_in(top, top, bottom) && are_matched_in(bottom, top, bottom)
+}
+
+// The same, for some of the pins.
+fn are_matched_in(pins: &[u32], top: &[u32], bottom: &[u32]) -> bool
+    requires { length top.now + length bottom.now < 2 ^ 63 }
+    ensures { result ≡ list_all (is_matched (record { top = top.now; bottom = bottom.now })) pins.now }
+{
+    pins.iter().all(|&net| is_matched(top, bottom, net))
+}
+
+// Whether a pin's net is none, or has other pins.
+fn is_matched(top: &[u32], bottom: &[u32], net: u32) -> bool
+    requires { length top.now + length bottom.now < 2 ^ 63 }
+    ensures { result ≡ is_matched (record { top = top.now; bottom = bottom.now }) net }
+{
+    net == 0 || pin_count(top, net) + pin_count(bottom, net) != 1
+}
+
+// How many pins of an edge a net has.
+fn pin_count(side: &[u32], net: u32) -> usize
+    ensures { result ≡ count_by (λ n. n == net) side.now }
+{
+    side.iter().filter(|n| **n == net).count()
+}
+
+#[cfg(test)]
+mod tests {
+    use super::*;
+    use std::test::Fail;
+
+    #[test]
+    fn a_channel_has_equal_edges_and_no_lone_pin(rt: HostRuntime) -> Result<(), Fail> {
+        let alloc = rt.alloc();
+        let cases: [(&[u32], &[u32], bool); 8] = [
+            (&[], &[], true),
+            (&[0, 0], &[0, 0], true),
+            (&[2, 1], &[1, 2], true),
+            (&[7], &[7], true),
+            (&[0, 0, 3], &[0, 0, 3], true),
+            (&[2, 1], &[1, 2, 0], false),
+            (&[5, 1], &[1, 0], false),
+            (&[0, 0], &[0, 4], false),
+        ];
+        for (top, bottom, is_channel) in cases {
+            let channel = Channel::new(top.to_vec(alloc)?, bottom.to_vec(alloc)?);
+            assert_eq!(rt; channel.is_some(), is_channel);
+            if let Some(channel) = channel {
+                assert_eq!(rt; channel.top.items(), top);
+                assert_eq!(rt; channel.bottom.items(), bottom);
+            }
+        }
+        Ok(())
+    }
+}
