@@ -1,0 +1,2 @@
+-- the wiring of the plain router
+pub mod Plain
