@@ -1,0 +1,146 @@
+ghost use Rattle.channel_model.specs.Elements.{segment as seg, elements};
+ghost use Rattle.channel_model.specs.Pins.{Pins};
+ghost use Rattle.channel_model.specs.Wired.{Wired, IsOnGrid};
+ghost use Rattle.std.specs.List.{All, flat_map};
+ghost use Rattle.std.specs.Prelude.{◌≡◌, ◌<◌, ◌≤◌, ◌+◌, ◌++◌, ℕ, List, IfOk, OnOk, map};
+ghost use Rattle.tech_rules.specs.Rules.{pad as side_of_pad};
+ghost use Rattle.wire_geom.specs.Columns.{InColumns};
+ghost use Rattle.wire_geom.specs.Contact.{KeepContact};
+ghost use Rattle.wire_geom.specs.Drawing.{on_horizontal, on_vertical, on_cut, segment_piece, via_piece, via_pieces, drawn_of, drawing};
+ghost use Rattle.wire_geom.specs.Edges.{KeepEdges, MeetEntries, bottom_entry, top_entry};
+ghost use Rattle.wire_geom.specs.Grid.{line_at};
+ghost use Rattle.wire_geom.specs.Spaces.{NetsApart};
+ghost use Rattle.wire_geom.specs.Widths.{AreWide};
+
+use crate::boxes::{across_rect, along_rect, square_rect};
+use crate::drawn::Drawn;
+use channel_model::{Segment, Via, Wiring};
+use geom_core::{LayerName, Rect, Shape};
+use std::alloc::{AllocError, Global};
+use tech_rules::Rules;
+
+/// The rectangles of a channel's wiring, in half centimicrons; `base` is the height of the channel's lower edge in units.
+///
+/// An Across is drawn on the vertical layer, as wide as that layer's wires, in the middle of its column; it ends half a pad beyond
+/// its tracks, and exactly at the channel's edge where it reaches one. An Along is drawn on the horizontal layer, around its
+/// track, to half a pad beyond its columns. A via is drawn as a pad on the horizontal layer, one on the vertical layer, and a cut.
+/// The segments come in order, then the vias. The elements have to lie within the wiring's columns and lines.
+///
+/// Where the wiring connects its channel, the wires are wide enough and the cuts lie in pads; rectangles of different nets keep
+/// their layer's space; all lie in the wiring's columns; a rectangle comes to an edge of the channel only over an entry of its net, and ends exactly there, and each entry is so met; and
+/// where elements share a point of a layer, their rectangles do. The one error is want of memory.
+pub fn draw(
+    alloc: Global,
+    wiring: &Wiring,
+    base: u32,
+    rules: &Rules,
+) -> Result<Vec<Drawn>, AllocError>
+    requires { All (IsOnGrid wiring.now.columns wiring.now.tracks) (elements wiring.now) }
+    ensures drawn { IfOk result (λ drawn. drawn.items ≡ drawing rules.now base wiring.now) }
+    ensures wide { IfOk result (λ drawn. (pins : Pins) → Wired pins wiring.now → AreWide rules.now drawn.items) }
+    ensures apart { IfOk result (λ drawn. (pins : Pins) → Wired pins wiring.now → NetsApart rules.now drawn.items) }
+    ensures contact { IfOk result (λ drawn. (pins : Pins) → Wired pins wiring.now → KeepContact rules.now base wiring.now drawn.items) }
+    ensures columns { IfOk result (λ drawn. (pins : Pins) → Wired pins wiring.now → InColumns rules.now wiring.now.columns drawn.items) }
+    ensures edges { IfOk result (λ drawn. (pins : Pins) → Wired pins wiring.now
+        → KeepEdges rules.now (line_at rules.now base 0) (line_at rules.now base (wiring.now.tracks + 1)) (bottom_entry pins) (top_entry pins) drawn.items) }
+    ensures entries { IfOk result (λ drawn. (pins : Pins) → Wired pins wiring.now
+        → MeetEntries rules.now (line_at rules.now base 0) (line_at rules.now base (wiring.now.tracks + 1)) (bottom_entry pins) (top_entry pins) drawn.items) }
+{
+    let mut drawn = Vec::new(alloc);
+    draw_segments(&mut drawn, wiring, base, rules)?;
+    draw_vias(&mut drawn, wiring, base, rules.pad(), rules)?;
+    Ok(drawn)
+}
+
+// Draws the segments.
+fn draw_segments(
+    drawn: &mut Vec<Drawn>,
+    wiring: &Wiring,
+    base: u32,
+    rules: &Rules,
+) -> Result<(), AllocError>
+    requires { All (λ s. IsOnGrid wiring.now.columns wiring.now.tracks (seg s)) wiring.now.segments }
+    ensures { OnOk result (drawn.new.items
+        ≡ drawn.old.items ++ map (λ s. drawn_of rules.now (segment_piece rules.now base wiring.now.tracks s)) wiring.now.segments) }
+{
+    for segment in wiring.segments.items() {
+        drawn.push(segment_drawn(*segment, wiring, base, rules))?;
+    }
+    Ok(())
+}
+
+// Draws the vias.
+fn draw_vias(
+    drawn: &mut Vec<Drawn>,
+    wiring: &Wiring,
+    base: u32,
+    pad: u32,
+    rules: &Rules,
+) -> Result<(), AllocError>
+    requires { pad ≡ side_of_pad rules.now }
+    ensures { OnOk result (drawn.new.items
+        ≡ drawn.old.items ++ flat_map (λ v. map (drawn_of rules.now) (via_pieces rules.now base v)) wiring.now.vias) }
+{
+    for via in wiring.vias.items() {
+        draw_via(drawn, *via, base, pad, rules)?;
+    }
+    Ok(())
+}
+
+// Draws a via: its two pads and its cut.
+fn draw_via(
+    drawn: &mut Vec<Drawn>,
+    via: Via,
+    base: u32,
+    pad: u32,
+    rules: &Rules,
+) -> Result<(), AllocError>
+    requires { pad ≡ side_of_pad rules.now }
+    ensures { OnOk result (drawn.new.items ≡ drawn.old.items ++ map (drawn_of rules.now) (via_pieces rules.now base via)) }
+{
+    let cut = square_rect(rules, base, rules.cut_size, via.column, via.track);
+    let pad = square_rect(rules, base, pad, via.column, via.track);
+    drawn.push(drawn_on(rules.horizontal_layer, pad, via.net))?;
+    drawn.push(drawn_on(rules.vertical_layer, pad, via.net))?;
+    drawn.push(drawn_on(rules.cut_layer, cut, via.net))?;
+    Ok(())
+}
+
+// The rectangle of a segment.
+fn segment_drawn(segment: Segment, wiring: &Wiring, base: u32, rules: &Rules) -> Drawn
+    requires { IsOnGrid wiring.now.columns wiring.now.tracks (seg segment) }
+    ensures { result ≡ drawn_of rules.now (segment_piece rules.now base wiring.now.tracks segment) }
+{
+    match segment {
+        Segment::Across {
+            net,
+            column,
+            low,
+            high,
+        } => drawn_on(
+            rules.vertical_layer,
+            across_rect(rules, base, wiring.tracks, column, low, high),
+            net,
+        ),
+        Segment::Along {
+            net,
+            track,
+            from,
+            to,
+        } => drawn_on(
+            rules.horizontal_layer,
+            along_rect(rules, base, track, from, to),
+            net,
+        ),
+    }
+}
+
+// A rectangle of a net on a layer.
+fn drawn_on(layer: LayerName, rect: Rect, net: u32) -> Drawn
+    ensures { result ≡ record { shape = record { layer = layer; rect = rect }; net = net } }
+{
+    Drawn {
+        shape: Shape { layer, rect },
+        net,
+    }
+}
