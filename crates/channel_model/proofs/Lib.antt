@@ -10,3 +10,5 @@ pub mod ReachLaws
 pub mod DensityLaws
 -- a worked channel
 pub mod Worked
+-- the nets of a channel are one list
+pub mod NetLists
