@@ -1,13 +1,13 @@
 use Rattle.std.proofs.Common.{◌≡◌, refl, ap, sym, ◌∙◌, append_assoc, ℕ, zero, suc, ◌+◌, ◌≤◌, List, [], ◌∷◌, ◌++◌, length, Bool, true, false, not, arith}
 use Rattle.std.proofs.lemmas.Bool.Decides.{nat_tests}
 use Rattle.std.specs.List.{list_all}
-use Rattle.std.specs.Prelude.{Some, slice_get, ◌&&◌, ◌==◌, nat_le}
+use Rattle.std.specs.Prelude.{Option, Some, slice_get, ◌&&◌, ◌==◌, nat_le}
 use Rattle.cif_text.specs.declared.command.Command.{Command}
 use Rattle.cif_text.specs.Bytes.{is_white, begins, without_tail}
 use Rattle.cif_text.specs.Printing.{line, text_of}
 use Rattle.cif_text.specs.Printable.{is_plain_byte, IsNameText}
 use Rattle.cif_text.specs.Symbols.{symbol_of}
-use Rattle.cif_text.specs.Written.{Drawn}
+use Rattle.cif_text.specs.Written.{Drawn, Item, alone, copy, shape_commands, copy_commands, items_commands, layer_after}
 use Rattle.cif_text.specs.WrittenLayout.{symbol_at, symbols_from}
 use Rattle.cif_text.proofs.SpanLemmas.{and-both, skip-stop, list_all-weaker}
 
@@ -60,3 +60,14 @@ symbol_of-from first (suc k) m (e ∷ ds) d at there =
 
 pub symbol_of-written : (k : ℕ) (ds : List Drawn) (d : Drawn) → slice_get ds k ≡ Some d → symbol_of (suc k) (symbols_from 1 ds) ≡ Some (symbol_at (suc k) d)
 symbol_of-written k ds d there = symbol_of-from 1 k (suc k) ds d (omega arith) there
+
+-- the main level in two parts
+pub items-append : (layer : Option (List ℕ)) (xs ys : List Item)
+    → items_commands layer (xs ++ ys) ≡ items_commands layer xs ++ items_commands (layer_after layer xs) ys
+items-append layer [] ys = refl
+items-append layer (alone s ∷ xs) ys =
+    ap (λ (cs : List Command). shape_commands layer s ++ cs) (items-append (Some s.layer) xs ys)
+    ∙ sym (append_assoc (shape_commands layer s) (items_commands (Some s.layer) xs) (items_commands (layer_after (Some s.layer) xs) ys))
+items-append layer (copy name n place ∷ xs) ys =
+    ap (λ (cs : List Command). copy_commands name n place ++ cs) (items-append layer xs ys)
+    ∙ sym (append_assoc (copy_commands name n place) (items_commands layer xs) (items_commands (layer_after layer xs) ys))

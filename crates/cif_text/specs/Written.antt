@@ -65,6 +65,12 @@ items_commands layer [] = []
 items_commands layer (alone s ∷ is) = shape_commands layer s ++ items_commands (Some s.layer) is
 items_commands layer (copy name n place ∷ is) = copy_commands name n place ++ items_commands layer is
 
+-- the layer that was written last behind items that stand behind this layer
+abbrev pub layer_after : Option (List ℕ) → List Item → Option (List ℕ)
+layer_after layer [] = layer
+layer_after layer (alone s ∷ is) = layer_after (Some s.layer) is
+layer_after layer (copy name n place ∷ is) = layer_after layer is
+
 -- the whole text: a comment, the symbols, numbered from 1, the main level and the end
 abbrev pub layout_commands : List Drawn → List Item → List Command
 layout_commands ds is = commands.Comment ∷ (symbols_commands 1 ds ++ (items_commands None is ++ (commands.End ∷ [])))
