@@ -1,0 +1,90 @@
+use Rattle.std.proofs.Common.{◌≡◌, inl, inr, ap, sym, ◌∙◌, subst, ℕ, suc, ◌+◌, ◌*◌, ◌<◌, ◌≤◌, ◌-◌, Contains, arith}
+use Rattle.std.proofs.lemmas.Int.{ints}
+use Rattle.std.specs.Prelude.{ℤ, ◌≤ℤ◌}
+use Rattle.geom_core.specs.Extent.{Extent}
+use Rattle.tech_rules.specs.Rules.{RuleValues, ValidRules}
+use Rattle.netlist_core.specs.Joined.{on_one, Touch}
+use Rattle.wire_geom.specs.Edges.{StandsIn}
+use Rattle.wire_geom.specs.Grid.{centre, line_at, scaled}
+use Rattle.wire_geom.specs.declared.drawn.Drawn.{Drawn}
+use Rattle.wire_geom.proofs.DrawingLaws.{drawing_wide, drawing_entries}
+use Rattle.wire_geom.proofs.ScaleLaws.{scaled-order}
+use Rattle.layout_laws.specs.Plans.{Plan, row_base, channel_drawn, IsPlan}
+use Rattle.layout_laws.specs.Seats.{Post, foot, head, through}
+use Rattle.layout_laws.specs.Threads.{EntersBelow, EntersAbove}
+use Rattle.layout_laws.specs.Uprights.{post_low, post_high}
+
+-- the ends of a wire in a row are in order
+post-up : (r : RuleValues) (base height : ℕ) (post : Post) → scaled r (post_low r base height post) ≤ℤ scaled r (post_high r base height post)
+post-up r base height foot = scaled-order r (2 * base) (2 * (base + r.grid_pin)) (omega arith)
+post-up r base height head = scaled-order r (2 * (base + height - r.grid_pin)) (2 * (base + height)) (omega arith)
+post-up r base height through = scaled-order r (2 * base) (2 * (base + height)) (omega arith)
+
+-- and so are the sides of a wire in a column
+column-wide : (r : RuleValues) (column : ℕ) → scaled r (centre r column - r.vertical_width) ≤ℤ scaled r (centre r column + r.vertical_width)
+column-wide r column = scaled-order r (centre r column - r.vertical_width) (centre r column + r.vertical_width) (omega arith)
+
+-- two vertical wires of one column touch where the one ends at a height at which the other begins
+stands-touch : (r : RuleValues) (column : ℕ) (edge : ℤ) (low high : Drawn) → StandsIn r column low → StandsIn r column high
+    → low.shape.rect.y0 ≤ℤ low.shape.rect.y1 → high.shape.rect.y0 ≤ℤ high.shape.rect.y1 → low.shape.rect.y1 ≡ edge → high.shape.rect.y0 ≡ edge
+    → Touch r low.shape high.shape
+stands-touch r column edge low high in_low in_high up_low up_high ends begins =
+    let wide = column-wide r column in
+    record {
+      layers = on_one (inr in_low.on_layer) (in_low.on_layer ∙ sym in_high.on_layer);
+      meet = record {
+        left = subst (λ (x : ℤ). x ≤ℤ high.shape.rect.x1) (sym in_low.left)
+            (subst (λ (x : ℤ). scaled r (centre r column - r.vertical_width) ≤ℤ x) (sym in_high.right) wide);
+        right = subst (λ (x : ℤ). x ≤ℤ low.shape.rect.x1) (sym in_high.left)
+            (subst (λ (x : ℤ). scaled r (centre r column - r.vertical_width) ≤ℤ x) (sym in_low.right) wide);
+        low = omega (arith, ints, up_low, up_high, ends, begins);
+        high = omega (arith, ints, up_low, up_high, ends, begins);
+      };
+    }
+
+module _ (r : RuleValues) (valid : ValidRules r) (plan : Plan) (is : IsPlan r plan) where
+  -- the ends of a wire of a channel are in order
+  channel-up : (k : ℕ) → k ≤ plan.rows → (a : Drawn) → Contains (channel_drawn r plan k) a → a.shape.layer ≡ r.vertical_layer → a.shape.rect.y0 ≤ℤ a.shape.rect.y1
+  channel-up k within a member on_layer =
+      let sides = (drawing_wide (plan.pins k) (plan.wiring k) (is.wired k within) r valid (plan.base k)).vertical a member on_layer in
+      let up = sides.up in
+      omega (arith, ints)
+
+  -- and those of a wire of a row
+  row-up : (k : ℕ) → k < plan.rows → (a : Drawn) → Contains (plan.row k) a → a.shape.layer ≡ r.vertical_layer → a.shape.rect.y0 ≤ℤ a.shape.rect.y1
+  row-up k within a member on_layer =
+      let it = is.spotted k within a member (inl (inr on_layer)) in
+      let low = ap (λ (e : Extent). e.y0) it.rect in
+      let high = ap (λ (e : Extent). e.y1) it.rect in
+      let up = post-up r (row_base r plan k) plan.height it.spot.post in
+      subst (λ (x : ℤ). x ≤ℤ a.shape.rect.y1) (sym low) (subst (λ (x : ℤ). scaled r (post_low r (row_base r plan k) plan.height it.spot.post) ≤ℤ x) (sym high) up)
+
+  -- what enters the channel below touches a wire of its net there
+  pub touch_below : (k : ℕ) → k < plan.rows → (a : Drawn) → EntersBelow r plan k a
+      → (w : Drawn) × Contains (channel_drawn r plan k) w × (w.net ≡ a.net) × Touch r w.shape a.shape
+  touch_below k within a enters =
+      let below : k ≤ plan.rows = omega (arith, within) in
+      let found = (drawing_entries (plan.pins k) (plan.wiring k) (is.wired k below) r valid (plan.base k)).top enters.column a.net enters.has_entry in
+      let edge : ℤ = scaled r (2 * row_base r plan k) in (
+        found.0,
+        found.1,
+        found.2,
+        stands-touch r enters.column edge found.0 a found.3 enters.stands (channel-up k below found.0 found.1 found.3.on_layer)
+            (row-up k within a enters.listed enters.stands.on_layer) found.4 enters.at_edge,
+      )
+
+  -- and what enters the channel above
+  pub touch_above : (k : ℕ) → k < plan.rows → (a : Drawn) → EntersAbove r plan k a
+      → (w : Drawn) × Contains (channel_drawn r plan (suc k)) w × (w.net ≡ a.net) × Touch r a.shape w.shape
+  touch_above k within a enters =
+      let above : suc k ≤ plan.rows = omega (arith, within) in
+      let found = (drawing_entries (plan.pins (suc k)) (plan.wiring (suc k)) (is.wired (suc k) above) r valid (plan.base (suc k))).bottom enters.column a.net enters.has_entry in
+      let edge : ℤ = scaled r (2 * (row_base r plan k + plan.height)) in
+      let next = is.next k within in
+      let floor : line_at r (plan.base (suc k)) 0 ≡ 2 * (row_base r plan k + plan.height) = omega (arith, next) in (
+        found.0,
+        found.1,
+        found.2,
+        stands-touch r enters.column edge a found.0 enters.stands found.3 (row-up k within a enters.listed enters.stands.on_layer)
+            (channel-up (suc k) above found.0 found.1 found.3.on_layer) enters.at_edge (found.4 ∙ ap (scaled r) floor),
+      )

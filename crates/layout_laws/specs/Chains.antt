@@ -1,0 +1,29 @@
+use Rattle.std.specs.Prelude.{◌≡◌, ℕ, List, Contains, Some, slice_get}
+use Rattle.geom_core.specs.declared.layout.Layout.{Layout}
+use Rattle.tech_rules.specs.Rules.{RuleValues}
+use Rattle.netlist_core.specs.Joined.{Touch, Draws}
+use Rattle.netlist_core.specs.Netlist.{Netlist}
+use Rattle.wire_geom.specs.declared.drawn.Drawn.{Drawn}
+
+-- two rectangles draw positions of one terminal in one cell
+pub record Tied (d : Netlist) (l : Layout) (ds : List Drawn) (a b : Drawn) : Type 0 where
+  pub cell : ℕ
+  pub instance : ℕ
+  pub terminal : ℕ
+  pub from : ℕ
+  pub to : ℕ
+  pub first : Draws d l cell instance terminal from
+  pub second : Draws d l cell instance terminal to
+  pub at_from : slice_get ds from ≡ Some a
+  pub at_to : slice_get ds to ≡ Some b
+
+-- a chain from one rectangle to another, in which each touches the next, or is tied to it
+pub data Chained (r : RuleValues) (d : Netlist) (l : Layout) (ds : List Drawn) (b : Drawn) : Drawn → Type 0 where
+  itself : Chained r d l ds b b
+  by_touch : {a : Drawn} (c : Drawn) → Contains ds c → Touch r a.shape c.shape → Chained r d l ds b c → Chained r d l ds b a
+  by_tie : {a : Drawn} (c : Drawn) → Tied d l ds a c → Chained r d l ds b c → Chained r d l ds b a
+
+-- the same, or tied
+pub data Together (d : Netlist) (l : Layout) (ds : List Drawn) (a : Drawn) : Drawn → Type 0 where
+  same : Together d l ds a a
+  tied : {b : Drawn} → Tied d l ds a b → Together d l ds a b
