@@ -1,0 +1,12 @@
+-- rows of seats, and rows that hold each instance of a design once
+pub mod Rows
+pub mod RowsView
+-- the widths of instances and rows in columns
+pub mod Widths
+-- the rows that a design begins with, and how many
+pub mod Start
+-- where instances and pins stand
+pub mod Stands
+-- what annealing weighs
+pub mod Weights
+pub mod WeightsView

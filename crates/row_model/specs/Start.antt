@@ -1,0 +1,39 @@
+use Rattle.std.specs.Prelude.{ℕ, zero, suc, ◌+◌, ◌*◌, ◌-◌, ◌/◌, List, [], ◌∷◌, map, length, take, drop, false, if◌then◌else◌, nat_le}
+use Rattle.std.specs.List.{range_with_len}
+use Rattle.tech_rules.specs.Rules.{RuleValues}
+use Rattle.netlist_core.specs.Netlist.{Netlist}
+use Rattle.row_model.specs.Widths.{columns_of, all_columns}
+use Rattle.row_model.specs.declared.rows.Seat.{Seat}
+
+-- the least number from k on, among so many further ones, of rows of this height whose square has this area; or the last of these numbers
+abbrev pub least_rows : ℕ → ℕ → ℕ → ℕ → ℕ
+least_rows area height zero k = k
+least_rows area height (suc more) k = if nat_le area (k * k * height) then k else least_rows area height more (k + 1)
+
+-- as many rows as make the layout about square, 1 to 512
+unfoldable pub default_rows : RuleValues → Netlist → ℕ
+default_rows r d = least_rows (all_columns d * r.grid_column) d.height 511 1
+
+-- an instance in its seat, upright
+abbrev pub upright : ℕ → Seat
+upright instance = record { instance = instance; mirror = false }
+
+-- how many of these instances a row takes, in their order, until it is at least as wide as is wanted
+abbrev pub taken : Netlist → ℕ → List ℕ → ℕ
+taken d zero instances = 0
+taken d (suc wanted) [] = 0
+taken d (suc wanted) (i ∷ is) = suc (taken d (suc wanted - columns_of d i) is)
+
+-- instances in their order in so many rows: each row takes instances until it is at least as wide as the target, and the last takes the rest
+abbrev pub rows_from : Netlist → ℕ → ℕ → List ℕ → List (List Seat)
+rows_from d target zero is = []
+rows_from d target (suc zero) is = map upright is ∷ []
+rows_from d target (suc (suc more)) is = map upright (take (taken d target is) is) ∷ rows_from d target (suc more) (drop (taken d target is) is)
+
+-- a number divided by another, rounded up
+abbrev pub rounded_up : ℕ → ℕ → ℕ
+rounded_up a b = (a + (b - 1)) / b
+
+-- the rows that a design begins with
+unfoldable pub start_rows : Netlist → ℕ → List (List Seat)
+start_rows d rows = rows_from d (rounded_up (all_columns d) rows) rows (range_with_len 0 (length d.instances))

@@ -1,0 +1,17 @@
+//! Rows of cells: which instance stands in which row, in which order, and where.
+#![tactic(auto)]
+
+pub mod rows;
+mod standing;
+mod starting;
+pub mod weights;
+mod widths;
+
+pub use rows::{Rows, Seat};
+pub use standing::column_of;
+pub use starting::{default_rows, start};
+pub use weights::Weights;
+pub use widths::columns_of;
+
+#[cfg(test)]
+mod tests;
