@@ -1,0 +1,234 @@
+use Rattle.std.proofs.Common.{◌≡◌, ◌≢◌, ◌⊎◌, ◌<◌, ◌≤◌, ◌+◌, ℕ, inl, inr, refl, sym, subst, ◌∙◌, arith, List, [], ◌∷◌, Bool, true, false, cond, leb, eqb, Contains, length, map}
+use Rattle.std.proofs.lemmas.Bool.{and_from, and_parts, both_ways, cases_eq, eq-eqb, eqb-true, le-leb, leb-false, leb-true, lt-ltb, ltb-true}
+use Rattle.netlist_core.specs.Netlist.{IsNetlist, Netlist}
+use Rattle.netlist_core.specs.declared.design.Pin.{Pin}
+use Rattle.row_model.specs.Rows.{ArePlaced}
+use Rattle.row_model.specs.Stands.{row_of}
+use Rattle.row_model.specs.declared.rows.Seat.{Seat}
+use Rattle.feed_cells.specs.Crossings.{crossing_of, crossing_of_pins, greatest, has_edge, highest, is_across, is_in, least, lowest, pins_of}
+use Rattle.feed_cells.specs.Feeds.{is_fed}
+use Rattle.feed_cells.specs.Channels.{AllTouch, AreSpread, first_channel, last_channel}
+use Rattle.feed_cells.specs.Touching.{Touches}
+use Rattle.feed_cells.specs.declared.crossing.Crossing.{Crossing}
+use Rattle.feed_cells.specs.declared.crossing.Crossing.TheVariants.{Alone, One, Many}
+use Rattle.feed_cells.proofs.Members.{filter-from, filter-member, greatest-bound, greatest-first, greatest-reached, least-bound, least-first, least-reached, member-cases, member-head}
+use Rattle.feed_cells.proofs.PinEdges.{pin-edge, row-within}
+
+-- the pins of a net are those of the design that have its number
+pub of-net : (d : Netlist) (net : ℕ) (p : Pin) → Contains (pins_of d net) p → Contains d.pins p × (p.net ≡ net)
+of-net d net p member =
+    let parts = filter-from (λ (q : Pin). eqb q.net net) d.pins p member in
+    (parts.0, eqb-true p.net net parts.1)
+
+pub in-net : (d : Netlist) (net : ℕ) (p : Pin) → Contains d.pins p → p.net ≡ net → Contains (pins_of d net) p
+in-net d net p member is = filter-member (λ (q : Pin). eqb q.net net) d.pins p member (eq-eqb p.net net is)
+
+-- where there is a position on one of the edges, the lowest channel is not above the highest
+in-order : (bottom top : Bool) (row : ℕ) → (bottom ≡ true) ⊎ (top ≡ true) → cond bottom row (row + 1) ≤ cond top (row + 1) row
+in-order true true row either = omega arith
+in-order true false row either = omega arith
+in-order false true row either = omega arith
+in-order false false row (inl none) = absurd (both_ways false refl none)
+in-order false false row (inr none) = absurd (both_ways false refl none)
+
+pub pin-ordered : (d : Netlist) (rows : List (List Seat)) → IsNetlist d → (p : Pin) → Contains d.pins p → lowest d rows p ≤ highest d rows p
+pin-ordered d rows good p member = in-order (has_edge d false p) (has_edge d true p) (row_of d rows p.instance) (pin-edge d good p member)
+
+-- the lowest channel is the one below the row where there is a position on the lower edge, else the one above it
+low-cases : (bottom : Bool) (row : ℕ) → ((bottom ≡ true) × (cond bottom row (row + 1) ≡ row)) ⊎ ((bottom ≡ false) × (cond bottom row (row + 1) ≡ row + 1))
+low-cases true row = inl (refl, refl)
+low-cases false row = inr (refl, refl)
+
+pub lowest-is : (d : Netlist) (rows : List (List Seat)) (p : Pin)
+    → ((has_edge d false p ≡ true) × (lowest d rows p ≡ row_of d rows p.instance)) ⊎ ((has_edge d false p ≡ false) × (lowest d rows p ≡ row_of d rows p.instance + 1))
+lowest-is d rows p = low-cases (has_edge d false p) (row_of d rows p.instance)
+
+-- the highest is the one above the row where there is a position on the upper edge, else the one below it
+high-cases : (top : Bool) (row : ℕ) → ((top ≡ true) × (cond top (row + 1) row ≡ row + 1)) ⊎ ((top ≡ false) × (cond top (row + 1) row ≡ row))
+high-cases true row = inl (refl, refl)
+high-cases false row = inr (refl, refl)
+
+pub highest-is : (d : Netlist) (rows : List (List Seat)) (p : Pin)
+    → ((has_edge d true p ≡ true) × (highest d rows p ≡ row_of d rows p.instance + 1)) ⊎ ((has_edge d true p ≡ false) × (highest d rows p ≡ row_of d rows p.instance))
+highest-is d rows p = high-cases (has_edge d true p) (row_of d rows p.instance)
+
+-- a channel between the two is beside the row, where there is a position
+between-edges : (bottom top : Bool) (row channel : ℕ) → cond bottom row (row + 1) ≤ channel → channel ≤ cond top (row + 1) row
+    → ((bottom ≡ true) × (channel ≡ row)) ⊎ ((top ≡ true) × (channel ≡ row + 1))
+between-edges true true row channel above below = elim (cases_eq channel row) [ inl here ↦ inl (refl, here) | inr other ↦ inr (refl, omega arith) ]
+between-edges true false row channel above below = inl (refl, omega arith)
+between-edges false true row channel above below = inr (refl, omega arith)
+between-edges false false row channel above below = absurd (omega arith)
+
+-- a pin touches the channels from its lowest to its highest
+pub touches-between : (d : Netlist) (rows : List (List Seat)) (p : Pin) (channel : ℕ) → lowest d rows p ≤ channel → channel ≤ highest d rows p
+    → Touches d rows false p channel ⊎ Touches d rows true p channel
+touches-between d rows p channel above below =
+    elim (between-edges (has_edge d false p) (has_edge d true p) (row_of d rows p.instance) channel above below) [
+      | inl lower ↦ inl (record { edge = lower.0; beside = lower.1 })
+      | inr upper ↦ inr (record { edge = upper.0; beside = upper.1 })
+    ]
+
+-- the highest channel that a pin touches is at most that above the last row
+high-above : (top : Bool) (row last : ℕ) → row < last → cond top (row + 1) row ≤ last
+high-above true row last below = omega arith
+high-above false row last below = omega arith
+
+pub highest-within : (d : Netlist) (rows : List (List Seat)) → ArePlaced d rows → (p : Pin) → highest d rows p ≤ length rows
+highest-within d rows placed p =
+    high-above (has_edge d true p) (row_of d rows p.instance) (length rows) (row-within d rows p.instance placed.some)
+
+module _ (d : Netlist) (rows : List (List Seat)) (first : Pin) (ps : List Pin) where
+  most-low : (p : Pin) → Contains (first ∷ ps) p → lowest d rows p ≤ greatest (lowest d rows first) (map (lowest d rows) ps)
+  most-low p member =
+      elim (member-cases first ps p member) [
+        | inl same ↦ subst (λ (q : Pin). lowest d rows q ≤ greatest (lowest d rows first) (map (lowest d rows) ps)) same (greatest-first (lowest d rows first) (map (lowest d rows) ps))
+        | inr later ↦ greatest-bound (lowest d rows) (lowest d rows first) ps p later
+      ]
+
+  least-high : (p : Pin) → Contains (first ∷ ps) p → least (highest d rows first) (map (highest d rows) ps) ≤ highest d rows p
+  least-high p member =
+      elim (member-cases first ps p member) [
+        | inl same ↦ subst (λ (q : Pin). least (highest d rows first) (map (highest d rows) ps) ≤ highest d rows q) same (least-first (highest d rows first) (map (highest d rows) ps))
+        | inr later ↦ least-bound (highest d rows) (highest d rows first) ps p later
+      ]
+
+same-one : (a b : ℕ) → One a ≡ One b → a ≡ b
+same-one a b e = cc
+
+same-many : (a b lo hi : ℕ) → Many a b ≡ Many lo hi → (a ≡ lo) × (b ≡ hi)
+same-many a b lo hi e = (cc, cc)
+
+no-one : (lo hi b : ℕ) → Many lo hi ≡ One b → ⊥
+no-one lo hi b e = cc
+
+no-many : (lo hi b : ℕ) → One b ≡ Many lo hi → ⊥
+no-many lo hi b e = cc
+
+alone-one : (b : ℕ) → Alone ≡ One b → ⊥
+alone-one b e = cc
+
+alone-many : (lo hi : ℕ) → Alone ≡ Many lo hi → ⊥
+alone-many lo hi e = cc
+
+-- the pins of a net with one channel
+pub one-channel : (d : Netlist) (rows : List (List Seat)) (pins : List Pin) (b : ℕ) → crossing_of_pins d rows pins ≡ One b → AllTouch d rows pins b
+one-channel d rows [] b is = absurd (alone-one b is)
+one-channel d rows (p ∷ []) b is = absurd (alone-one b is)
+one-channel d rows (p ∷ q ∷ ps) b is = by (leb (greatest (lowest d rows p) (map (lowest d rows) (q ∷ ps))) (least (highest d rows p) (map (highest d rows) (q ∷ ps)))) refl is
+  where
+    by : (t : Bool) → leb (greatest (lowest d rows p) (map (lowest d rows) (q ∷ ps))) (least (highest d rows p) (map (highest d rows) (q ∷ ps))) ≡ t
+        → cond t (One (greatest (lowest d rows p) (map (lowest d rows) (q ∷ ps)))) (Many (least (highest d rows p) (map (highest d rows) (q ∷ ps))) (greatest (lowest d rows p) (map (lowest d rows) (q ∷ ps)))) ≡ One b
+        → AllTouch d rows (p ∷ q ∷ ps) b
+    by true within is =
+        let same = same-one _ b is in
+        let fits = leb-true _ _ within in
+        record {
+          first = p;
+          second = q;
+          others = ps;
+          some = refl;
+          lows = λ x member. let at = most-low d rows p (q ∷ ps) x member in omega (arith, at, same);
+          highs = λ x member. let at = least-high d rows p (q ∷ ps) x member in omega (arith, at, same, fits);
+        }
+    by false within is = absurd (no-one _ _ b is)
+
+-- and of one with several
+pub many-channels : (d : Netlist) (rows : List (List Seat)) (pins : List Pin) (lo hi : ℕ) → crossing_of_pins d rows pins ≡ Many lo hi → AreSpread d rows pins lo hi
+many-channels d rows [] lo hi is = absurd (alone-many lo hi is)
+many-channels d rows (p ∷ []) lo hi is = absurd (alone-many lo hi is)
+many-channels d rows (p ∷ q ∷ ps) lo hi is = by (leb (greatest (lowest d rows p) (map (lowest d rows) (q ∷ ps))) (least (highest d rows p) (map (highest d rows) (q ∷ ps)))) refl is
+  where
+    by : (t : Bool) → leb (greatest (lowest d rows p) (map (lowest d rows) (q ∷ ps))) (least (highest d rows p) (map (highest d rows) (q ∷ ps))) ≡ t
+        → cond t (One (greatest (lowest d rows p) (map (lowest d rows) (q ∷ ps)))) (Many (least (highest d rows p) (map (highest d rows) (q ∷ ps))) (greatest (lowest d rows p) (map (lowest d rows) (q ∷ ps)))) ≡ Many lo hi
+        → AreSpread d rows (p ∷ q ∷ ps) lo hi
+    by true within is = absurd (no-many lo hi _ is)
+    by false within is =
+        let same = same-many _ _ lo hi is in
+        let apart = leb-false _ _ within in
+        let bottom = least-reached (highest d rows) p (q ∷ ps) in
+        let peak = greatest-reached (lowest d rows) p (q ∷ ps) in
+        record {
+          ordered = omega (arith, apart, same.0, same.1);
+          lows = λ x member. let at = most-low d rows p (q ∷ ps) x member in omega (arith, at, same.1);
+          highs = λ x member. let at = least-high d rows p (q ∷ ps) x member in omega (arith, at, same.0);
+          under = (bottom.0, bottom.1, bottom.2 ∙ same.0);
+          over = (peak.0, peak.1, peak.2 ∙ same.1);
+        }
+
+-- the channels of a net go from the first up to the last, and the last is at most that above the last row
+pub channels-ordered : (d : Netlist) (rows : List (List Seat)) (net : ℕ) → first_channel (crossing_of d rows net) ≤ last_channel (crossing_of d rows net)
+unfolding crossing_of
+channels-ordered d rows net = by (crossing_of_pins d rows (pins_of d net)) refl
+  where
+    by : (c : Crossing) → crossing_of_pins d rows (pins_of d net) ≡ c → first_channel c ≤ last_channel c
+    by Alone is = omega arith
+    by (One b) is = omega arith
+    by (Many lo hi) is = let many = many-channels d rows (pins_of d net) lo hi is in omega (arith, many.ordered)
+
+pub channels-within : (d : Netlist) (rows : List (List Seat)) → IsNetlist d → ArePlaced d rows → (net : ℕ) → last_channel (crossing_of d rows net) ≤ length rows
+unfolding crossing_of
+channels-within d rows good placed net = by (crossing_of_pins d rows (pins_of d net)) refl
+  where
+    within : (p : Pin) → Contains (pins_of d net) p → lowest d rows p ≤ length rows
+    within p member =
+        let listed = of-net d net p member in
+        let order = pin-ordered d rows good p listed.0 in
+        let high = highest-within d rows placed p in
+        omega (arith, order, high)
+
+    by : (c : Crossing) → crossing_of_pins d rows (pins_of d net) ≡ c → last_channel c ≤ length rows
+    by Alone is = omega arith
+    by (One b) is =
+        let one = one-channel d rows (pins_of d net) b is in
+        let member : Contains (pins_of d net) one.first = subst (λ (l : List Pin). Contains l one.first) (sym one.some) (member-head one.first (one.second ∷ one.others)) in
+        let high = highest-within d rows placed one.first in
+        let at = one.highs one.first member in
+        omega (arith, high, at)
+    by (Many lo hi) is =
+        let many = many-channels d rows (pins_of d net) lo hi is in
+        let at = within many.over.0 many.over.1 in
+        omega (arith, at, many.over.2)
+
+-- a net that crosses a row by a feed crosses it
+pub fed-across : (d : Netlist) (rows : List (List Seat)) (row net : ℕ) → is_fed d rows row net ≡ true → is_across (crossing_of d rows net) row ≡ true
+fed-across d rows row net fed = (and_parts _ _ fed).0
+
+-- a net stands in the channels from its first to its last
+pub in-range : (c : Crossing) (channel : ℕ) → is_in c channel ≡ true → (first_channel c ≤ channel) × (channel ≤ last_channel c)
+in-range Alone channel inside = absurd (both_ways false refl inside)
+in-range (One b) channel inside = let at : channel ≡ b = eqb-true channel b inside in (omega arith, omega arith)
+in-range (Many lo hi) channel inside =
+    let parts = and_parts _ _ inside in (leb-true lo channel parts.0, leb-true channel hi parts.1)
+
+pub from-range : (c : Crossing) (channel : ℕ) → c ≢ Alone → first_channel c ≤ channel → channel ≤ last_channel c → is_in c channel ≡ true
+from-range Alone channel stands above below = absurd (stands refl)
+from-range (One b) channel stands above below = eq-eqb channel b (omega arith)
+from-range (Many lo hi) channel stands above below = and_from _ _ (le-leb lo channel above) (le-leb channel hi below)
+
+-- a row that a net crosses lies between its channels
+pub across-range : (c : Crossing) (row : ℕ) → is_across c row ≡ true → (first_channel c ≤ row) × (row < last_channel c)
+across-range Alone row across = absurd (both_ways false refl across)
+across-range (One b) row across = absurd (both_ways false refl across)
+across-range (Many lo hi) row across =
+    let parts = and_parts _ _ across in (leb-true lo row parts.0, ltb-true row hi parts.1)
+
+pub from-across : (c : Crossing) (row : ℕ) → first_channel c ≤ row → row < last_channel c → is_across c row ≡ true
+from-across Alone row above below = absurd (omega arith)
+from-across (One b) row above below = absurd (omega arith)
+from-across (Many lo hi) row above below = and_from _ _ (le-leb lo row above) (lt-ltb row hi below)
+
+-- a net of two pins or more stands in channels
+pub stands-in : (d : Netlist) (rows : List (List Seat)) (net : ℕ) → 2 ≤ length (pins_of d net) → crossing_of d rows net ≢ Alone
+unfolding crossing_of
+stands-in d rows net two = by (pins_of d net) two
+  where
+    by : (pins : List Pin) → 2 ≤ length pins → crossing_of_pins d rows pins ≡ Alone → ⊥
+    by [] two is = omega (arith, two)
+    by (p ∷ []) two is = omega (arith, two)
+    by (p ∷ q ∷ ps) two is =
+        some (leb (greatest (lowest d rows p) (map (lowest d rows) (q ∷ ps))) (least (highest d rows p) (map (highest d rows) (q ∷ ps)))) _ _ is
+      where
+        some : (t : Bool) (a b : ℕ) → cond t (One a) (Many b a) ≡ Alone → ⊥
+        some true a b is = cc
+        some false a b is = cc

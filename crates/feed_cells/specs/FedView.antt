@@ -1,0 +1,5 @@
+use Rattle.feed_cells.specs.Fed.{Fed}
+use Rattle.feed_cells.specs.declared.fed.FedRows.TheInside.{Inside}
+
+abbrev pub fed_in : Inside → Fed
+fed_in a = record { rows = a.rows; width = a.width; nets = a.nets }

@@ -1,0 +1,38 @@
+use Rattle.std.specs.Prelude.{◌==◌, ℕ, ◌+◌, ◌/◌, List, [], ◌∷◌, map, Bool, true, false, ◌&&◌, not, Option, count_by, nat_lt}
+use Rattle.std.specs.List.{find, list_any}
+use Rattle.netlist_core.specs.Netlist.{Netlist}
+use Rattle.netlist_core.specs.declared.design.Pin.{Pin}
+use Rattle.row_model.specs.Stands.{row_of, column_of}
+use Rattle.row_model.specs.Widths.{columns_of}
+use Rattle.row_model.specs.declared.rows.Seat.{Seat}
+use Rattle.feed_cells.specs.Crossings.{has_edge, pins_of, greatest, least, crossing_of, is_across}
+
+-- whether a pin is of a net, stands in a row and has positions on both edges of its cell
+abbrev pub leads_through : Netlist → List (List Seat) → ℕ → ℕ → Pin → Bool
+leads_through d rows net row p = p.net == net && row_of d rows p.instance == row && has_edge d false p && has_edge d true p
+
+-- the pin by which a net crosses a row: the first that leads through, if one does
+abbrev pub leader : Netlist → List (List Seat) → ℕ → ℕ → Option Pin
+leader d rows net row = find (leads_through d rows net row) d.pins
+
+-- whether a net crosses a row by a feed
+abbrev pub is_fed : Netlist → List (List Seat) → ℕ → ℕ → Bool
+is_fed d rows row net = is_across (crossing_of d rows net) row && not (list_any (leads_through d rows net row) d.pins)
+
+-- the middle of the columns of pins
+abbrev pub middle_of_pins : Netlist → List (List Seat) → List Pin → ℕ
+middle_of_pins d rows [] = 0
+middle_of_pins d rows (p ∷ ps) = (least (column_of d rows p) (map (column_of d rows) ps) + greatest (column_of d rows p) (map (column_of d rows) ps)) / 2
+
+-- the middle of a net's pins, in columns without feeds
+unfoldable pub middle_of : Netlist → List (List Seat) → ℕ → ℕ
+middle_of d rows net = middle_of_pins d rows (pins_of d net)
+
+-- the first columns of seats side by side from a column on
+abbrev pub lefts_of : Netlist → ℕ → List Seat → List ℕ
+lefts_of d left [] = []
+lefts_of d left (s ∷ seats) = left ∷ lefts_of d (left + columns_of d s.instance) seats
+
+-- before which of the seats a net's feed stands: the first that does not begin left of the net's middle, or behind the last
+abbrev pub feed_place : Netlist → List (List Seat) → List Seat → ℕ → ℕ
+feed_place d rows seats net = count_by (λ (left : ℕ). nat_lt left (middle_of d rows net)) (lefts_of d 0 seats)

@@ -1,0 +1,42 @@
+use Rattle.std.specs.Prelude.{ℕ, ◌+◌, ◌/◌, ◌==◌, List, map, fold, min, max, true, false, if◌then◌else◌, Option, None, Some}
+use Rattle.netlist_core.specs.Netlist.{Netlist}
+use Rattle.row_model.specs.declared.rows.Seat.{Seat}
+use Rattle.feed_cells.specs.Crossings.{crossing_between}
+use Rattle.feed_cells.specs.PinStands.{pin_stand}
+use Rattle.feed_cells.specs.declared.crossing.Crossing.{Crossing}
+use Rattle.feed_cells.specs.declared.crossing.Crossing.TheVariants.{Alone}
+use Rattle.feed_cells.specs.declared.pins.PinStand.{PinStand}
+use Rattle.feed_cells.specs.declared.net_span.NetSpan.{NetSpan}
+
+-- how far pins reach together with one more, if there were any
+abbrev pub joined : Option NetSpan → PinStand → NetSpan
+joined None p = record { many = false; floor = p.lowest; ceiling = p.highest; left = p.column; right = p.column }
+joined (Some s) p = record {
+  many = true;
+  floor = max s.floor p.lowest;
+  ceiling = min s.ceiling p.highest;
+  left = min s.left p.column;
+  right = max s.right p.column;
+}
+
+-- how far a net's pins reach together with one more pin, of this net or another
+abbrev pub span_with : ℕ → Option NetSpan → PinStand → Option NetSpan
+span_with net s p = if p.net == net then Some (joined s p) else s
+
+-- how far a net's pins reach, among pins
+unfoldable pub span_among : ℕ → List PinStand → Option NetSpan
+span_among net pins = fold (span_with net) None pins
+
+-- how far a net's pins reach in a design in rows
+abbrev pub span_of : Netlist → List (List Seat) → ℕ → Option NetSpan
+span_of d rows net = span_among net (map (pin_stand d rows) d.pins)
+
+-- which channels a net stands in whose pins reach so far
+abbrev pub crossing_in : Option NetSpan → Crossing
+crossing_in None = Alone
+crossing_in (Some s) = if s.many then crossing_between s.floor s.ceiling else Alone
+
+-- the middle of a net whose pins reach so far
+abbrev pub middle_in : Option NetSpan → ℕ
+middle_in None = 0
+middle_in (Some s) = (s.left + s.right) / 2

@@ -1,0 +1,28 @@
+use geom_core::Items;
+use row_model::Seat;
+use std::marker::Model;
+
+/// What stands in a row: the cell of an instance, or a feed of one column for the net with this number.
+#[derive(Clone, Copy, Debug, PartialEq, Eq)]
+pub enum Item {
+    Cell(Seat),
+    Feed(u32),
+}
+
+/// Rows of cells and feeds, from the lowest row up and in each from left to right; the width of the widest row in columns; and for each channel, from
+/// channel 0 below row 0 to the one above the last row, how many nets stand in it. Contracts see the lists.
+#[derive(Debug, Drop)]
+pub struct FedRows {
+    pub rows: Items<Items<Item>>,
+    pub width: u64,
+    pub nets: Items<u32>,
+}
+
+impl Model for FedRows {
+    ghost use Rattle.feed_cells.specs.Fed.{Fed};
+    ghost use Rattle.feed_cells.specs.FedView.{fed_in};
+
+    ghost Value = { Fed };
+
+    ghost view = { fed_in };
+}

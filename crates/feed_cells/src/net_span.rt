@@ -1,0 +1,58 @@
+ghost use Rattle.feed_cells.specs.Crossings.{crossing_between};
+ghost use Rattle.feed_cells.specs.Spans.{crossing_in, joined, middle_in};
+ghost use Rattle.std.specs.Prelude.{◌≡◌};
+
+use crate::crossing::Crossing;
+use crate::pins::PinStand;
+
+/// How far the pins of a net reach: whether they are two or more, the greatest of their lowest channels, the least of their highest ones, and their
+/// least and greatest column.
+#[derive(Clone, Copy, Debug, Drop)]
+pub struct NetSpan {
+    pub many: bool,
+    pub floor: u32,
+    pub ceiling: u32,
+    pub left: u64,
+    pub right: u64,
+}
+
+/// How far pins reach together with one more, if there were any.
+pub fn joined(span: Option<NetSpan>, pin: PinStand) -> NetSpan
+    ensures { result ≡ joined span pin }
+{
+    let Some(span) = span else {
+        return NetSpan {
+            many: false,
+            floor: pin.lowest,
+            ceiling: pin.highest,
+            left: pin.column,
+            right: pin.column,
+        };
+    };
+    NetSpan {
+        many: true,
+        floor: span.floor.max(pin.lowest),
+        ceiling: span.ceiling.min(pin.highest),
+        left: span.left.min(pin.column),
+        right: span.right.max(pin.column),
+    }
+}
+
+/// Which channels a net stands in whose pins reach so far.
+pub fn crossing_in(span: Option<NetSpan>) -> Crossing
+    ensures { result ≡ crossing_in span }
+{
+    let Some(span) = span else {
+        return Crossing::Alone;
+    };
+    if !span.many {
+        return Crossing::Alone;
+    }
+    if span.floor <= span.ceiling {
+        return Crossing::One(span.floor);
+    }
+    Crossing::Many {
+        lo: span.ceiling,
+        hi: span.floor,
+    }
+}

@@ -1,0 +1,51 @@
+ghost use Rattle.feed_cells.specs.Feeds.{lefts_of};
+ghost use Rattle.feed_cells.specs.RowFeeds.{place_among};
+ghost use Rattle.feed_cells.specs.Spans.{middle_in};
+ghost use Rattle.std.specs.List.Sorted.{IsNonDecreasingBy};
+ghost use Rattle.std.specs.Prelude.{◌≡◌, ◌≤◌, ℕ, length, nat_lt, IfOk};
+
+use crate::net_span::NetSpan;
+use crate::stands::columns_of;
+use netlist_core::Design;
+use row_model::Seat;
+use std::alloc::{AllocError, Global};
+
+/// The first columns of the seats of a row. The one error is want of memory.
+pub fn lefts_of(alloc: Global, design: &Design, seats: &[Seat]) -> Result<Vec<u64>, AllocError>
+    requires short { length seats.now ≤ 20000 }
+    ensures { IfOk result (λ v. v.items ≡ lefts_of design.now 0 seats.now) }
+{
+    let mut lefts = Vec::new(alloc);
+    let mut left = 0;
+    let mut rest = seats;
+    while let Some((seat, after)) = rest.split_first() {
+        lefts.push(left)?;
+        left += u64::from(columns_of(design, seat.instance));
+        rest = after;
+    }
+    Ok(lefts)
+}
+
+/// How many cells of a row begin left of a column, by their first columns, which do not fall. Takes no memory, and steps as the logarithm of the
+/// number of cells.
+pub fn place_among(lefts: &[u64], middle: u64) -> usize
+    requires rising { IsNonDecreasingBy (λ (left : ℕ). left) lefts.now }
+    ensures is { result ≡ place_among lefts.now middle }
+    ensures within { result ≤ length lefts.now }
+{
+    lefts.partition_point(
+        |left: &u64| -> bool
+            ensures { result ≡ nat_lt left.now middle }
+        { *left < middle },
+    )
+}
+
+/// The middle of the columns of a net whose pins reach so far.
+pub fn middle_in(span: Option<NetSpan>) -> u64
+    ensures { result ≡ middle_in span }
+{
+    match span {
+        Some(span) => ((u128::from(span.left) + u128::from(span.right)) / 2) as u64,
+        None => 0,
+    }
+}
