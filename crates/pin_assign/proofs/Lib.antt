@@ -1,0 +1,51 @@
+-- the pins of a net are different
+pub mod DifferentPins
+-- which pins enter a channel, and by what a net crosses a row
+pub mod EnteringLaws
+-- why a net has two entries in each of its channels
+pub mod TwiceLaws
+-- finding in lists and filters of them
+pub mod FindLaws
+-- the pins of a design, and the positions that they have on an edge
+pub mod EdgeLaws
+-- how many entries rows and tables have
+pub mod WidthLaws
+-- where the entries of a row come from, and what each cause leaves
+pub mod EntryLaws
+-- the entries of tables and their causes
+pub mod TableLaws
+-- different causes stand in different columns
+pub mod CauseLaws
+-- two places of a net in a table
+pub mod PlaceLaws
+-- the places of a table and the causes that stand there
+pub mod StandLaws
+-- pins and feeds of a row stand in its columns
+pub mod RowCauses
+-- the rows beside a channel, and what stands in its table from them
+pub mod BesideLaws
+-- tables make channels
+pub mod ChannelLaws
+-- the table of each channel of placed rows makes a channel
+pub mod EnteredLaws
+-- the nets of a channel in the order of their numbers
+pub mod NetLaws
+-- the size that a layout is within
+pub mod BoundLaws
+-- rows with their feeds are of bounded sizes
+pub mod FedBounds
+-- rows with their feeds, and those within the limit of the grid
+pub mod FedDesigns
+-- the entries of a cell, laid pin by pin
+pub mod LaidLaws
+-- the pins, the reaches of nets, their leaders and what enters, by tables
+pub mod TabledPins
+pub mod ReachLaws
+pub mod LeaderLaws
+pub mod EntrantLaws
+-- the entries of rows by tables
+pub mod TabledEntries
+-- the table of the pins of a design
+pub mod TabledDesign
+-- worked tables, computed
+pub mod Worked

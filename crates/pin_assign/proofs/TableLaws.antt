@@ -1,0 +1,111 @@
+use Rattle.std.proofs.Common.{◌≡◌, ◌<◌, ℕ, ◌-◌, List, length, replicate, get_or, Bool, true, false, Option, Some, None, refl, ap, sym, ◌∙◌, subst, inl, inr, arith}
+use Rattle.std.proofs.lemmas.Bool.{cases_lt}
+use Rattle.std.proofs.lemmas.List.{get_or-append_right, get_or-replicate, get_or_append_left, get_or_past, length-replicate}
+use Rattle.std.specs.List.{slice_get, slice_index}
+use Rattle.netlist_core.specs.Netlist.{Netlist, IsNetlist}
+use Rattle.row_model.specs.declared.rows.Seat.{Seat}
+use Rattle.feed_cells.specs.Fed.{Fed, cells_in, items_width}
+use Rattle.feed_cells.specs.declared.fed.Item.{Item}
+use Rattle.pin_assign.specs.Entries.{EntryIn, EntryOf}
+use Rattle.pin_assign.specs.Tables.{padded, row_below, row_entries, table_of}
+use Rattle.pin_assign.proofs.EntryLaws.{row-cause, row-effect}
+use Rattle.pin_assign.proofs.WidthLaws.{row-length}
+
+-- the padding has no net
+padding : (n i : ℕ) → get_or (replicate {A = ℕ} n 0) i 0 ≡ 0
+padding n i =
+    elim (cases_lt i n) [
+      | inl within ↦ get_or-replicate n i 0 0 within
+      | inr past ↦
+          let longer : length (replicate {A = ℕ} n 0) ≡ n = length-replicate {A = ℕ} n 0 in
+          get_or_past (replicate n 0) i 0 (omega arith)
+    ]
+
+-- a net among padded entries is one of the entries
+pub padded-is : (width : ℕ) (entries : List ℕ) (column net : ℕ) → 0 < net → slice_index (padded width entries) column ≡ net → slice_index entries column ≡ net
+padded-is width entries column net some is =
+    elim (cases_lt column (length entries)) [
+      | inl within ↦ sym (get_or_append_left entries (replicate (width - length entries) 0) 0 column within) ∙ is
+      | inr past ↦
+          let none : get_or (replicate {A = ℕ} (width - length entries) 0) (column - length entries) 0 ≡ 0 = padding (width - length entries) (column - length entries) in
+          let there : get_or (replicate {A = ℕ} (width - length entries) 0) (column - length entries) 0 ≡ net =
+          sym (get_or-append_right entries (replicate (width - length entries) 0) (length entries) column 0 refl past) ∙ is in
+          absurd (omega arith)
+    ]
+
+-- an entry stands at its place among padded ones
+pub padded-from : (width : ℕ) (entries : List ℕ) (column net : ℕ) → column < length entries → slice_index entries column ≡ net → slice_index (padded width entries) column ≡ net
+padded-from width entries column net within is = get_or_append_left entries (replicate (width - length entries) 0) 0 column within ∙ is
+
+module _ (d : Netlist) (rows : List (List Seat)) (top : Bool) (channel width : ℕ) where
+  -- each net along an edge of a row has a cause in its column
+  pub entries-cause : (items : List Item) (column net : ℕ) → 0 < net → slice_index (padded width (row_entries d rows top channel (Some items))) column ≡ net
+      → EntryOf d rows top channel items 0 column net
+  entries-cause items column net some is =
+      row-cause d rows top channel items 0 column column net (omega arith) some (padded-is width (row_entries d rows top channel (Some items)) column net some is)
+
+  -- each cause leaves its net in its column, which is one of the row's
+  pub entries-effect : IsNetlist d → (items : List Item) (column net : ℕ) → EntryOf d rows top channel items 0 column net
+      → slice_index (padded width (row_entries d rows top channel (Some items))) column ≡ net
+  entries-effect good items column net h =
+      let e = row-effect d rows top channel good items 0 column net h in
+      let same : e.column ≡ column = (let place = e.place in omega arith) in
+      padded-from width (row_entries d rows top channel (Some items)) column net
+      (subst (λ (n : ℕ). n < length (row_entries d rows top channel (Some items))) same e.within)
+      (ap (λ (n : ℕ). get_or (row_entries d rows top channel (Some items)) n 0) (sym same) ∙ e.there)
+
+  -- where there is no row there is no net
+  pub entries-none : (column : ℕ) → slice_index (padded width (row_entries d rows top channel None)) column ≡ 0
+  entries-none column = padding (width - 0) column
+
+  -- both ways, where there may be no row
+  pub edge-cause : (row : Option (List Item)) (column net : ℕ) → 0 < net → slice_index (padded width (row_entries d rows top channel row)) column ≡ net
+      → EntryIn d rows top channel row column net
+  edge-cause None column net some is = let none = entries-none column in absurd (omega arith)
+  edge-cause (Some items) column net some is = entries-cause items column net some is
+
+  pub edge-effect : IsNetlist d → (row : Option (List Item)) (column net : ℕ) → EntryIn d rows top channel row column net
+      → slice_index (padded width (row_entries d rows top channel row)) column ≡ net
+  edge-effect good None column net h = absurd h
+  edge-effect good (Some items) column net h = entries-effect good items column net h
+
+-- a net in a column of items side by side is in one of their columns
+pub entry-within : (d : Netlist) → IsNetlist d → (rows : List (List Seat)) (top : Bool) (channel : ℕ) (items : List Item) (column net : ℕ)
+    → EntryOf d rows top channel items 0 column net → column < items_width d items
+entry-within d good rows top channel items column net h =
+    let e = row-effect d rows top channel good items 0 column net h in
+    let place = e.place in
+    let within = e.within in
+    let width = row-length d rows top channel items in
+    omega arith
+
+-- one column of items side by side has one net
+pub entry-once : (d : Netlist) → IsNetlist d → (rows : List (List Seat)) (top : Bool) (channel : ℕ) (items : List Item) (left column n m : ℕ)
+    → EntryOf d rows top channel items left column n → EntryOf d rows top channel items left column m → n ≡ m
+entry-once d good rows top channel items left column n m first second =
+    let a = row-effect d rows top channel good items left column n first in
+    let b = row-effect d rows top channel good items left column m second in
+    let same : a.column ≡ b.column = (let p = a.place in let q = b.place in omega arith) in
+    sym a.there ∙ ap (λ (k : ℕ). get_or (row_entries d rows top channel (Some items)) k 0) same ∙ b.there
+
+-- a net in the upper list of a channel's table has its cause at the lower edge of the row above, and each cause there leaves its net
+pub top-cause : (d : Netlist) (fed : Fed) (channel column net : ℕ) → 0 < net → slice_index (table_of d fed channel).top column ≡ net
+    → EntryIn d (cells_in fed.rows) false channel (slice_get fed.rows channel) column net
+unfolding table_of
+top-cause d fed channel column net some is = edge-cause d (cells_in fed.rows) false channel fed.width (slice_get fed.rows channel) column net some is
+
+pub top-effect : (d : Netlist) → IsNetlist d → (fed : Fed) (channel column net : ℕ) → EntryIn d (cells_in fed.rows) false channel (slice_get fed.rows channel) column net
+    → slice_index (table_of d fed channel).top column ≡ net
+unfolding table_of
+top-effect d good fed channel column net h = edge-effect d (cells_in fed.rows) false channel fed.width good (slice_get fed.rows channel) column net h
+
+-- a net in its lower list has its cause at the upper edge of the row below, and each cause there leaves its net
+pub bottom-cause : (d : Netlist) (fed : Fed) (channel column net : ℕ) → 0 < net → slice_index (table_of d fed channel).bottom column ≡ net
+    → EntryIn d (cells_in fed.rows) true channel (row_below fed.rows channel) column net
+unfolding table_of
+bottom-cause d fed channel column net some is = edge-cause d (cells_in fed.rows) true channel fed.width (row_below fed.rows channel) column net some is
+
+pub bottom-effect : (d : Netlist) → IsNetlist d → (fed : Fed) (channel column net : ℕ) → EntryIn d (cells_in fed.rows) true channel (row_below fed.rows channel) column net
+    → slice_index (table_of d fed channel).bottom column ≡ net
+unfolding table_of
+bottom-effect d good fed channel column net h = edge-effect d (cells_in fed.rows) true channel fed.width good (row_below fed.rows channel) column net h

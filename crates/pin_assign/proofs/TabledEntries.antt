@@ -1,0 +1,189 @@
+use Rattle.std.proofs.Common.{◌≡◌, ◌<◌, ◌≤◌, ◌⊎◌, ◌==◌, ℕ, zero, suc, List, [], ◌∷◌, ◌++◌, map, filter, fold, length, Bool, true, false, ◌&&◌, Option, None, Some, cond, slice_get, refl, ap, sym, ◌∙◌, subst, arith, inl, inr, append_assoc, append-nil}
+use Rattle.std.proofs.lemmas.Bool.{cases_lt, eqb-true}
+use Rattle.std.proofs.lemmas.Bool.Decides.{nat_tests}
+use Rattle.std.proofs.lemmas.List.Elements.{recursion_from_All}
+use Rattle.std.proofs.lemmas.List.{length-map}
+use Rattle.std.proofs.lemmas.Option.{slice_get_past}
+use Rattle.std.specs.List.{AllByRecursion, find, flat_map, range_with_len}
+use Rattle.std.specs.Option.{option_and_then}
+use Rattle.channel_model.specs.Pins.{IsChannel, Pins}
+use Rattle.netlist_core.specs.Netlist.{IsNetlist, Netlist}
+use Rattle.netlist_core.specs.declared.design.Inst.{Inst}
+use Rattle.netlist_core.specs.declared.design.Pin.{Pin}
+use Rattle.row_model.specs.Stands.{edge_column}
+use Rattle.row_model.specs.Widths.{columns_of, width_of}
+use Rattle.row_model.specs.declared.rows.Seat.{Seat}
+use Rattle.feed_cells.specs.Fed.{Fed, IsFed, cells_in, fed_rows, seats_in}
+use Rattle.feed_cells.specs.declared.fed.Item.{Item}
+use Rattle.feed_cells.specs.declared.fed.Item.TheVariants.{Cell, Feed}
+use Rattle.pin_assign.specs.Entering.{enters}
+use Rattle.pin_assign.specs.Entrants.{entrant, enters_as, is_laid, laid, laid_entries, pins_there, tabled_entries, with_pin}
+use Rattle.pin_assign.specs.PinEdges.{edge_of, pin_edges}
+use Rattle.pin_assign.specs.Tabled.{AreTabled, items_there}
+use Rattle.pin_assign.specs.Tables.{cell_entries, enters_in, is_in_column, item_entries, net_in, padded, row_below, row_entries, table_of}
+use Rattle.pin_assign.specs.declared.entrants.Entrant.{Entrant}
+use Rattle.pin_assign.proofs.EntrantLaws.{entrant-enters}
+use Rattle.pin_assign.proofs.EnteredLaws.{table-channel}
+use Rattle.pin_assign.proofs.TabledPins.{map-same}
+
+-- the pins of an instance, taken one by one, are those that a filter keeps
+with-pins : (i : ℕ) (pins all : List Entrant) → fold (with_pin i) pins all ≡ pins ++ filter (λ (a : Entrant). a.edges.pin.instance == i) all
+with-pins i pins [] = sym (append-nil pins)
+with-pins i pins (a ∷ all) = by (a.edges.pin.instance == i) (with-pins i (pins ++ a ∷ []) all ∙ append_assoc pins (a ∷ []) (filter (λ (b : Entrant). b.edges.pin.instance == i) all)) (with-pins i pins all)
+  where
+    by : (b : Bool) → fold (with_pin i) (pins ++ a ∷ []) all ≡ pins ++ (a ∷ filter (λ (b : Entrant). b.edges.pin.instance == i) all)
+        → fold (with_pin i) pins all ≡ pins ++ filter (λ (b : Entrant). b.edges.pin.instance == i) all
+        → fold (with_pin i) (cond b (pins ++ a ∷ []) pins) all
+        ≡ pins ++ cond b (a ∷ filter (λ (b : Entrant). b.edges.pin.instance == i) all) (filter (λ (b : Entrant). b.edges.pin.instance == i) all)
+    by true is other = is
+    by false is other = other
+
+-- an entry, or another where it is none
+abbrev entry_or : ℕ → ℕ → ℕ
+entry_or net other = cond (net == 0) other net
+
+module _ (d : Netlist) (rows : List (List Seat)) (s : Seat) (top : Bool) (channel column : ℕ) where
+  abbrev lays : Entrant → Bool
+  lays a = is_laid s.mirror (columns_of d s.instance) top channel column a
+
+  abbrev lay_on : ℕ → Entrant → ℕ
+  lay_on net a = laid s.mirror (columns_of d s.instance) top channel column net a
+
+  abbrev own : Entrant → Bool
+  own a = a.edges.pin.instance == s.instance
+
+  edge-same : (t : Bool) (p : Pin) → edge_of t (pin_edges d rows p) ≡ edge_column d t p
+  unfolding pin_edges
+  edge-same true p = refl
+  edge-same false p = refl
+
+  -- a pin is laid where it enters
+  lays-same : (p : Pin) → lays (entrant d rows p) ≡ (is_in_column (edge_column d top p) s.mirror (columns_of d s.instance) column && enters d rows p channel)
+  unfolding entrant
+  lays-same p =
+      ap (λ (o : Option ℕ). is_in_column o s.mirror (columns_of d s.instance) column && enters-of p) (edge-same top p)
+      ∙ ap (λ (b : Bool). is_in_column (edge_column d top p) s.mirror (columns_of d s.instance) column && b) (entrant-enters d rows p channel)
+    where
+      use_entrant : Pin → Entrant
+      use_entrant q = entrant d rows q
+
+      enters-of : Pin → Bool
+      enters-of q = enters_as (use_entrant q).crossing (use_entrant q) channel
+
+  -- the entry of a pin, and those behind it
+  lay-step : (net other own_net : ℕ) (is : Bool) → (own_net == 0) ≡ false
+      → entry_or (cond (net == 0 && is) own_net net) other ≡ entry_or net (cond is own_net other)
+  lay-step net other own_net is some = by (net == 0) refl is
+    where
+      by : (b : Bool) → (net == 0) ≡ b → (is : Bool) → cond (cond (b && is) own_net net == 0) other (cond (b && is) own_net net) ≡ cond b (cond is own_net other) net
+      by true zero_net true = ap (λ (c : Bool). cond c other own_net) some
+      by true zero_net false = ap (λ (c : Bool). cond c other net) zero_net
+      by false zero_net is = ap (λ (c : Bool). cond c other net) zero_net
+
+  net-if : (is : Bool) (p : Pin) (more : Option Pin) → net_in (cond is (Some p) more) ≡ cond is p.net (net_in more)
+  net-if true p more = refl
+  net-if false p more = refl
+
+  -- the pins of a cell, laid one by one, leave what a search for the first of a column finds
+  laid-found : (net : ℕ) (ps : List Pin) → AllByRecursion (λ (p : Pin). (p.net == 0) ≡ false) ps
+      → fold lay_on net (filter own (map (entrant d rows) ps)) ≡ entry_or net (net_in (find (enters_in d rows top channel s column) ps))
+  unfolding entrant pin_edges
+  laid-found net [] some = none (net == 0) refl
+    where
+      none : (b : Bool) → (net == 0) ≡ b → net ≡ cond b 0 net
+      none true is = eqb-true net 0 is
+      none false is = refl
+  laid-found net (p ∷ ps) some =
+      by (p.instance == s.instance)
+      (laid-found (lay_on net (entrant d rows p)) ps some.1
+      ∙ lay-step net (net_in (find (enters_in d rows top channel s column) ps)) p.net (lays (entrant d rows p)) some.0
+      ∙ ap (λ (b : Bool). entry_or net (cond b p.net (net_in (find (enters_in d rows top channel s column) ps)))) (lays-same p)
+      ∙ ap (entry_or net) (sym (net-if (is_in_column (edge_column d top p) s.mirror (columns_of d s.instance) column && enters d rows p channel) p (find (enters_in d rows top channel s column) ps))))
+      (laid-found net ps some.1)
+    where
+      by : (b : Bool)
+          → fold lay_on (lay_on net (entrant d rows p)) (filter own (map (entrant d rows) ps))
+          ≡ entry_or net (net_in (cond (is_in_column (edge_column d top p) s.mirror (columns_of d s.instance) column && enters d rows p channel) (Some p) (find (enters_in d rows top channel s column) ps)))
+          → fold lay_on net (filter own (map (entrant d rows) ps)) ≡ entry_or net (net_in (find (enters_in d rows top channel s column) ps))
+          → fold lay_on net (cond b (entrant d rows p ∷ filter own (map (entrant d rows) ps)) (filter own (map (entrant d rows) ps)))
+          ≡ entry_or net (net_in (cond (b && is_in_column (edge_column d top p) s.mirror (columns_of d s.instance) column && enters d rows p channel) (Some p)
+          (find (enters_in d rows top channel s column) ps)))
+      by true is other = is
+      by false is other = other
+
+-- what is the same of each item is the same of a row
+flat-same : (f g : Item → List ℕ) → ((item : Item) → f item ≡ g item) → (items : List Item) → flat_map f items ≡ flat_map g items
+flat-same f g same [] = refl
+flat-same f g same (item ∷ items) = ap (λ (xs : List ℕ). xs ++ flat_map f items) (same item) ∙ ap (λ (xs : List ℕ). g item ++ xs) (flat-same f g same items)
+
+-- the nets of pins are not 0
+nets-some : (d : Netlist) → IsNetlist d → AllByRecursion (λ (p : Pin). (p.net == 0) ≡ false) d.pins
+nets-some d good = recursion_from_All (λ (p : Pin). (p.net == 0) ≡ false) d.pins (λ k p within. some (good.nets k p within))
+  where
+    some : {n m : ℕ} → (0 < n) × (n ≤ m) → (n == 0) ≡ false
+    some {n = n} h = let positive = h.0 in grind (arith, nat_tests)
+
+module _ (d : Netlist) (good : IsNetlist d) (rows : List (List Seat)) (table : List (List Entrant)) (tabled : AreTabled d rows table) (top : Bool) (channel : ℕ) where
+  cell-pins : (s : Seat) (pins : List Entrant) → pins ≡ fold (with_pin s.instance) [] (map (entrant d rows) d.pins)
+      → laid_entries s.mirror (columns_of d s.instance) top channel pins ≡ cell_entries d rows top channel s
+  unfolding laid_entries
+  cell-pins s pins is =
+      map-same (λ (column : ℕ). fold (laid s.mirror (columns_of d s.instance) top channel column) 0 pins)
+      (λ (column : ℕ). net_in (find (enters_in d rows top channel s column) d.pins)) (range_with_len 0 (columns_of d s.instance))
+      (λ column member. ap (fold (laid s.mirror (columns_of d s.instance) top channel column) 0) (is ∙ with-pins s.instance [] (map (entrant d rows) d.pins))
+      ∙ laid-found d rows s top channel column 0 d.pins (nets-some d good))
+
+  -- there is no cell without an instance
+  no-columns : (instance : ℕ) → length d.instances < instance → columns_of d instance ≡ 0
+  no-columns instance past =
+      ap (λ (o : Option Inst). width_of (option_and_then (λ (i : Inst). slice_get d.kinds i.kind) o)) (slice_get_past d.instances instance (omega arith))
+
+  cell-same : (s : Seat) → laid_entries s.mirror (columns_of d s.instance) top channel (pins_there (slice_get table s.instance)) ≡ cell_entries d rows top channel s
+  unfolding laid_entries
+  cell-same s = by (cases_lt (length d.instances) s.instance)
+    where
+      none : (columns : ℕ) → columns ≡ 0 → (pins : List Entrant) → laid_entries s.mirror columns top channel pins
+          ≡ map (λ (column : ℕ). net_in (find (enters_in d rows top channel s column) d.pins)) (range_with_len 0 columns)
+      none zero is pins = refl
+      none (suc n) is pins = absurd (omega arith)
+
+      by : (length d.instances < s.instance) ⊎ (s.instance ≤ length d.instances)
+          → laid_entries s.mirror (columns_of d s.instance) top channel (pins_there (slice_get table s.instance)) ≡ cell_entries d rows top channel s
+      by (inl past) = none (columns_of d s.instance) (no-columns s.instance past) (pins_there (slice_get table s.instance))
+      by (inr within) = cell-pins s (pins_there (slice_get table s.instance)) (ap pins_there (tabled.each s.instance within))
+
+  -- the entries of a row by a table are those of the definition
+  item-same : (item : Item) → tabled_entries d table top channel item ≡ item_entries d rows top channel item
+  unfolding tabled_entries
+  item-same (Cell s) = cell-same s
+  item-same (Feed net) = refl
+
+  pub row-same : (row : Option (List Item)) → flat_map (tabled_entries d table top channel) (items_there row) ≡ row_entries d rows top channel row
+  row-same None = refl
+  row-same (Some items) = flat-same (tabled_entries d table top channel) (item_entries d rows top channel) item-same items
+
+-- the lists of a channel by a table are those of its table
+pub table-made : (d : Netlist) → IsNetlist d → (fed : Fed) (table : List (List Entrant)) → AreTabled d (cells_in fed.rows) table → (channel : ℕ) (top bottom : List ℕ)
+    → top ≡ padded fed.width (flat_map (tabled_entries d table false channel) (items_there (slice_get fed.rows channel)))
+    → bottom ≡ padded fed.width (flat_map (tabled_entries d table true channel) (items_there (row_below fed.rows channel)))
+    → record { top = top; bottom = bottom } ≡ table_of d fed channel
+unfolding table_of
+table-made d good fed table tabled channel top bottom top_is bottom_is =
+    ap (λ (xs : List ℕ). pins_of xs bottom) (top_is ∙ ap (padded fed.width) (row-same d good (cells_in fed.rows) table tabled false channel (slice_get fed.rows channel)))
+    ∙ ap (pins_of (padded fed.width (row_entries d (cells_in fed.rows) false channel (slice_get fed.rows channel))))
+    (bottom_is ∙ ap (padded fed.width) (row-same d good (cells_in fed.rows) table tabled true channel (row_below fed.rows channel)))
+  where
+    pins_of : List ℕ → List ℕ → Pins
+    pins_of top bottom = record { top = top; bottom = bottom }
+
+-- and make a channel
+pub channel-made : (d : Netlist) → IsNetlist d → (fed : Fed) → IsFed d fed → fed.width ≤ 4000000 → (channel : ℕ) → channel ≤ length fed.rows → (pins : Pins)
+    → pins ≡ table_of d fed channel → IsChannel pins
+channel-made d good fed fed_is few channel within pins is = subst IsChannel (sym (is ∙ ap (λ (f : Fed). table_of d f channel) fed_is.is)) made
+  where
+    made : IsChannel (table_of d (fed_rows d (cells_in fed.rows)) channel)
+    made =
+        let long : length (cells_in fed.rows) ≡ length fed.rows = length-map fed.rows seats_in in
+        table-channel d (cells_in fed.rows) good fed_is.placed (subst (λ (f : Fed). f.width ≤ 4000000) fed_is.is few) channel (omega arith)
+
+pub ruleset made_laws = (table-made, channel-made)

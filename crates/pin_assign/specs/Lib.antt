@@ -1,0 +1,22 @@
+-- which pin enters which channel
+pub mod Entering
+-- why a net has entries in a channel
+pub mod Causes
+-- the tables of the channels
+pub mod Tables
+-- the pins and feeds along a row
+pub mod Sources
+-- which nets the pins and feeds of a row leave in which columns
+pub mod Entries
+-- the places of a table
+pub mod Places
+-- the size that a layout is within
+pub mod Bounds
+-- sizes of rows with feeds that keep the bound of a layout below 2 ^ 64
+pub mod Bounded
+-- the edges of pins, how far nets reach, by what they cross rows, and what enters a channel, by tables
+pub mod PinEdges
+pub mod Reaches
+pub mod Leaders
+pub mod Entrants
+pub mod Tabled

@@ -1,0 +1,60 @@
+ghost use Rattle.pin_assign.specs.Bounded.{AreBounded, AreFewNets};
+ghost use Rattle.pin_assign.specs.Bounds.{bound_of, channels_height, most_nets};
+ghost use Rattle.std.specs.Prelude.{◌≡◌, ◌≤◌, length};
+
+use crate::bound::Bound;
+use feed_cells::FedRows;
+use netlist_core::Design;
+use tech_rules::Rules;
+
+/// The size that a layout of these rows is within, whatever its routing: a channel of n nets has at most 2n tracks, and n columns more than the widest
+/// row. The bounds on the rows hold of all that are made by inserting feeds. Takes no memory, and steps as the number of channels.
+#[tactic(auto, using(crate::proofs::BoundLaws::bound_laws), unfolding(crate::specs::Bounds::bound_of))]
+pub fn bound_of(design: &Design, fed: &FedRows, rules: &Rules) -> Bound
+    requires { AreBounded fed.now }
+    ensures { result ≡ bound_of rules.now design.now fed.now }
+{
+    let rows = fed.rows.items().len() as u64;
+    let nets = fed.nets.items();
+    let columns = fed.width + u64::from(most_nets(nets));
+    let centi = u64::from(rules.grid_centi);
+    let cells = rows * u64::from(design.height);
+    Bound {
+        width: columns * u64::from(rules.grid_column) * centi,
+        height: (cells + channels_height(nets, rules)) * centi,
+        grid: (rows + 1) * columns,
+    }
+}
+
+// The most nets that stand in one channel.
+fn most_nets(nets: &[u32]) -> u32
+    requires { AreFewNets nets.now }
+    ensures is { result ≡ most_nets nets.now }
+    ensures few { result ≤ 200000 }
+{
+    let mut most = 0;
+    let mut rest = nets;
+    while let Some((n, after)) = rest.split_first() {
+        most = (*n).max(most);
+        rest = after;
+    }
+    most
+}
+
+// The height in units of channels with two tracks for each of their nets.
+#[tactic(auto, using(crate::proofs::BoundLaws::bound_laws))]
+fn channels_height(nets: &[u32], rules: &Rules) -> u64
+    requires channels { length nets.now ≤ 515 }
+    requires few { AreFewNets nets.now }
+    ensures is { result ≡ channels_height rules.now nets.now }
+    ensures low { result ≤ 206000515000 }
+{
+    let track = u64::from(rules.grid_track);
+    let mut height = 0;
+    let mut rest = nets;
+    while let Some((n, after)) = rest.split_first() {
+        height += (2 * u64::from(*n) + 1) * track;
+        rest = after;
+    }
+    height
+}

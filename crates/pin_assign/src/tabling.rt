@@ -1,0 +1,100 @@
+ghost use Rattle.feed_cells.specs.Fed.{IsFed, cells_in};
+ghost use Rattle.pin_assign.specs.Tabled.{AreTabled};
+ghost use Rattle.pin_assign.specs.Tables.{table_of, tables_of};
+ghost use Rattle.std.specs.Prelude.{◌≡◌, ◌≤◌, length, IfOk};
+
+use crate::aboves::aboves_of;
+use crate::by_instance::{CellPins, pins_by_instance};
+use crate::entrants::entrants_of;
+use crate::entries::row_entries;
+use crate::leaders::leaders_of;
+use crate::pin_edges::pins_with_edges;
+use crate::reaches::reaches_of;
+use crate::rows_beside::{items_at, items_below};
+use channel_model::Channel;
+use feed_cells::{FedRows, Item};
+use geom_core::Items;
+use netlist_core::Design;
+use std::alloc::{AllocError, Global};
+
+/// The channels between rows with their feeds, from the lowest up, one more than there are rows: which net enters which channel in which column. Rows that
+/// are within the limit of the grid are at most 4,000,000 columns wide. The one error is want of memory.
+pub fn channels(alloc: Global, design: &Design, fed: &FedRows) -> Result<Vec<Channel>, AllocError>
+    requires fed { IsFed design.now fed.now }
+    requires narrow { fed.now.width ≤ 4000000 }
+    ensures { IfOk result (λ v. v.items ≡ tables_of design.now fed.now) }
+{
+    // The bounds of the design's type are known once a field is read.
+    let _pins = &design.pins;
+    let table = table_of_pins(alloc, design, fed.rows.items())?;
+    let mut channels = Vec::new(alloc);
+    channels.push(channel_at(alloc, design, fed, table.as_slice(), 0)?)?;
+    let mut channel = 1;
+    let mut rest = fed.rows.items();
+    while let Some((_, after)) = rest.split_first() {
+        channels.push(channel_at(alloc, design, fed, table.as_slice(), channel)?)?;
+        channel += 1;
+        rest = after;
+    }
+    Ok(channels)
+}
+
+// The pins of each instance, with their rows, edges and the crossings of their nets.
+#[tactic(auto, using(crate::proofs::TabledDesign::tabled_laws))]
+fn table_of_pins(
+    alloc: Global,
+    design: &Design,
+    rows: &[Items<Item>],
+) -> Result<Vec<CellPins>, AllocError>
+    requires { length rows.now ≤ 514 }
+    ensures { IfOk result (λ v. AreTabled design.now (cells_in rows.now) v.items) }
+{
+    let _pins = &design.pins;
+    let instances = design.instances.items().len();
+    let nets = few_nets(design);
+    let aboves = aboves_of(alloc, instances, rows)?;
+    let pins = pins_with_edges(alloc, design, aboves.as_slice())?;
+    let reaches = reaches_of(alloc, nets, pins.as_slice())?;
+    let leaders = leaders_of(alloc, nets, pins.as_slice())?;
+    let entrants = entrants_of(
+        alloc,
+        pins.as_slice(),
+        reaches.as_slice(),
+        leaders.as_slice(),
+    )?;
+    pins_by_instance(alloc, instances as u32, entrants.as_slice())
+}
+
+// The number of a design's nets.
+#[tactic(auto, using(crate::proofs::TabledDesign::net_laws))]
+fn few_nets(design: &Design) -> u32
+    ensures { result ≡ length design.now.nets }
+{
+    let _pins = &design.pins;
+    design.nets.items().len() as u32
+}
+
+// The channel with this number, by a table of the instances' pins.
+#[tactic(auto, using(crate::proofs::TabledEntries::made_laws))]
+fn channel_at(
+    alloc: Global,
+    design: &Design,
+    fed: &FedRows,
+    table: &[CellPins],
+    channel: u32,
+) -> Result<Channel, AllocError>
+    requires fed { IsFed design.now fed.now }
+    requires narrow { fed.now.width ≤ 4000000 }
+    requires tabled { AreTabled design.now (cells_in fed.now.rows) table.now }
+    requires within { channel ≤ length fed.now.rows }
+    ensures { IfOk result (λ c. c ≡ table_of design.now fed.now channel) }
+{
+    let _pins = &design.pins;
+    let rows = fed.rows.items();
+    let width = fed.width as usize;
+    let over = items_at(rows, channel);
+    let under = items_below(rows, channel);
+    let top = row_entries(alloc, design, table, over, false, channel, width)?;
+    let bottom = row_entries(alloc, design, table, under, true, channel, width)?;
+    Ok(Channel::from_paired(top, bottom))
+}
