@@ -1,0 +1,56 @@
+use Rattle.std.proofs.Common.{◌+◌, ◌*◌, ◌<◌, ◌≤◌, List, length, sym, subst}
+use Rattle.geom_core.specs.declared.layout.Layout.{Layout}
+use Rattle.tech_rules.specs.Rules.{RuleValues, ValidRules}
+use Rattle.netlist_core.specs.Good.{Good}
+use Rattle.netlist_core.specs.Netlist.{Netlist, IsNetlist}
+use Rattle.channel_model.specs.declared.wiring.Wiring.{Wiring}
+use Rattle.row_model.specs.Rows.{ArePlaced}
+use Rattle.row_model.specs.declared.rows.Seat.{Seat}
+use Rattle.feed_cells.specs.Fed.{Fed, IsFed, fed_rows, cells_in}
+use Rattle.feed_cells.proofs.FedLaws.{cells-fed}
+use Rattle.layout_laws.specs.Labels.{Labelled}
+use Rattle.layout_laws.specs.Plans.{plan_drawn}
+use Rattle.layout_laws.proofs.LabelLaws.{labelled-nets, labelled-spaced, labelled-wide}
+use Rattle.layout_laws.proofs.PlanLaws.{plan-apart, plan-wide}
+use Rattle.layout_laws.proofs.ThreadLaws.{plan-chained}
+use Rattle.channel_stack.specs.Layouts.{layout_of}
+use Rattle.channel_stack.specs.Planned.{net_at, plan_of}
+use Rattle.channel_stack.specs.Routed.{AreWired}
+use Rattle.channel_stack.proofs.LayoutDraws.{stack-draws}
+use Rattle.channel_stack.proofs.LayoutRows.{stack-in_rows}
+use Rattle.channel_stack.proofs.LayoutShows.{stack-cells, stack-shows}
+use Rattle.channel_stack.proofs.PlanThreads.{stack-threaded}
+use Rattle.channel_stack.proofs.StackPlan.{stack-plan}
+
+-- the layout of rows whose channels are wired is good
+rows-good : (r : RuleValues) → ValidRules r → (d : Netlist) → IsNetlist d → (0 < length d.kinds → 2 * r.grid_pin + r.vertical_space ≤ d.height)
+    → (rows : List (List Seat)) → ArePlaced d rows → ArePlaced d (cells_in (fed_rows d rows).rows) → (ws : List Wiring) → AreWired d (fed_rows d rows) ws
+    → Good r d (layout_of r d (fed_rows d rows) ws)
+rows-good r valid d is room rows placed seated ws wired =
+    let fed : Fed = fed_rows d rows in
+    let l : Layout = layout_of r d fed ws in
+    let plan = plan_of r d fed ws in
+    let planned = stack-plan r valid d is room rows placed ws wired in
+    let threaded = stack-threaded r valid d is rows placed ws l (stack-draws r valid d is room fed seated ws wired.each) in
+    let labelled : Labelled r d l (plan_drawn r plan) (net_at d) = record {
+      pins = stack-shows r valid d is room fed seated ws wired.each;
+      wide = plan-wide r valid plan planned;
+      apart = plan-apart r valid plan planned;
+      chained = plan-chained r valid d l plan planned threaded;
+    } in
+    record {
+      cells = stack-cells r valid d is room fed seated ws wired.each;
+      rows = stack-in_rows r valid d is room fed seated ws wired.each;
+      wide = labelled-wide r d l (plan_drawn r plan) (net_at d) labelled;
+      spaced = labelled-spaced r d l (plan_drawn r plan) (net_at d) valid labelled;
+      nets = labelled-nets r d l (plan_drawn r plan) (net_at d) valid labelled;
+    }
+
+-- the layout of rows with feeds whose channels are wired, by whatever router, is good
+pub stack-good : (r : RuleValues) → ValidRules r → (d : Netlist) → IsNetlist d → (0 < length d.kinds → 2 * r.grid_pin + r.vertical_space ≤ d.height)
+    → (fed : Fed) → IsFed d fed → (ws : List Wiring) → AreWired d fed ws → Good r d (layout_of r d fed ws)
+stack-good r valid d is room fed from ws wired =
+    let rows = cells_in fed.rows in
+    let seated : ArePlaced d (cells_in (fed_rows d rows).rows) = subst (ArePlaced d) (sym (cells-fed d rows)) from.placed in
+    subst (λ (f : Fed). Good r d (layout_of r d f ws)) (sym from.is)
+    (rows-good r valid d is room rows from.placed seated ws (subst (λ (f : Fed). AreWired d f ws) from.is wired))

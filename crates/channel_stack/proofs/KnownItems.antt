@@ -1,0 +1,188 @@
+use Rattle.std.proofs.Common.{◌≡◌, refl, ap, sym, ◌∙◌, subst, ℕ, zero, suc, ◌+◌, ◌*◌, ◌<◌, ◌≤◌, List, [], ◌∷◌, ◌++◌, length, map, true, Option, Some, None, Contains, arith, inl, inr}
+use Rattle.std.proofs.lemmas.List.Elements.{All-contains, All-weaker}
+use Rattle.std.proofs.lemmas.List.FromFn.{get_or-range_with_len, length-range_with_len}
+use Rattle.std.proofs.lemmas.List.Sorted.{Contains-permutation, IsPermutation-sym}
+use Rattle.std.proofs.lemmas.Option.{slice_get_within}
+use Rattle.std.specs.List.{AllByRecursion, list_any, range_with_len}
+use Rattle.std.specs.Prelude.{slice_get}
+use Rattle.tech_rules.specs.Rules.{RuleValues, ValidRules}
+use Rattle.netlist_core.specs.Netlist.{Netlist, IsNetlist, IsKind, IsPosition}
+use Rattle.netlist_core.specs.Drawing.{drawing_of}
+use Rattle.netlist_core.specs.declared.design.CellKind.{CellKind}
+use Rattle.netlist_core.specs.declared.design.Inst.{Inst}
+use Rattle.netlist_core.specs.declared.design.Position.{Position}
+use Rattle.cif_text.specs.WrittenLayout.{item_shapes, copied_shapes, turn_at}
+use Rattle.cif_text.specs.Symbols.{symbol_of, moved_shapes}
+use Rattle.list_facts.proofs.Every.{every-from-get}
+use Rattle.wire_geom.proofs.ListLaws.{Contains-flat_map, Contains-flat_map_cases}
+use Rattle.wire_geom.specs.declared.drawn.Drawn.{Drawn}
+use Rattle.row_model.specs.Rows.{ArePlaced, all_instances, instances_in}
+use Rattle.row_model.specs.Widths.{kind_of}
+use Rattle.row_model.specs.declared.rows.Seat.{Seat}
+use Rattle.feed_cells.proofs.Members.{any-member, map-cases, map-member, member-cases, member-head, member-tail}
+use Rattle.feed_cells.specs.Fed.{Fed, cells_in, seats_in}
+use Rattle.feed_cells.specs.declared.fed.Item.{Item}
+use Rattle.feed_cells.specs.declared.fed.Item.TheVariants.{Cell, Feed}
+use Rattle.layout_laws.proofs.ListPlaces.{at-contains, contains-at}
+use Rattle.channel_stack.specs.Layouts.{copy_of, has_feed, is_feed, number_of}
+use Rattle.channel_stack.specs.Planned.{seat_drawn, seat_of}
+use Rattle.channel_stack.specs.Stack.{item_place}
+use Rattle.channel_stack.proofs.FoundSymbols.{symbols_in, kind-found, feed-found}
+use Rattle.channel_stack.proofs.PlacedShapes.{cell-drawn, feed-drawn}
+
+-- the instance and the kind of a seat, which are of the design
+pub record KnownCell (d : Netlist) (s : Seat) : Type 0 where
+  pub inst : Inst
+  pub kind : CellKind
+  pub is_instance : slice_get d.instances s.instance ≡ Some inst
+  pub is_kind : slice_get d.kinds inst.kind ≡ Some kind
+  pub is_kind_of : kind_of d s.instance ≡ Some kind
+  pub good : IsKind kind
+
+-- an item has a symbol: a cell's instance is of the design, and where a feed stands there are feeds
+abbrev pub IsKnown : Netlist → Fed → Item → Type 0
+IsKnown d fed (Cell s) = KnownCell d s
+IsKnown d fed (Feed net) = has_feed fed.rows ≡ true
+
+-- what stands at a place within a list
+at-place : {A : Type 0} (xs : List A) (k : ℕ) → k < length xs → (x : A) × (slice_get xs k ≡ Some x)
+at-place [] k within = absurd (omega arith)
+at-place (x ∷ xs) zero within = (x, refl)
+at-place (x ∷ xs) (suc k) within = at-place xs k (omega arith)
+
+-- the kind of an instance
+pub instance-known : (d : Netlist) → IsNetlist d → (s : Seat) (inst : Inst) → slice_get d.instances s.instance ≡ Some inst → KnownCell d s
+instance-known d is s inst at =
+    let kind = at-place d.kinds inst.kind (All-contains (λ (i : Inst). i.kind < length d.kinds) d.instances inst is.instances (at-contains d.instances s.instance inst at)) in
+    record {
+      inst = inst;
+      kind = kind.0;
+      is_instance = at;
+      is_kind = kind.1;
+      is_kind_of = ap (λ (o : Option Inst). kind_in o) at ∙ kind.1;
+      good = All-contains IsKind d.kinds kind.0 is.kinds (at-contains d.kinds inst.kind kind.0 kind.1);
+    }
+  where
+    kind_in : Option Inst → Option CellKind
+    kind_in None = None
+    kind_in (Some i) = slice_get d.kinds i.kind
+
+-- a seat of a row is that of one of its cells
+pub seat-in : (items : List Item) (s : Seat) → Contains items (Cell s) → Contains (seats_in items) s
+seat-in [] s member = absurd (omega (arith, member.1))
+seat-in (Feed net ∷ items) s member = elim (member-cases (Feed net) items (Cell s) member) [ inl same ↦ absurd (cc) | inr later ↦ seat-in items s later ]
+seat-in (Cell t ∷ items) s member =
+    elim (member-cases (Cell t) items (Cell s) member) [
+      | inl same ↦ (let one : t ≡ s = cc in subst (λ (x : Seat). Contains (t ∷ seats_in items) x) one (member-head t (seats_in items)))
+      | inr later ↦ member-tail t (seats_in items) s (seat-in items s later)
+    ]
+
+-- the items of a row before and behind the cell of a seat
+pub record SeatSplit (items : List Item) (s : Seat) : Type 0 where
+  pub front : List Item
+  pub back : List Item
+  pub is : items ≡ front ++ Cell s ∷ back
+
+pub in-seat : (items : List Item) (s : Seat) → Contains (seats_in items) s → SeatSplit items s
+in-seat [] s member = absurd (omega (arith, member.1))
+in-seat (Feed net ∷ items) s member =
+    let more = in-seat items s member in
+    record { front = Feed net ∷ more.front; back = more.back; is = ap (λ (l : List Item). Feed net ∷ l) more.is }
+in-seat (Cell t ∷ items) s member =
+    elim (member-cases t (seats_in items) s member) [
+      | inl same ↦ record { front = []; back = items; is = ap (λ (x : Seat). Cell x ∷ items) same }
+      | inr later ↦
+          let more = in-seat items s later in
+          record { front = Cell t ∷ more.front; back = more.back; is = ap (λ (l : List Item). Cell t ∷ l) more.is }
+    ]
+
+-- where an instance of the design is seated
+pub record SeatedAt (rows : List (List Item)) (instance : ℕ) : Type 0 where
+  pub row : ℕ
+  pub front : List Item
+  pub seat : Seat
+  pub back : List Item
+  pub at : slice_get rows row ≡ Some (front ++ Cell seat ∷ back)
+  pub own : seat.instance ≡ instance
+
+-- a seat of a row seats its instance there
+seated-in : (rows : List (List Item)) (items : List Item) (s : Seat) (instance : ℕ) → Contains rows items → Contains (seats_in items) s → s.instance ≡ instance
+    → SeatedAt rows instance
+seated-in rows items s instance row member own =
+    let split : SeatSplit items s = in-seat items s member in
+    let place : (k : ℕ) × (slice_get rows k ≡ Some items) = contains-at rows items row in
+    record {
+      row = place.0;
+      front = split.front;
+      seat = s;
+      back = split.back;
+      at = subst (λ (l : List Item). slice_get rows place.0 ≡ Some l) split.is place.1;
+      own = own;
+    }
+
+-- the numbers below a bound are those of its range
+range-has : (n k : ℕ) → k < n → Contains (range_with_len 0 n) k
+range-has n k within = (k, omega (arith, length-range_with_len 0 n), get_or-range_with_len 0 n k k within ∙ omega arith)
+
+range-below : (n k : ℕ) → Contains (range_with_len 0 n) k → k < n
+range-below n k member =
+    let place : ℕ = member.0 in
+    let below : place < length (range_with_len 0 n) = member.1 in
+    let inside : place < n = omega (arith, length-range_with_len 0 n) in
+    let at : 0 + place ≡ k = sym (get_or-range_with_len 0 n place k inside) ∙ member.2 in
+    omega arith
+
+module _ (d : Netlist) (fed : Fed) (placed : ArePlaced d (cells_in fed.rows)) where
+  -- each instance of the design is seated
+  pub seated : (instance : ℕ) → instance < length d.instances → SeatedAt fed.rows instance
+  seated instance within =
+      let listed : Contains (all_instances (cells_in fed.rows)) instance =
+      Contains-permutation (range_with_len 0 (length d.instances)) (all_instances (cells_in fed.rows)) instance placed.once (range-has (length d.instances) instance within) in
+      let row = Contains-flat_map_cases instances_in (cells_in fed.rows) instance listed in
+      let seat = map-cases (λ (s : Seat). s.instance) row.0 instance row.2 in
+      let items = map-cases seats_in fed.rows row.0 row.1 in
+      seated-in fed.rows items.0 seat.0 instance items.1 (subst (λ (l : List Seat). Contains l seat.0) (sym items.2) seat.1) seat.2
+
+  -- the instance of a seat is one of the design
+  pub seat-within : (items : List Item) (s : Seat) → Contains fed.rows items → Contains items (Cell s) → s.instance < length d.instances
+  seat-within items s row member =
+      let range : List ℕ = range_with_len 0 (length d.instances) in
+      let all : List ℕ = all_instances (cells_in fed.rows) in
+      let own : Contains (instances_in (seats_in items)) s.instance = map-member (λ (t : Seat). t.instance) (seats_in items) s (seat-in items s member) in
+      let listed : Contains all s.instance =
+      Contains-flat_map instances_in (cells_in fed.rows) (seats_in items) s.instance (map-member seats_in fed.rows items row) own in
+      range-below (length d.instances) s.instance (Contains-permutation all range s.instance (IsPermutation-sym range all placed.once) listed)
+
+  -- all items of the rows have symbols
+  pub item-known : IsNetlist d → (items : List Item) → Contains fed.rows items → (item : Item) → Contains items item → IsKnown d fed item
+  item-known is items row (Cell s) member =
+      let inst = at-place d.instances s.instance (seat-within items s row member) in instance-known d is s inst.0 inst.1
+  item-known is items row (Feed net) member = any-member (list_any is_feed) fed.rows items row (any-member is_feed items (Feed net) member refl)
+
+  pub rows-known : IsNetlist d → AllByRecursion (AllByRecursion (IsKnown d fed)) fed.rows
+  rows-known is =
+      every-from-get (AllByRecursion (IsKnown d fed)) fed.rows
+      (λ k items at. every-from-get (IsKnown d fed) items
+      (λ j item there. item-known is items (at-contains fed.rows k items at) item (at-contains items j item there)))
+
+-- the drawing of a cell's kind, copied to the cell's place, is that of its seat
+pub known-drawn : (r : RuleValues) → ValidRules r → (d : Netlist) → (0 < length d.kinds → 2 * r.grid_pin + r.vertical_space ≤ d.height) → (s : Seat)
+    → (known : KnownCell d s) → (base left : ℕ)
+    → moved_shapes (turn_at (item_place r d base left (Cell s))) (drawing_of r d.height known.kind)
+    ≡ map (λ (a : Drawn). a.shape) (seat_drawn r base d.height left (seat_of d (Cell s)))
+known-drawn r valid d room s known base left =
+    let some : 0 < length d.kinds = (let w = slice_get_within d.kinds known.inst.kind known.kind known.is_kind in omega arith) in
+    let high : r.grid_pin ≤ d.height = (let h = room some in omega arith) in
+    cell-drawn r valid d.height high d s known.kind base left known.is_kind_of
+    (All-weaker (IsPosition known.kind) (λ (p : Position). p.column < known.kind.columns) (λ p is. is.column) known.kind.positions known.good.positions)
+
+-- the shapes of an item are those of its seat
+pub item-drawn : (r : RuleValues) → ValidRules r → (d : Netlist) → (0 < length d.kinds → 2 * r.grid_pin + r.vertical_space ≤ d.height) → (fed : Fed)
+    → (item : Item) → IsKnown d fed item → (base left : ℕ)
+    → item_shapes (symbols_in r d fed) (copy_of d item (item_place r d base left item)) ≡ map (λ (a : Drawn). a.shape) (seat_drawn r base d.height left (seat_of d item))
+item-drawn r valid d room fed (Cell s) known base left =
+    ap (λ (o : Option Inst). copied_shapes (item_place r d base left (Cell s)) (symbol_of (number_of o) (symbols_in r d fed))) known.is_instance
+    ∙ ap (copied_shapes (item_place r d base left (Cell s))) (kind-found r d fed known.inst.kind known.kind known.is_kind)
+    ∙ known-drawn r valid d room s known base left
+item-drawn r valid d room fed (Feed net) known base left =
+    ap (copied_shapes (item_place r d base left (Feed net))) (feed-found r d fed known) ∙ feed-drawn r valid d net base left

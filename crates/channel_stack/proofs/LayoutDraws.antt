@@ -1,0 +1,74 @@
+use Rattle.std.proofs.Common.{◌≡◌, refl, ap, sym, ◌∙◌, ℕ, suc, ◌+◌, ◌*◌, ◌<◌, ◌≤◌, List, ◌∷◌, ◌++◌, length, map, Some, Option, arith}
+use Rattle.std.proofs.lemmas.List.Elements.{Contains-append_right}
+use Rattle.std.specs.Prelude.{slice_get}
+use Rattle.tech_rules.specs.Rules.{RuleValues, ValidRules}
+use Rattle.netlist_core.specs.Netlist.{Netlist, IsNetlist}
+use Rattle.netlist_core.specs.declared.design.CellKind.{CellKind}
+use Rattle.netlist_core.specs.declared.design.Position.{Position}
+use Rattle.channel_model.specs.declared.wiring.Wiring.{Wiring}
+use Rattle.row_model.specs.Rows.{ArePlaced}
+use Rattle.row_model.specs.Stands.{positions_in, positions_of}
+use Rattle.row_model.specs.declared.rows.Seat.{Seat}
+use Rattle.feed_cells.proofs.Members.{member-head}
+use Rattle.feed_cells.specs.Fed.{Fed, cells_in, items_width}
+use Rattle.feed_cells.specs.declared.fed.Item.{Item}
+use Rattle.feed_cells.specs.declared.fed.Item.TheVariants.{Cell}
+use Rattle.layout_laws.proofs.ListPlaces.{at-contains, map-at}
+use Rattle.layout_laws.specs.Plans.{plan_drawn, row_base}
+use Rattle.channel_stack.specs.Layouts.{layout_of}
+use Rattle.channel_stack.specs.Planned.{plan_of, seat_drawn, seat_of, spot_drawn, spot_of}
+use Rattle.channel_stack.specs.Shown.{DrawsSeat, DrawsSpots}
+use Rattle.channel_stack.specs.Stack.{item_place}
+use Rattle.channel_stack.proofs.KnownItems.{KnownCell, item-known}
+use Rattle.channel_stack.proofs.LayoutCells.{CellStands, cell_at, cell-stands}
+use Rattle.channel_stack.proofs.ListParts.{part-get}
+
+-- a position of a seat stands behind the seat's outline
+pub spot-at : (r : RuleValues) (d : Netlist) (base left : ℕ) (s : Seat) (i : ℕ) (p : Position) → slice_get (positions_of d s.instance) i ≡ Some p
+    → slice_get (seat_drawn r base d.height left (seat_of d (Cell s))) (suc i) ≡ Some (spot_drawn r base d.height left (spot_of d s p))
+spot-at r d base left s i p at =
+    map-at (spot_drawn r base d.height left) (map (spot_of d s) (positions_of d s.instance)) i (spot_of d s p) (map-at (spot_of d s) (positions_of d s.instance) i p at)
+
+-- each position of a seat's cell is drawn where it stands in the plan
+pub seat-draws : (r : RuleValues) (d : Netlist) (fed : Fed) (ws : List Wiring) (k : ℕ) (front : List Item) (s : Seat) (known : KnownCell d s)
+    → CellStands r d fed ws k front s known.inst known.kind → DrawsSeat r d fed ws (layout_of r d fed ws) k front s
+seat-draws r d fed ws k front s known c = record {
+  cell = c.number;
+  spots = λ i p at. record {
+    shape = c.first + 1 + i;
+    draws = record {
+      copy = cell_at r d.height known.inst known.kind (item_place r d (row_base r (plan_of r d fed ws) k) (items_width d front) (Cell s)) c.first;
+      inst = known.inst;
+      kind = known.kind;
+      place = i;
+      position = p;
+      is_cell = c.at;
+      is_instance = known.is_instance;
+      named = refl;
+      is_kind = known.is_kind;
+      is_position = ap (λ (o : Option CellKind). slice_get (positions_in o) i) (sym known.is_kind_of) ∙ at;
+      of_terminal = refl;
+      number = refl;
+    };
+    at =
+        part-get (plan_drawn r (plan_of r d fed ws)) c.first (seat_drawn r (row_base r (plan_of r d fed ws) k) d.height (items_width d front) (seat_of d (Cell s))) c.part
+        (suc i) (c.first + 1 + i) (spot_drawn r (row_base r (plan_of r d fed ws) k) d.height (items_width d front) (spot_of d s p))
+        (spot-at r d (row_base r (plan_of r d fed ws) k) (items_width d front) s i p at) (omega arith);
+  };
+}
+
+-- the instance and the kind of a row's cell
+pub cell-known : (d : Netlist) → IsNetlist d → (fed : Fed) → ArePlaced d (cells_in fed.rows)
+    → (k : ℕ) (front : List Item) (s : Seat) (back : List Item) → slice_get fed.rows k ≡ Some (front ++ Cell s ∷ back) → KnownCell d s
+cell-known d is fed placed k front s back at =
+    item-known d fed placed is (front ++ Cell s ∷ back) (at-contains fed.rows k (front ++ Cell s ∷ back) at) (Cell s)
+    (Contains-append_right front (Cell s ∷ back) (Cell s) (member-head (Cell s) back))
+
+-- the positions of all seats are drawn where they stand in the plan
+pub stack-draws : (r : RuleValues) → ValidRules r → (d : Netlist) → IsNetlist d → (0 < length d.kinds → 2 * r.grid_pin + r.vertical_space ≤ d.height)
+    → (fed : Fed) → ArePlaced d (cells_in fed.rows) → (ws : List Wiring) → length ws ≡ length fed.rows + 1 → DrawsSpots r d fed ws (layout_of r d fed ws)
+stack-draws r valid d is room fed placed ws each = record {
+  seat = λ k front s back within at.
+      let known = cell-known d is fed placed k front s back at in
+      seat-draws r d fed ws k front s known (cell-stands r valid d is room fed placed ws each k front s back at known);
+}

@@ -1,0 +1,226 @@
+use Rattle.std.proofs.Common.{◌≡◌, ◌≢◌, refl, ap, sym, ◌∙◌, subst, inl, inr, ℕ, zero, suc, ◌+◌, ◌*◌, ◌<◌, ◌≤◌, List, [], ◌∷◌, ◌++◌, length, map, Some, arith}
+use Rattle.std.proofs.Math.Nat.{mul-le-mul_right}
+use Rattle.std.proofs.lemmas.Bool.{cases_lt}
+use Rattle.std.proofs.lemmas.Int.{ints}
+use Rattle.std.proofs.lemmas.Option.{none-some, same_Some, slice_get_within}
+use Rattle.std.specs.Prelude.{pos, slice_get, ◌⊎◌, ◌≤ℤ◌}
+use Rattle.geom_core.specs.Extent.{Extent}
+use Rattle.geom_core.specs.declared.layout.Shape.{Shape}
+use Rattle.tech_rules.specs.InRows.{InRows, SameRow, IsBelow}
+use Rattle.tech_rules.specs.Lengths.{Apart, left_of, right_of, under, above}
+use Rattle.tech_rules.specs.Rules.{RuleValues, ValidRules}
+use Rattle.netlist_core.specs.Netlist.{Netlist, IsNetlist}
+use Rattle.channel_model.specs.Elements.{elements}
+use Rattle.channel_model.specs.declared.wiring.Wiring.{Wiring}
+use Rattle.wire_geom.proofs.ListLaws.{Contains-flat_map_cases, Contains-map_cases}
+use Rattle.wire_geom.specs.Drawing.{Film, on_horizontal, on_vertical, on_cut, name_of, drawn_by, drawn_of, drawing, pieces_of}
+use Rattle.wire_geom.specs.Grid.{scaled}
+use Rattle.wire_geom.specs.declared.drawn.Drawn.{Drawn}
+use Rattle.row_model.specs.Rows.{ArePlaced}
+use Rattle.feed_cells.specs.Fed.{Fed, cells_in}
+use Rattle.feed_cells.specs.declared.fed.Item.{Item}
+use Rattle.layout_laws.proofs.ListPlaces.{at-contains, at-map}
+use Rattle.layout_laws.specs.Plans.{channel_height, plan_drawn}
+use Rattle.layout_laws.specs.Seats.{Seat, Spot}
+use Rattle.channel_stack.specs.Layouts.{layout_of}
+use Rattle.channel_stack.specs.Planned.{outline_drawn, plan_of, row_drawn, seat_drawn, seat_of, spot_drawn}
+use Rattle.channel_stack.proofs.LayoutShapes.{levels, plan-levels, stack-shapes}
+use Rattle.channel_stack.proofs.ListParts.{in-either}
+
+-- a rectangle and a later one: they stand side by side in one row, or the later one lies above
+data Follows (a b : Extent) : Type 0 where
+  beside : SameRow a b → a.x1 ≤ℤ b.x0 → Follows a b
+  over : a.y1 ≤ℤ b.y0 → Follows a b
+
+-- an outline, and where it stands: in a row, from a column on, or no lower than a height
+abbrev IsOutline : RuleValues → Drawn → Type 0
+IsOutline r a = a.shape.layer ≡ r.outline_layer
+
+record InRow (r : RuleValues) (base height left : ℕ) (a : Drawn) : Type 0 where
+  pub low : a.shape.rect.y0 ≡ scaled r (2 * base)
+  pub high : a.shape.rect.y1 ≡ scaled r (2 * (base + height))
+  pub from : scaled r (2 * (left * r.grid_column)) ≤ℤ a.shape.rect.x0
+
+abbrev AreInRow : RuleValues → ℕ → ℕ → ℕ → List Drawn → Type 0
+AreInRow r base height left ds = (i : ℕ) (a : Drawn) → slice_get ds i ≡ Some a → IsOutline r a → InRow r base height left a
+
+abbrev AreAbove : RuleValues → ℕ → List Drawn → Type 0
+AreAbove r base ds = (i : ℕ) (a : Drawn) → slice_get ds i ≡ Some a → IsOutline r a → scaled r (2 * base) ≤ℤ a.shape.rect.y0
+
+abbrev AreWires : RuleValues → List Drawn → Type 0
+AreWires r ds = (i : ℕ) (a : Drawn) → slice_get ds i ≡ Some a → IsOutline r a → ⊥
+
+-- of two outlines the later one follows the earlier
+abbrev InOrder : RuleValues → List Drawn → Type 0
+InOrder r ds = (i j : ℕ) (a b : Drawn) → i < j → slice_get ds i ≡ Some a → slice_get ds j ≡ Some b → IsOutline r a → IsOutline r b → Follows a.shape.rect b.shape.rect
+
+-- lists in order stay so behind one another where the outlines of the second follow those of the first
+order-append : (r : RuleValues) (xs ys : List Drawn) → InOrder r xs → InOrder r ys
+    → ((i j : ℕ) (a b : Drawn) → slice_get xs i ≡ Some a → slice_get ys j ≡ Some b → IsOutline r a → IsOutline r b → Follows a.shape.rect b.shape.rect)
+    → InOrder r (xs ++ ys)
+order-append r xs ys first second across i j a b before at_a at_b out other =
+    elim (in-either xs ys i a at_a) [
+      | inl here ↦ elim (in-either xs ys j b at_b) [
+        | inl there ↦ first i j a b before here there out other
+        | inr there ↦ across i there.0 a b here there.2 out other
+      ]
+      | inr here ↦ elim (in-either xs ys j b at_b) [
+        | inl there ↦ absurd (let w = slice_get_within xs j b there in let e = here.1 in omega arith)
+        | inr there ↦ second here.0 there.0 a b (let e = here.1 in let f = there.1 in omega arith) here.2 there.2 out other
+      ]
+    ]
+
+-- a greater number of half units is greater in half centimicrons
+scaled-up : (r : RuleValues) (a b : ℕ) → a ≤ b → scaled r a ≤ℤ scaled r b
+scaled-up r a b le = let product : a * r.grid_centi ≤ b * r.grid_centi = mul-le-mul_right {m = a} {n = b} r.grid_centi le in omega (arith, ints)
+
+module _ (r : RuleValues) (valid : ValidRules r) where
+  -- wires and cuts are no outlines
+  film-other : (film : Film) → name_of r film ≡ r.outline_layer → ⊥
+  film-other on_horizontal is = valid.layers.horizontal_outline is
+  film-other on_vertical is = valid.layers.vertical_outline is
+  film-other on_cut is = valid.layers.cut_outline is
+
+  drawing-wires : (base : ℕ) (w : Wiring) → AreWires r (drawing r base w)
+  drawing-wires base w i a at out =
+      let of = Contains-flat_map_cases (drawn_by r base w.tracks) (elements w) a (at-contains (drawing r base w) i a at) in
+      let piece = Contains-map_cases (drawn_of r) (pieces_of r base w.tracks of.0) a of.2 in
+      film-other piece.0.film (ap (λ (x : Drawn). x.shape.layer) piece.2 ∙ out)
+
+  -- spots are no outlines
+  spots-wires : (base height left : ℕ) (spots : List Spot) → AreWires r (map (spot_drawn r base height left) spots)
+  spots-wires base height left spots i a at out =
+      let spot = at-map (spot_drawn r base height left) spots i a at in
+      valid.layers.vertical_outline (ap (λ (x : Drawn). x.shape.layer) spot.2 ∙ out)
+
+  -- the one outline of a seat
+  seat-outline : (base height left : ℕ) (seat : Seat) (i : ℕ) (a : Drawn) → slice_get (seat_drawn r base height left seat) i ≡ Some a → IsOutline r a
+      → a ≡ outline_drawn r base height left (left + seat.width)
+  seat-outline base height left seat zero a at out = sym (same_Some _ a at)
+  seat-outline base height left seat (suc i) a at out = absurd (spots-wires base height left seat.spots i a at out)
+
+  seat-order : (base height left : ℕ) (seat : Seat) → InOrder r (seat_drawn r base height left seat)
+  seat-order base height left seat i zero a b before at_a at_b out other = absurd (omega arith)
+  seat-order base height left seat i (suc j) a b before at_a at_b out other = absurd (spots-wires base height left seat.spots j b at_b other)
+
+  -- an outline farther to the right is one from here on
+  row-nearer : (base height left right : ℕ) (a : Drawn) → left ≤ right → InRow r base height right a → InRow r base height left a
+  row-nearer base height left right a le a_in =
+      let columns : left * r.grid_column ≤ right * r.grid_column = mul-le-mul_right {m = left} {n = right} r.grid_column le in
+      let up = scaled-up r (2 * (left * r.grid_column)) (2 * (right * r.grid_column)) (omega arith) in
+      record { low = a_in.low; high = a_in.high; from = (let e = a_in.from in omega (arith, ints)) }
+
+  -- the outlines of a row stand in it
+  row-in : (base height left : ℕ) (seats : List Seat) → AreInRow r base height left (row_drawn r base height left seats)
+  row-in base height left [] i a at out = absurd (none-some a at)
+  row-in base height left (seat ∷ seats) i a at out =
+      elim (in-either (seat_drawn r base height left seat) (row_drawn r base height (left + seat.width) seats) i a at) [
+        | inl here ↦ subst (InRow r base height left) (sym (seat-outline base height left seat i a here out))
+            (record { low = refl; high = refl; from = scaled-up r (2 * (left * r.grid_column)) (2 * (left * r.grid_column)) (omega arith) })
+        | inr there ↦ row-nearer base height left (left + seat.width) a (omega arith) (row-in base height (left + seat.width) seats there.0 a there.2 out)
+      ]
+
+  -- and side by side
+  row-order : (base height left : ℕ) (seats : List Seat) → InOrder r (row_drawn r base height left seats)
+  row-order base height left [] = λ i j a b before at_a at_b out other. absurd (none-some a at_a)
+  row-order base height left (seat ∷ seats) =
+      order-append r (seat_drawn r base height left seat) (row_drawn r base height (left + seat.width) seats) (seat-order base height left seat)
+      (row-order base height (left + seat.width) seats)
+      (λ i j a b at_a at_b out other.
+      let is = seat-outline base height left seat i a at_a out in
+      let next = row-in base height (left + seat.width) seats j b at_b other in
+      subst (λ (x : Drawn). Follows x.shape.rect b.shape.rect) (sym is) (beside (record { low = sym next.low; high = sym next.high }) next.from))
+
+  module _ (d : Netlist) where
+    -- the outlines of channels and rows lie above the lowest channel's edge
+    levels-above : (base : ℕ) (ws : List Wiring) (rows : List (List Item)) → AreAbove r base (levels r d base ws rows)
+    levels-above base [] rows i a at out = absurd (none-some a at)
+    levels-above base (w ∷ ws) [] i a at out = absurd (drawing-wires base w i a at out)
+    levels-above base (w ∷ ws) (items ∷ rows) i a at out =
+        let floor : ℕ = base + channel_height r w in
+        let next : ℕ = floor + d.height in
+        let row : List Drawn = row_drawn r floor d.height 0 (map (seat_of d) items) in
+        elim (in-either (drawing r base w) (row ++ levels r d next ws rows) i a at) [
+          | inl here ↦ absurd (drawing-wires base w i a here out)
+          | inr there ↦ elim (in-either row (levels r d next ws rows) there.0 a there.2) [
+            | inl low ↦ (let e = (row-in floor d.height 0 (map (seat_of d) items) there.0 a low out).low in
+                let up = scaled-up r (2 * base) (2 * floor) (omega arith) in omega (arith, ints))
+            | inr high ↦ (let e = levels-above next ws rows high.0 a high.2 out in
+                let up = scaled-up r (2 * base) (2 * next) (omega arith) in omega (arith, ints))
+          ]
+        ]
+
+    -- and follow one another
+    levels-order : (base : ℕ) (ws : List Wiring) (rows : List (List Item)) → InOrder r (levels r d base ws rows)
+    levels-order base [] rows = λ i j a b before at_a at_b out other. absurd (none-some a at_a)
+    levels-order base (w ∷ ws) [] = λ i j a b before at_a at_b out other. absurd (drawing-wires base w i a at_a out)
+    levels-order base (w ∷ ws) (items ∷ rows) =
+        let floor : ℕ = base + channel_height r w in
+        let next : ℕ = floor + d.height in
+        let row : List Drawn = row_drawn r floor d.height 0 (map (seat_of d) items) in
+        order-append r (drawing r base w) (row ++ levels r d next ws rows)
+        (λ i j a b before at_a at_b out other. absurd (drawing-wires base w i a at_a out))
+        (order-append r row (levels r d next ws rows) (row-order floor d.height 0 (map (seat_of d) items)) (levels-order next ws rows)
+        (λ i j a b at_a at_b out other.
+        let e = (row-in floor d.height 0 (map (seat_of d) items) i a at_a out).high in
+        let f = levels-above next ws rows j b at_b other in
+        over (omega (arith, ints))))
+        (λ i j a b at_a at_b out other. absurd (drawing-wires base w i a at_a out))
+
+-- the outlines of a plan follow one another
+plan-order : (r : RuleValues) → ValidRules r → (d : Netlist) (fed : Fed) (ws : List Wiring) → length ws ≡ length fed.rows + 1
+    → InOrder r (plan_drawn r (plan_of r d fed ws))
+plan-order r valid d fed ws each = subst (InOrder r) (sym (plan-levels r d fed ws each)) (levels-order r valid d 0 ws fed.rows)
+
+-- a rectangle and one that follows it are of one row, or the one is below the other
+follows-rows : (a b : Extent) → Follows a b → SameRow a b ⊎ IsBelow a b ⊎ IsBelow b a
+follows-rows a b (beside same right) = inl same
+follows-rows a b (over high) = inr (inl high)
+
+follows-back : (a b : Extent) → Follows b a → SameRow a b ⊎ IsBelow a b ⊎ IsBelow b a
+follows-back a b (beside same right) = inl (record { low = sym same.low; high = sym same.high })
+follows-back a b (over high) = inr (inr high)
+
+-- they share no inner point
+follows-apart : (a b : Extent) → Follows a b → Apart (pos 0) a b
+follows-apart a b (beside same right) = left_of (omega (arith, ints))
+follows-apart a b (over high) = under (omega (arith, ints))
+
+follows-parted : (a b : Extent) → Follows b a → Apart (pos 0) a b
+follows-parted a b (beside same right) = right_of (omega (arith, ints))
+follows-parted a b (over high) = above (omega (arith, ints))
+
+module _ (r : RuleValues) (valid : ValidRules r) (d : Netlist) (is : IsNetlist d) (room : 0 < length d.kinds → 2 * r.grid_pin + r.vertical_space ≤ d.height)
+    (fed : Fed) (placed : ArePlaced d (cells_in fed.rows)) (ws : List Wiring) (each : length ws ≡ length fed.rows + 1) where
+  -- an outline of the layout follows an earlier one
+  shapes-follow : (i j : ℕ) (s t : Shape) → i < j → slice_get (layout_of r d fed ws).shapes i ≡ Some s → slice_get (layout_of r d fed ws).shapes j ≡ Some t
+      → s.layer ≡ r.outline_layer → t.layer ≡ r.outline_layer → Follows s.rect t.rect
+  shapes-follow i j s t before at_s at_t out other =
+      let shapes = stack-shapes r valid d is room fed placed ws each in
+      let plan : List Drawn = plan_drawn r (plan_of r d fed ws) in
+      let a = at-map (λ (x : Drawn). x.shape) plan i s (subst (λ (l : List Shape). slice_get l i ≡ Some s) shapes at_s) in
+      let b = at-map (λ (x : Drawn). x.shape) plan j t (subst (λ (l : List Shape). slice_get l j ≡ Some t) shapes at_t) in
+      subst (λ (x : Shape). Follows x.rect t.rect) a.2
+      (subst (λ (x : Shape). Follows a.0.shape.rect x.rect) b.2
+      (plan-order r valid d fed ws each i j a.0 b.0 before a.1 b.1 (ap (λ (x : Shape). x.layer) a.2 ∙ out) (ap (λ (x : Shape). x.layer) b.2 ∙ other)))
+
+  -- two different outlines follow one another in one order or the other
+  either-follows : (i j : ℕ) (s t : Shape) → i ≢ j → slice_get (layout_of r d fed ws).shapes i ≡ Some s → slice_get (layout_of r d fed ws).shapes j ≡ Some t
+      → s.layer ≡ r.outline_layer → t.layer ≡ r.outline_layer → Follows s.rect t.rect ⊎ Follows t.rect s.rect
+  either-follows i j s t differ at_s at_t out other =
+      elim (cases_lt i j) [
+        | inl low ↦ inl (shapes-follow i j s t low at_s at_t out other)
+        | inr not_low ↦ elim (cases_lt j i) [
+          | inl high ↦ inr (shapes-follow j i t s high at_t at_s other out)
+          | inr not_high ↦ absurd (differ (omega arith))
+        ]
+      ]
+
+  -- the cells and feeds stand in rows
+  pub stack-in_rows : InRows r (layout_of r d fed ws)
+  stack-in_rows = record {
+    rows = λ i j s t differ at_s at_t out other.
+        elim (either-follows i j s t differ at_s at_t out other) [ inl first ↦ follows-rows s.rect t.rect first | inr second ↦ follows-back s.rect t.rect second ];
+    apart = λ i j s t differ at_s at_t out other.
+        elim (either-follows i j s t differ at_s at_t out other) [ inl first ↦ follows-apart s.rect t.rect first | inr second ↦ follows-parted s.rect t.rect second ];
+  }

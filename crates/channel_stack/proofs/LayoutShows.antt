@@ -1,0 +1,212 @@
+use Rattle.std.proofs.Common.{◌≡◌, refl, ap, sym, ◌∙◌, subst, inl, inr, ℕ, suc, ◌+◌, ◌*◌, ◌<◌, ◌≤◌, List, length, map, take, drop, Bool, true, false, Some, None, Option, Contains, arith}
+use Rattle.std.proofs.lemmas.Bool.{both_ways}
+use Rattle.std.proofs.lemmas.List.{length-map}
+use Rattle.std.proofs.lemmas.List.Sorted.{Contains-permutation, IsPermutation-sym}
+use Rattle.std.proofs.lemmas.Option.{none-some, same_Some, slice_get_within}
+use Rattle.std.specs.Option.{is_some}
+use Rattle.std.specs.Prelude.{slice_get}
+use Rattle.geom_core.specs.declared.layout.Cell as layouts
+use Rattle.geom_core.specs.declared.layout.Shape.{Shape}
+use Rattle.tech_rules.specs.Rules.{RuleValues, ValidRules}
+use Rattle.netlist_core.specs.CellsMatch.{CellsMatch, IsCopyOf, cell_names, instance_names, turned}
+use Rattle.netlist_core.specs.Drawing.{drawing_of}
+use Rattle.netlist_core.specs.Joined.{Draws, DrawsPin}
+use Rattle.netlist_core.specs.Netlist.{Netlist, IsNetlist}
+use Rattle.netlist_core.specs.declared.design.CellKind.{CellKind}
+use Rattle.netlist_core.specs.declared.design.Inst.{Inst}
+use Rattle.netlist_core.specs.declared.design.Pin.{Pin}
+use Rattle.cif_text.specs.WrittenLayout.{turn_at}
+use Rattle.channel_model.specs.declared.wiring.Wiring.{Wiring}
+use Rattle.wire_geom.specs.declared.drawn.Drawn.{Drawn}
+use Rattle.row_model.specs.Rows.{ArePlaced}
+use Rattle.row_model.specs.Stands.{edge_column, positions_in, positions_of}
+use Rattle.row_model.specs.Widths.{kind_of}
+use Rattle.row_model.specs.declared.rows.Seat.{Seat}
+use Rattle.feed_cells.proofs.Members.{map-cases}
+use Rattle.feed_cells.proofs.PinEdges.{pin-edge}
+use Rattle.feed_cells.specs.Fed.{Fed, cells_in, items_width}
+use Rattle.feed_cells.specs.declared.fed.Item.{Item}
+use Rattle.feed_cells.specs.declared.fed.Item.TheVariants.{Cell}
+use Rattle.pin_assign.proofs.EdgeLaws.{EdgePosition, edge-position, pin-found}
+use Rattle.layout_laws.proofs.ListPlaces.{at-contains, contains-at, map-at}
+use Rattle.layout_laws.specs.Labels.{ShowsPins}
+use Rattle.layout_laws.specs.Plans.{plan_drawn, row_base}
+use Rattle.channel_stack.specs.Layouts.{layout_of}
+use Rattle.channel_stack.specs.Planned.{net_at, net_found, plan_of, seat_drawn, seat_of, spot_drawn, spot_of}
+use Rattle.channel_stack.specs.Shown.{DrawsSpot, DrawsSeat}
+use Rattle.channel_stack.specs.Stack.{item_place}
+use Rattle.channel_stack.proofs.CellNames.{named-once, stack-names}
+use Rattle.channel_stack.proofs.KnownItems.{KnownCell, SeatedAt, known-drawn, seated}
+use Rattle.channel_stack.proofs.LayoutCells.{CellStands, cell_at, cell-stands}
+use Rattle.channel_stack.proofs.LayoutDraws.{cell-known, seat-draws, spot-at}
+use Rattle.channel_stack.proofs.LayoutShapes.{shapes_in, stack-shapes}
+use Rattle.channel_stack.proofs.ListParts.{part-get, part-map, part-taken}
+
+-- a cell of the layout is that of an instance's seat
+pub record IsCellOf (r : RuleValues) (d : Netlist) (fed : Fed) (ws : List Wiring) (number instance : ℕ) (copy : layouts.Cell) (inst : Inst) : Type 0 where
+  pub row : ℕ
+  pub front : List Item
+  pub seat : Seat
+  pub own : seat.instance ≡ instance
+  pub known : KnownCell d seat
+  pub same_inst : known.inst ≡ inst
+  pub stands : CellStands r d fed ws row front seat known.inst known.kind
+  pub is : copy ≡ cell_at r d.height known.inst known.kind (item_place r d (row_base r (plan_of r d fed ws) row) (items_width d front) (Cell seat)) stands.first
+
+-- an instance with a kind is one of the design
+kind-instance : (d : Netlist) (instance : ℕ) (kind : CellKind) → kind_of d instance ≡ Some kind → instance < length d.instances
+kind-instance d instance kind is = by (slice_get d.instances instance) refl is
+  where
+    kind_in : Option Inst → Option CellKind
+    kind_in None = None
+    kind_in (Some i) = slice_get d.kinds i.kind
+
+    by : (o : Option Inst) → slice_get d.instances instance ≡ o → kind_in o ≡ Some kind → instance < length d.instances
+    by None at found = absurd (none-some kind found)
+    by (Some inst) at found = slice_get_within d.instances instance inst at
+
+-- a pin has a position
+pin-position : (d : Netlist) (top : Bool) (p : Pin) → is_some (edge_column d top p) ≡ true → (own : ℕ) × EdgePosition d top p own
+pin-position d top p has = by (edge_column d top p) refl has
+  where
+    by : (o : Option ℕ) → edge_column d top p ≡ o → is_some o ≡ true → (own : ℕ) × EdgePosition d top p own
+    by None at some = absurd (both_ways false refl some)
+    by (Some own) at some = (own, edge-position d top p own at)
+
+-- the net of a pin is found by its instance and terminal
+pub pin-net : (d : Netlist) → IsNetlist d → (p : Pin) → Contains d.pins p → net_at d p.instance p.terminal ≡ p.net
+unfolding net_at
+pin-net d is p listed = ap net_found (pin-found d is p listed)
+
+module _ (r : RuleValues) (valid : ValidRules r) (d : Netlist) (is : IsNetlist d) (room : 0 < length d.kinds → 2 * r.grid_pin + r.vertical_space ≤ d.height)
+    (fed : Fed) (placed : ArePlaced d (cells_in fed.rows)) (ws : List Wiring) (each : length ws ≡ length fed.rows + 1) where
+  -- the cell with an instance's name is that of its seat
+  pub cell-is : (number instance : ℕ) (copy : layouts.Cell) (inst : Inst) → slice_get (layout_of r d fed ws).cells number ≡ Some copy
+      → slice_get d.instances instance ≡ Some inst → copy.name ≡ inst.name → IsCellOf r d fed ws number instance copy inst
+  cell-is number instance copy inst at_cell at_instance named =
+      let seat : SeatedAt fed.rows instance = seated d fed placed instance (slice_get_within d.instances instance inst at_instance) in
+      let known : KnownCell d seat.seat = cell-known d is fed placed seat.row seat.front seat.seat seat.back seat.at in
+      let stands = cell-stands r valid d is room fed placed ws each seat.row seat.front seat.seat seat.back seat.at known in
+      let cell : layouts.Cell = cell_at r d.height known.inst known.kind (item_place r d (row_base r (plan_of r d fed ws) seat.row) (items_width d seat.front) (Cell seat.seat)) stands.first in
+      let same : known.inst ≡ inst = same_Some known.inst inst (sym known.is_instance ∙ ap (slice_get d.instances) seat.own ∙ at_instance) in
+      let one : number ≡ stands.number = named-once r d is fed placed ws each number stands.number copy cell at_cell stands.at (named ∙ sym (ap (λ (i : Inst). i.name) same)) in
+      record {
+        row = seat.row;
+        front = seat.front;
+        seat = seat.seat;
+        own = seat.own;
+        known = known;
+        same_inst = same;
+        stands = stands;
+        is = same_Some copy cell (sym at_cell ∙ ap (slice_get (layout_of r d fed ws).cells) one ∙ stands.at);
+      }
+
+  -- each cell is that of an instance's seat
+  pub every-cell : (number : ℕ) (copy : layouts.Cell) → slice_get (layout_of r d fed ws).cells number ≡ Some copy
+      → (instance : ℕ) × (inst : Inst) × IsCellOf r d fed ws number instance copy inst
+  every-cell number copy at_cell =
+      let names : List (List ℕ) = cell_names (layout_of r d fed ws) in
+      let named : Contains names copy.name = at-contains names number copy.name (map-at (λ (c : layouts.Cell). c.name) (layout_of r d fed ws).cells number copy at_cell) in
+      let listed : Contains (instance_names d) copy.name =
+      Contains-permutation names (instance_names d) copy.name (IsPermutation-sym (instance_names d) names (stack-names r d is fed placed ws each)) named in
+      let inst = map-cases (λ (i : Inst). i.name) d.instances copy.name listed in
+      let place = contains-at d.instances inst.0 inst.1 in
+      (place.0, inst.0, cell-is number place.0 copy inst.0 at_cell place.1 (sym inst.2))
+
+  -- the kind of the cell's instance
+  same-kind : (number instance : ℕ) (copy : layouts.Cell) (inst : Inst) (kind : CellKind) → slice_get d.kinds inst.kind ≡ Some kind
+      → (c : IsCellOf r d fed ws number instance copy inst) → c.known.kind ≡ kind
+  same-kind number instance copy inst kind is_kind c =
+      same_Some c.known.kind kind (sym c.known.is_kind ∙ ap (λ (i : Inst). slice_get d.kinds i.kind) c.same_inst ∙ is_kind)
+
+  -- the shape with a terminal's drawing is a vertical wire of the terminal's net
+  pub stack-drawn : (cell instance terminal i : ℕ) → Draws d (layout_of r d fed ws) cell instance terminal i
+      → (a : Drawn) × (slice_get (plan_drawn r (plan_of r d fed ws)) i ≡ Some a) × (a.shape.layer ≡ r.vertical_layer) × (a.net ≡ net_at d instance terminal)
+  stack-drawn cell instance terminal i dr =
+      let c : IsCellOf r d fed ws cell instance dr.copy dr.inst = cell-is cell instance dr.copy dr.inst dr.is_cell dr.is_instance dr.named in
+      let base : ℕ = row_base r (plan_of r d fed ws) c.row in
+      let left : ℕ = items_width d c.front in
+      let kind : c.known.kind ≡ dr.kind = same-kind cell instance dr.copy dr.inst dr.kind dr.is_kind c in
+      let at : slice_get (positions_of d c.seat.instance) dr.place ≡ Some dr.position =
+      ap (λ (o : Option CellKind). slice_get (positions_in o) dr.place) (c.known.is_kind_of ∙ ap (λ (k : CellKind). Some k) kind) ∙ dr.is_position in
+      let first : dr.copy.first ≡ c.stands.first = ap (λ (x : layouts.Cell). x.first) c.is in
+      let number : i ≡ c.stands.first + suc dr.place = (let n = dr.number in omega arith) in (
+        spot_drawn r base d.height left (spot_of d c.seat dr.position),
+        part-get (plan_drawn r (plan_of r d fed ws)) c.stands.first (seat_drawn r base d.height left (seat_of d (Cell c.seat))) c.stands.part
+            (suc dr.place) i (spot_drawn r base d.height left (spot_of d c.seat dr.position)) (spot-at r d base left c.seat dr.place dr.position at) number,
+        refl,
+        ap (λ (n : ℕ). net_at d n dr.position.terminal) c.own ∙ ap (net_at d instance) dr.of_terminal,
+      )
+
+  -- a pin with a position on an edge is drawn
+  edge-shown : (top : Bool) (p : Pin) (own : ℕ) → EdgePosition d top p own → (i : ℕ) × DrawsPin d (layout_of r d fed ws) p i
+  edge-shown top p own e =
+      let seat : SeatedAt fed.rows p.instance = seated d fed placed p.instance (kind-instance d p.instance e.kind e.is_kind) in
+      let known : KnownCell d seat.seat = cell-known d is fed placed seat.row seat.front seat.seat seat.back seat.at in
+      let stands = cell-stands r valid d is room fed placed ws each seat.row seat.front seat.seat seat.back seat.at known in
+      let draws : DrawsSeat r d fed ws (layout_of r d fed ws) seat.row seat.front seat.seat = seat-draws r d fed ws seat.row seat.front seat.seat known stands in
+      let at : slice_get (positions_of d seat.seat.instance) e.place ≡ Some e.position =
+      ap (λ (n : ℕ). slice_get (positions_of d n) e.place) seat.own ∙ ap (λ (o : Option CellKind). slice_get (positions_in o) e.place) e.is_kind ∙ e.at in
+      let spot : DrawsSpot r d fed ws (layout_of r d fed ws) seat.row seat.front seat.seat draws.cell e.position = draws.spots e.place e.position at in (
+        spot.shape,
+        record {
+          cell = draws.cell;
+          draws =
+              subst (λ (n : ℕ). Draws d (layout_of r d fed ws) draws.cell n p.terminal spot.shape) seat.own
+              (subst (λ (n : ℕ). Draws d (layout_of r d fed ws) draws.cell seat.seat.instance n spot.shape) e.terminal spot.draws);
+        },
+      )
+
+  -- each pin is drawn
+  pub stack-shown : (p : Pin) → Contains d.pins p → (i : ℕ) × DrawsPin d (layout_of r d fed ws) p i
+  stack-shown p listed =
+      elim (pin-edge d is p listed) [
+        | inl low ↦ (let e = pin-position d false p low in edge-shown false p e.0 e.1)
+        | inr high ↦ (let e = pin-position d true p high in edge-shown true p e.0 e.1)
+      ]
+
+  -- the layout shows the pins of the design with their nets
+  pub stack-shows : ShowsPins r d (layout_of r d fed ws) (plan_drawn r (plan_of r d fed ws)) (net_at d)
+  stack-shows = record {
+    shapes = stack-shapes r valid d is room fed placed ws each;
+    drawn = stack-drawn;
+    shown = stack-shown;
+    nets = pin-net d is;
+  }
+
+  -- the shapes of a seat's cell are those of its kind, under the cell's turn
+  cell-shapes : (k : ℕ) (front : List Item) (s : Seat) (known : KnownCell d s) → (c : CellStands r d fed ws k front s known.inst known.kind)
+      → take (length (drawing_of r d.height known.kind)) (drop c.first (layout_of r d fed ws).shapes)
+      ≡ map (turned (turn_at (item_place r d (row_base r (plan_of r d fed ws) k) (items_width d front) (Cell s)))) (drawing_of r d.height known.kind)
+  cell-shapes k front s known c =
+      let base : ℕ = row_base r (plan_of r d fed ws) k in
+      let left : ℕ = items_width d front in
+      let own : List Drawn = seat_drawn r base d.height left (seat_of d (Cell s)) in
+      let turn : (Shape → Shape) = turned (turn_at (item_place r d base left (Cell s))) in
+      let drawn : map turn (drawing_of r d.height known.kind) ≡ shapes_in own = known-drawn r valid d room s known base left in
+      let many : length (drawing_of r d.height known.kind) ≡ length (shapes_in own) = sym (length-map (drawing_of r d.height known.kind) turn) ∙ ap length drawn in
+      ap (λ (n : ℕ). take n (drop c.first (layout_of r d fed ws).shapes)) many
+      ∙ ap (λ (l : List Shape). take (length (shapes_in own)) (drop c.first l)) (stack-shapes r valid d is room fed placed ws each)
+      ∙ part-taken (shapes_in (plan_drawn r (plan_of r d fed ws))) c.first (shapes_in own)
+      (part-map (λ (a : Drawn). a.shape) (plan_drawn r (plan_of r d fed ws)) c.first own c.part)
+      ∙ sym drawn
+
+  -- a cell with an instance's name is a copy of the instance's kind
+  stack-copy : (number instance : ℕ) (cell : layouts.Cell) (inst : Inst) (kind : CellKind) → slice_get (layout_of r d fed ws).cells number ≡ Some cell
+      → slice_get d.instances instance ≡ Some inst → cell.name ≡ inst.name → slice_get d.kinds inst.kind ≡ Some kind
+      → IsCopyOf r d.height (layout_of r d fed ws) kind cell
+  stack-copy number instance cell inst kind at_cell at_instance named is_kind =
+      let c : IsCellOf r d fed ws number instance cell inst = cell-is number instance cell inst at_cell at_instance named in
+      subst (λ (k : CellKind). IsCopyOf r d.height (layout_of r d fed ws) k cell) (same-kind number instance cell inst kind is_kind c)
+      (subst (λ (x : layouts.Cell). IsCopyOf r d.height (layout_of r d fed ws) c.known.kind x) (sym c.is)
+      (record { symbol = refl; upright = refl; shapes = cell-shapes c.row c.front c.seat c.known c.stands }))
+
+  -- the cells have the instances' names, each once, and each is a copy of its instance's kind
+  pub stack-cells : CellsMatch r d (layout_of r d fed ws)
+  stack-cells = record {
+    names = stack-names r d is fed placed ws each;
+    copies = λ cell inst kind has_cell has_inst named is_kind.
+        let n = contains-at (layout_of r d fed ws).cells cell has_cell in
+        let m = contains-at d.instances inst has_inst in
+        stack-copy n.0 m.0 cell inst kind n.1 m.1 named is_kind;
+  }

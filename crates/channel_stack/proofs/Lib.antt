@@ -1,0 +1,60 @@
+-- boxes that are whole in centimicrons
+pub mod WholeBoxes
+-- symbols that can be written
+pub mod WritableSymbols
+-- rectangles of wirings that can be written
+pub mod WritableWires
+-- how high and how wide a stack is
+pub mod StackBounds
+-- the items of rows with feeds
+pub mod FedItems
+-- what stands at the main level can be written
+pub mod WritableItems
+-- the layout of a routed design can be written, and what is written means it
+pub mod Writable
+-- how high and how wide routed designs are
+pub mod Heights
+-- a worked layout
+pub mod Worked
+-- the lower edges of channels
+pub mod PlanBases
+-- the items of a row, and the wires that are drawn for them
+pub mod RowItems
+-- an item as a seat
+pub mod PlanSeats
+-- what stands on an edge of a row, as a wire that comes there
+pub mod PlanEntries
+-- rows and channels as a plan
+pub mod StackPlan
+-- the pins of positions
+pub mod PositionPins
+-- a seat stands once among the items of a row
+pub mod SeatOnce
+-- the rectangles of a row, and the channels that they enter
+pub mod RowWires
+-- the seats of pins, the feeds of rows, and the nets of entries
+pub mod RowPins
+-- how the nets of a wired design thread its channels
+pub mod PlanThreads
+-- parts of lists, and where they stand
+pub mod ListParts
+-- a symbol that is copied to its place
+pub mod PlacedShapes
+-- the symbols of kinds and feeds are found
+pub mod FoundSymbols
+-- where instances are seated, and that each item has a symbol, whose copy is drawn as its seat
+pub mod KnownItems
+-- the shapes of a layout are the rectangles of its plan
+pub mod LayoutShapes
+-- where the cells of a layout stand
+pub mod LayoutCells
+-- the positions of seats are drawn in their cells
+pub mod LayoutDraws
+-- the cells of a layout have the instances' names, each once
+pub mod CellNames
+-- the layout shows the pins of its design, and its cells are copies of the kinds
+pub mod LayoutShows
+-- the cells and feeds of a layout stand in rows
+pub mod LayoutRows
+-- wired channels make a good layout
+pub mod GoodStack

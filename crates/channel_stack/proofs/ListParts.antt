@@ -1,0 +1,56 @@
+use Rattle.std.proofs.Common.{◌≡◌, ap, sym, ◌∙◌, ℕ, zero, suc, ◌+◌, List, [], ◌∷◌, ◌++◌, length, map, take, drop, Some, inl, inr, arith}
+use Rattle.std.proofs.Math.Seq.{drop-append_seam, take-append_seam}
+use Rattle.std.proofs.lemmas.List.{length-map, map-append}
+use Rattle.std.proofs.lemmas.Option.{none-some}
+use Rattle.std.specs.Prelude.{slice_get, ◌⊎◌}
+
+-- what stands at a place of a list stands there before other elements
+pub get-before : {X : Type 0} (xs ys : List X) (k : ℕ) (x : X) → slice_get xs k ≡ Some x → slice_get (xs ++ ys) k ≡ Some x
+get-before [] ys k x at = absurd (none-some x at)
+get-before (y ∷ xs) ys zero x at = at
+get-before (y ∷ xs) ys (suc k) x at = get-before xs ys k x at
+
+-- what stands behind a list
+pub get-behind : {X : Type 0} (xs ys : List X) (n k : ℕ) → n ≡ length xs + k → slice_get (xs ++ ys) n ≡ slice_get ys k
+get-behind [] ys n k is = ap (slice_get ys) (omega arith)
+get-behind (x ∷ xs) ys zero k is = absurd (omega arith)
+get-behind (x ∷ xs) ys (suc n) k is = get-behind xs ys n k (omega arith)
+
+-- what stands in one list behind another stands in the first or in the second
+pub in-either : {X : Type 0} (xs ys : List X) (n : ℕ) (x : X) → slice_get (xs ++ ys) n ≡ Some x
+    → (slice_get xs n ≡ Some x) ⊎ ((k : ℕ) × (n ≡ length xs + k) × (slice_get ys k ≡ Some x))
+in-either [] ys n x at = inr (n, omega arith, at)
+in-either (y ∷ xs) ys zero x at = inl at
+in-either (y ∷ xs) ys (suc n) x at = elim (in-either xs ys n x at) [ inl here ↦ inl here | inr there ↦ inr (there.0, (let e = there.1 in omega arith), there.2) ]
+
+-- a list stands in another from a place on
+pub record Part {X : Type 0} (xs : List X) (start : ℕ) (ys : List X) : Type 0 where
+  pub before : List X
+  pub after : List X
+  pub is : xs ≡ before ++ (ys ++ after)
+  pub at : start ≡ length before
+
+-- each element of a part stands behind where the part begins
+pub part-get : {X : Type 0} (xs : List X) (start : ℕ) (ys : List X) → Part xs start ys → (j n : ℕ) (y : X) → slice_get ys j ≡ Some y → n ≡ start + j
+    → slice_get xs n ≡ Some y
+part-get {X = X} xs start ys p j n y at is =
+    ap (λ (l : List X). slice_get l n) p.is
+    ∙ get-behind p.before (ys ++ p.after) n j (let e = p.at in omega arith)
+    ∙ get-before ys p.after j y at
+
+-- a part's elements are as many from where it begins
+pub part-taken : {X : Type 0} (xs : List X) (start : ℕ) (ys : List X) → Part xs start ys → take (length ys) (drop start xs) ≡ ys
+part-taken {X = X} xs start ys p =
+    ap (λ (l : List X). take (length ys) (drop start l)) p.is
+    ∙ ap (λ (n : ℕ). take (length ys) (drop n (p.before ++ (ys ++ p.after)))) p.at
+    ∙ ap (take (length ys)) (drop-append_seam p.before (ys ++ p.after))
+    ∙ take-append_seam ys p.after
+
+-- the images of a part are a part of the images
+pub part-map : {X Y : Type 0} (f : X → Y) (xs : List X) (start : ℕ) (ys : List X) → Part xs start ys → Part (map f xs) start (map f ys)
+part-map {X = X} f xs start ys p = record {
+  before = map f p.before;
+  after = map f p.after;
+  is = ap (map f) p.is ∙ map-append f p.before (ys ++ p.after) ∙ ap (λ l. map f p.before ++ l) (map-append f ys p.after);
+  at = p.at ∙ sym (length-map p.before f);
+}

@@ -1,0 +1,158 @@
+use Rattle.std.proofs.Common.{◌≡◌, refl, ap, sym, ◌∙◌, subst, ℕ, ◌+◌, ◌*◌, ◌-◌, ◌<◌, ◌≤◌, List, [], ◌∷◌, map, Bool, true, false, Some, All, arith}
+use Rattle.std.proofs.Math.Nat.{add-mul}
+use Rattle.std.proofs.lemmas.Int.{ints}
+use Rattle.std.proofs.lemmas.List.Elements.{All-head, All-tail}
+use Rattle.std.specs.Prelude.{ℤ, pos, neg_ℤ, ◌+ℤ◌, if◌then◌else◌}
+use Rattle.geom_core.specs.Extent.{Extent}
+use Rattle.geom_core.specs.Turning.{moved}
+use Rattle.geom_core.specs.declared.layout.Shape.{Shape}
+use Rattle.tech_rules.specs.Rules.{RuleValues, ValidRules}
+use Rattle.netlist_core.specs.Drawing.{extent_of, middle_of, pin_low, pin_high, outline_shape, position_shape, drawing_of}
+use Rattle.netlist_core.specs.Netlist.{Netlist}
+use Rattle.netlist_core.specs.declared.design.CellKind.{CellKind}
+use Rattle.netlist_core.specs.declared.design.Position.{Position}
+use Rattle.cif_text.specs.Symbols.{moved_shape, moved_shapes}
+use Rattle.cif_text.specs.WrittenLayout.{turn_at}
+use Rattle.row_model.specs.Stands.{turned_column, positions_in}
+use Rattle.row_model.specs.Widths.{kind_of, columns_of, width_of}
+use Rattle.row_model.specs.declared.rows.Seat as seats
+use Rattle.feed_cells.specs.declared.fed.Item.TheVariants.{Cell, Feed}
+use Rattle.layout_laws.specs.Seats.{foot, head, through}
+use Rattle.layout_laws.specs.Uprights.{post_rect}
+use Rattle.wire_geom.specs.declared.drawn.Drawn.{Drawn}
+use Rattle.channel_stack.specs.Stack.{corner_column, place_at, item_place}
+use Rattle.channel_stack.specs.Layouts.{feed_outline, feed_wire, feed_drawing}
+use Rattle.channel_stack.specs.Planned.{post_of, spot_of, seat_of, outline_drawn, spot_drawn, seat_drawn}
+
+-- the sum of scaled numbers
+scaled-sum : (a b n c : ℕ) → a + b ≡ n → pos (a * c) +ℤ pos (b * c) ≡ pos (n * c)
+scaled-sum a b n c e =
+    let product : n * c ≡ a * c + b * c = ap (λ (m : ℕ). m * c) (sym e) ∙ add-mul a b c in
+    omega (arith, ints)
+
+-- the difference of scaled numbers
+scaled-difference : (a b n c : ℕ) → n + a ≡ b → neg_ℤ (pos (a * c)) +ℤ pos (b * c) ≡ pos (n * c)
+scaled-difference a b n c e =
+    let product : b * c ≡ n * c + a * c = ap (λ (m : ℕ). m * c) (sym e) ∙ add-mul n a c in
+    omega (arith, ints)
+
+-- rectangles with the same sides are one
+extent-same : (a b c d a' b' c' d' : ℤ) → a ≡ a' → b ≡ b' → c ≡ c' → d ≡ d'
+    → ◌≡◌ {A = Extent} (record { x0 = a; y0 = b; x1 = c; y1 = d }) (record { x0 = a'; y0 = b'; x1 = c'; y1 = d' })
+extent-same a b c d a' b' c' d' ea eb ec ed = cc
+
+-- a rectangle at an upright place
+upright-moved : (r : RuleValues) (base column x0 y0 x1 y1 a0 b0 a1 b1 : ℕ) → x0 + 2 * (column * r.grid_column) ≡ a0 → y0 + 2 * base ≡ b0
+    → x1 + 2 * (column * r.grid_column) ≡ a1 → y1 + 2 * base ≡ b1
+    → moved (turn_at (place_at r base false column)) (extent_of r.grid_centi x0 y0 x1 y1) ≡ extent_of r.grid_centi a0 b0 a1 b1
+upright-moved r base column x0 y0 x1 y1 a0 b0 a1 b1 left low right high =
+    extent-same _ _ _ _ _ _ _ _
+    (scaled-sum x0 (2 * (column * r.grid_column)) a0 r.grid_centi left) (scaled-sum y0 (2 * base) b0 r.grid_centi low)
+    (scaled-sum x1 (2 * (column * r.grid_column)) a1 r.grid_centi right) (scaled-sum y1 (2 * base) b1 r.grid_centi high)
+
+-- a rectangle at a mirrored place
+mirrored-moved : (r : RuleValues) (base column x0 y0 x1 y1 a0 b0 a1 b1 : ℕ) → a0 + x1 ≡ 2 * (column * r.grid_column) → y0 + 2 * base ≡ b0
+    → a1 + x0 ≡ 2 * (column * r.grid_column) → y1 + 2 * base ≡ b1
+    → moved (turn_at (place_at r base true column)) (extent_of r.grid_centi x0 y0 x1 y1) ≡ extent_of r.grid_centi a0 b0 a1 b1
+mirrored-moved r base column x0 y0 x1 y1 a0 b0 a1 b1 left low right high =
+    extent-same _ _ _ _ _ _ _ _
+    (scaled-difference x1 (2 * (column * r.grid_column)) a0 r.grid_centi left) (scaled-sum y0 (2 * base) b0 r.grid_centi low)
+    (scaled-difference x0 (2 * (column * r.grid_column)) a1 r.grid_centi right) (scaled-sum y1 (2 * base) b1 r.grid_centi high)
+
+-- the rectangle of a pin in this column of its cell
+abbrev pin_rect : RuleValues → ℕ → ℕ → Bool → Extent
+pin_rect r height column top = extent_of r.grid_centi
+    (middle_of r.grid_column column - r.vertical_width) (pin_low r.grid_pin height top)
+    (middle_of r.grid_column column + r.vertical_width) (pin_high r.grid_pin height top)
+
+module _ (r : RuleValues) (valid : ValidRules r) (height : ℕ) (high : r.grid_pin ≤ height) where
+  -- a vertical wire is not wider than a column
+  narrow : r.vertical_width ≤ r.grid_column
+  narrow = let a = valid.pad_vertical in let b = valid.column_vertical in omega arith
+
+  -- a pin stands in its column of the row
+  pin-moved : (base left columns column : ℕ) (mirror top : Bool) → column < columns
+      → moved (turn_at (place_at r base mirror (corner_column mirror left columns))) (pin_rect r height column top)
+      ≡ post_rect r base height (if top then head else foot) (left + turned_column mirror columns column)
+  pin-moved base left columns column false true within =
+      let parts : (left + column) * r.grid_column ≡ left * r.grid_column + column * r.grid_column = add-mul left column r.grid_column in
+      let room : r.vertical_width ≤ r.grid_column = narrow in
+      upright-moved r base left _ _ _ _ _ _ _ _ (omega arith) (omega arith) (omega arith) (omega arith)
+  pin-moved base left columns column false false within =
+      let parts : (left + column) * r.grid_column ≡ left * r.grid_column + column * r.grid_column = add-mul left column r.grid_column in
+      let room : r.vertical_width ≤ r.grid_column = narrow in
+      upright-moved r base left _ _ _ _ _ _ _ _ (omega arith) (omega arith) (omega arith) (omega arith)
+  pin-moved base left columns column true true within =
+      let other : ℕ = columns - 1 - column in
+      let all : (left + columns) * r.grid_column ≡ (left + other) * r.grid_column + (1 + column) * r.grid_column =
+      ap (λ (n : ℕ). n * r.grid_column) (omega arith) ∙ add-mul (left + other) (1 + column) r.grid_column in
+      let last : (1 + column) * r.grid_column ≡ 1 * r.grid_column + column * r.grid_column = add-mul 1 column r.grid_column in
+      let room : r.vertical_width ≤ r.grid_column = narrow in
+      mirrored-moved r base (left + columns) _ _ _ _ _ _ _ _ (omega arith) (omega arith) (omega arith) (omega arith)
+  pin-moved base left columns column true false within =
+      let other : ℕ = columns - 1 - column in
+      let all : (left + columns) * r.grid_column ≡ (left + other) * r.grid_column + (1 + column) * r.grid_column =
+      ap (λ (n : ℕ). n * r.grid_column) (omega arith) ∙ add-mul (left + other) (1 + column) r.grid_column in
+      let last : (1 + column) * r.grid_column ≡ 1 * r.grid_column + column * r.grid_column = add-mul 1 column r.grid_column in
+      let room : r.vertical_width ≤ r.grid_column = narrow in
+      mirrored-moved r base (left + columns) _ _ _ _ _ _ _ _ (omega arith) (omega arith) (omega arith) (omega arith)
+
+  -- a cell's outline lies between the cell's columns of the row
+  outline-moved : (base left columns : ℕ) (mirror : Bool)
+      → moved (turn_at (place_at r base mirror (corner_column mirror left columns))) (extent_of r.grid_centi 0 0 (2 * (columns * r.grid_column)) (2 * height))
+      ≡ (outline_drawn r base height left (left + columns)).shape.rect
+  outline-moved base left columns false =
+      let parts : (left + columns) * r.grid_column ≡ left * r.grid_column + columns * r.grid_column = add-mul left columns r.grid_column in
+      upright-moved r base left _ _ _ _ _ _ _ _ (omega arith) (omega arith) (omega arith) (omega arith)
+  outline-moved base left columns true =
+      let parts : (left + columns) * r.grid_column ≡ left * r.grid_column + columns * r.grid_column = add-mul left columns r.grid_column in
+      mirrored-moved r base (left + columns) _ _ _ _ _ _ _ _ (omega arith) (omega arith) (omega arith) (omega arith)
+
+  -- the drawings of a cell's positions are its spots
+  pins-drawn : (d : Netlist) (s : seats.Seat) (base left : ℕ) (ps : List Position) → All (λ (p : Position). p.column < columns_of d s.instance) ps
+      → moved_shapes (turn_at (place_at r base s.mirror (corner_column s.mirror left (columns_of d s.instance)))) (map (position_shape r height) ps)
+      ≡ map (λ (a : Drawn). a.shape) (map (spot_drawn r base height left) (map (spot_of d s) ps))
+  unfolding position_shape
+  pins-drawn d s base left [] all = refl
+  pins-drawn d s base left (p ∷ ps) all =
+      let width : ℕ = columns_of d s.instance in
+      let here = pin-moved base left width p.column s.mirror p.top (All-head (λ (q : Position). q.column < width) p ps all) in
+      let more = pins-drawn d s base left ps (All-tail (λ (q : Position). q.column < width) p ps all) in
+      ap (λ (e : Extent). record { layer = r.vertical_layer; rect = e }
+      ∷ moved_shapes (turn_at (place_at r base s.mirror (corner_column s.mirror left width))) (map (position_shape r height) ps)) here
+      ∙ ap (λ (l : List Shape). record { layer = r.vertical_layer; rect = post_rect r base height (post_of p) (left + turned_column s.mirror width p.column) } ∷ l) more
+
+  -- the drawing of a kind, copied to a cell's place, is that of the cell's seat
+  pub cell-drawn : (d : Netlist) (s : seats.Seat) (kind : CellKind) (base left : ℕ) → kind_of d s.instance ≡ Some kind
+      → All (λ (p : Position). p.column < kind.columns) kind.positions
+      → moved_shapes (turn_at (item_place r d base left (Cell s))) (drawing_of r height kind)
+      ≡ map (λ (a : Drawn). a.shape) (seat_drawn r base height left (seat_of d (Cell s)))
+  unfolding outline_shape
+  cell-drawn d s kind base left is within =
+      let width : columns_of d s.instance ≡ kind.columns = ap width_of is in
+      let outline =
+      ap (λ (n : ℕ). moved (turn_at (place_at r base s.mirror (corner_column s.mirror left (columns_of d s.instance)))) (extent_of r.grid_centi 0 0 (2 * (n * r.grid_column)) (2 * height))) (sym width)
+      ∙ outline-moved base left (columns_of d s.instance) s.mirror in
+      let pins = pins-drawn d s base left kind.positions (subst (λ (n : ℕ). All (λ (p : Position). p.column < n) kind.positions) (sym width) within) in
+      let place = turn_at (item_place r d base left (Cell s)) in
+      ap (λ (e : Extent). record { layer = r.outline_layer; rect = e } ∷ moved_shapes place (map (position_shape r height) kind.positions)) outline
+      ∙ ap (λ (l : List Shape). (outline_drawn r base height left (left + columns_of d s.instance)).shape ∷ l) pins
+      ∙ ap (λ (ps : List Position). (outline_drawn r base height left (left + columns_of d s.instance)).shape
+      ∷ map (λ (a : Drawn). a.shape) (map (spot_drawn r base height left) (map (spot_of d s) ps))) (sym (ap positions_in is))
+
+-- the drawing of a feed, copied to its place, is that of its seat
+pub feed-drawn : (r : RuleValues) → ValidRules r → (d : Netlist) (net base left : ℕ)
+    → moved_shapes (turn_at (item_place r d base left (Feed net))) (feed_drawing r d.height)
+    ≡ map (λ (a : Drawn). a.shape) (seat_drawn r base d.height left (seat_of d (Feed net)))
+unfolding feed_drawing
+feed-drawn r valid d net base left =
+    let next : (left + 1) * r.grid_column ≡ left * r.grid_column + 1 * r.grid_column = add-mul left 1 r.grid_column in
+    let same : (left + 0) * r.grid_column ≡ left * r.grid_column = ap (λ (n : ℕ). n * r.grid_column) (omega arith) in
+    let room : r.vertical_width ≤ r.grid_column = (let a = valid.pad_vertical in let b = valid.column_vertical in omega arith) in
+    let place = turn_at (item_place r d base left (Feed net)) in
+    let outline : moved place (feed_outline r d.height).rect ≡ (outline_drawn r base d.height left (left + 1)).shape.rect =
+    upright-moved r base left _ _ _ _ _ _ _ _ (omega arith) (omega arith) (omega arith) (omega arith) in
+    let wire : moved place (feed_wire r d.height).rect ≡ post_rect r base d.height through (left + 0) =
+    upright-moved r base left _ _ _ _ _ _ _ _ (omega arith) (omega arith) (omega arith) (omega arith) in
+    ap (λ (e : Extent). record { layer = r.outline_layer; rect = e } ∷ (moved_shape place (feed_wire r d.height) ∷ [])) outline
+    ∙ ap (λ (e : Extent). (outline_drawn r base d.height left (left + 1)).shape ∷ (record { layer = r.vertical_layer; rect = e } ∷ [])) wire

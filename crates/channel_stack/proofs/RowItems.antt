@@ -1,0 +1,137 @@
+use Rattle.std.proofs.Common.{◌≡◌, inl, inr, refl, sym, ap, ◌∙◌, subst, ℕ, ◌+◌, ◌<◌, List, [], ◌∷◌, ◌++◌, length, map, Some, Contains, arith}
+use Rattle.std.proofs.lemmas.List.Elements.{Contains-append_cases, Contains-append_left, Contains-append_right}
+use Rattle.std.proofs.lemmas.Option.{slice_get-get_or, unwrap_or-slice_get}
+use Rattle.std.specs.Prelude.{slice_get, unwrap_or}
+use Rattle.tech_rules.specs.Rules.{RuleValues, ValidRules}
+use Rattle.netlist_core.specs.Netlist.{Netlist}
+use Rattle.row_model.specs.declared.rows.Seat as seats
+use Rattle.feed_cells.specs.Fed.{Fed, item_width, items_width, seats_in}
+use Rattle.feed_cells.specs.declared.fed.Item.{Item}
+use Rattle.feed_cells.specs.declared.fed.Item.TheVariants.{Cell, Feed}
+use Rattle.feed_cells.proofs.Members.{map-cases, map-member, member-cases, member-head, member-tail}
+use Rattle.pin_assign.proofs.WidthLaws.{width-more}
+use Rattle.layout_laws.specs.Seats.{Spot, SpotAt, here, further}
+use Rattle.layout_laws.specs.Uprights.{IsWired}
+use Rattle.wire_geom.specs.declared.drawn.Drawn.{Drawn}
+use Rattle.channel_stack.specs.Planned.{outline_drawn, row_drawn, seat_drawn, seat_of, spot_drawn}
+
+-- the items of row k, none where there is no such row
+abbrev pub row_at : Fed → ℕ → List Item
+row_at fed k = unwrap_or (slice_get fed.rows k) []
+
+pub row-there : (fed : Fed) (k : ℕ) → k < length fed.rows → slice_get fed.rows k ≡ Some (row_at fed k)
+row-there fed k within = slice_get-get_or fed.rows k [] within ∙ ap (λ (items : List Item). Some items) (sym (unwrap_or-slice_get fed.rows k []))
+
+pub row-is : (fed : Fed) (k : ℕ) (items : List Item) → slice_get fed.rows k ≡ Some items → row_at fed k ≡ items
+row-is fed k items at = ap (λ o. unwrap_or o []) at
+
+-- an item among others
+pub record SplitAt (items : List Item) (item : Item) : Type 0 where
+  pub front : List Item
+  pub back : List Item
+  pub is : items ≡ front ++ item ∷ back
+
+pub split-at : (items : List Item) (item : Item) → Contains items item → SplitAt items item
+split-at [] item member = absurd (omega (arith, member.1))
+split-at (first ∷ items) item member =
+    elim (member-cases first items item member) [
+      | inl same ↦ record { front = []; back = items; is = ap (λ (x : Item). x ∷ items) same }
+      | inr later ↦
+          let rest = split-at items item later in
+          record { front = first ∷ rest.front; back = rest.back; is = ap (λ (xs : List Item). first ∷ xs) rest.is }
+    ]
+
+pub at-split : (fed : Fed) (k : ℕ) (items : List Item) (item : Item) → slice_get fed.rows k ≡ Some items → (split : SplitAt items item)
+    → slice_get fed.rows k ≡ Some (split.front ++ item ∷ split.back)
+at-split fed k items item at split = at ∙ ap (λ (xs : List Item). Some xs) split.is
+
+pub among-split : (front back : List Item) (item : Item) → Contains (front ++ item ∷ back) item
+among-split front back item = Contains-append_right front (item ∷ back) item (member-head item back)
+
+-- a seat of a row is one of its items
+pub seat-item : (items : List Item) (s : seats.Seat) → Contains (seats_in items) s → Contains items (Cell s)
+seat-item [] s member = absurd (omega (arith, member.1))
+seat-item (Feed net ∷ items) s member = member-tail (Feed net) items (Cell s) (seat-item items s member)
+seat-item (Cell t ∷ items) s member =
+    elim (member-cases t (seats_in items) s member) [
+      | inl same ↦ subst (λ (x : seats.Seat). Contains (Cell t ∷ items) (Cell x)) same (member-head (Cell t) items)
+      | inr later ↦ member-tail (Cell t) items (Cell s) (seat-item items s later)
+    ]
+
+module _ (d : Netlist) where
+  -- an item is as wide as its seat
+  seat-wide : (item : Item) → (seat_of d item).width ≡ item_width d item
+  seat-wide (Cell s) = refl
+  seat-wide (Feed net) = refl
+
+  further-on : (left : ℕ) (item : Item) (front : List Item) → left + (seat_of d item).width + items_width d front ≡ left + items_width d (item ∷ front)
+  further-on left item front = omega (arith, width-more d item front, seat-wide item)
+
+  -- a spot of an item stands in its column of the row
+  pub spot-stands : (front : List Item) (item : Item) (back : List Item) (left column : ℕ) (spot : Spot) → Contains (seat_of d item).spots spot
+      → column ≡ left + items_width d front + spot.column → SpotAt spot column left (map (seat_of d) (front ++ item ∷ back))
+  spot-stands [] item back left column spot member at = here (seat_of d item) member (omega (arith, at))
+  spot-stands (first ∷ front) item back left column spot member at =
+      further (spot-stands front item back (left + (seat_of d first).width) column spot member (omega (arith, at, further-on left first front)))
+
+  module _ (r : RuleValues) (base height : ℕ) where
+    -- and its rectangle is one of the row
+    pub wire-listed : (front : List Item) (item : Item) (back : List Item) (left from : ℕ) (spot : Spot) → Contains (seat_of d item).spots spot
+        → from ≡ left + items_width d front
+        → Contains (row_drawn r base height left (map (seat_of d) (front ++ item ∷ back))) (spot_drawn r base height from spot)
+    wire-listed [] item back left from spot member at =
+        let same : left ≡ from = omega (arith, at) in
+        subst (λ (n : ℕ). Contains (row_drawn r base height left (map (seat_of d) (item ∷ back))) (spot_drawn r base height n spot)) same
+        (Contains-append_left (seat_drawn r base height left (seat_of d item)) (row_drawn r base height (left + (seat_of d item).width) (map (seat_of d) back))
+        (spot_drawn r base height left spot)
+        (member-tail (outline_drawn r base height left (left + (seat_of d item).width)) (map (spot_drawn r base height left) (seat_of d item).spots)
+        (spot_drawn r base height left spot) (map-member (spot_drawn r base height left) (seat_of d item).spots spot member)))
+    wire-listed (first ∷ front) item back left from spot member at =
+        Contains-append_right (seat_drawn r base height left (seat_of d first))
+        (row_drawn r base height (left + (seat_of d first).width) (map (seat_of d) (front ++ item ∷ back))) (spot_drawn r base height from spot)
+        (wire-listed front item back (left + (seat_of d first).width) from spot member (omega (arith, at, further-on left first front)))
+
+    -- a rectangle of a row is that of a spot of an item
+    pub record IsWireOf (left : ℕ) (items : List Item) (a : Drawn) : Type 0 where
+      pub front : List Item
+      pub item : Item
+      pub back : List Item
+      pub is : items ≡ front ++ item ∷ back
+      pub spot : Spot
+      pub member : Contains (seat_of d item).spots spot
+      pub from : ℕ
+      pub begins : from ≡ left + items_width d front
+      pub drawn : a ≡ spot_drawn r base height from spot
+
+    module _ (valid : ValidRules r) where
+      -- outlines are no wires
+      outline-unwired : (a : Drawn) → a.shape.layer ≡ r.outline_layer → IsWired r a → ⊥
+      outline-unwired a on (inl (inl wire)) = valid.layers.horizontal_outline (sym wire ∙ on)
+      outline-unwired a on (inl (inr wire)) = valid.layers.vertical_outline (sym wire ∙ on)
+      outline-unwired a on (inr cut) = valid.layers.cut_outline (sym cut ∙ on)
+
+      pub wire-of : (items : List Item) (left : ℕ) (a : Drawn) → Contains (row_drawn r base height left (map (seat_of d) items)) a → IsWired r a → IsWireOf left items a
+      wire-of [] left a member wired = absurd (omega (arith, member.1))
+      wire-of (first ∷ items) left a member wired =
+          elim (Contains-append_cases (seat_drawn r base height left (seat_of d first))
+          (row_drawn r base height (left + (seat_of d first).width) (map (seat_of d) items)) a member) [
+            | inl own ↦ elim (member-cases (outline_drawn r base height left (left + (seat_of d first).width)) (map (spot_drawn r base height left) (seat_of d first).spots) a own) [
+              | inl same ↦ absurd (outline-unwired a (ap (λ (x : Drawn). x.shape.layer) (sym same)) wired)
+              | inr spot ↦
+                  let found = map-cases (spot_drawn r base height left) (seat_of d first).spots a spot in
+                  record { front = []; item = first; back = items; is = refl; spot = found.0; member = found.1; from = left; begins = omega arith; drawn = sym found.2 }
+            ]
+            | inr later ↦
+                let rest = wire-of items (left + (seat_of d first).width) a later wired in
+                record {
+                  front = first ∷ rest.front;
+                  item = rest.item;
+                  back = rest.back;
+                  is = ap (λ (xs : List Item). first ∷ xs) rest.is;
+                  spot = rest.spot;
+                  member = rest.member;
+                  from = rest.from;
+                  begins = rest.begins ∙ further-on left first rest.front;
+                  drawn = rest.drawn;
+                }
+          ]

@@ -1,0 +1,223 @@
+use Rattle.std.proofs.Common.{◌≡◌, ℕ, zero, suc, ◌+◌, ◌*◌, ◌<◌, ◌≤◌, max, List, [], ◌∷◌, length, map, fold, Some, sym, ap, subst, ◌∙◌, refl, arith}
+use Rattle.std.proofs.Math.Nat.{mul-le-mul_left, mul-le-mul_right, add-mul}
+use Rattle.std.proofs.lemmas.List.{length-map}
+use Rattle.std.proofs.lemmas.List.FromFn.{length-range_with_len}
+use Rattle.std.proofs.lemmas.List.Sums.{sum_by-cons}
+use Rattle.std.proofs.lemmas.Option.{same_Some, slice_get-map, slice_get_within}
+use Rattle.std.specs.List.{AllByRecursion, range_with_len}
+use Rattle.std.specs.Prelude.{slice_get, option_map}
+use Rattle.list_facts.proofs.Every.{every-from-get}
+use Rattle.tech_rules.specs.Rules.{RuleValues, ValidRules}
+use Rattle.netlist_core.specs.Netlist.{Netlist}
+use Rattle.channel_model.specs.declared.wiring.Wiring.{Wiring}
+use Rattle.row_model.proofs.WidthLaws.{at-place}
+use Rattle.feed_cells.specs.Fed.{Fed, IsFed, cells_in, fed_rows, items_width, nets_in, seats_in}
+use Rattle.feed_cells.specs.declared.fed.Item.{Item}
+use Rattle.feed_cells.proofs.FedLaws.{fed-width}
+use Rattle.pin_assign.specs.Bounds.{bound_of, channels_height, most_nets}
+use Rattle.layout_laws.specs.Plans.{channel_height}
+use Rattle.channel_stack.specs.Routed.{IsRouted}
+use Rattle.channel_stack.specs.Stack.{channel_bases, row_bases, stack_top, most_columns}
+
+-- the lower edge of a stack is not above its upper one, and neither is the upper edge of its first channel
+pub base-below : (r : RuleValues) (height base : ℕ) (ws : List Wiring) → base ≤ stack_top r height base ws
+base-below r height base [] = omega arith
+base-below r height base (w ∷ []) = omega arith
+base-below r height base (w ∷ (v ∷ ws)) =
+    let more : (base + channel_height r w + height) ≤ stack_top r height (base + channel_height r w + height) (v ∷ ws) =
+    base-below r height (base + channel_height r w + height) (v ∷ ws) in
+    omega arith
+
+pub channel-below : (r : RuleValues) (height base : ℕ) (w : Wiring) (ws : List Wiring) → base + channel_height r w ≤ stack_top r height base (w ∷ ws)
+channel-below r height base w [] = omega arith
+channel-below r height base w (v ∷ ws) =
+    let more : (base + channel_height r w + height) ≤ stack_top r height (base + channel_height r w + height) (v ∷ ws) =
+    base-below r height (base + channel_height r w + height) (v ∷ ws) in
+    omega arith
+
+-- so is the upper edge of a first row
+pub row-below : (r : RuleValues) (height base : ℕ) (w v : Wiring) (ws : List Wiring) → base + channel_height r w + height ≤ stack_top r height base (w ∷ (v ∷ ws))
+row-below r height base w v ws = base-below r height (base + channel_height r w + height) (v ∷ ws)
+
+-- no lower edge of a channel or of a row is above the stack's upper edge
+channels-below : (r : RuleValues) (height top base : ℕ) (ws : List Wiring) → stack_top r height base ws ≤ top
+    → AllByRecursion (λ (b : ℕ). b ≤ top) (channel_bases r height base ws)
+channels-below r height top base [] low = tt
+channels-below r height top base (w ∷ []) low = (omega (arith, base-below r height base (w ∷ [])), tt)
+channels-below r height top base (w ∷ (v ∷ ws)) low =
+    (omega (arith, base-below r height base (w ∷ (v ∷ ws))), channels-below r height top (base + channel_height r w + height) (v ∷ ws) low)
+
+rows-below : (r : RuleValues) (height top base : ℕ) (ws : List Wiring) → stack_top r height base ws ≤ top
+    → AllByRecursion (λ (b : ℕ). b ≤ top) (row_bases r height base ws)
+rows-below r height top base [] low = tt
+rows-below r height top base (w ∷ []) low = tt
+rows-below r height top base (w ∷ (v ∷ ws)) low =
+    (omega (arith, channel-below r height base w (v ∷ ws)), rows-below r height top (base + channel_height r w + height) (v ∷ ws) low)
+
+-- one channel more
+heights-more : (r : RuleValues) (n : ℕ) (ns : List ℕ) → channels_height r (n ∷ ns) ≡ (2 * n + 1) * r.grid_track + channels_height r ns
+heights-more r n ns = sum_by-cons (λ (x : ℕ). x) ((2 * n + 1) * r.grid_track) (map (λ (m : ℕ). (2 * m + 1) * r.grid_track) ns)
+
+channel-low : (r : RuleValues) (n : ℕ) (w : Wiring) → w.tracks ≤ 2 * n → channel_height r w ≤ (2 * n + 1) * r.grid_track
+channel-low r n w few = let more : w.tracks + 1 ≤ 2 * n + 1 = omega arith in mul-le-mul_right r.grid_track more
+
+next-row : (rows height : ℕ) → suc rows * height ≡ rows * height + height
+next-row rows height =
+    let same : suc rows ≡ rows + 1 = omega arith in
+    let parted : (rows + 1) * height ≡ rows * height + 1 * height = add-mul rows 1 height in
+    let moved : suc rows * height ≡ (rows + 1) * height = ap (λ (n : ℕ). n * height) same in
+    omega arith
+
+-- a stack whose channels have at most two tracks for each of so many nets
+top-bound : (r : RuleValues) (height base rows : ℕ) (ws : List Wiring) (ns : List ℕ) → length ws ≡ rows + 1 → length ns ≡ rows + 1
+    → ((k n : ℕ) (w : Wiring) → slice_get ws k ≡ Some w → slice_get ns k ≡ Some n → w.tracks ≤ 2 * n)
+    → stack_top r height base ws ≤ base + (rows * height + channels_height r ns)
+top-bound r height base rows [] ns many each few = absurd (omega arith)
+top-bound r height base rows (w ∷ ws) [] many each few = absurd (omega arith)
+top-bound r height base rows (w ∷ []) (n ∷ ns) many each few =
+    omega (arith, heights-more r n ns, channel-low r n w (few 0 n w refl refl))
+top-bound r height base zero (w ∷ (v ∷ ws)) (n ∷ ns) many each few = absurd (omega arith)
+top-bound r height base (suc rows) (w ∷ (v ∷ ws)) (n ∷ ns) many each few =
+    let others : stack_top r height (base + channel_height r w + height) (v ∷ ws) ≤ base + channel_height r w + height + (rows * height + channels_height r ns) =
+    top-bound r height (base + channel_height r w + height) rows (v ∷ ws) ns (omega arith) (omega arith)
+    (λ (k m : ℕ) (u : Wiring) (a : slice_get (v ∷ ws) k ≡ Some u) (b : slice_get ns k ≡ Some m). few (suc k) m u a b) in
+    omega (arith, heights-more r n ns, channel-low r n w (few 0 n w refl refl), next-row rows height)
+
+-- the greatest of numbers that do not pass a bound does not, and no number passes the greatest
+greatest-within : (bound first : ℕ) (ws : List Wiring) → first ≤ bound → AllByRecursion (λ (w : Wiring). w.columns ≤ bound) ws
+    → fold max first (map (λ (w : Wiring). w.columns) ws) ≤ bound
+greatest-within bound first [] low all = low
+greatest-within bound first (w ∷ ws) low all = let here : w.columns ≤ bound = all.0 in greatest-within bound (max first w.columns) ws (omega arith) all.1
+
+first-within : (first : ℕ) (ns : List ℕ) → first ≤ fold max first ns
+first-within first [] = omega arith
+first-within first (n ∷ ns) = let more : max first n ≤ fold max (max first n) ns = first-within (max first n) ns in omega arith
+
+number-within : (first : ℕ) (ns : List ℕ) (k n : ℕ) → slice_get ns k ≡ Some n → n ≤ fold max first ns
+number-within first [] k n at = cc
+number-within first (m ∷ ns) zero n at =
+    let same : m ≡ n = same_Some m n at in
+    let more : max first m ≤ fold max (max first m) ns = first-within (max first m) ns in
+    omega arith
+number-within first (m ∷ ns) (suc k) n at = number-within (max first m) ns k n at
+
+-- there is one number of nets for each channel
+nets-counted : (d : Netlist) (fed : Fed) → IsFed d fed → length fed.nets ≡ length fed.rows + 1
+unfolding fed_rows
+nets-counted d fed is =
+    let numbers : List ℕ = range_with_len 0 (length (cells_in fed.rows) + 1) in
+    let taken : length fed.nets ≡ length (map (λ (channel : ℕ). length (nets_in d (cells_in fed.rows) channel)) numbers) =
+    ap (λ (f : Fed). length f.nets) is.is in
+    let mapped : length (map (λ (channel : ℕ). length (nets_in d (cells_in fed.rows) channel)) numbers) ≡ length numbers =
+    length-map numbers (λ (channel : ℕ). length (nets_in d (cells_in fed.rows) channel)) in
+    let counted : length numbers ≡ length (cells_in fed.rows) + 1 = length-range_with_len 0 (length (cells_in fed.rows) + 1) in
+    let rows : length (cells_in fed.rows) ≡ length fed.rows = length-map fed.rows seats_in in
+    omega arith
+
+-- there is a row
+pub some-row : (d : Netlist) (fed : Fed) → IsFed d fed → 0 < length fed.rows
+some-row d fed is =
+    let rows : length (cells_in fed.rows) ≡ length fed.rows = length-map fed.rows seats_in in
+    let some : 0 < length (cells_in fed.rows) = is.placed.some in
+    omega arith
+
+-- each row is at most as wide as the widest
+pub rows-narrow : (d : Netlist) (fed : Fed) → IsFed d fed → AllByRecursion (λ (items : List Item). items_width d items ≤ fed.width) fed.rows
+rows-narrow d fed is = every-from-get (λ (items : List Item). items_width d items ≤ fed.width) fed.rows narrow
+  where
+    narrow : (k : ℕ) (items : List Item) → slice_get fed.rows k ≡ Some items → items_width d items ≤ fed.width
+    narrow k items at =
+        subst (λ (f : Fed). items_width d items ≤ f.width) (sym is.is)
+        (fed-width d (cells_in fed.rows) k items (subst (λ (f : Fed). slice_get f.rows k ≡ Some items) is.is at))
+
+-- no wiring has more columns than the widest row and the most nets together
+columns-within : (r : RuleValues) (d : Netlist) (fed : Fed) (ws : List Wiring) → IsFed d fed → IsRouted r d fed ws
+    → most_columns ws ≤ fed.width + most_nets fed.nets
+columns-within r d fed ws is routed =
+    greatest-within (fed.width + most_nets fed.nets) 0 ws (omega arith)
+    (every-from-get (λ (w : Wiring). w.columns ≤ fed.width + most_nets fed.nets) ws narrow)
+  where
+    narrow : (k : ℕ) (w : Wiring) → slice_get ws k ≡ Some w → w.columns ≤ fed.width + most_nets fed.nets
+    narrow k w at =
+        let inside : k < length ws = slice_get_within ws k w at in
+        let each : length ws ≡ length fed.rows + 1 = routed.each in
+        let counted : length fed.nets ≡ length fed.rows + 1 = nets-counted d fed is in
+        let nets = at-place fed.nets k (omega arith) in
+        let most : nets.0 ≤ most_nets fed.nets = number-within 0 fed.nets k nets.0 nets.1 in
+        omega (arith, routed.columns k nets.0 w at nets.1)
+
+-- what keeps the numbers of a stack's layout small: its width and height, those of its rows, and its bases
+pub record IsBounded (r : RuleValues) (d : Netlist) (fed : Fed) (ws : List Wiring) : Type 0 where
+  pub height : stack_top r d.height 0 ws * r.grid_centi ≤ 1000000000
+  pub columns : most_columns ws * r.grid_column * r.grid_centi ≤ 1000000000
+  pub width : fed.width * r.grid_column * r.grid_centi ≤ 1000000000
+  pub rows : AllByRecursion (λ (items : List Item). items_width d items ≤ fed.width) fed.rows
+  pub channel_bases : AllByRecursion (λ (base : ℕ). base ≤ stack_top r d.height 0 ws) (channel_bases r d.height 0 ws)
+  pub row_bases : AllByRecursion (λ (base : ℕ). base ≤ stack_top r d.height 0 ws) (row_bases r d.height 0 ws)
+
+top-within : (r : RuleValues) (d : Netlist) (fed : Fed) (ws : List Wiring) → IsFed d fed → IsRouted r d fed ws
+    → stack_top r d.height 0 ws * r.grid_centi ≤ 1000000000
+unfolding bound_of
+top-within r d fed ws is routed =
+    let low : stack_top r d.height 0 ws ≤ length fed.rows * d.height + channels_height r fed.nets =
+    let high : stack_top r d.height 0 ws ≤ 0 + (length fed.rows * d.height + channels_height r fed.nets) =
+    top-bound r d.height 0 (length fed.rows) ws fed.nets routed.each (nets-counted d fed is)
+    (λ (k n : ℕ) (w : Wiring) (a : slice_get ws k ≡ Some w) (b : slice_get fed.nets k ≡ Some n). routed.tracks k n w a b) in
+    omega arith in
+    let product : stack_top r d.height 0 ws * r.grid_centi ≤ (length fed.rows * d.height + channels_height r fed.nets) * r.grid_centi =
+    mul-le-mul_right r.grid_centi low in
+    let limit : (length fed.rows * d.height + channels_height r fed.nets) * r.grid_centi ≤ 1000000000 = routed.height in
+    omega arith
+
+-- columns of at most the bound's are narrow
+width-within : (r : RuleValues) (d : Netlist) (fed : Fed) (ws : List Wiring) → IsRouted r d fed ws → (columns : ℕ)
+    → columns ≤ fed.width + most_nets fed.nets → columns * r.grid_column * r.grid_centi ≤ 1000000000
+unfolding bound_of
+width-within r d fed ws routed columns narrow =
+    let across : columns * r.grid_column ≤ (fed.width + most_nets fed.nets) * r.grid_column = mul-le-mul_right r.grid_column narrow in
+    let product : columns * r.grid_column * r.grid_centi ≤ (fed.width + most_nets fed.nets) * r.grid_column * r.grid_centi = mul-le-mul_right r.grid_centi across in
+    let limit : (fed.width + most_nets fed.nets) * r.grid_column * r.grid_centi ≤ 1000000000 = routed.width in
+    omega arith
+
+pub bases-within : (r : RuleValues) (d : Netlist) (fed : Fed) (ws : List Wiring) → IsFed d fed → IsRouted r d fed ws → IsBounded r d fed ws
+bases-within r d fed ws is routed = record {
+  height = top-within r d fed ws is routed;
+  columns = width-within r d fed ws routed (most_columns ws) (columns-within r d fed ws is routed);
+  width = width-within r d fed ws routed fed.width (omega arith);
+  rows = rows-narrow d fed is;
+  channel_bases = channels-below r d.height (stack_top r d.height 0 ws) 0 ws (omega arith);
+  row_bases = rows-below r d.height (stack_top r d.height 0 ws) 0 ws (omega arith);
+}
+
+-- so many units of at least four centimicrons are few, and so are the units of a stack
+units-small : (units centi : ℕ) → 4 ≤ centi → units * centi ≤ 1000000000 → units ≤ 250000000
+units-small units centi fine near = let product : units * 4 ≤ units * centi = mul-le-mul_left units fine in omega arith
+
+pub top-small : (r : RuleValues) (d : Netlist) (fed : Fed) (ws : List Wiring) → ValidRules r → IsFed d fed → IsRouted r d fed ws
+    → stack_top r d.height 0 ws ≤ 250000000
+top-small r d fed ws valid is routed = units-small (stack_top r d.height 0 ws) r.grid_centi valid.ranges.grid_centi.0 (top-within r d fed ws is routed)
+
+pub columns-small : (r : RuleValues) (d : Netlist) (fed : Fed) (ws : List Wiring) → ValidRules r → IsFed d fed → IsRouted r d fed ws
+    → most_columns ws * r.grid_column ≤ 250000000
+columns-small r d fed ws valid is routed =
+    units-small (most_columns ws * r.grid_column) r.grid_centi valid.ranges.grid_centi.0
+    (width-within r d fed ws routed (most_columns ws) (columns-within r d fed ws is routed))
+
+-- a row is no wider than so many units
+pub width-small : (r : RuleValues) (d : Netlist) (fed : Fed) (ws : List Wiring) → ValidRules r → IsRouted r d fed ws → fed.width * r.grid_column ≤ 250000000
+width-small r d fed ws valid routed =
+    units-small (fed.width * r.grid_column) r.grid_centi valid.ranges.grid_centi.0 (width-within r d fed ws routed fed.width (omega arith))
+
+-- a row is no higher than the stack
+pub height-within : (r : RuleValues) (d : Netlist) (fed : Fed) (ws : List Wiring) → IsFed d fed → length ws ≡ length fed.rows + 1
+    → d.height ≤ stack_top r d.height 0 ws
+height-within r d fed [] is each = absurd (omega arith)
+height-within r d fed (w ∷ []) is each = absurd (omega (arith, some-row d fed is))
+height-within r d fed (w ∷ (v ∷ ws)) is each = omega (arith, row-below r d.height 0 w v ws)
+
+-- each wiring is at most as wide as the widest
+pub columns-most : (first : ℕ) (ws : List Wiring) → AllByRecursion (λ (w : Wiring). w.columns ≤ fold max first (map (λ (v : Wiring). v.columns) ws)) ws
+columns-most first ws = every-from-get (λ (w : Wiring). w.columns ≤ fold max first (map (λ (v : Wiring). v.columns) ws)) ws
+    (λ (k : ℕ) (w : Wiring) (at : slice_get ws k ≡ Some w).
+    number-within first (map (λ (v : Wiring). v.columns) ws) k w.columns
+    (slice_get-map (λ (v : Wiring). v.columns) ws k ∙ ap (option_map (λ (v : Wiring). v.columns)) at))

@@ -1,0 +1,92 @@
+use Rattle.std.proofs.Common.{◌≡◌, sym, ap, subst, ℕ, ◌+◌, ◌*◌, ◌<◌, ◌≤◌, List, [], length, get_or, map, Some, Contains, arith}
+use Rattle.std.proofs.lemmas.List.Elements.{All-contains, All-from_recursion}
+use Rattle.std.specs.Prelude.{◌==◌, slice_get}
+use Rattle.list_facts.proofs.Every.{every-get}
+use Rattle.tech_rules.specs.Rules.{RuleValues, ValidRules}
+use Rattle.netlist_core.specs.Netlist.{Netlist, IsNetlist}
+use Rattle.netlist_core.specs.declared.design.Inst.{Inst}
+use Rattle.netlist_core.specs.declared.design.Pin.{Pin}
+use Rattle.channel_model.specs.declared.wiring.Wiring.{Wiring}
+use Rattle.row_model.specs.Rows.{ArePlaced}
+use Rattle.row_model.specs.declared.rows.Seat as seats
+use Rattle.row_model.proofs.PinLaws.{pin-within}
+use Rattle.row_model.proofs.PlacedLaws.{IsWithin, rows-within}
+use Rattle.feed_cells.specs.Fed.{Fed, fed_rows}
+use Rattle.feed_cells.specs.Standing.{Stands, seated, feeding}
+use Rattle.feed_cells.specs.declared.fed.Item.{Item}
+use Rattle.feed_cells.proofs.FedLaws.{fed-row-some, item-stands}
+use Rattle.feed_cells.proofs.Members.{find-member, map-cases}
+use Rattle.layout_laws.specs.Plans.{IsPlan, channel_height}
+use Rattle.layout_laws.specs.Seats.{Seat, IsSeat, SpotAt}
+use Rattle.layout_laws.specs.Uprights.{AreSpotted}
+use Rattle.layout_laws.proofs.ListPlaces.{contains-at}
+use Rattle.wire_geom.specs.declared.drawn.Drawn.{Drawn}
+use Rattle.channel_stack.specs.Planned.{base_at, plan_of, row_drawn, seat_of, wiring_at}
+use Rattle.channel_stack.specs.Routed.{AreWired}
+use Rattle.channel_stack.proofs.PlanBases.{bases-next, wiring-there}
+use Rattle.channel_stack.proofs.PlanEntries.{lower-net, upper-net}
+use Rattle.channel_stack.proofs.PlanSeats.{item-seat}
+use Rattle.channel_stack.proofs.RowItems.{row_at, row-there, spot-stands, wire-of}
+
+-- a design with an instance has a kind
+kinds-some : (d : Netlist) → IsNetlist d → (instance : ℕ) → instance < length d.instances → 0 < length d.kinds
+kinds-some d good instance within =
+    let nothing : Inst = record { name = []; kind = 0 } in
+    let inst : Inst = get_or d.instances instance nothing in
+    let there : inst.kind < length d.kinds = good.instances instance nothing within in
+    omega (arith, there)
+
+module _ (d : Netlist) (good : IsNetlist d) (rows : List (List seats.Seat)) (placed : ArePlaced d rows) where
+  -- what stands in a row is of an instance, or a feed for a net, which has pins of instances
+  instance-of : (k : ℕ) (row : List seats.Seat) (item : Item) → slice_get rows k ≡ Some row → Stands d rows k row item → (instance : ℕ) × (instance < length d.instances)
+  instance-of k row item at (seated s member is) =
+      let all = every-get (IsWithin (length d.instances) 20000) rows k row (rows-within d rows good placed) at in (
+        s.instance,
+        All-contains (λ (t : seats.Seat). t.instance < length d.instances) row s
+            (All-from_recursion (λ (t : seats.Seat). t.instance < length d.instances) row all.0) member,
+      )
+  instance-of k row item at (feeding net feed is) =
+      let found = find-member (λ (p : Pin). p.net == net) d.pins (good.used net (omega (arith, feed.some)) feed.few) in
+      let there = contains-at d.pins found.0 found.1 in
+      (found.0.instance, pin-within d good there.0 found.0 there.1)
+
+  row-some : (k : ℕ) → k < length (fed_rows d rows).rows → (item : Item) → Contains (row_at (fed_rows d rows) k) item → 0 < length d.kinds
+  row-some k within item member =
+      let row = fed-row-some d rows k (row_at (fed_rows d rows) k) (row-there (fed_rows d rows) k within) in
+      let stands = item-stands d rows k row.0 item (subst (λ (items : List Item). Contains items item) row.2 member) in
+      let instance = instance-of k row.0 item row.1 stands in
+      kinds-some d good instance.0 instance.1
+
+-- the wires of a row's items are spots of its seats
+row-spotted : (r : RuleValues) → ValidRules r → (d : Netlist) (base height : ℕ) (items : List Item)
+    → AreSpotted r base height (map (seat_of d) items) (row_drawn r base height 0 (map (seat_of d) items))
+row-spotted r valid d base height items a member wired =
+    let w = wire-of d r base height valid items 0 a member wired in
+    record {
+      spot = w.spot;
+      column = w.from + w.spot.column;
+      at = subst (λ (xs : List Item). SpotAt w.spot (w.from + w.spot.column) 0 (map (seat_of d) xs)) (sym w.is)
+          (spot-stands d w.front w.item w.back 0 (w.from + w.spot.column) w.spot w.member (omega (arith, w.begins)));
+      layer = ap (λ (x : Drawn). x.shape.layer) w.drawn;
+      rect = ap (λ (x : Drawn). x.shape.rect) w.drawn;
+      net = ap (λ (x : Drawn). x.net) w.drawn;
+    }
+
+-- the rows and channels of a wired design are a plan; where the design has kinds, they are high enough
+pub stack-plan : (r : RuleValues) → ValidRules r → (d : Netlist) → IsNetlist d → (0 < length d.kinds → 2 * r.grid_pin + r.vertical_space ≤ d.height)
+    → (rows : List (List seats.Seat)) → ArePlaced d rows → (ws : List Wiring) → AreWired d (fed_rows d rows) ws → IsPlan r (plan_of r d (fed_rows d rows) ws)
+stack-plan r valid d good tall rows placed ws wired =
+    let fed : Fed = fed_rows d rows in
+    record {
+      wired = λ k within. wired.wired k (wiring_at ws k) (wiring-there ws k (omega (arith, within, wired.each)));
+      tall = λ k within seat member.
+          let found = map-cases (seat_of d) (row_at fed k) seat member in
+          tall (row-some d good rows placed k within found.0 found.1);
+      next = λ k within. bases-next r d.height 0 ws k (omega (arith, within, wired.each));
+      seated = λ k within seat member.
+          let found = map-cases (seat_of d) (row_at fed k) seat member in
+          subst (λ (s : Seat). IsSeat s) found.2 (item-seat d good found.0);
+      spotted = λ k within. row-spotted r valid d (base_at r d ws k + channel_height r (wiring_at ws k)) d.height (row_at fed k);
+      top_entries = λ k within column net entry. lower-net d good fed k within column net entry;
+      bottom_entries = λ k within column net entry. upper-net d good fed k within column net entry;
+    }

@@ -1,0 +1,91 @@
+use Rattle.std.specs.Prelude.{ℕ, pos, ◌+◌, ◌*◌, List, [], ◌∷◌, map, fold, max, Bool, false, if◌then◌else◌}
+use Rattle.geom_core.specs.declared.turn.Place.{Place}
+use Rattle.tech_rules.specs.Rules.{RuleValues}
+use Rattle.netlist_core.specs.Netlist.{Netlist}
+use Rattle.channel_model.specs.declared.wiring.Wiring.{Wiring}
+use Rattle.feed_cells.specs.Fed.{Fed, item_width}
+use Rattle.feed_cells.specs.declared.fed.Item.{Item}
+use Rattle.feed_cells.specs.declared.fed.Item.TheVariants.{Cell, Feed}
+use Rattle.layout_laws.specs.Plans.{channel_height}
+use Rattle.wire_geom.specs.Drawing.{drawing}
+use Rattle.wire_geom.specs.declared.drawn.Drawn.{Drawn}
+use Rattle.channel_stack.specs.declared.placed.PlacedItem.{PlacedItem}
+
+-- the lower edges of channels in units, the first of which lies at `base`, with rows of one height between them
+abbrev pub channel_bases : RuleValues → ℕ → ℕ → List Wiring → List ℕ
+channel_bases r height base [] = []
+channel_bases r height base (w ∷ ws) = base ∷ channel_bases r height (base + channel_height r w + height) ws
+
+-- the lower edges of rows, each of which lies on one of these channels
+abbrev pub row_bases : RuleValues → ℕ → ℕ → List Wiring → List ℕ
+row_bases r height base [] = []
+row_bases r height base (w ∷ []) = []
+row_bases r height base (w ∷ (v ∷ ws)) = (base + channel_height r w) ∷ row_bases r height (base + channel_height r w + height) (v ∷ ws)
+
+-- the upper edge of the last of these channels
+abbrev pub stack_top : RuleValues → ℕ → ℕ → List Wiring → ℕ
+stack_top r height base [] = base
+stack_top r height base (w ∷ []) = base + channel_height r w
+stack_top r height base (w ∷ (v ∷ ws)) = stack_top r height (base + channel_height r w + height) (v ∷ ws)
+
+-- a number of units in half centimicrons
+abbrev pub in_halves : RuleValues → ℕ → ℕ
+in_halves r units = 2 * units * r.grid_centi
+
+-- the place of an item of so many columns that begins in column `left` of a row: of a mirrored cell that of its right edge
+abbrev pub is_mirrored : Item → Bool
+is_mirrored (Cell s) = s.mirror
+is_mirrored (Feed net) = false
+
+abbrev pub corner_column : Bool → ℕ → ℕ → ℕ
+corner_column mirror left width = if mirror then left + width else left
+
+abbrev pub place_at : RuleValues → ℕ → Bool → ℕ → Place
+place_at r base mirror column = record {
+  dx = pos (in_halves r (column * r.grid_column));
+  dy = pos (in_halves r base);
+  mirror = mirror;
+}
+
+abbrev pub item_place : RuleValues → Netlist → ℕ → ℕ → Item → Place
+item_place r d base left item = place_at r base (is_mirrored item) (corner_column (is_mirrored item) left (item_width d item))
+
+-- the items of a row side by side, the first of which begins in column `left`
+abbrev pub placed_from : RuleValues → Netlist → ℕ → ℕ → List Item → List PlacedItem
+placed_from r d base left [] = []
+placed_from r d base left (item ∷ items) =
+    record { item = item; place = item_place r d base left item } ∷ placed_from r d base (left + item_width d item) items
+
+abbrev pub placed_rows : RuleValues → Netlist → List (List Item) → List ℕ → List (List PlacedItem)
+placed_rows r d [] bases = []
+placed_rows r d (items ∷ rows) [] = []
+placed_rows r d (items ∷ rows) (base ∷ bases) = placed_from r d base 0 items ∷ placed_rows r d rows bases
+
+-- the rectangles of channels
+abbrev pub drawings : RuleValues → List Wiring → List ℕ → List (List Drawn)
+drawings r [] bases = []
+drawings r (w ∷ ws) [] = []
+drawings r (w ∷ ws) (base ∷ bases) = drawing r base w ∷ drawings r ws bases
+
+-- the columns of the widest wiring
+abbrev pub most_columns : List Wiring → ℕ
+most_columns ws = fold max 0 (map (λ (w : Wiring). w.columns) ws)
+
+-- rows and channels on one another, from y 0 up
+pub record Stacked : Type 0 where
+  pub channel_base : List ℕ
+  pub row_base : List ℕ
+  pub cells : List (List PlacedItem)
+  pub shapes : List (List Drawn)
+  pub width : ℕ
+  pub height : ℕ
+
+unfoldable pub stack_of : RuleValues → Netlist → Fed → List Wiring → Stacked
+stack_of r d fed ws = record {
+  channel_base = channel_bases r d.height 0 ws;
+  row_base = row_bases r d.height 0 ws;
+  cells = placed_rows r d fed.rows (row_bases r d.height 0 ws);
+  shapes = drawings r ws (channel_bases r d.height 0 ws);
+  width = most_columns ws * r.grid_column * r.grid_centi;
+  height = stack_top r d.height 0 ws * r.grid_centi;
+}

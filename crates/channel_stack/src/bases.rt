@@ -1,0 +1,94 @@
+//! The edges of channels and rows.
+
+ghost use Rattle.channel_stack.specs.Stack.{channel_bases, row_bases, stack_top, most_columns};
+ghost use Rattle.layout_laws.specs.Plans.{channel_height};
+ghost use Rattle.std.specs.Prelude.{◌≡◌, ◌<◌, ◌≤◌, ◌*◌, ◌^◌, IfOk};
+
+use channel_model::Wiring;
+use std::alloc::{AllocError, Global};
+use tech_rules::Rules;
+
+// The height of a channel in units.
+fn channel_height(wiring: &Wiring, rules: &Rules) -> u64
+    ensures height { result ≡ channel_height rules.now wiring.now }
+    ensures few { result ≤ 2 ^ 32 * 1000 }
+{
+    (u64::from(wiring.tracks) + 1) * u64::from(rules.grid_track)
+}
+
+/// The lower edges of the channels in units, with rows of this height between them. The one error is want of memory.
+pub fn channel_bases(
+    alloc: Global,
+    wirings: &[Wiring],
+    height: u32,
+    rules: &Rules,
+) -> Result<Vec<u32>, AllocError>
+    requires { stack_top rules.now height 0 wirings.now < 2 ^ 32 }
+    ensures { IfOk result (λ bases. bases.items ≡ channel_bases rules.now height 0 wirings.now) }
+{
+    let mut bases = Vec::new(alloc);
+    let mut base = 0;
+    let mut rest = wirings;
+    while let Some((wiring, above)) = rest.split_first() {
+        bases.push(base as u32)?;
+        base += channel_height(wiring, rules) + u64::from(height);
+        rest = above;
+    }
+    Ok(bases)
+}
+
+/// The lower edges of the rows in units: each lies on its channel, and the last channel has none above it. The one error is want of memory.
+pub fn row_bases(
+    alloc: Global,
+    wirings: &[Wiring],
+    height: u32,
+    rules: &Rules,
+) -> Result<Vec<u32>, AllocError>
+    requires { stack_top rules.now height 0 wirings.now < 2 ^ 32 }
+    ensures { IfOk result (λ bases. bases.items ≡ row_bases rules.now height 0 wirings.now) }
+{
+    let mut bases = Vec::new(alloc);
+    let mut base = 0;
+    let mut rest = wirings;
+    while let Some((wiring, above)) = rest.split_first() {
+        if above.is_empty() {
+            return Ok(bases);
+        }
+        let row = base + channel_height(wiring, rules);
+        bases.push(row as u32)?;
+        base = row + u64::from(height);
+        rest = above;
+    }
+    Ok(bases)
+}
+
+/// The upper edge of the last channel in units. Takes no memory.
+pub fn stack_top(wirings: &[Wiring], height: u32, rules: &Rules) -> u64
+    requires { stack_top rules.now height 0 wirings.now < 2 ^ 32 }
+    ensures { result ≡ stack_top rules.now height 0 wirings.now }
+{
+    let mut base = 0;
+    let mut rest = wirings;
+    while let Some((wiring, above)) = rest.split_first() {
+        let top = base + channel_height(wiring, rules);
+        if above.is_empty() {
+            return top;
+        }
+        base = top + u64::from(height);
+        rest = above;
+    }
+    base
+}
+
+/// The columns of the widest wiring. Takes no memory.
+pub fn most_columns(wirings: &[Wiring]) -> u32
+    ensures { result ≡ most_columns wirings.now }
+{
+    let mut most = 0;
+    let mut rest = wirings;
+    while let Some((wiring, others)) = rest.split_first() {
+        most = most.max(wiring.columns);
+        rest = others;
+    }
+    most
+}

@@ -1,0 +1,10 @@
+//! Rows and channels on one another: where each cell, each feed and each wire of a routed design lies.
+#![tactic(auto)]
+
+mod bases;
+pub mod placed;
+mod places;
+mod stacking;
+
+pub use placed::{Placed, PlacedItem};
+pub use stacking::stack;

@@ -1,0 +1,84 @@
+//! The layout of a routed design.
+
+ghost use Rattle.channel_model.specs.Elements.{elements};
+ghost use Rattle.channel_model.specs.Wired.{IsOnGrid};
+ghost use Rattle.channel_model.specs.declared.wiring.Wiring.{Wiring};
+ghost use Rattle.channel_stack.specs.Layouts.{layout_of};
+ghost use Rattle.channel_stack.specs.Routed.{AreWired, IsRouted};
+ghost use Rattle.channel_stack.specs.Stack.{drawings, stack_of};
+ghost use Rattle.feed_cells.specs.Fed.{IsFed};
+ghost use Rattle.netlist_core.specs.Good.{Good};
+ghost use Rattle.std.specs.List.{All, AllByRecursion};
+ghost use Rattle.std.specs.Prelude.{◌≡◌, ◌<◌, ◌≤◌, ◌+◌, ◌*◌, length, IfOk};
+
+use crate::bases::{channel_bases, most_columns, row_bases, stack_top};
+use crate::placed::Placed;
+use crate::places::placed_rows;
+use channel_model::Wiring;
+use feed_cells::FedRows;
+use geom_core::Items;
+use netlist_core::Design;
+use std::alloc::{AllocError, Global};
+use tech_rules::Rules;
+use wire_geom::{Drawn, draw};
+
+// The rectangles of the channels, each on its base.
+fn drawings(
+    alloc: Global,
+    wirings: &[Wiring],
+    bases: &[u32],
+    rules: &Rules,
+) -> Result<Vec<Items<Drawn>>, AllocError>
+    requires { AllByRecursion (λ (w : Wiring). All (IsOnGrid w.columns w.tracks) (elements w)) wirings.now }
+    ensures { IfOk result (λ drawn. drawn.items ≡ drawings rules.now wirings.now bases.now) }
+{
+    let mut drawn = Vec::new(alloc);
+    let mut edges = bases;
+    let mut rest = wirings;
+    while let Some((wiring, above)) = rest.split_first() {
+        let Some((base, others)) = edges.split_first() else {
+            return Ok(drawn);
+        };
+        let channel = draw(alloc, wiring, *base, rules)?;
+        drawn.push(Items::new(channel))?;
+        edges = others;
+        rest = above;
+    }
+    Ok(drawn)
+}
+
+/// The layout of a routed design: from y 0 up, channel 0, row 0, channel 1, and so on, each row of the design's height and each channel of t tracks
+/// as high as t + 1 tracks. The rows with feeds are those of their cells; there is one wiring for each channel, within the tracks and columns of the
+/// bound, which passes no limit. The one error is want of memory.
+///
+/// Where each wiring connects its channel, by whatever router, and the cells have room for their pins, the layout is good for the design and the rules.
+#[tactic(auto, unfolding(crate::specs::Stack::stack_of))]
+pub fn stack(
+    alloc: Global,
+    design: &Design,
+    fed: &FedRows,
+    wirings: &[Wiring],
+    rules: &Rules,
+) -> Result<Placed, AllocError>
+    requires fed { IsFed design.now fed.now }
+    requires routed { IsRouted rules.now design.now fed.now wirings.now }
+    ensures stacked { IfOk result (λ placed. placed ≡ stack_of rules.now design.now fed.now wirings.now) }
+    ensures good { IfOk result (λ _. (0 < length design.now.kinds → 2 * rules.now.grid_pin + rules.now.vertical_space ≤ design.now.height)
+        → AreWired design.now fed.now wirings.now → Good rules.now design.now (layout_of rules.now design.now fed.now wirings.now)) }
+{
+    let centi = u64::from(rules.grid_centi);
+    let height = design.height;
+    let channel_base = channel_bases(alloc, wirings, height, rules)?;
+    let row_base = row_bases(alloc, wirings, height, rules)?;
+    let cells = placed_rows(alloc, design, rules, fed.rows.items(), row_base.as_slice())?;
+    let shapes = drawings(alloc, wirings, channel_base.as_slice(), rules)?;
+    let columns = u64::from(most_columns(wirings));
+    Ok(Placed {
+        width: columns * u64::from(rules.grid_column) * centi,
+        height: stack_top(wirings, height, rules) * centi,
+        channel_base: Items::new(channel_base),
+        row_base: Items::new(row_base),
+        cells: Items::new(cells),
+        shapes: Items::new(shapes),
+    })
+}
