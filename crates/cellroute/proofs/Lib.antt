@@ -1,28 +1,25 @@
 -- the text of commands, one part after another
 pub mod Lines
--- which bytes have no text
-pub mod Refused
+-- bytes that are put to a sink in parts
+pub mod Puts
+-- what the points before the text have shown
+pub mod Points
+-- what was found in files, and the verdict on them
+pub mod Findings
+-- how a command ends by what was found
+pub mod Endings
+-- what `clap` makes of the words of a command
+pub mod Arguments
 -- drawings lie within reach
 pub mod Drawings
--- rectangles that boxes draw
-pub mod Boxes
--- the text of a row reads back, and means its layout
-pub mod RowWritable
--- lists of parts, one item behind another
-pub mod RowLists
--- the shapes of the row, instance behind instance
-pub mod RowShapes
--- the cells of the row, one for each instance
-pub mod RowCells
--- the rectangles of pins and outlines in columns of the row
-pub mod RowBoxes
--- what each shape of the row is, and that drawn positions keep the space
-pub mod RowPins
--- the pins of a design, each once, and nets that are not shared
-pub mod RowPairs
--- which pins the shapes of the row join
-pub mod RowNets
--- the layout of a row of unjoined cells is good
-pub mod RowGood
--- the text of such a design is a good one
-pub mod GoodText
+-- the text of the symbol of feeds
+pub mod FeedLines
+-- the text of a placed design, channel behind row
+pub mod LayoutLines
+-- a plain wiring for each channel, channel by channel
+pub mod WiringLaws
+-- plain wirings connect the channels of placed rows within the bound
+pub mod RoutedLaws
+pub mod FedRouted
+-- a worked text of a placed design, computed
+pub mod LayoutWorked

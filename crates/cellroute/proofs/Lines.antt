@@ -1,4 +1,4 @@
-use Rattle.std.proofs.Common.{◌≡◌, ℕ, suc, ◌+◌, ◌<◌, List, [], ◌∷◌, ◌++◌, length, drop, get_or, ap, sym, ◌∙◌, append_assoc, add-one, Some}
+use Rattle.std.proofs.Common.{◌≡◌, ℕ, suc, ◌+◌, ◌<◌, List, [], ◌∷◌, ◌++◌, length, map, drop, get_or, ap, sym, ◌∙◌, append_assoc, add-one, Some}
 use Rattle.std.proofs.Math.Seq.{drop-cons}
 use Rattle.geom_core.specs.declared.layout.Shape.{Shape}
 use Rattle.tech_rules.specs.Rules.{RuleValues}
@@ -6,7 +6,7 @@ use Rattle.netlist_core.specs.Drawing.{drawing_of}
 use Rattle.netlist_core.specs.declared.design.CellKind.{CellKind}
 use Rattle.cif_text.proofs.TextLemmas.{text_of-append}
 use Rattle.cif_text.specs.Written.{symbol_commands, symbols_commands}
-use Rattle.cellroute.specs.Text.{symbol_for, symbols_of}
+use Rattle.channel_stack.specs.Layouts.{symbol_for}
 use Rattle.cif_text.specs.Printing.{line, text_of}
 use Rattle.cif_text.specs.declared.command.Command.{Command}
 use Rattle.cif_text.specs.declared.command.Command.TheVariants as commands
@@ -19,20 +19,20 @@ four-pieces t0 t1 t2 t3 t4 a b c d one two three four = rw (four, three, two, on
 pub symbols-more : (r : RuleValues) (height n : ℕ) (t new all : List ℕ) (kinds : List CellKind) (k : CellKind) (shapes : List Shape)
     → n < length kinds → k ≡ get_or kinds n k → shapes ≡ drawing_of r height k
     → new ≡ t ++ text_of (symbol_commands (n + 1) (record { name = Some k.name; shapes = shapes }))
-    → t ++ text_of (symbols_commands (n + 1) (symbols_of r height (drop n kinds))) ≡ all
-    → new ++ text_of (symbols_commands (n + 1 + 1) (symbols_of r height (drop (n + 1) kinds))) ≡ all
+    → t ++ text_of (symbols_commands (n + 1) (map (symbol_for r height) (drop n kinds))) ≡ all
+    → new ++ text_of (symbols_commands (n + 1 + 1) (map (symbol_for r height) (drop (n + 1) kinds))) ≡ all
 symbols-more r height n t new all kinds k shapes within at drawn put so_far =
     let front : drop n kinds ≡ k ∷ drop (n + 1) kinds = rw (add-one n) (drop-cons kinds n k within ∙ ap (λ (x : CellKind). x ∷ drop (suc n) kinds) (sym at)) in
     let symbol = symbol_commands (n + 1) (symbol_for r height k) in
-    let others = symbols_commands (n + 1 + 1) (symbols_of r height (drop (n + 1) kinds)) in
+    let others = symbols_commands (n + 1 + 1) (map (symbol_for r height) (drop (n + 1) kinds)) in
     let here : new ≡ t ++ text_of symbol = put ∙ ap (λ (l : List Shape). t ++ text_of (symbol_commands (n + 1) (record { name = Some k.name; shapes = l }))) drawn in
-    let next : others ≡ symbols_commands (suc (n + 1)) (symbols_of r height (drop (n + 1) kinds)) =
-    ap (λ (m : ℕ). symbols_commands m (symbols_of r height (drop (n + 1) kinds))) (add-one (n + 1)) in
+    let next : others ≡ symbols_commands (suc (n + 1)) (map (symbol_for r height) (drop (n + 1) kinds)) =
+    ap (λ (m : ℕ). symbols_commands m (map (symbol_for r height) (drop (n + 1) kinds))) (add-one (n + 1)) in
     ap (λ (l : List ℕ). l ++ text_of others) here
     ∙ append_assoc t (text_of symbol) (text_of others)
     ∙ ap (λ (l : List ℕ). t ++ l) (sym (text_of-append symbol others))
     ∙ ap (λ (l : List Command). t ++ text_of (symbol ++ l)) next
-    ∙ ap (λ (l : List CellKind). t ++ text_of (symbols_commands (n + 1) (symbols_of r height l))) (sym front)
+    ∙ ap (λ (l : List CellKind). t ++ text_of (symbols_commands (n + 1) (map (symbol_for r height) l))) (sym front)
     ∙ so_far
 
 -- the whole text, put in four pieces

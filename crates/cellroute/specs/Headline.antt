@@ -1,7 +1,7 @@
 use Rattle.std.specs.Prelude.{◌≡◌, ℕ, List, Ok}
 use Rattle.geom_core.specs.declared.layout.Layout.{Layout}
 use Rattle.tech_rules.specs.Rules.{RuleValues}
-use Rattle.tech_rules.specs.Sample.{sample}
+use Rattle.tech_rules.specs.RulesOf.{rules_of}
 use Rattle.yal_reader.specs.YalReads.{yal_reads}
 use Rattle.yal_reader.specs.declared.file.YalFile.{YalFile}
 use Rattle.netlist_core.specs.Good.{Good}
@@ -27,8 +27,15 @@ pub record IsGoodFor (rules : RuleValues) (file : YalFile) (text : List ℕ) : T
   pub nets : SameNet (parent_calls file) design.pins
   pub good : IsGoodText rules design text
 
--- the headline: the bytes are a design, and the text is a good layout of it, under the sample rules
-pub record Headline (bytes text : List ℕ) : Type 0 where
+-- a text is a good layout of what a text of YAL says
+pub record IsGoodOf (rules : RuleValues) (bytes text : List ℕ) : Type 0 where
   pub file : YalFile
   pub read : yal_reads bytes ≡ Ok file
-  pub good : IsGoodFor sample file text
+  pub good : IsGoodFor rules file text
+
+-- the headline: the bytes of the rules file state rules, those of the design's file are a design, and the text is a good layout of it
+-- under these rules
+pub record Headline (stated bytes text : List ℕ) : Type 0 where
+  pub rules : RuleValues
+  pub states : rules_of stated ≡ Ok rules
+  pub good : IsGoodOf rules bytes text

@@ -1,18 +1,25 @@
 -- the words of a command
+pub mod RowsWord
+pub mod RowCountView
 pub mod Command
 pub mod Seen
--- one row of cells, and its size
-pub mod Row
-pub mod Bound
--- pins of one net
-pub mod Joined
--- the written text
+-- how many rows, their wirings, and the written text
+pub mod Rows
+pub mod Wirings
+pub mod LayoutText
 pub mod Text
--- which text is written for a design's bytes, and what a shelf then holds
-pub mod Outcome
-pub mod Made
-pub mod Prepared
--- how a command ends
+-- points that may refuse, the limits, what is not built yet, and the names in faults
+pub mod Refusing
+pub mod Limits
+pub mod Unbuilt
+pub mod FaultName
+-- the verdict on words and files
+pub mod Verdict
+-- how a command ends: its status and its line
 pub mod Status
+pub mod Line
+pub mod Gains
+pub mod Answers
+pub mod Outcome
 -- the headline: what is written reads as a good layout of the design
 pub mod Headline

@@ -44,18 +44,30 @@ fn put_symbol_name(text: &mut Vec<u8>, name: &Name) -> Result<(), AllocError>
     put_name(text, b"9 ", name)
 }
 
-// The box of a shape, in centimicrons.
-fn box_of(shape: &Shape) -> Command
+/// The box of a shape, in centimicrons. Takes no memory.
+pub fn box_of(shape: &Shape) -> Command
     requires { IsShapeInReach shape.now }
     ensures shape { result ≡ box_of shape.now.rect }
     ensures line { HasLine result }
 {
     let rect = shape.rect;
+    box_between(rect.x0, rect.y0, rect.x1, rect.y1)
+}
+
+/// The box in centimicrons that has these left, lower, right and upper sides in half centimicrons. Takes no memory.
+pub fn box_between(x0: i64, y0: i64, x1: i64, y1: i64) -> Command
+    requires left { IsInReach x0 }
+    requires lower { IsInReach y0 }
+    requires right { IsInReach x1 }
+    requires upper { IsInReach y1 }
+    ensures shape { result ≡ box_of (record { x0 = x0; y0 = y0; x1 = x1; y1 = y1 }) }
+    ensures line { HasLine result }
+{
     Command::Box {
-        length: length_of(rect.x0, rect.x1),
-        width: length_of(rect.y0, rect.y1),
-        cx: middle_of(rect.x0, rect.x1),
-        cy: middle_of(rect.y0, rect.y1),
+        length: length_of(x0, x1),
+        width: length_of(y0, y1),
+        cx: middle_of(x0, x1),
+        cy: middle_of(y0, y1),
         upright: false,
     }
 }
@@ -92,8 +104,8 @@ pub fn call_of(number: u64, place: &Place) -> Command
     }
 }
 
-// Puts a layer's line where it is not the layer written last.
-fn put_layer(
+/// Puts a layer's line where it is not the layer written last. The one error is want of memory.
+pub fn put_layer(
     text: &mut Vec<u8>,
     last: Option<LayerName>,
     layer: LayerName,

@@ -1,6 +1,7 @@
 ghost use Rattle.std.specs.Prelude.{◌≡◌};
 ghost use Rattle.std.specs.String.{string_bytes};
 
+use std::convert::AsStr;
 use std::marker::Model;
 
 /// A word of the command line, which contracts see as its text.
@@ -16,6 +17,14 @@ impl Model for Word {
     ghost Value = { List ℕ };
 
     ghost view = { λ w. string_bytes w.text };
+}
+
+impl AsStr for Word {
+    ghost text = { λ w. w };
+
+    fn as_str(&self) -> &str {
+        self.text.as_str()
+    }
 }
 
 impl Word {
