@@ -351,3 +351,33 @@ fn a_large_design_of_pairs_is_wired_in_seconds(rt: HostRuntime) -> Result<(), Fa
     assert_eq!(rt; text.matches("\nL NC;\n").count(), 80_000);
     Ok(())
 }
+
+#[test]
+fn a_cell_of_many_terminals_is_wired_in_seconds(rt: HostRuntime) -> Result<(), Fail> {
+    let alloc = rt.alloc();
+    let mut text = String::from_str(
+        alloc,
+        "MODULE BUS;\nTYPE STANDARD;\nDIMENSIONS 0 0 1600000 0 1600000 40 0 40;\nIOLIST;\n",
+    )?;
+    let mut call = String::from_str(alloc, "u BUS")?;
+    for n in 0..200_000u32 {
+        let net = n / 2;
+        let x = 8 * n + 4;
+        let terminal = format!(in alloc; "t{n} I {x} 40 3 POLY;\n")?;
+        text.push_str(terminal.as_str())?;
+        let signal = format!(in alloc; " n{net}")?;
+        call.push_str(signal.as_str())?;
+    }
+    text.push_str("ENDIOLIST;\nENDMODULE;\n")?;
+    call.push_str(";\n")?;
+    let text = design(alloc, text.as_str(), call.as_str())?;
+    let mut shelf = shelf_with(alloc, RULES, text.as_str())?;
+    let words: &[&str] = &["route", "d", "r", "o", "--rows", "1"];
+    let (status, _) = ended(alloc, words, &mut shelf)?;
+    assert_eq!(rt; status, 0);
+    let written = shelf.get("o").ok_or("not written")?;
+    let text = str::from_utf8(written).map_err(|_| "no text")?;
+    // 100,000 nets of two pins, each with two vias.
+    assert_eq!(rt; text.matches("\nL NC;\n").count(), 200_000);
+    Ok(())
+}

@@ -1,4 +1,4 @@
-use Rattle.std.proofs.Common.{◌≡◌, ℕ, ◌+◌, ◌<◌, zero, suc, List, [], ◌∷◌, map, filter, length, Bool, true, false, Option, Some, slice_get, arith, refl, ap, ap₂, ◌∙◌, cond}
+use Rattle.std.proofs.Common.{◌≡◌, ℕ, ◌+◌, zero, suc, List, [], ◌∷◌, map, filter, length, Bool, true, false, Option, refl, ap, ap₂, ◌∙◌, cond}
 use Rattle.std.specs.List.{range_with_len}
 use Rattle.netlist_core.specs.Netlist.{Netlist}
 use Rattle.row_model.specs.declared.rows.Seat.{Seat}
@@ -9,18 +9,6 @@ use Rattle.feed_cells.specs.Tables.{count_in, counts_in}
 use Rattle.feed_cells.specs.declared.crossing.Crossing.{Crossing}
 use Rattle.feed_cells.specs.declared.net_span.NetSpan.{NetSpan}
 use Rattle.feed_cells.proofs.SpanLaws.{span-crossing}
-
--- a list is known by its elements
-pub list-by : {X : Type 0} (f : ℕ → X) (a : ℕ) (xs : List X) → ((i : ℕ) → i < length xs → slice_get xs i ≡ Some (f (i + a)))
-    → xs ≡ map f (range_with_len a (length xs))
-list-by f a [] has = refl
-list-by {X} f a (x ∷ xs) has =
-    let first : Some x ≡ Some (f (0 + a)) = has 0 (omega arith) in
-    let none : 0 + a ≡ a = omega arith in
-    let head : x ≡ f (0 + a) = cc in
-    let tail : xs ≡ map f (range_with_len (a + 1) (length xs)) =
-    list-by f (a + 1) xs (λ i below. let more : suc i + a ≡ i + (a + 1) = omega arith in has (suc i) (omega arith) ∙ ap (λ (n : ℕ). Some (f n)) more) in
-    ap₂ (λ (y : X) (ys : List X). y ∷ ys) (head ∙ ap f none) tail
 
 -- as many pass a test before a change as after it
 length-filter-map : {A B : Type 0} (f : A → B) (p : B → Bool) (q : A → Bool) → ((x : A) → p (f x) ≡ q x) → (xs : List A)

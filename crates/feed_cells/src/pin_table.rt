@@ -6,6 +6,7 @@ ghost use Rattle.std.specs.Prelude.{◌≡◌, map, IfOk, IfSome};
 use crate::pins::{PinStand, pin_at};
 use crate::stands::Stand;
 use netlist_core::Design;
+use row_model::all_pin_columns;
 use std::alloc::{AllocError, Global};
 
 /// What of each pin of a design decides where its net stands, in the order of the pins, by the stands of the instances. The one error is want of memory.
@@ -18,11 +19,18 @@ pub fn pin_stands(
     requires near { AreNear stands.now }
     ensures { IfOk result (λ v. v.items ≡ map (tabled_pin design.now stands.now) design.now.pins) }
 {
+    let columns = all_pin_columns(alloc, design)?;
     let mut pins = Vec::new(alloc);
     let mut rest = design.pins.items();
+    let mut others = columns.as_slice();
     while let Some((pin, after)) = rest.split_first() {
-        pins.push(pin_at(design, tabled_stand(stands, pin.instance), *pin))?;
+        let Some((columns, behind)) = others.split_first() else {
+            return Ok(pins);
+        };
+        let stand = tabled_stand(stands, pin.instance);
+        pins.push(pin_at(design, stand, *pin, *columns))?;
         rest = after;
+        others = behind;
     }
     Ok(pins)
 }

@@ -11,7 +11,7 @@ use crate::pins::pin_at;
 use crate::stands::stand_of;
 use geom_core::Items;
 use netlist_core::{Design, Pin};
-use row_model::{Rows, Seat};
+use row_model::{Rows, Seat, pin_columns};
 
 /// Which channels the net with this number, from 1 to the number of nets, stands in. Takes no memory, and steps as the number of pins, and for each
 /// pin of the net as the number of cells.
@@ -55,7 +55,8 @@ fn span_with(
     requires short { AreShort rows.now }
     ensures { result ≡ span_with net span (pin_stand design.now rows.now pin) }
 {
-    let stand = pin_at(design, stand_of(design, rows, pin.instance), pin);
+    let columns = pin_columns(design, pin);
+    let stand = pin_at(design, stand_of(design, rows, pin.instance), pin, columns);
     if stand.net == net {
         Some(joined(span, stand))
     } else {

@@ -1,4 +1,4 @@
-ghost use Rattle.row_model.specs.Stands.{edge_column, first_column, positions_of, stand_in, stand_of};
+ghost use Rattle.row_model.specs.Stands.{stand_in, stand_of};
 ghost use Rattle.row_model.specs.Widths.{columns_of, kind_of};
 ghost use Rattle.feed_cells.specs.NearStands.{AreShort, IsNear};
 ghost use Rattle.netlist_core.specs.Netlist.{IsKind};
@@ -6,7 +6,7 @@ ghost use Rattle.std.specs.Option.{option_map};
 ghost use Rattle.std.specs.Prelude.{◌≡◌, ◌≤◌, ◌<◌, length, IfSome};
 
 use geom_core::Items;
-use netlist_core::{CellKind, Design, Pin, Position};
+use netlist_core::{CellKind, Design};
 use row_model::Seat;
 use std::marker::Model;
 
@@ -30,8 +30,8 @@ impl Model for Stand {
     ghost inverse = { λ s. record { row = s.row; left = s.left; mirror = s.mirror } };
 }
 
-/// The kind of the instance with this number, if there is one. Takes no memory.
-pub fn kind_of<'d>(design: &'d Design, instance: u32) -> Option<&'d CellKind>
+// The kind of the instance with this number, if there is one.
+fn kind_of<'d>(design: &'d Design, instance: u32) -> Option<&'d CellKind>
     ensures { option_map (λ k. k.now) result ≡ kind_of design.now instance }
 {
     let found = design.instances.items().get(instance as usize)?;

@@ -6,3 +6,5 @@ pub mod Mentioned
 pub mod Every
 -- names that are all different
 pub mod Different
+-- what stands at the places of a list
+pub mod Places

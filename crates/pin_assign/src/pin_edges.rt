@@ -1,8 +1,10 @@
+ghost use Rattle.netlist_core.specs.Netlist.{Netlist};
+ghost use Rattle.row_model.specs.PinColumns.{pin_columns};
 ghost use Rattle.pin_assign.specs.PinEdges.{above_there, edge_of, edges_at, highest_of, is_through, lowest_of, tabled_edges};
 ghost use Rattle.std.specs.Prelude.{◌≡◌, map, slice_get, IfOk};
 
-use crate::cells::edge_column;
 use netlist_core::{Design, Pin};
+use row_model::{PinColumns, all_pin_columns};
 use std::alloc::{AllocError, Global};
 
 /// A pin with the row of its cell, the channel above that row, and the columns in the cell of its first positions on the lower and the upper edge.
@@ -24,11 +26,17 @@ pub fn pins_with_edges(
 ) -> Result<Vec<PinEdges>, AllocError>
     ensures { IfOk result (λ v. v.items ≡ map (tabled_edges design.now aboves.now) design.now.pins) }
 {
+    let columns = all_pin_columns(alloc, design)?;
     let mut pins = Vec::new(alloc);
     let mut rest = design.pins.items();
+    let mut others = columns.as_slice();
     while let Some((pin, after)) = rest.split_first() {
-        pins.push(edges_at(design, above_there(aboves, pin.instance), *pin))?;
+        let Some((columns, behind)) = others.split_first() else {
+            return Ok(pins);
+        };
+        pins.push(edges_at(above_there(aboves, pin.instance), *pin, *columns))?;
         rest = after;
+        others = behind;
     }
     Ok(pins)
 }
@@ -43,17 +51,17 @@ fn above_there(aboves: &[Option<u32>], instance: u32) -> u32
     }
 }
 
-// A pin whose cell stands below this channel.
+// A pin with these columns in its cell, which stands below this channel.
 #[tactic(auto, unfolding(crate::specs::PinEdges::edges_at))]
-fn edges_at(design: &Design, above: u32, pin: Pin) -> PinEdges
-    ensures { result ≡ edges_at design.now above pin }
+fn edges_at(above: u32, pin: Pin, columns: PinColumns) -> PinEdges
+    ensures { (d : Netlist) → columns ≡ pin_columns d pin → result ≡ edges_at d above pin }
 {
     PinEdges {
         pin,
         row: above.saturating_sub(1),
         above,
-        bottom: edge_column(design, false, pin),
-        top: edge_column(design, true, pin),
+        bottom: columns.bottom,
+        top: columns.top,
     }
 }
 

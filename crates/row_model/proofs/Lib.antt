@@ -16,3 +16,5 @@ pub mod Worked
 pub mod BoundLaws
 -- the columns of pins lie within their rows
 pub mod ColumnLaws
+-- the columns of pins in their cells
+pub mod CellColumns

@@ -1,6 +1,7 @@
-use Rattle.std.proofs.Common.{◌≡◌, List, [], ◌∷◌, Some, true, false, refl}
+use Rattle.std.proofs.Common.{◌≡◌, List, [], ◌∷◌, None, Some, true, false, refl}
 use Rattle.netlist_core.specs.Netlist.{Netlist}
 use Rattle.netlist_core.specs.declared.design.CellKind.{CellKind}
+use Rattle.row_model.specs.PinColumns.{pin_columns}
 use Rattle.row_model.specs.Start.{start_rows, upright}
 use Rattle.row_model.specs.Stands.{column_of, stand_of}
 use Rattle.row_model.specs.Widths.{all_columns}
@@ -59,3 +60,10 @@ mirrored-second = refl
 
 pub above : stand_of three turned 2 ≡ Some (record { row = 1; left = 0; mirror = false })
 above = refl
+
+-- the columns of a pin in its cell are those of an upright cell
+pub columns-below : pin_columns three (record { instance = 0; terminal = 0; net = 1 }) ≡ record { first = Some 0; bottom = Some 0; top = None }
+columns-below = refl
+
+pub columns-above : pin_columns three (record { instance = 0; terminal = 1; net = 1 }) ≡ record { first = Some 1; bottom = None; top = Some 1 }
+columns-above = refl

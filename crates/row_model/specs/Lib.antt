@@ -10,3 +10,5 @@ pub mod Stands
 -- what annealing weighs
 pub mod Weights
 pub mod WeightsView
+-- the columns of pins in their cells
+pub mod PinColumns

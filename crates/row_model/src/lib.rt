@@ -1,12 +1,14 @@
 //! Rows of cells: which instance stands in which row, in which order, and where.
 #![tactic(auto)]
 
+pub mod cell_columns;
 pub mod rows;
 mod standing;
 mod starting;
 pub mod weights;
 mod widths;
 
+pub use cell_columns::{PinColumns, all_pin_columns, pin_columns};
 pub use rows::{Rows, Seat};
 pub use standing::column_of;
 pub use starting::{default_rows, start};

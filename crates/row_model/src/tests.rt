@@ -200,3 +200,40 @@ fn weights_are_those_that_they_are_made_of(rt: HostRuntime) -> Result<(), Fail> 
     assert_eq!(rt; weights.length_cost, 0);
     Ok(())
 }
+
+/// A cell of three columns whose first terminal has positions on both edges, and whose second has one below.
+const SIDES: &str =
+    "MODULE SIDES; TYPE STANDARD; DIMENSIONS 0 0 24 0 24 40 0 40; IOLIST; a B 12 40 3 POLY; b I 12 0 3 POLY; a B 4 0 3 POLY; a B 20 0 3 POLY; ENDIOLIST; ENDMODULE;";
+
+#[test]
+fn pins_have_columns_on_each_edge(rt: HostRuntime) -> Result<(), Fail> {
+    let design = designed(&rt, rt.alloc(), &[SIDES, INV], "u SIDES n m; v INV n;")?;
+    let wanted = [
+        PinColumns {
+            first: Some(1),
+            bottom: Some(0),
+            top: Some(1),
+        },
+        PinColumns {
+            first: Some(1),
+            bottom: Some(1),
+            top: None,
+        },
+        PinColumns {
+            first: Some(0),
+            bottom: Some(0),
+            top: None,
+        },
+    ];
+    let columns = all_pin_columns(rt.alloc(), &design)?;
+    assert_eq!(rt; columns.as_slice(), wanted.as_slice());
+    for (pin, want) in design.pins.items().iter().zip(wanted) {
+        assert_eq!(rt;
+            pin_columns(&design, *pin),
+            want,
+            "terminal {}",
+            pin.terminal
+        );
+    }
+    Ok(())
+}

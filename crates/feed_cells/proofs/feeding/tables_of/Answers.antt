@@ -7,7 +7,7 @@ use Rattle.feed_cells.specs.Spans.{span_among}
 use Rattle.feed_cells.specs.Tables.{AreStands}
 use Rattle.feed_cells.specs.declared.pins.PinStand.{PinStand}
 use Rattle.feed_cells.proofs.PinsWithin.{pins-tabled}
-use Rattle.feed_cells.proofs.TableLists.{list-by}
+use Rattle.list_facts.proofs.Places.{list-by}
 use Rattle.feed_cells.proofs.feeding.tables_of.Goals as goal
 
 pub returns : goal.returns

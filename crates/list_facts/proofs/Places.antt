@@ -1,0 +1,41 @@
+use Rattle.std.proofs.Common.{◌≡◌, ◌≢◌, ◌<◌, ◌≤◌, ◌+◌, ℕ, zero, suc, List, [], ◌∷◌, length, map, Option, None, Some, refl, ap, ap₂, ◌∙◌, arith, slice_get, slice_set}
+use Rattle.std.proofs.lemmas.Option.{slice_get_within}
+use Rattle.std.specs.List.{range_with_len}
+use Rattle.std.specs.Option.{option_map}
+
+-- a list is known by its elements
+pub list-by : {X : Type 0} (f : ℕ → X) (a : ℕ) (xs : List X) → ((i : ℕ) → i < length xs → slice_get xs i ≡ Some (f (i + a)))
+    → xs ≡ map f (range_with_len a (length xs))
+list-by f a [] has = refl
+list-by {X} f a (x ∷ xs) has =
+    let first : Some x ≡ Some (f (0 + a)) = has 0 (omega arith) in
+    let none : 0 + a ≡ a = omega arith in
+    let head : x ≡ f (0 + a) = cc in
+    let tail : xs ≡ map f (range_with_len (a + 1) (length xs)) =
+    list-by f (a + 1) xs (λ i below. let more : suc i + a ≡ i + (a + 1) = omega arith in has (suc i) (omega arith) ∙ ap (λ (n : ℕ). Some (f n)) more) in
+    ap₂ (λ (y : X) (ys : List X). y ∷ ys) (head ∙ ap f none) tail
+
+-- where a list changes at one place by a rule that changes nothing elsewhere
+pub changed-at : {X : Type 0} (rule : ℕ → X → X) (xs : List X) (n : ℕ) (new : X) → ((x : X) → slice_get xs n ≡ Some x → new ≡ rule n x)
+    → ((i : ℕ) (x : X) → i ≢ n → x ≡ rule i x) → (i : ℕ) → slice_get (slice_set xs n new) i ≡ option_map (rule i) (slice_get xs i)
+changed-at rule [] n new here there i = refl
+changed-at rule (x ∷ xs) zero new here there zero = ap (λ y. Some y) (here x refl)
+changed-at {X} rule (x ∷ xs) zero new here there (suc i) = same (slice_get xs i)
+  where
+    same : (o : Option X) → o ≡ option_map (rule (suc i)) o
+    same None = refl
+    same (Some y) = ap (λ z. Some z) (there (suc i) y (λ is. absurd (omega (arith, is))))
+changed-at rule (x ∷ xs) (suc n) new here there zero = ap (λ y. Some y) (there 0 x (λ is. absurd (omega (arith, is))))
+changed-at rule (x ∷ xs) (suc n) new here there (suc i) =
+    changed-at (λ k. rule (suc k)) xs n new here (λ k y other. there (suc k) y (λ is. other (omega (arith, is)))) i
+
+-- and where there is no such place
+pub unchanged-past : {X : Type 0} (rule : ℕ → X → X) (xs : List X) (n : ℕ) → length xs ≤ n → ((i : ℕ) (x : X) → i ≢ n → x ≡ rule i x)
+    → (i : ℕ) → slice_get xs i ≡ option_map (rule i) (slice_get xs i)
+unchanged-past {X} rule xs n past there i = by (slice_get xs i) refl
+  where
+    by : (o : Option X) → slice_get xs i ≡ o → o ≡ option_map (rule i) o
+    by None at = refl
+    by (Some x) at =
+        let within : i < length xs = slice_get_within xs i x at in
+        ap (λ z. Some z) (there i x (λ is. absurd (omega (arith, is, within, past))))
