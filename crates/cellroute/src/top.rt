@@ -79,9 +79,10 @@ fn end<K: Sink>(out: &mut K, ending: &Result<(), Stop>) -> u8
     }
 }
 
-/// Does the command that the words give: `route DESIGN RULES OUT` reads the rules from the file RULES and the design in YAL from the file
-/// DESIGN, sets its cells side by side in one row and writes the layout in CIF into the file OUT. Every status but 0 prints one line,
-/// with the first cause, to the sink; if that fails the status stays.
+/// Does the command that the words give: `route DESIGN RULES OUT [--rows K]` reads the rules from the file RULES and the design in YAL from
+/// the file DESIGN, sets its cells in K rows, from 1 to 512, or in as many as make the layout about square, with feeds where nets cross rows,
+/// joins each net by wires in the channels between the rows, and writes the layout in CIF into the file OUT. Every status but 0 prints one
+/// line, with the first cause, to the sink; if that fails the status stays.
 ///
 /// What may refuse comes in this order: the words, reading RULES, the rules, reading DESIGN, YAL, the design, what is not built yet, the
 /// limits of grid, width and height, writing OUT. Where the shelf tells the files that it comes to, the status is that of the

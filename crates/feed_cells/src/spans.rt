@@ -13,8 +13,8 @@ use geom_core::Items;
 use netlist_core::{Design, Pin};
 use row_model::{Rows, Seat, pin_columns};
 
-/// Which channels the net with this number, from 1 to the number of nets, stands in. Takes no memory, and steps as the number of pins, and for each
-/// pin of the net as the number of cells.
+/// Which channels the net with this number, from 1 to the number of nets, stands in. Takes no memory, and steps as the number of pins
+/// times that of cells and of the positions of a cell.
 #[tactic(auto, using(crate::proofs::ShortRows::short_rows, crate::proofs::SpanLaws::span_laws))]
 pub fn spans_of(design: &Design, rows: &Rows, net: u32) -> Crossing
     requires some { 0 < net }
