@@ -1,68 +1,36 @@
 //! `cellroute`: from a design of standard cells in YAL and the rules of a process to a layout in CIF.
 #![tactic(auto)]
 
-mod command;
-#[cfg(test)]
-mod command_tests;
-mod fault_name;
-mod feed_text;
-mod kind_text;
-mod layout_text;
-mod limits;
-mod line;
-#[cfg(test)]
-mod line_tests;
-mod outcome;
-mod printing;
-mod refusal;
-mod routed;
-mod rows_word;
-mod stages;
-mod stop;
-#[cfg(test)]
-mod tests;
-mod top;
-mod unbuilt;
-mod wirings;
-mod word;
-
-use crate::line::print_line;
-use crate::refusal::Refusal;
-use crate::stop::Stop;
-use crate::top::run;
-use crate::word::Word;
+use commands::{Word, run};
 use shelf_io::{HostShelf, HostSink};
+use std::alloc::AllocError;
 use std::process::ExitCode;
 use std::{env, io};
 
+/// The status for want of memory.
+const MEMORY: u8 = 10;
+
 fn main(rt: HostRuntime) -> ExitCode {
+    let Ok(words) = words(&rt) else {
+        return ExitCode::from(MEMORY);
+    };
     let mut out = HostSink::new(&rt);
-    ExitCode::from(match words(&rt) {
-        Ok(words) => {
-            let mut shelf = HostShelf::new(&rt);
-            run(rt.alloc(), words.as_slice(), &mut shelf, &mut out).status
-        }
-        Err(Refusal::Memory) => Refusal::Memory.status(),
-        Err(refusal) => {
-            let stop = Stop::Refused(refusal);
-            print_line(&mut out, &stop);
-            stop.status()
-        }
-    })
+    let mut shelf = HostShelf::new(&rt);
+    ExitCode::from(run(rt.alloc(), words.as_slice(), &mut shelf, &mut out).status)
 }
 
-// The words after the program's name; a word that is no UTF-8 makes no command.
-fn words(rt: &HostRuntime) -> Result<Vec<Word>, Refusal> {
+// The words after the program's name. Where one is no UTF-8 there are none, which make no command.
+fn words(rt: &HostRuntime) -> Result<Vec<Word>, AllocError> {
+    let mut words = Vec::new(rt.alloc());
     let mut args = match env::args(rt) {
         Ok(args) => args,
-        Err(error) if error.kind() == io::ErrorKind::OutOfMemory => return Err(Refusal::Memory),
-        Err(_) => return Err(Refusal::Usage),
+        Err(error) if error.kind() == io::ErrorKind::OutOfMemory => return Err(AllocError),
+        Err(_) => return Ok(words),
     };
     let _program = args.next();
-    let mut words = Vec::new(rt.alloc());
     for text in args {
         if words.push(Word::new(text)).is_err() {
-            return Err(Refusal::Memory);
+            return Err(AllocError);
         }
     }
     Ok(words)

@@ -87,33 +87,3 @@ fn pin_count(side: &[u32], net: u32) -> usize
 {
     side.iter().filter(|n| **n == net).count()
 }
-
-#[cfg(test)]
-mod tests {
-    use super::*;
-    use std::test::Fail;
-
-    #[test]
-    fn a_channel_has_equal_edges_and_no_lone_pin(rt: HostRuntime) -> Result<(), Fail> {
-        let alloc = rt.alloc();
-        let cases: [(&[u32], &[u32], bool); 8] = [
-            (&[], &[], true),
-            (&[0, 0], &[0, 0], true),
-            (&[2, 1], &[1, 2], true),
-            (&[7], &[7], true),
-            (&[0, 0, 3], &[0, 0, 3], true),
-            (&[2, 1], &[1, 2, 0], false),
-            (&[5, 1], &[1, 0], false),
-            (&[0, 0], &[0, 4], false),
-        ];
-        for (top, bottom, is_channel) in cases {
-            let channel = Channel::new(top.to_vec(alloc)?, bottom.to_vec(alloc)?);
-            assert_eq!(rt; channel.is_some(), is_channel);
-            if let Some(channel) = channel {
-                assert_eq!(rt; channel.top.items(), top);
-                assert_eq!(rt; channel.bottom.items(), bottom);
-            }
-        }
-        Ok(())
-    }
-}

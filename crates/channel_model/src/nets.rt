@@ -39,23 +39,3 @@ pub fn place_of(nets: &[u32], net: u32) -> usize
         Err(_) => unreachable!(),
     }
 }
-
-#[cfg(test)]
-mod tests {
-    use super::*;
-    use std::test::Fail;
-
-    #[test]
-    fn nets_stand_once_in_number_order(rt: HostRuntime) -> Result<(), Fail> {
-        let alloc = rt.alloc();
-        let channel = Channel::new(
-            vec![in alloc; 9u32, 0, 3, 5]?,
-            vec![in alloc; 3u32, 5, 9, 0]?,
-        )
-        .ok_or("a channel")?;
-        let nets = nets_of(alloc, &channel)?;
-        assert_eq!(rt; nets.as_slice(), [3u32, 5, 9].as_slice());
-        assert_eq!(rt; place_of(&[3, 5, 9], 5), 1);
-        Ok(())
-    }
-}

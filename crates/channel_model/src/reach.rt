@@ -55,20 +55,3 @@ fn no_reaches(alloc: Global, nets: &[u32]) -> Result<Vec<Option<Reach>>, AllocEr
 {
     nets.iter().map(|_| None).collect(alloc)
 }
-
-#[cfg(test)]
-mod tests {
-    use super::*;
-    use std::test::Fail;
-
-    #[test]
-    fn a_reach_goes_from_the_first_pin_to_the_last(rt: HostRuntime) -> Result<(), Fail> {
-        let alloc = rt.alloc();
-        let found = reaches(alloc, &[0, 4, 8, 4, 0], &[4, 6, 8])?;
-        let (first, last) = (1, 3);
-        assert_eq!(rt; found[0], Some(Reach { first, last }));
-        assert_eq!(rt; found[1], None);
-        assert_eq!(rt; found[2], Some(Reach { first: 2, last: 2 }));
-        Ok(())
-    }
-}

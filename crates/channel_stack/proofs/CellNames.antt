@@ -9,9 +9,9 @@ use Rattle.std.specs.Prelude.{slice_get, unwrap_or}
 use Rattle.std.specs.Str.{bytes_eq}
 use Rattle.geom_core.specs.declared.layout.Cell as layouts
 use Rattle.tech_rules.specs.Rules.{RuleValues}
-use Rattle.netlist_core.specs.CellsMatch.{cell_names, instance_names}
-use Rattle.netlist_core.specs.Netlist.{Netlist, IsNetlist}
-use Rattle.netlist_core.specs.declared.design.Inst.{Inst}
+use Rattle.design_model.specs.CellsMatch.{cell_names, instance_names}
+use Rattle.design_model.specs.Netlist.{Netlist, IsNetlist}
+use Rattle.design_model.specs.declared.design.Inst.{Inst}
 use Rattle.cif_text.specs.Symbols.{Symbol}
 use Rattle.cif_text.specs.Written as written
 use Rattle.cif_text.specs.WrittenLayout.{item_shapes, items_cells, items_shapes}

@@ -6,8 +6,8 @@ use Rattle.cif_text.specs.Symbols.{Symbol, symbol_of}
 use Rattle.cif_text.specs.Written as written
 use Rattle.cif_text.specs.WrittenLayout.{symbol_at, symbols_from}
 use Rattle.tech_rules.specs.Rules.{RuleValues}
-use Rattle.netlist_core.specs.Netlist.{Netlist}
-use Rattle.netlist_core.specs.declared.design.CellKind.{CellKind}
+use Rattle.design_model.specs.Netlist.{Netlist}
+use Rattle.design_model.specs.declared.design.CellKind.{CellKind}
 use Rattle.feed_cells.specs.Fed.{Fed}
 use Rattle.layout_laws.proofs.ListPlaces.{map-at}
 use Rattle.channel_stack.specs.Layouts.{symbol_for, feed_drawing, feed_symbol, has_feed, symbols_of}

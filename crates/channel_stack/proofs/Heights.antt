@@ -6,7 +6,7 @@ use Rattle.channel_model.specs.declared.wiring.Wiring.{Wiring}
 use Rattle.feed_cells.specs.Fed.{Fed, IsFed, items_width}
 use Rattle.feed_cells.specs.declared.fed.Item.{Item}
 use Rattle.layout_laws.specs.Plans.{channel_height}
-use Rattle.netlist_core.specs.Netlist.{Netlist}
+use Rattle.design_model.specs.Netlist.{Netlist}
 use Rattle.tech_rules.specs.Rules.{RuleValues, ValidRules}
 use Rattle.channel_stack.specs.Routed.{IsRouted}
 use Rattle.channel_stack.specs.Stack.{stack_top}

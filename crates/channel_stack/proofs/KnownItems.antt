@@ -6,12 +6,13 @@ use Rattle.std.proofs.lemmas.Option.{slice_get_within}
 use Rattle.std.specs.List.{AllByRecursion, list_any, range_with_len}
 use Rattle.std.specs.Prelude.{slice_get}
 use Rattle.tech_rules.specs.Rules.{RuleValues, ValidRules}
-use Rattle.netlist_core.specs.Netlist.{Netlist, IsNetlist, IsKind, IsPosition}
-use Rattle.netlist_core.specs.Drawing.{drawing_of}
-use Rattle.netlist_core.specs.declared.design.CellKind.{CellKind}
-use Rattle.netlist_core.specs.declared.design.Inst.{Inst}
-use Rattle.netlist_core.specs.declared.design.Position.{Position}
-use Rattle.cif_text.specs.WrittenLayout.{item_shapes, copied_shapes, turn_at}
+use Rattle.design_model.specs.Netlist.{Netlist, IsNetlist, IsKind, IsPosition}
+use Rattle.design_model.specs.Drawing.{drawing_of}
+use Rattle.design_model.specs.declared.design.CellKind.{CellKind}
+use Rattle.design_model.specs.declared.design.Inst.{Inst}
+use Rattle.design_model.specs.declared.design.Position.{Position}
+use Rattle.geom_core.specs.Moving.{turn_at}
+use Rattle.cif_text.specs.WrittenLayout.{item_shapes, copied_shapes}
 use Rattle.cif_text.specs.Symbols.{symbol_of, moved_shapes}
 use Rattle.list_facts.proofs.Every.{every-from-get}
 use Rattle.wire_geom.proofs.ListLaws.{Contains-flat_map, Contains-flat_map_cases}

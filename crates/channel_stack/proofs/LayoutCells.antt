@@ -7,13 +7,14 @@ use Rattle.std.specs.Prelude.{slice_get}
 use Rattle.geom_core.specs.declared.layout.Cell as layouts
 use Rattle.geom_core.specs.declared.turn.Place.{Place}
 use Rattle.tech_rules.specs.Rules.{RuleValues, ValidRules}
-use Rattle.netlist_core.specs.Netlist.{Netlist, IsNetlist}
-use Rattle.netlist_core.specs.declared.design.Inst.{Inst}
-use Rattle.netlist_core.specs.Drawing.{drawing_of}
-use Rattle.netlist_core.specs.declared.design.CellKind.{CellKind}
+use Rattle.design_model.specs.Netlist.{Netlist, IsNetlist}
+use Rattle.design_model.specs.declared.design.Inst.{Inst}
+use Rattle.design_model.specs.Drawing.{drawing_of}
+use Rattle.design_model.specs.declared.design.CellKind.{CellKind}
 use Rattle.cif_text.specs.Symbols.{Symbol}
 use Rattle.cif_text.specs.Written as written
-use Rattle.cif_text.specs.WrittenLayout.{cell_of, item_cells, item_shapes, items_cells, items_shapes, turn_at}
+use Rattle.geom_core.specs.Moving.{turn_at}
+use Rattle.cif_text.specs.WrittenLayout.{cell_of, item_cells, item_shapes, items_cells, items_shapes}
 use Rattle.channel_model.specs.declared.wiring.Wiring.{Wiring}
 use Rattle.wire_geom.specs.Drawing.{drawing}
 use Rattle.wire_geom.specs.declared.drawn.Drawn.{Drawn}

@@ -7,9 +7,9 @@ use Rattle.std.specs.Prelude.{pos, slice_get, ◌⊎◌, ◌≤ℤ◌}
 use Rattle.geom_core.specs.Extent.{Extent}
 use Rattle.geom_core.specs.declared.layout.Shape.{Shape}
 use Rattle.tech_rules.specs.InRows.{InRows, SameRow, IsBelow}
-use Rattle.tech_rules.specs.Lengths.{Apart, left_of, right_of, under, above}
+use Rattle.geom_core.specs.Rectangles.{Apart, left_of, right_of, under, above}
 use Rattle.tech_rules.specs.Rules.{RuleValues, ValidRules}
-use Rattle.netlist_core.specs.Netlist.{Netlist, IsNetlist}
+use Rattle.design_model.specs.Netlist.{Netlist, IsNetlist}
 use Rattle.channel_model.specs.Elements.{elements}
 use Rattle.channel_model.specs.declared.wiring.Wiring.{Wiring}
 use Rattle.wire_geom.proofs.ListLaws.{Contains-flat_map_cases, Contains-map_cases}

@@ -4,7 +4,7 @@ use Rattle.std.specs.List.{AllByRecursion}
 use Rattle.std.specs.Prelude.{slice_get, slice_index, unwrap_or}
 use Rattle.geom_core.specs.declared.layout.Shape.{Shape}
 use Rattle.tech_rules.specs.Rules.{RuleValues, ValidRules}
-use Rattle.netlist_core.specs.Netlist.{Netlist, IsNetlist}
+use Rattle.design_model.specs.Netlist.{Netlist, IsNetlist}
 use Rattle.cif_text.specs.Symbols.{Symbol}
 use Rattle.cif_text.specs.Written as written
 use Rattle.cif_text.specs.WrittenLayout.{item_shapes, items_shapes}

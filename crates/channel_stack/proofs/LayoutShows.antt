@@ -8,14 +8,15 @@ use Rattle.std.specs.Prelude.{slice_get}
 use Rattle.geom_core.specs.declared.layout.Cell as layouts
 use Rattle.geom_core.specs.declared.layout.Shape.{Shape}
 use Rattle.tech_rules.specs.Rules.{RuleValues, ValidRules}
-use Rattle.netlist_core.specs.CellsMatch.{CellsMatch, IsCopyOf, cell_names, instance_names, turned}
-use Rattle.netlist_core.specs.Drawing.{drawing_of}
-use Rattle.netlist_core.specs.Joined.{Draws, DrawsPin}
-use Rattle.netlist_core.specs.Netlist.{Netlist, IsNetlist}
-use Rattle.netlist_core.specs.declared.design.CellKind.{CellKind}
-use Rattle.netlist_core.specs.declared.design.Inst.{Inst}
-use Rattle.netlist_core.specs.declared.design.Pin.{Pin}
-use Rattle.cif_text.specs.WrittenLayout.{turn_at}
+use Rattle.geom_core.specs.Moving.{moved_shape}
+use Rattle.design_model.specs.CellsMatch.{CellsMatch, IsCopyOf, cell_names, instance_names}
+use Rattle.design_model.specs.Drawing.{drawing_of}
+use Rattle.design_model.specs.Joined.{Draws, DrawsPin}
+use Rattle.design_model.specs.Netlist.{Netlist, IsNetlist}
+use Rattle.design_model.specs.declared.design.CellKind.{CellKind}
+use Rattle.design_model.specs.declared.design.Inst.{Inst}
+use Rattle.design_model.specs.declared.design.Pin.{Pin}
+use Rattle.geom_core.specs.Moving.{turn_at}
 use Rattle.channel_model.specs.declared.wiring.Wiring.{Wiring}
 use Rattle.wire_geom.specs.declared.drawn.Drawn.{Drawn}
 use Rattle.row_model.specs.Rows.{ArePlaced}
@@ -177,12 +178,12 @@ module _ (r : RuleValues) (valid : ValidRules r) (d : Netlist) (is : IsNetlist d
   -- the shapes of a seat's cell are those of its kind, under the cell's turn
   cell-shapes : (k : ℕ) (front : List Item) (s : Seat) (known : KnownCell d s) → (c : CellStands r d fed ws k front s known.inst known.kind)
       → take (length (drawing_of r d.height known.kind)) (drop c.first (layout_of r d fed ws).shapes)
-      ≡ map (turned (turn_at (item_place r d (row_base r (plan_of r d fed ws) k) (items_width d front) (Cell s)))) (drawing_of r d.height known.kind)
+      ≡ map (moved_shape (turn_at (item_place r d (row_base r (plan_of r d fed ws) k) (items_width d front) (Cell s)))) (drawing_of r d.height known.kind)
   cell-shapes k front s known c =
       let base : ℕ = row_base r (plan_of r d fed ws) k in
       let left : ℕ = items_width d front in
       let own : List Drawn = seat_drawn r base d.height left (seat_of d (Cell s)) in
-      let turn : (Shape → Shape) = turned (turn_at (item_place r d base left (Cell s))) in
+      let turn : (Shape → Shape) = moved_shape (turn_at (item_place r d base left (Cell s))) in
       let drawn : map turn (drawing_of r d.height known.kind) ≡ shapes_in own = known-drawn r valid d room s known base left in
       let many : length (drawing_of r d.height known.kind) ≡ length (shapes_in own) = sym (length-map (drawing_of r d.height known.kind) turn) ∙ ap length drawn in
       ap (λ (n : ℕ). take n (drop c.first (layout_of r d fed ws).shapes)) many

@@ -7,12 +7,13 @@ use Rattle.geom_core.specs.Extent.{Extent}
 use Rattle.geom_core.specs.Turning.{moved}
 use Rattle.geom_core.specs.declared.layout.Shape.{Shape}
 use Rattle.tech_rules.specs.Rules.{RuleValues, ValidRules}
-use Rattle.netlist_core.specs.Drawing.{extent_of, middle_of, pin_low, pin_high, outline_shape, position_shape, drawing_of}
-use Rattle.netlist_core.specs.Netlist.{Netlist}
-use Rattle.netlist_core.specs.declared.design.CellKind.{CellKind}
-use Rattle.netlist_core.specs.declared.design.Position.{Position}
-use Rattle.cif_text.specs.Symbols.{moved_shape, moved_shapes}
-use Rattle.cif_text.specs.WrittenLayout.{turn_at}
+use Rattle.design_model.specs.Drawing.{extent_of, middle_of, pin_low, pin_high, outline_shape, position_shape, drawing_of}
+use Rattle.design_model.specs.Netlist.{Netlist}
+use Rattle.design_model.specs.declared.design.CellKind.{CellKind}
+use Rattle.design_model.specs.declared.design.Position.{Position}
+use Rattle.geom_core.specs.Moving.{moved_shape}
+use Rattle.cif_text.specs.Symbols.{moved_shapes}
+use Rattle.geom_core.specs.Moving.{turn_at}
 use Rattle.row_model.specs.Stands.{turned_column, positions_in}
 use Rattle.row_model.specs.Widths.{kind_of, columns_of, width_of}
 use Rattle.row_model.specs.declared.rows.Seat as seats

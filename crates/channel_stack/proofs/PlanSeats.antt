@@ -2,9 +2,9 @@ use Rattle.std.proofs.Common.{◌≡◌, inl, inr, refl, sym, ap, ◌∙◌, sub
 use Rattle.std.proofs.lemmas.List.Elements.{All-contains}
 use Rattle.std.proofs.lemmas.Option.{same_Some}
 use Rattle.std.specs.Prelude.{slice_get}
-use Rattle.netlist_core.specs.Netlist.{Netlist, IsNetlist, IsPosition}
-use Rattle.netlist_core.specs.declared.design.CellKind.{CellKind}
-use Rattle.netlist_core.specs.declared.design.Position.{Position}
+use Rattle.design_model.specs.Netlist.{Netlist, IsNetlist, IsPosition}
+use Rattle.design_model.specs.declared.design.CellKind.{CellKind}
+use Rattle.design_model.specs.declared.design.Position.{Position}
 use Rattle.row_model.specs.Stands.{positions_in, positions_of, turned_column}
 use Rattle.row_model.specs.Widths.{columns_of, kind_of, width_of}
 use Rattle.row_model.specs.declared.rows.Seat as seats

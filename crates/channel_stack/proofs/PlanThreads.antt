@@ -5,9 +5,9 @@ use Rattle.std.specs.Option.{option_map}
 use Rattle.std.specs.Prelude.{slice_get}
 use Rattle.geom_core.specs.declared.layout.Layout.{Layout}
 use Rattle.tech_rules.specs.Rules.{RuleValues, ValidRules}
-use Rattle.netlist_core.specs.Netlist.{Netlist, IsNetlist}
-use Rattle.netlist_core.specs.declared.design.Pin.{Pin}
-use Rattle.netlist_core.specs.declared.design.Position.{Position}
+use Rattle.design_model.specs.Netlist.{Netlist, IsNetlist}
+use Rattle.design_model.specs.declared.design.Pin.{Pin}
+use Rattle.design_model.specs.declared.design.Position.{Position}
 use Rattle.channel_model.specs.declared.wiring.Wiring.{Wiring}
 use Rattle.row_model.specs.Rows.{ArePlaced}
 use Rattle.row_model.specs.Stands.{positions_of, row_of}

@@ -5,14 +5,14 @@ use Rattle.std.proofs.lemmas.Option.{same_Some, slice_get-get_or}
 use Rattle.std.specs.List.{AllByRecursion, find}
 use Rattle.std.specs.Option.{option_and_then, option_map}
 use Rattle.std.specs.Prelude.{get_or, slice_get}
-use Rattle.netlist_core.specs.Netlist.{Netlist, IsNetlist, IsPosition, terminals_of_kind}
-use Rattle.netlist_core.specs.PinOrder.{instance_terminals, kind_terminals, pin_pair, power_at}
-use Rattle.netlist_core.specs.declared.design.CellKind.{CellKind}
-use Rattle.netlist_core.specs.declared.design.Inst.{Inst}
-use Rattle.netlist_core.specs.declared.design.Pin.{Pin}
-use Rattle.netlist_core.specs.declared.design.Position.{Position}
-use Rattle.netlist_core.specs.declared.design.Terminal.{Terminal}
-use Rattle.netlist_core.proofs.PinsInOrder.{no-pin-power}
+use Rattle.design_model.specs.Netlist.{Netlist, IsNetlist, IsPosition, terminals_of_kind}
+use Rattle.design_model.specs.PinOrder.{instance_terminals, kind_terminals, pin_pair, power_at}
+use Rattle.design_model.specs.declared.design.CellKind.{CellKind}
+use Rattle.design_model.specs.declared.design.Inst.{Inst}
+use Rattle.design_model.specs.declared.design.Pin.{Pin}
+use Rattle.design_model.specs.declared.design.Position.{Position}
+use Rattle.design_model.specs.declared.design.Terminal.{Terminal}
+use Rattle.design_model.proofs.PinsInOrder.{no-pin-power}
 use Rattle.row_model.specs.Stands.{positions_in, positions_of}
 use Rattle.row_model.specs.Widths.{kind_of}
 use Rattle.pin_assign.proofs.EdgeLaws.{kind-good}

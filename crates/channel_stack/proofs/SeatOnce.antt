@@ -5,7 +5,7 @@ use Rattle.std.proofs.lemmas.Option.{none-some, same_Some}
 use Rattle.std.specs.List.{AllByRecursion, IsDistinct}
 use Rattle.std.specs.Prelude.{nat_eq, slice_get}
 use Rattle.list_facts.proofs.Every.{every-left}
-use Rattle.netlist_core.specs.Netlist.{Netlist}
+use Rattle.design_model.specs.Netlist.{Netlist}
 use Rattle.row_model.specs.Rows.{all_instances, instances_in, ArePlaced}
 use Rattle.row_model.specs.Stands.{row_in, row_of}
 use Rattle.row_model.specs.declared.rows.Seat.{Seat}

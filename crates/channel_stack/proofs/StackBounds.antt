@@ -8,7 +8,7 @@ use Rattle.std.specs.List.{AllByRecursion, range_with_len}
 use Rattle.std.specs.Prelude.{slice_get, option_map}
 use Rattle.list_facts.proofs.Every.{every-from-get}
 use Rattle.tech_rules.specs.Rules.{RuleValues, ValidRules}
-use Rattle.netlist_core.specs.Netlist.{Netlist}
+use Rattle.design_model.specs.Netlist.{Netlist}
 use Rattle.channel_model.specs.declared.wiring.Wiring.{Wiring}
 use Rattle.row_model.proofs.WidthLaws.{at-place}
 use Rattle.feed_cells.specs.Fed.{Fed, IsFed, cells_in, fed_rows, items_width, nets_in, seats_in}

@@ -3,7 +3,7 @@ use Rattle.std.proofs.lemmas.Int.{ints}
 use Rattle.std.proofs.Math.Nat.{mul-le-mul, mul-le-mul_right, mul_assoc, mul_left_comm, add-mul}
 use Rattle.std.specs.Prelude.{◌+ℤ◌, ◌-ℤ◌}
 use Rattle.geom_core.specs.Extent.{Extent}
-use Rattle.netlist_core.specs.Drawing.{extent_of}
+use Rattle.design_model.specs.Drawing.{extent_of}
 use Rattle.cif_text.specs.Printable.{IsNear, IsSize}
 use Rattle.cif_text.specs.Scales.{doubled}
 use Rattle.cif_text.specs.WrittenLayout.{IsBox}

@@ -4,8 +4,8 @@ use Rattle.channel_model.specs.declared.wiring.Wiring.{Wiring}
 use Rattle.feed_cells.specs.Fed.{Fed}
 use Rattle.feed_cells.specs.declared.fed.Item.{Item}
 use Rattle.feed_cells.specs.declared.fed.Item.TheVariants.{Cell, Feed}
-use Rattle.netlist_core.specs.Netlist.{Netlist}
-use Rattle.netlist_core.specs.declared.design.CellKind.{CellKind}
+use Rattle.design_model.specs.Netlist.{Netlist}
+use Rattle.design_model.specs.declared.design.CellKind.{CellKind}
 use Rattle.tech_rules.specs.Sample.{sample}
 use Rattle.wire_geom.specs.declared.drawn.Drawn.{Drawn}
 use Rattle.channel_stack.specs.Stack.{stack_of}

@@ -6,7 +6,7 @@ use Rattle.std.specs.List.{AllByRecursion}
 use Rattle.list_facts.proofs.Every.{every-append, every-both, every-from-get, every-weaker}
 use Rattle.tech_rules.specs.Rules.{RuleValues, ValidRules}
 use Rattle.geom_core.specs.Reach.{IsShapeInReach}
-use Rattle.netlist_core.specs.Netlist.{Netlist, IsNetlist, IsKind}
+use Rattle.design_model.specs.Netlist.{Netlist, IsNetlist, IsKind}
 use Rattle.channel_model.specs.Elements.{elements}
 use Rattle.channel_model.specs.Wired.{IsOnGrid}
 use Rattle.channel_model.specs.declared.wiring.Wiring.{Wiring}

@@ -7,10 +7,10 @@ use Rattle.std.specs.List.{AllByRecursion}
 use Rattle.std.specs.Prelude.{slice_get, option_map}
 use Rattle.list_facts.proofs.Every.{every-append, every-get, every-map, every-weaker}
 use Rattle.tech_rules.specs.Rules.{RuleValues, ValidRules}
-use Rattle.yal_reader.specs.Kept.{IsName}
-use Rattle.netlist_core.specs.Netlist.{Netlist, IsNetlist}
-use Rattle.netlist_core.specs.declared.design.CellKind.{CellKind}
-use Rattle.netlist_core.specs.declared.design.Inst.{Inst}
+use Rattle.geom_core.specs.Names.{IsName}
+use Rattle.design_model.specs.Netlist.{Netlist, IsNetlist}
+use Rattle.design_model.specs.declared.design.CellKind.{CellKind}
+use Rattle.design_model.specs.declared.design.Inst.{Inst}
 use Rattle.channel_model.specs.Elements.{elements}
 use Rattle.channel_model.specs.Wired.{IsOnGrid}
 use Rattle.channel_model.specs.declared.wiring.Wiring.{Wiring}

@@ -7,11 +7,11 @@ use Rattle.std.specs.List.{AllByRecursion, list_all}
 use Rattle.std.specs.Prelude.{pos, nat_le}
 use Rattle.geom_core.specs.Reach.{IsInReach, IsShapeInReach}
 use Rattle.tech_rules.specs.Rules.{RuleValues, ValidRules, pad}
-use Rattle.yal_reader.specs.Kept.{IsName, is_name_byte}
-use Rattle.netlist_core.specs.Drawing.{outline_shape, position_shape, middle_of, pin_low, pin_high}
-use Rattle.netlist_core.specs.Netlist.{IsKind, IsPosition}
-use Rattle.netlist_core.specs.declared.design.CellKind.{CellKind}
-use Rattle.netlist_core.specs.declared.design.Position.{Position}
+use Rattle.geom_core.specs.Names.{IsName, is_name_byte}
+use Rattle.design_model.specs.Drawing.{outline_shape, position_shape, middle_of, pin_low, pin_high}
+use Rattle.design_model.specs.Netlist.{IsKind, IsPosition}
+use Rattle.design_model.specs.declared.design.CellKind.{CellKind}
+use Rattle.design_model.specs.declared.design.Position.{Position}
 use Rattle.cif_text.specs.Printable.{IsNameText}
 use Rattle.cif_text.specs.WrittenLayout.{IsShape, IsDrawn}
 use Rattle.cif_text.proofs.SpanLemmas.{and-both}

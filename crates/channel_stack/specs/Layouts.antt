@@ -4,10 +4,10 @@ use Rattle.geom_core.specs.declared.layout.Layout.{Layout}
 use Rattle.geom_core.specs.declared.layout.Shape.{Shape}
 use Rattle.geom_core.specs.declared.turn.Place.{Place}
 use Rattle.tech_rules.specs.Rules.{RuleValues}
-use Rattle.netlist_core.specs.Drawing.{drawing_of, extent_of, middle_of}
-use Rattle.netlist_core.specs.Netlist.{Netlist}
-use Rattle.netlist_core.specs.declared.design.CellKind.{CellKind}
-use Rattle.netlist_core.specs.declared.design.Inst.{Inst}
+use Rattle.design_model.specs.Drawing.{drawing_of, extent_of, middle_of}
+use Rattle.design_model.specs.Netlist.{Netlist}
+use Rattle.design_model.specs.declared.design.CellKind.{CellKind}
+use Rattle.design_model.specs.declared.design.Inst.{Inst}
 use Rattle.cif_text.specs.Written as written
 use Rattle.cif_text.specs.WrittenLayout.{written_layout}
 use Rattle.feed_cells.specs.Fed.{Fed}

@@ -2,7 +2,7 @@ use Rattle.std.specs.Prelude.{◌≡◌, ◌≤◌, ℕ, ◌+◌, ◌*◌, List,
 use Rattle.channel_model.specs.Elements.{elements}
 use Rattle.channel_model.specs.Wired.{Wired, IsOnGrid}
 use Rattle.channel_model.specs.declared.wiring.Wiring.{Wiring}
-use Rattle.netlist_core.specs.Netlist.{Netlist}
+use Rattle.design_model.specs.Netlist.{Netlist}
 use Rattle.feed_cells.specs.Fed.{Fed}
 use Rattle.pin_assign.specs.Bounds.{bound_of}
 use Rattle.pin_assign.specs.Tables.{table_of}

@@ -1,7 +1,7 @@
 use Rattle.std.specs.Prelude.{ℕ, pos, ◌+◌, ◌*◌, List, [], ◌∷◌, map, fold, max, Bool, false, if◌then◌else◌}
 use Rattle.geom_core.specs.declared.turn.Place.{Place}
 use Rattle.tech_rules.specs.Rules.{RuleValues}
-use Rattle.netlist_core.specs.Netlist.{Netlist}
+use Rattle.design_model.specs.Netlist.{Netlist}
 use Rattle.channel_model.specs.declared.wiring.Wiring.{Wiring}
 use Rattle.feed_cells.specs.Fed.{Fed, item_width}
 use Rattle.feed_cells.specs.declared.fed.Item.{Item}

@@ -8,9 +8,9 @@ ghost use Rattle.std.specs.List.{AllByRecursion};
 ghost use Rattle.std.specs.Prelude.{◌≡◌, ◌<◌, ◌^◌, List, IfOk};
 
 use crate::placed::PlacedItem;
+use design_model::Design;
 use feed_cells::Item;
 use geom_core::{Items, Place};
-use netlist_core::Design;
 use std::alloc::{AllocError, Global};
 use tech_rules::Rules;
 

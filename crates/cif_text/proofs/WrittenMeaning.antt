@@ -17,7 +17,8 @@ use Rattle.cif_text.specs.Scales.{scaled_natural, scaled, scaled_extent, scaled_
 use Rattle.cif_text.specs.Symbols.{Symbol, State, symbol_of}
 use Rattle.cif_text.specs.Meaning.{Unmeant, no_symbol_name, found, box_shape, called, layout_of, step, run, meaning}
 use Rattle.cif_text.specs.Written.{Drawn, Item, alone, copy, box_of, call_to, change, shape_commands, shapes_commands, symbol_commands, symbols_commands, copy_commands, items_commands, layout_commands}
-use Rattle.cif_text.specs.WrittenLayout.{turn_at, symbol_at, symbols_from, copied_shapes, cell_of, item_shapes, item_cells, items_shapes, items_cells, written_layout, IsBox, IsShape, IsWhole, IsDrawn, IsCopy, IsItem, IsWritable}
+use Rattle.geom_core.specs.Moving.{turn_at}
+use Rattle.cif_text.specs.WrittenLayout.{symbol_at, symbols_from, copied_shapes, cell_of, item_shapes, item_cells, items_shapes, items_cells, written_layout, IsBox, IsShape, IsWhole, IsDrawn, IsCopy, IsItem, IsWritable}
 use Rattle.cif_text.proofs.WrittenText.{box-drawn, call-whole}
 
 -- some commands lead from a state to another, whatever comes before and behind them

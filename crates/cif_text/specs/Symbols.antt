@@ -1,7 +1,8 @@
 use Rattle.std.specs.Prelude.{if◌then◌else◌, ℕ, ◌==◌, List, [], ◌∷◌, Option, Some, None, map}
 use Rattle.geom_core.specs.declared.layout.Shape.{Shape}
 use Rattle.geom_core.specs.declared.layout.Cell.{Cell}
-use Rattle.geom_core.specs.Turning.{Turning, moved}
+use Rattle.geom_core.specs.Moving.{moved_shape}
+use Rattle.geom_core.specs.Turning.{Turning}
 
 -- a symbol whose definition has ended: its number, its name if it has one, and its shapes, with those of what it calls
 pub record Symbol : Type 0 where
@@ -31,9 +32,6 @@ pub record State : Type 0 where
   pub symbols : List Symbol
   pub inside : Option Definition
 
--- a shape, and a symbol's shapes, under a turn
-abbrev pub moved_shape : Turning → Shape → Shape
-moved_shape turn s = record { layer = s.layer; rect = moved turn s.rect }
-
+-- a symbol's shapes under a turn
 abbrev pub moved_shapes : Turning → List Shape → List Shape
 moved_shapes turn shapes = map (moved_shape turn) shapes

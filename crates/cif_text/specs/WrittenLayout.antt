@@ -6,16 +6,12 @@ use Rattle.geom_core.specs.declared.layout.Layout.{Layout}
 use Rattle.geom_core.specs.declared.turn.Place.{Place}
 use Rattle.geom_core.specs.Extent.{Extent}
 use Rattle.geom_core.specs.LayerText.{is_layer_text}
-use Rattle.geom_core.specs.Turning.{Turning}
+use Rattle.geom_core.specs.Moving.{turn_at}
 use Rattle.cif_text.specs.Numbers.{greatest}
 use Rattle.cif_text.specs.Printable.{IsNear, IsSize, IsNatural, IsNameText}
 use Rattle.cif_text.specs.Scales.{doubled, around}
 use Rattle.cif_text.specs.Symbols.{Symbol, symbol_of, moved_shapes}
 use Rattle.cif_text.specs.Written.{Drawn, Item, alone, copy}
-
--- the turn of a place
-abbrev pub turn_at : Place → Turning
-turn_at place = record { flip = place.mirror; quarters = 0; dx = place.dx; dy = place.dy }
 
 -- written symbols as symbols, of which the first has this number
 abbrev pub symbol_at : ℕ → Drawn → Symbol

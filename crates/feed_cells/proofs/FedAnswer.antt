@@ -1,7 +1,7 @@
 use Rattle.std.proofs.Common.{◌≡◌, ℕ, ◌+◌, ◌≤◌, List, Option, map, fold, max, length, arith, ap, ap₂, ◌∙◌}
 use Rattle.std.specs.List.{range_with_len}
 use Rattle.std.proofs.lemmas.List.FromFn.{length-map-range_with_len}
-use Rattle.netlist_core.specs.Netlist.{Netlist, IsNetlist}
+use Rattle.design_model.specs.Netlist.{Netlist, IsNetlist}
 use Rattle.row_model.specs.declared.rows.Seat.{Seat}
 use Rattle.feed_cells.specs.Fed.{Fed, fed_from, fed_rows, items_width, nets_in}
 use Rattle.feed_cells.specs.Spans.{span_of}

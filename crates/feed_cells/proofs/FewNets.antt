@@ -1,8 +1,8 @@
 use Rattle.std.proofs.Common.{◌≡◌, ℕ, ◌+◌, ◌<◌, ◌≤◌, ◌==◌, zero, suc, List, [], ◌∷◌, filter, length, Bool, true, false, ◌||◌, not, arith, refl, ap, sym, ◌∙◌, cond}
 use Rattle.std.specs.List.{list_any}
 use Rattle.std.proofs.lemmas.Bool.Decides.{nat_tests}
-use Rattle.netlist_core.specs.Netlist.{Netlist, IsNetlist}
-use Rattle.netlist_core.specs.declared.design.Pin.{Pin}
+use Rattle.design_model.specs.Netlist.{Netlist, IsNetlist}
+use Rattle.design_model.specs.declared.design.Pin.{Pin}
 
 pub filter-short : {A : Type 0} (q : A → Bool) (xs : List A) → length (filter q xs) ≤ length xs
 filter-short q [] = omega arith

@@ -1,8 +1,8 @@
 use Rattle.std.proofs.Common.{◌≡◌, ◌≢◌, ◌<◌, ◌≤◌, ◌+◌, ℕ, inl, inr, refl, sym, subst, ◌∙◌, arith, List, [], ◌∷◌, true, false, Contains, length}
 use Rattle.std.proofs.lemmas.Bool.{both_ways}
 use Rattle.std.proofs.lemmas.List.Elements.{All-contains}
-use Rattle.netlist_core.specs.Netlist.{IsNetlist, Netlist}
-use Rattle.netlist_core.specs.declared.design.Pin.{Pin}
+use Rattle.design_model.specs.Netlist.{IsNetlist, Netlist}
+use Rattle.design_model.specs.declared.design.Pin.{Pin}
 use Rattle.row_model.specs.Rows.{ArePlaced}
 use Rattle.row_model.specs.declared.rows.Seat.{Seat}
 use Rattle.feed_cells.specs.Crossings.{crossing_of, crossing_of_pins, is_across, is_in, pins_of}

@@ -4,14 +4,14 @@ use Rattle.std.proofs.lemmas.List.Elements.{All-contains}
 use Rattle.std.proofs.lemmas.Option.{none-some, same_Some, slice_get-get_or, get_or_from_slice_get, slice_get_within}
 use Rattle.std.specs.List.{find, list_any, slice_get}
 use Rattle.std.specs.Option.{option_and_then, option_map, is_some}
-use Rattle.netlist_core.specs.Netlist.{IsKind, IsNetlist, Netlist, terminals_of_kind}
-use Rattle.netlist_core.specs.PinOrder.{kind_terminals, pin_pair, power_at}
-use Rattle.netlist_core.specs.declared.design.CellKind.{CellKind}
-use Rattle.netlist_core.specs.declared.design.Inst.{Inst}
-use Rattle.netlist_core.specs.declared.design.Pin.{Pin}
-use Rattle.netlist_core.specs.declared.design.Position.{Position}
-use Rattle.netlist_core.specs.declared.design.Terminal.{Terminal}
-use Rattle.netlist_core.proofs.PinsInOrder.{pin-free}
+use Rattle.design_model.specs.Netlist.{IsKind, IsNetlist, Netlist, terminals_of_kind}
+use Rattle.design_model.specs.PinOrder.{kind_terminals, pin_pair, power_at}
+use Rattle.design_model.specs.declared.design.CellKind.{CellKind}
+use Rattle.design_model.specs.declared.design.Inst.{Inst}
+use Rattle.design_model.specs.declared.design.Pin.{Pin}
+use Rattle.design_model.specs.declared.design.Position.{Position}
+use Rattle.design_model.specs.declared.design.Terminal.{Terminal}
+use Rattle.design_model.proofs.PinsInOrder.{pin-free}
 use Rattle.row_model.specs.Stands.{Stand, column_in, is_on, or_else, positions_in, row_in, row_of, stand_from, stand_in}
 use Rattle.row_model.specs.Widths.{columns_of}
 use Rattle.row_model.specs.declared.rows.Seat.{Seat}

@@ -1,10 +1,10 @@
 use Rattle.std.proofs.Common.{◌≡◌, ℕ, ◌+◌, ◌<◌, ◌≤◌, List, [], ◌∷◌, ◌++◌, map, length, Bool, true, false, Option, arith, refl, ap, ap₂, sym, subst, cond}
 use Rattle.std.specs.List.{AllByRecursion}
-use Rattle.netlist_core.specs.Netlist.{Netlist, IsNetlist, all_pins, pins_from, terminals_at}
-use Rattle.netlist_core.specs.declared.design.CellKind.{CellKind}
-use Rattle.netlist_core.specs.declared.design.Inst.{Inst}
-use Rattle.netlist_core.specs.declared.design.Pin.{Pin}
-use Rattle.netlist_core.specs.declared.design.Terminal.{Terminal}
+use Rattle.design_model.specs.Netlist.{Netlist, IsNetlist, all_pins, pins_from, terminals_at}
+use Rattle.design_model.specs.declared.design.CellKind.{CellKind}
+use Rattle.design_model.specs.declared.design.Inst.{Inst}
+use Rattle.design_model.specs.declared.design.Pin.{Pin}
+use Rattle.design_model.specs.declared.design.Terminal.{Terminal}
 use Rattle.row_model.specs.Stands.{Stand}
 use Rattle.row_model.specs.declared.rows.Seat.{Seat}
 use Rattle.feed_cells.specs.PinStands.{pin_at, pin_stand}

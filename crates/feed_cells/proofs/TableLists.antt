@@ -1,6 +1,6 @@
 use Rattle.std.proofs.Common.{◌≡◌, ℕ, ◌+◌, zero, suc, List, [], ◌∷◌, map, filter, length, Bool, true, false, Option, refl, ap, ap₂, ◌∙◌, cond}
 use Rattle.std.specs.List.{range_with_len}
-use Rattle.netlist_core.specs.Netlist.{Netlist}
+use Rattle.design_model.specs.Netlist.{Netlist}
 use Rattle.row_model.specs.declared.rows.Seat.{Seat}
 use Rattle.feed_cells.specs.Crossings.{crossing_of, is_in}
 use Rattle.feed_cells.specs.Fed.{nets_in}

@@ -1,7 +1,7 @@
 use Rattle.std.specs.Prelude.{◌≡◌, ℕ, ◌<◌, ◌^◌, List, length, map, filter, Bool, true, false, Option, None, Some, slice_get}
 use Rattle.std.specs.List.{AllByRecursion, range_with_len}
-use Rattle.netlist_core.specs.Netlist.{Netlist}
-use Rattle.netlist_core.specs.declared.design.Pin.{Pin}
+use Rattle.design_model.specs.Netlist.{Netlist}
+use Rattle.design_model.specs.declared.design.Pin.{Pin}
 use Rattle.row_model.specs.Stands.{Stand, stand_of}
 use Rattle.row_model.specs.declared.rows.Seat.{Seat}
 use Rattle.feed_cells.specs.PinStands.{pin_at, pin_stand}

@@ -11,8 +11,8 @@ use crate::pins::PinStand;
 use crate::places::lefts_of;
 use crate::row_feeds::nets_by_place;
 use crate::row_items::row_items;
+use design_model::Design;
 use geom_core::Items;
-use netlist_core::Design;
 use row_model::Seat;
 use std::alloc::{AllocError, Global};
 

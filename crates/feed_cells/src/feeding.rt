@@ -12,8 +12,8 @@ use crate::pins::PinStand;
 use crate::span_table::net_spans;
 use crate::stand_table::stands_of;
 use crate::totals::{counts_in, greatest_width};
+use design_model::Design;
 use geom_core::Items;
-use netlist_core::Design;
 use row_model::{Rows, Seat};
 use std::alloc::{AllocError, Global};
 

@@ -22,6 +22,3 @@ pub use crossing::Crossing;
 pub use fed::{FedRows, Item};
 pub use feeding::insert_feeds;
 pub use spans::spans_of;
-
-#[cfg(test)]
-mod tests;

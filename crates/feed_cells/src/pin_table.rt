@@ -5,7 +5,7 @@ ghost use Rattle.std.specs.Prelude.{◌≡◌, map, IfOk, IfSome};
 
 use crate::pins::{PinStand, pin_at};
 use crate::stands::Stand;
-use netlist_core::Design;
+use design_model::Design;
 use row_model::all_pin_columns;
 use std::alloc::{AllocError, Global};
 

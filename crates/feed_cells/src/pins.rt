@@ -5,7 +5,7 @@ ghost use Rattle.feed_cells.specs.PinStands.{pin_at, pin_column};
 ghost use Rattle.std.specs.Prelude.{◌≡◌, ◌≤◌, ◌<◌, ◌-◌, IfSome, cond};
 
 use crate::stands::{Stand, columns_of};
-use netlist_core::{Design, Pin};
+use design_model::{Design, Pin};
 use row_model::PinColumns;
 
 /// What of a pin decides where its net stands: the net, the row, the lowest and the highest channel that the pin touches, whether it has positions on

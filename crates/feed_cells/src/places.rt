@@ -6,7 +6,7 @@ ghost use Rattle.std.specs.Prelude.{◌≡◌, ◌≤◌, ℕ, length, nat_lt, I
 
 use crate::net_span::NetSpan;
 use crate::stands::columns_of;
-use netlist_core::Design;
+use design_model::Design;
 use row_model::Seat;
 use std::alloc::{AllocError, Global};
 

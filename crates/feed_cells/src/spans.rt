@@ -9,8 +9,8 @@ use crate::crossing::Crossing;
 use crate::net_span::{NetSpan, crossing_in, joined};
 use crate::pins::pin_at;
 use crate::stands::stand_of;
+use design_model::{Design, Pin};
 use geom_core::Items;
-use netlist_core::{Design, Pin};
 use row_model::{Rows, Seat, pin_columns};
 
 /// Which channels the net with this number, from 1 to the number of nets, stands in. Takes no memory, and steps as the number of pins

@@ -5,8 +5,8 @@ ghost use Rattle.std.specs.Option.{option_map};
 ghost use Rattle.std.specs.Prelude.{◌≡◌, ◌≤◌, ◌<◌, ◌==◌, ℕ, Option, length, slice_get, IfOk};
 
 use crate::stands::{Stand, columns_of};
+use design_model::Design;
 use geom_core::Items;
-use netlist_core::Design;
 use row_model::Seat;
 use std::alloc::{AllocError, Global};
 

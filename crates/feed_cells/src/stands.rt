@@ -1,12 +1,12 @@
 ghost use Rattle.row_model.specs.Stands.{stand_in, stand_of};
 ghost use Rattle.row_model.specs.Widths.{columns_of, kind_of};
 ghost use Rattle.feed_cells.specs.NearStands.{AreShort, IsNear};
-ghost use Rattle.netlist_core.specs.Netlist.{IsKind};
+ghost use Rattle.design_model.specs.Netlist.{IsKind};
 ghost use Rattle.std.specs.Option.{option_map};
 ghost use Rattle.std.specs.Prelude.{◌≡◌, ◌≤◌, ◌<◌, length, IfSome};
 
+use design_model::{CellKind, Design};
 use geom_core::Items;
-use netlist_core::{CellKind, Design};
 use row_model::Seat;
 use std::marker::Model;
 

@@ -7,8 +7,8 @@ use crate::crossing::Crossing;
 use crate::fed::Item;
 use crate::net_span::{NetSpan, crossing_in};
 use crate::stands::columns_of;
+use design_model::Design;
 use geom_core::Items;
-use netlist_core::Design;
 use row_model::Seat;
 use std::alloc::{AllocError, Global};
 

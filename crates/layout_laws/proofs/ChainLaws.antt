@@ -4,8 +4,8 @@ use Rattle.geom_core.specs.declared.layout.Layout.{Layout}
 use Rattle.geom_core.specs.declared.layout.Shape.{Shape}
 use Rattle.tech_rules.specs.Lengths.{IsWire}
 use Rattle.tech_rules.specs.Rules.{RuleValues}
-use Rattle.netlist_core.specs.Joined.{Conducts, on_one, cut_to_wire, wire_to_cut, Touch}
-use Rattle.netlist_core.specs.Netlist.{Netlist}
+use Rattle.design_model.specs.Joined.{Conducts, on_one, cut_to_wire, wire_to_cut, Touch}
+use Rattle.design_model.specs.Netlist.{Netlist}
 use Rattle.wire_geom.specs.declared.drawn.Drawn.{Drawn}
 use Rattle.layout_laws.specs.Chains.{Tied, Chained, itself, by_touch, by_tie, Together, same, tied}
 

@@ -8,8 +8,8 @@ use Rattle.channel_model.specs.Wired.{Wired, Linked, itself as alone, onward}
 use Rattle.geom_core.specs.declared.layout.Layout.{Layout}
 use Rattle.tech_rules.specs.Lengths.{IsWire}
 use Rattle.tech_rules.specs.Rules.{RuleValues, ValidRules, pad}
-use Rattle.netlist_core.specs.Joined.{on_one, wire_to_cut, Touch}
-use Rattle.netlist_core.specs.Netlist.{Netlist}
+use Rattle.design_model.specs.Joined.{on_one, wire_to_cut, Touch}
+use Rattle.design_model.specs.Netlist.{Netlist}
 use Rattle.wire_geom.specs.Contact.{layer_name, KeepContact}
 use Rattle.wire_geom.specs.Drawing.{on_horizontal, on_vertical, on_cut, segment_piece, via_piece, drawn_of, drawn_by, drawing}
 use Rattle.wire_geom.specs.declared.drawn.Drawn.{Drawn}

@@ -3,7 +3,7 @@ use Rattle.std.proofs.lemmas.Int.{ints}
 use Rattle.std.specs.Prelude.{ℤ, ◌≤ℤ◌}
 use Rattle.geom_core.specs.Extent.{Extent}
 use Rattle.tech_rules.specs.Rules.{RuleValues, ValidRules}
-use Rattle.netlist_core.specs.Joined.{on_one, Touch}
+use Rattle.design_model.specs.Joined.{on_one, Touch}
 use Rattle.wire_geom.specs.Edges.{StandsIn}
 use Rattle.wire_geom.specs.Grid.{centre, line_at, scaled}
 use Rattle.wire_geom.specs.declared.drawn.Drawn.{Drawn}

@@ -3,13 +3,14 @@ use Rattle.std.proofs.lemmas.Option.{same_Some}
 use Rattle.std.specs.Prelude.{◌↔◌, slice_get}
 use Rattle.geom_core.specs.declared.layout.Layout.{Layout}
 use Rattle.geom_core.specs.declared.layout.Shape.{Shape}
-use Rattle.tech_rules.specs.Lengths.{length_in, IsWire, HasSides, IsSquare, Apart}
+use Rattle.geom_core.specs.Rectangles.{HasSides, IsSquare, Apart}
+use Rattle.tech_rules.specs.Lengths.{length_in, IsWire}
 use Rattle.tech_rules.specs.Rules.{RuleValues, ValidRules}
 use Rattle.tech_rules.specs.Wide.{Wide, IsCovered}
-use Rattle.netlist_core.specs.Good.{KeepSpace, Spaced}
-use Rattle.netlist_core.specs.Joined.{Touch, Draws, Neighbours, touching, of_one_terminal, Joined, here, step, DrawsPin, PinsJoined}
-use Rattle.netlist_core.specs.Netlist.{Netlist}
-use Rattle.netlist_core.specs.declared.design.Pin.{Pin}
+use Rattle.design_model.specs.Good.{KeepSpace, Spaced}
+use Rattle.design_model.specs.Joined.{Touch, Draws, Neighbours, touching, of_one_terminal, Joined, here, step, DrawsPin, PinsJoined}
+use Rattle.design_model.specs.Netlist.{Netlist}
+use Rattle.design_model.specs.declared.design.Pin.{Pin}
 use Rattle.wire_geom.specs.Spaces.{NetsKeep}
 use Rattle.wire_geom.specs.Widths.{IsCovered as IsDrawnCovered}
 use Rattle.wire_geom.specs.declared.drawn.Drawn.{Drawn}

@@ -2,7 +2,7 @@ use Rattle.std.proofs.Common.{ℕ, ◌<◌, arith}
 use Rattle.std.proofs.lemmas.Int.{ints}
 use Rattle.std.specs.Prelude.{pos}
 use Rattle.geom_core.specs.Extent.{Extent}
-use Rattle.tech_rules.specs.Lengths.{HasSides, IsSquare, Encloses, grown, Meet, Apart, left_of, right_of, under, above}
+use Rattle.geom_core.specs.Rectangles.{HasSides, IsSquare, Encloses, grown, Meet, Apart, left_of, right_of, under, above}
 
 -- rectangles meet in either order
 pub meet-turned : (a b : Extent) → Meet a b → Meet b a

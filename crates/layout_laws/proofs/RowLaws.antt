@@ -1,6 +1,7 @@
 use Rattle.std.proofs.Common.{◌≡◌, ◌≢◌, ◌⊎◌, inl, inr, sym, subst, ap, ◌∙◌, ℕ, ◌+◌, ◌*◌, ◌-◌, ◌≤◌, List, Contains, arith}
 use Rattle.geom_core.specs.Extent.{Extent}
-use Rattle.tech_rules.specs.Lengths.{length_in, HasSides, Apart, under, above as higher}
+use Rattle.geom_core.specs.Rectangles.{HasSides, Apart, under, above as higher}
+use Rattle.tech_rules.specs.Lengths.{length_in}
 use Rattle.tech_rules.specs.Rules.{RuleValues, ValidRules}
 use Rattle.wire_geom.specs.Edges.{StandsIn}
 use Rattle.wire_geom.specs.Grid.{centre}

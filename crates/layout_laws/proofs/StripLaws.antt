@@ -6,7 +6,8 @@ use Rattle.std.specs.Prelude.{◌+ℤ◌, ◌≤ℤ◌}
 use Rattle.channel_model.specs.Pins.{Pins}
 use Rattle.channel_model.specs.Wired.{Wired}
 use Rattle.channel_model.specs.declared.wiring.Wiring.{Wiring}
-use Rattle.tech_rules.specs.Lengths.{length_in, Apart, left_of, right_of, under, above as higher}
+use Rattle.geom_core.specs.Rectangles.{Apart, left_of, right_of, under, above as higher}
+use Rattle.tech_rules.specs.Lengths.{length_in}
 use Rattle.tech_rules.specs.Rules.{RuleValues, ValidRules}
 use Rattle.wire_geom.specs.Drawing.{drawing}
 use Rattle.wire_geom.specs.Edges.{bottom_entry, top_entry, StandsIn, Keeps}

@@ -2,9 +2,10 @@ use Rattle.std.proofs.Common.{◌≡◌, ◌≢◌, refl, sym, ◌∙◌, subst,
 use Rattle.std.proofs.Math.Nat.{mul-le-mul}
 use Rattle.std.proofs.lemmas.Bool.{cases_lt}
 use Rattle.geom_core.specs.declared.layout.Shape.{Shape}
-use Rattle.tech_rules.specs.Lengths.{IsWire, Meet}
+use Rattle.geom_core.specs.Rectangles.{Meet}
+use Rattle.tech_rules.specs.Lengths.{IsWire}
 use Rattle.tech_rules.specs.Rules.{RuleValues, ValidRules}
-use Rattle.netlist_core.specs.Joined.{Conducts, on_one, cut_to_wire, wire_to_cut, Touch}
+use Rattle.design_model.specs.Joined.{Conducts, on_one, cut_to_wire, wire_to_cut, Touch}
 use Rattle.wire_geom.specs.Spaces.{NetsKeep, NetsApart}
 use Rattle.wire_geom.specs.Widths.{IsCovered, AreWide}
 use Rattle.wire_geom.specs.declared.drawn.Drawn.{Drawn}

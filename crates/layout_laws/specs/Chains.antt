@@ -1,8 +1,8 @@
 use Rattle.std.specs.Prelude.{◌≡◌, ℕ, List, Contains, Some, slice_get}
 use Rattle.geom_core.specs.declared.layout.Layout.{Layout}
 use Rattle.tech_rules.specs.Rules.{RuleValues}
-use Rattle.netlist_core.specs.Joined.{Touch, Draws}
-use Rattle.netlist_core.specs.Netlist.{Netlist}
+use Rattle.design_model.specs.Joined.{Touch, Draws}
+use Rattle.design_model.specs.Netlist.{Netlist}
 use Rattle.wire_geom.specs.declared.drawn.Drawn.{Drawn}
 
 -- two rectangles draw positions of one terminal in one cell

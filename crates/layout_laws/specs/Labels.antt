@@ -1,9 +1,9 @@
 use Rattle.std.specs.Prelude.{◌≡◌, ℕ, List, map, Contains, Some, slice_get}
 use Rattle.geom_core.specs.declared.layout.Layout.{Layout}
 use Rattle.tech_rules.specs.Rules.{RuleValues}
-use Rattle.netlist_core.specs.Joined.{Draws, DrawsPin}
-use Rattle.netlist_core.specs.Netlist.{Netlist}
-use Rattle.netlist_core.specs.declared.design.Pin.{Pin}
+use Rattle.design_model.specs.Joined.{Draws, DrawsPin}
+use Rattle.design_model.specs.Netlist.{Netlist}
+use Rattle.design_model.specs.declared.design.Pin.{Pin}
 use Rattle.wire_geom.specs.Spaces.{NetsApart}
 use Rattle.wire_geom.specs.Widths.{AreWide}
 use Rattle.wire_geom.specs.declared.drawn.Drawn.{Drawn}

@@ -1,19 +1,20 @@
 ghost use Rattle.list_facts.specs.Names.{mention, place_among};
 ghost use Rattle.list_facts.specs.Texts.{texts};
 ghost use Rattle.std.specs.List.{list_any};
-ghost use Rattle.std.specs.Prelude.{◌≡◌, ◌+◌, ◌≤◌, ◌++◌, ◌∷◌, [], length, not, if◌then◌else◌, IfOk, OnOk};
+ghost use Rattle.std.specs.Prelude.{◌≡◌, ◌+◌, ◌≤◌, ◌++◌, ◌∷◌, [], length, not, if◌then◌else◌, IfOk, OnOk, OnErr};
 ghost use Rattle.std.specs.Str.{bytes_eq};
 
 use indexmap::IndexSet;
 use std::alloc::AllocError;
 
 /// The number of a name: its place among the names mentioned so far, at whose end it is put where it is new.
-/// The one error is want of memory.
+/// The one error is want of memory, which leaves the names as they were.
 pub fn number<'a>(names: &mut IndexSet<&'a [u8]>, name: &'a [u8]) -> Result<usize, AllocError>
     ensures grown { OnOk result (texts names.new.keys ≡ mention (texts names.old.keys) name.entry.now) }
     ensures place { IfOk result (λ n. n ≡ place_among (texts names.old.keys) name.entry.now) }
     ensures within { IfOk result (λ n. n ≤ length (texts names.old.keys)) }
     ensures few { OnOk result (length (texts names.new.keys) ≤ length (texts names.old.keys) + 1) }
+    ensures kept { OnErr result (texts names.new.keys ≡ texts names.old.keys) }
 {
     match names.insert_full(name) {
         Ok((n, _)) => Ok(n),
@@ -21,10 +22,11 @@ pub fn number<'a>(names: &mut IndexSet<&'a [u8]>, name: &'a [u8]) -> Result<usiz
     }
 }
 
-/// Whether this name is new among these, which have it then. The one error is want of memory.
+/// Whether this name is new among these, which have it then. The one error is want of memory, which leaves the names as they were.
 pub fn is_new<'a>(names: &mut IndexSet<&'a [u8]>, name: &'a [u8]) -> Result<bool, AllocError>
     ensures new { IfOk result (λ new. new ≡ not (list_any (bytes_eq name.entry.now) (texts names.old.keys))) }
     ensures grown { IfOk result (λ new. texts names.new.keys ≡ (if new then texts names.old.keys ++ name.entry.now ∷ [] else texts names.old.keys)) }
+    ensures kept { OnErr result (texts names.new.keys ≡ texts names.old.keys) }
 {
     match names.insert(name) {
         Ok(new) => Ok(new),
@@ -48,25 +50,4 @@ pub fn is_among(names: &IndexSet<&[u8]>, name: &[u8]) -> bool
     ensures { result ≡ list_any (bytes_eq name.now) (texts names.now.keys) }
 {
     names.contains(name)
-}
-
-#[cfg(test)]
-mod tests {
-    use super::*;
-    use std::test::Fail;
-
-    #[test]
-    fn names_are_numbered_by_their_first_mention(rt: HostRuntime) -> Result<(), Fail> {
-        let mut names: IndexSet<&[u8]> = IndexSet::new(rt.alloc());
-        for (name, want) in [("b", 0), ("a", 1), ("b", 0), ("ab", 2), ("", 3), ("a", 1)] {
-            assert_eq!(rt; number(&mut names, name.as_bytes())?, want, "at {name}");
-        }
-        assert_eq!(rt; is_new(&mut names, b"ab")?, false);
-        assert_eq!(rt; is_new(&mut names, b"abc")?, true);
-        assert_eq!(rt; place_of(&names, b"abc"), 4);
-        assert_eq!(rt; place_of(&names, b"c"), 5);
-        assert_eq!(rt; is_among(&names, b""), true);
-        assert_eq!(rt; is_among(&names, b"c"), false);
-        Ok(())
-    }
 }

@@ -5,10 +5,10 @@ use Rattle.tech_rules.specs.Sample.{sample}
 use Rattle.yal_reader.specs.declared.file.Flow.TheVariants as flows
 use Rattle.yal_reader.specs.declared.file.Kind.TheVariants as kinds
 use Rattle.yal_reader.specs.declared.file.Module.{Module}
-use Rattle.netlist_core.specs.Cells.{column_of, edge_of, grid_positions, kind_fault, kind_of}
-use Rattle.netlist_core.specs.Drawing.{drawing_of, outline_shape, position_shape}
+use Rattle.netlist_core.specs.Cells.{column_of, edge_of, grid_of, grid_positions, kind_fault, kind_of}
+use Rattle.design_model.specs.Drawing.{drawing_of, outline_shape, position_shape}
 use Rattle.netlist_core.specs.Outline.{are_pairs, between, has_turns, outline_of}
-use Rattle.netlist_core.specs.declared.design.CellKind.{CellKind}
+use Rattle.design_model.specs.declared.design.CellKind.{CellKind}
 use Rattle.netlist_core.specs.declared.fault.DesignFault.TheVariants as faults
 
 -- the same outline, round either way and from any corner on
@@ -81,19 +81,19 @@ buffer-kind = record {
 }
 
 good : kind_of sample 40 2 (buffer 4 40 (codes "poly")) ≡ Ok buffer-kind
-unfolding are_pairs has_turns between grid_positions kind_fault kind_of buffer buffer-kind
+unfolding are_pairs has_turns between grid_positions kind_fault grid_of kind_of buffer buffer-kind
 good = refl
 
 off-grid : kind_of sample 40 2 (buffer 4 20 (codes "POLY")) ≡ Err (faults.OffGrid 2)
-unfolding are_pairs has_turns between grid_positions kind_fault kind_of buffer
+unfolding are_pairs has_turns between grid_positions kind_fault grid_of kind_of buffer
 off-grid = refl
 
 other-height : kind_of sample 48 2 (buffer 4 40 (codes "POLY")) ≡ Err (faults.Height 2)
-unfolding are_pairs has_turns between grid_positions kind_fault kind_of buffer
+unfolding are_pairs has_turns between grid_positions kind_fault grid_of kind_of buffer
 other-height = refl
 
 other-layer : kind_of sample 40 2 (buffer 4 40 (codes "POLYS")) ≡ Err (faults.WrongLayer 2)
-unfolding are_pairs has_turns between grid_positions kind_fault kind_of buffer
+unfolding are_pairs has_turns between grid_positions kind_fault grid_of kind_of buffer
 other-layer = refl
 
 -- a rectangle from 0 on, as it is drawn

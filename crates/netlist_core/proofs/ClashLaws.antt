@@ -2,7 +2,7 @@ use Rattle.std.proofs.Common.{◌≡◌, ℕ, zero, suc, ◌==◌, List, [], ◌
 use Rattle.std.proofs.lemmas.List.Folds.{list_any-append}
 use Rattle.std.specs.List.{list_any, slice_get}
 use Rattle.netlist_core.specs.Cells.{clashes, point_of, same_point, same_top}
-use Rattle.netlist_core.specs.declared.design.Position.{Position}
+use Rattle.design_model.specs.declared.design.Position.{Position}
 use Rattle.netlist_core.specs.declared.positions.Point.{Point}
 use Rattle.netlist_core.proofs.OutlineLaws.{some-one}
 

@@ -14,7 +14,7 @@ use Rattle.list_facts.proofs.Different.{length-mentions}
 use Rattle.netlist_core.specs.Calls.{module_named}
 use Rattle.netlist_core.specs.Cells.{line_names, terminal_in, terminals_of, terminal_names, power_names}
 use Rattle.netlist_core.specs.LibraryView.{IsLibrary}
-use Rattle.netlist_core.specs.declared.design.Terminal.{Terminal}
+use Rattle.design_model.specs.declared.design.Terminal.{Terminal}
 use Rattle.netlist_core.specs.declared.library.Library.TheInside.{Inside}
 
 -- a module stands where its name does

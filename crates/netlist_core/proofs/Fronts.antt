@@ -1,6 +1,6 @@
 use Rattle.std.proofs.Common.{◌≡◌, List, [], ◌∷◌, ◌++◌, Option, None, Some, refl, ap, append_assoc}
 use Rattle.netlist_core.specs.Cells.{position_onto}
-use Rattle.netlist_core.specs.declared.design.Position.{Position}
+use Rattle.design_model.specs.declared.design.Position.{Position}
 
 -- the positions found so far, before those that are left, if these are found
 abbrev pub with_front : List Position → Option (List Position) → Option (List Position)

@@ -4,7 +4,8 @@ use Rattle.std.proofs.lemmas.List.{length-map}
 use Rattle.std.specs.List.{AllByRecursion, AllZip, IsDistinct, list_any}
 use Rattle.std.specs.Str.{bytes_eq}
 use Rattle.tech_rules.specs.Rules.{RuleValues, ValidRules}
-use Rattle.yal_reader.specs.Kept.{IsKeptCall, IsKeptModule, IsName, call_names, is_standard}
+use Rattle.geom_core.specs.Names.{IsName}
+use Rattle.yal_reader.specs.Kept.{IsKeptCall, IsKeptModule, call_names, is_standard}
 use Rattle.yal_reader.specs.declared.file.Call.{Call}
 use Rattle.yal_reader.specs.declared.file.Module.{Module}
 use Rattle.list_facts.specs.Names.{place_among}
@@ -14,12 +15,12 @@ use Rattle.list_facts.proofs.Mentioned.{place-below}
 use Rattle.netlist_core.specs.Answers.{◌>>=◌}
 use Rattle.netlist_core.specs.Cells.{terminals_of}
 use Rattle.netlist_core.specs.Checked.{IsChecked, pin_place}
-use Rattle.netlist_core.specs.Netlist.{IsKind, IsNetlist, Netlist}
+use Rattle.design_model.specs.Netlist.{IsKind, IsNetlist, Netlist}
 use Rattle.netlist_core.specs.OnGrid.{design_of, height_of, inst_in, kind_for, kinds_for, used_design, used_names}
 use Rattle.netlist_core.specs.Signals.{PinWord, nets_of, pin_in, words_of}
-use Rattle.netlist_core.specs.declared.design.CellKind.{CellKind}
-use Rattle.netlist_core.specs.declared.design.Inst.{Inst}
-use Rattle.netlist_core.specs.declared.design.Pin.{Pin}
+use Rattle.design_model.specs.declared.design.CellKind.{CellKind}
+use Rattle.design_model.specs.declared.design.Inst.{Inst}
+use Rattle.design_model.specs.declared.design.Pin.{Pin}
 use Rattle.netlist_core.specs.declared.fault.DesignFault.{DesignFault}
 use Rattle.netlist_core.proofs.EachLaws.{each-zip}
 use Rattle.netlist_core.proofs.KindLaws.{kind-good, kind-low, kind-terminals}

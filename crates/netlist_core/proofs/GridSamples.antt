@@ -7,8 +7,8 @@ use Rattle.yal_reader.specs.declared.file.Kind.TheVariants as kinds
 use Rattle.yal_reader.specs.declared.file.Module.{Module}
 use Rattle.yal_reader.specs.declared.file.YalFile.{YalFile}
 use Rattle.netlist_core.specs.Calls.{call_fault, calls_fault}
-use Rattle.netlist_core.specs.Cells.{grid_positions, kind_fault, kind_of}
-use Rattle.netlist_core.specs.Netlist.{Netlist}
+use Rattle.netlist_core.specs.Cells.{grid_of, grid_positions, kind_fault, kind_of}
+use Rattle.design_model.specs.Netlist.{Netlist}
 use Rattle.netlist_core.specs.OnGrid.{calls_design, height_of, kind_for, kinds_for, on_grid, used_design, used_modules}
 use Rattle.netlist_core.specs.Answers.{each}
 use Rattle.netlist_core.specs.Outline.{are_pairs, between, has_turns}
@@ -54,7 +54,7 @@ ring = record {
 
 ring-design : on_grid sample (file_of (call_of (codes "u") (codes "BUF") (codes "P" ∷ codes "n" ∷ codes "nn" ∷ [])
     ∷ call_of (codes "v") (codes "BUF") (codes "P" ∷ codes "nn" ∷ codes "z" ∷ []) ∷ [])) ≡ Ok ring
-unfolding on_grid calls_design calls_fault call_fault all_signals nets_of used_modules used_design kinds_for kind_for height_of each kind_of kind_fault grid_positions are_pairs has_turns between
+unfolding on_grid calls_design calls_fault call_fault all_signals nets_of used_modules used_design kinds_for kind_for height_of each grid_of kind_of kind_fault grid_positions are_pairs has_turns between
 ring-design = refl
 
 -- too few words are told before a module that is not there

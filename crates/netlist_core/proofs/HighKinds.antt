@@ -7,10 +7,10 @@ use Rattle.yal_reader.specs.declared.file.Module.{Module}
 use Rattle.yal_reader.specs.declared.file.YalFile.{YalFile}
 use Rattle.netlist_core.specs.Answers.{◌>>=◌, Agrees, unless}
 use Rattle.netlist_core.specs.Calls.{calls_fault, is_parent_module, only_parent, over}
-use Rattle.netlist_core.specs.Netlist.{Netlist}
+use Rattle.design_model.specs.Netlist.{Netlist}
 use Rattle.netlist_core.specs.OnGrid.{calls_design, design_of, height_of, kind_for, kinds_for, on_grid, used_design, used_modules}
 use Rattle.netlist_core.specs.Signals.{PinWord, all_signals}
-use Rattle.netlist_core.specs.declared.design.CellKind.{CellKind}
+use Rattle.design_model.specs.declared.design.CellKind.{CellKind}
 use Rattle.netlist_core.specs.declared.fault.Count.TheVariants.{Instances, Pins}
 use Rattle.netlist_core.specs.declared.fault.DesignFault.{DesignFault}
 use Rattle.netlist_core.proofs.EachLaws.{each-zip}

@@ -7,12 +7,12 @@ use Rattle.tech_rules.specs.Rules.{RuleValues, ValidRules}
 use Rattle.yal_reader.specs.Kept.{IsKeptModule, is_standard}
 use Rattle.yal_reader.specs.declared.file.Module.{Module}
 use Rattle.list_facts.proofs.Every.{every-weaker}
-use Rattle.netlist_core.specs.Cells.{height_of_module, kind_at, kind_of, power_names, spots_of, terminal_in, terminal_names, terminals_of}
-use Rattle.netlist_core.specs.Netlist.{IsKind, IsPosition}
+use Rattle.netlist_core.specs.Cells.{grid_at, height_of_module, kind_at, kind_of, power_names, spots_of, terminal_in, terminal_names, terminals_of}
+use Rattle.design_model.specs.Netlist.{IsKind, IsPosition}
 use Rattle.netlist_core.specs.Outline.{height_of_outline}
-use Rattle.netlist_core.specs.declared.design.CellKind.{CellKind}
-use Rattle.netlist_core.specs.declared.design.Position.{Position}
-use Rattle.netlist_core.specs.declared.design.Terminal.{Terminal}
+use Rattle.design_model.specs.declared.design.CellKind.{CellKind}
+use Rattle.design_model.specs.declared.design.Position.{Position}
+use Rattle.design_model.specs.declared.design.Terminal.{Terminal}
 use Rattle.netlist_core.specs.declared.outline.Outline.{Outline}
 use Rattle.netlist_core.proofs.ClashLaws.{clash-free}
 use Rattle.netlist_core.proofs.KindParts.{IsFaultless, IsGridded, IsMade, faultless, grid-made, kind-made}
@@ -41,7 +41,7 @@ few-columns width pitch low wide = omega (arith, mul-le-mul_right (width / pitch
 -- the position of a free terminal, in a column of the kind, is one of the kind
 good-position : (rules : RuleValues) (box : Outline) (m : Module) (ps : List Position) (p : Position)
     → IsFree (terminal_names m.lines) (power_names m.lines) p.terminal × (p.column < box.width / rules.grid_column)
-    → IsPosition (kind_at rules box m ps) p
+    → IsPosition (kind_at m (grid_at rules box ps)) p
 good-position rules box m ps p h = record {
   column = h.1;
   terminal = λ t at. free t (terminal-named (terminal_names m.lines) (power_names m.lines) p.terminal t at);
@@ -53,14 +53,14 @@ good-position rules box m ps p h = record {
 
 good-kind : (rules : RuleValues) (height n : ℕ) (m : Module) (box : Outline) (ps : List Position) → ValidRules rules → IsKeptModule m
     → is_standard m.kind ≡ true → IsSmall box → IsGridded rules.grid_column box (spots_of m.lines) ps
-    → IsFaultless rules height box (spots_of m.lines) ps → IsKind (kind_at rules box m ps)
+    → IsFaultless rules height box (spots_of m.lines) ps → IsKind (kind_at m (grid_at rules box ps))
 good-kind rules height n m box ps valid kept standard small grid whole = record {
   name = kept.name;
   some = some-columns box.width rules.grid_column small.wide grid.whole valid.ranges.grid_column.0;
   few = few-columns box.width rules.grid_column small.width valid.ranges.grid_column.0;
-  positions = every-all (IsPosition (kind_at rules box m ps)) ps
+  positions = every-all (IsPosition (kind_at m (grid_at rules box ps))) ps
       (every-weaker (λ (p : Position). IsFree (terminal_names m.lines) (power_names m.lines) p.terminal × (p.column < box.width / rules.grid_column))
-      (IsPosition (kind_at rules box m ps)) (good-position rules box m ps) ps
+      (IsPosition (kind_at m (grid_at rules box ps))) (good-position rules box m ps) ps
       (positions-hold (IsFree (terminal_names m.lines) (power_names m.lines)) rules.grid_column box (spots_of m.lines) ps grid.positions
       (free-spots (terminal_names m.lines) (power_names m.lines) m.lines (known-lines m.lines))));
   apart = clash-free [] ps whole.apart;

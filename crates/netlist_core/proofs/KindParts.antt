@@ -5,10 +5,10 @@ use Rattle.std.specs.Prelude.{if◌then◌else◌}
 use Rattle.tech_rules.specs.Rules.{RuleValues}
 use Rattle.yal_reader.specs.declared.file.Module.{Module}
 use Rattle.netlist_core.specs.Answers.{◌>>=◌, unless, found}
-use Rattle.netlist_core.specs.Cells.{clashes, grid_positions, is_on_layer, kind_at, kind_fault, kind_of, positions_of, spots_of}
+use Rattle.netlist_core.specs.Cells.{clashes, grid_positions, is_on_layer, grid_at, grid_of, kind_at, kind_fault, kind_of, positions_of, spots_of}
 use Rattle.netlist_core.specs.Outline.{outline_of}
-use Rattle.netlist_core.specs.declared.design.CellKind.{CellKind}
-use Rattle.netlist_core.specs.declared.design.Position.{Position}
+use Rattle.design_model.specs.declared.design.CellKind.{CellKind}
+use Rattle.design_model.specs.declared.design.Position.{Position}
 use Rattle.netlist_core.specs.declared.fault.DesignFault.{DesignFault}
 use Rattle.netlist_core.specs.declared.fault.DesignFault.TheVariants as faults
 use Rattle.netlist_core.specs.declared.outline.Outline.{Outline}
@@ -21,7 +21,7 @@ pub record IsMade (rules : RuleValues) (height n : ℕ) (m : Module) (k : CellKi
   pub outline : outline_of m.corners ≡ Some box
   pub grid : grid_positions rules.grid_column box (spots_of m.lines) ≡ Some positions
   pub fault : kind_fault rules height n box (spots_of m.lines) positions ≡ None
-  pub kind : kind_at rules box m positions ≡ k
+  pub kind : kind_at m (grid_at rules box positions) ≡ k
 
 ok-one : {X : Type 0} {x y : X} → (let r : Result X DesignFault = Ok x in r) ≡ Ok y → x ≡ y
 ok-one h = cc
@@ -29,14 +29,15 @@ ok-one h = cc
 made-kind : (rules : RuleValues) (height n : ℕ) (m : Module) (k : CellKind) (box : Outline) (ps : List Position)
     → outline_of m.corners ≡ Some box → grid_positions rules.grid_column box (spots_of m.lines) ≡ Some ps
     → (fault : Option DesignFault) → kind_fault rules height n box (spots_of m.lines) ps ≡ fault
-    → unless fault (Ok (kind_at rules box m ps)) ≡ Ok k → IsMade rules height n m k
+    → (unless fault (Ok (grid_at rules box ps)) >>= λ (grid : ℕ × List Position). Ok (kind_at m grid)) ≡ Ok k → IsMade rules height n m k
 made-kind rules height n m k box ps outline grid None none h =
     record { box = box; positions = ps; outline = outline; grid = grid; fault = none; kind = ok-one h }
 made-kind rules height n m k box ps outline grid (Some fault) some h = cc
 
 made-grid : (rules : RuleValues) (height n : ℕ) (m : Module) (k : CellKind) (box : Outline) → outline_of m.corners ≡ Some box
     → (ps : Option (List Position)) → grid_positions rules.grid_column box (spots_of m.lines) ≡ ps
-    → (found (faults.OffGrid n) ps >>= λ positions. unless (kind_fault rules height n box (spots_of m.lines) positions) (Ok (kind_at rules box m positions))) ≡ Ok k
+    → ((found (faults.OffGrid n) ps >>= λ positions. unless (kind_fault rules height n box (spots_of m.lines) positions) (Ok (grid_at rules box positions)))
+    >>= λ (grid : ℕ × List Position). Ok (kind_at m grid)) ≡ Ok k
     → IsMade rules height n m k
 made-grid rules height n m k box outline None grid h = cc
 made-grid rules height n m k box outline (Some ps) grid h =
@@ -44,12 +45,13 @@ made-grid rules height n m k box outline (Some ps) grid h =
 
 -- where a module is a kind, it has all that
 pub kind-made : (rules : RuleValues) (height n : ℕ) (m : Module) (k : CellKind) → kind_of rules height n m ≡ Ok k → IsMade rules height n m k
-unfolding kind_of
+unfolding kind_of grid_of
 kind-made rules height n m k = by (outline_of m.corners) refl
   where
     by : (o : Option Outline) → outline_of m.corners ≡ o
-        → (found (faults.NoShape n) o >>= λ box. found (faults.OffGrid n) (grid_positions rules.grid_column box (spots_of m.lines)) >>= λ positions.
-        unless (kind_fault rules height n box (spots_of m.lines) positions) (Ok (kind_at rules box m positions))) ≡ Ok k
+        → ((found (faults.NoShape n) o >>= λ box. found (faults.OffGrid n) (grid_positions rules.grid_column box (spots_of m.lines)) >>= λ positions.
+        unless (kind_fault rules height n box (spots_of m.lines) positions) (Ok (grid_at rules box positions)))
+        >>= λ (grid : ℕ × List Position). Ok (kind_at m grid)) ≡ Ok k
         → IsMade rules height n m k
     by None outline h = cc
     by (Some box) outline h = made-grid rules height n m k box outline (grid_positions rules.grid_column box (spots_of m.lines)) refl h

@@ -28,10 +28,6 @@ pub mod StandardModules
 pub mod GoodNetlist
 -- what the checks of calls give
 pub mod CheckedCalls
--- pins in the order of their instances and terminals
-pub mod PairOrder
--- the pins of a design stand in order, one for each terminal that is no power
-pub mod PinsInOrder
 -- outlines and the corners that they have
 pub mod RingLaws
 -- worked cells, computed

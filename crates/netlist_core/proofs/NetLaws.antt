@@ -12,11 +12,13 @@ use Rattle.list_facts.specs.Names.{place_among}
 use Rattle.list_facts.proofs.Different.{any-get, distinct-mentions, length-mentions, distinct-none, place-get}
 use Rattle.list_facts.proofs.Every.{every-append, every-get, every-own}
 use Rattle.list_facts.proofs.Mentioned.{any-mentions, bytes_one, get-place, place-below}
+use Rattle.list_facts.proofs.Places.{get-front}
 use Rattle.netlist_core.specs.Calls.{terminals_in, module_named}
-use Rattle.netlist_core.specs.SameNet.{SameNet, word_of}
+use Rattle.design_model.specs.SameNet.{SameNet}
+use Rattle.netlist_core.specs.SignalWords.{word_of}
 use Rattle.netlist_core.specs.Signals.{PinWord, all_signals, nets_of, pin_in, signals_from, signals_of, words_of}
-use Rattle.netlist_core.specs.declared.design.Pin.{Pin}
-use Rattle.netlist_core.specs.declared.design.Terminal.{Terminal}
+use Rattle.design_model.specs.declared.design.Pin.{Pin}
+use Rattle.design_model.specs.declared.design.Terminal.{Terminal}
 
 -- a word that stands at a pin is the word of a net
 any-net : (signals : List PinWord) (w : List ℕ) → list_any (bytes_eq w) (words_of signals) ≡ true → list_any (bytes_eq w) (nets_of signals) ≡ true
@@ -87,11 +89,6 @@ nets-used signals n some few = by (slice_get (nets_of signals) (n - 1)) refl
 abbrev pub SaysWord : List Call → PinWord → Type 0
 SaysWord calls s = option_and_then (λ (call : Call). slice_get call.signals s.terminal) (slice_get calls s.instance) ≡ Some s.word
 
--- the item behind a front
-pub get-front : {X : Type 0} (front : List X) (x : X) (rest : List X) → slice_get (front ++ x ∷ rest) (length front) ≡ Some x
-get-front [] x rest = refl
-get-front (y ∷ ys) x rest = get-front ys x rest
-
 from-says : (calls : List Call) (i : ℕ) (call : Call) → slice_get calls i ≡ Some call → (t : ℕ) (ts : List Terminal) (front ws : List (List ℕ))
     → t ≡ length front → call.signals ≡ front ++ ws → AllByRecursion (SaysWord calls) (signals_from i t ts ws)
 from-says calls i call at t [] front ws here all = tt
@@ -135,7 +132,7 @@ source-of nets (s ∷ ss) zero a is = (s, refl, same is)
 source-of nets (s ∷ ss) (suc n) a is = source-of nets ss n a is
 
 -- two pins are in one net exactly where their words are equal
-pub nets-agree : (calls : List Call) (signals : List PinWord) → AllByRecursion (SaysWord calls) signals → SameNet calls (map (pin_in (nets_of signals)) signals)
+pub nets-agree : (calls : List Call) (signals : List PinWord) → AllByRecursion (SaysWord calls) signals → SameNet (word_of calls) (map (pin_in (nets_of signals)) signals)
 nets-agree calls signals said p q a b at_p at_q =
     let from_p = source-of (nets_of signals) signals p a at_p in
     let from_q = source-of (nets_of signals) signals q b at_q in

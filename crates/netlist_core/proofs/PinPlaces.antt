@@ -12,11 +12,11 @@ use Rattle.netlist_core.specs.Answers.{first_fault, or_fault}
 use Rattle.netlist_core.specs.Calls.{call_fault, calls_fault, fault_in, module_named, terminals_in}
 use Rattle.netlist_core.specs.Cells.{terminals_of}
 use Rattle.netlist_core.specs.Checked.{module_at, pin_place, pins_used}
-use Rattle.netlist_core.specs.Netlist.{all_pins, pins_from, terminals_at}
+use Rattle.design_model.specs.Netlist.{all_pins, pins_from, terminals_at}
 use Rattle.netlist_core.specs.OnGrid.{called_names, inst_in, used_modules, used_names}
 use Rattle.netlist_core.specs.Signals.{all_signals, signals_from, signals_of}
-use Rattle.netlist_core.specs.declared.design.CellKind.{CellKind}
-use Rattle.netlist_core.specs.declared.design.Terminal.{Terminal}
+use Rattle.design_model.specs.declared.design.CellKind.{CellKind}
+use Rattle.design_model.specs.declared.design.Terminal.{Terminal}
 use Rattle.netlist_core.specs.declared.fault.DesignFault.{DesignFault}
 use Rattle.netlist_core.specs.declared.fault.DesignFault.TheVariants as faults
 use Rattle.netlist_core.proofs.UsedNames.{any-used, found-used}

@@ -4,7 +4,7 @@ use Rattle.std.specs.List.{AllByRecursion, list_any}
 use Rattle.std.specs.Prelude.{int_lt, unsigned_abs, if◌then◌else◌}
 use Rattle.yal_reader.specs.declared.file.Spot.{Spot}
 use Rattle.netlist_core.specs.Cells.{column_of, edge_of, placed, position_of, position_onto, positions_of}
-use Rattle.netlist_core.specs.declared.design.Position.{Position}
+use Rattle.design_model.specs.declared.design.Position.{Position}
 use Rattle.netlist_core.specs.declared.outline.Outline.{Outline}
 use Rattle.netlist_core.proofs.OutlineLaws.{some-one}
 

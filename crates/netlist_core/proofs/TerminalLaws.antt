@@ -12,7 +12,7 @@ use Rattle.yal_reader.specs.declared.file.Kind.{Kind}
 use Rattle.yal_reader.specs.declared.file.Line.{Line}
 use Rattle.yal_reader.specs.declared.file.Spot.{Spot}
 use Rattle.netlist_core.specs.Cells.{line_names, power_lines, power_names, spot_of, spots_of, terminal_in, terminal_names, terminals_of}
-use Rattle.netlist_core.specs.declared.design.Terminal.{Terminal}
+use Rattle.design_model.specs.declared.design.Terminal.{Terminal}
 use Rattle.netlist_core.proofs.OutlineLaws.{some-one}
 
 or-true : (a b : Bool) → b ≡ true → (a || b) ≡ true
@@ -92,7 +92,7 @@ known-power lines =
 -- a line that is no power has a spot in a STANDARD module
 spot-there : (kind : Kind) (l : Line) → is_standard kind ≡ true → IsKeptLine kind l → is_power l.flow ≡ false → is_some l.spot ≡ true
 spot-there kind l standard kept free =
-    kept.has ∙ ap (λ (b : Bool). b && not (is_power l.flow)) standard ∙ ap (λ (b : Bool). not b) free
+    kept.has (ap (λ (b : Bool). b && not (is_power l.flow)) standard ∙ ap (λ (b : Bool). not b) free)
 
 spot-of : (names power : List (List ℕ)) (l : Line) (w : List ℕ) → bytes_eq w l.name ≡ true → list_any (bytes_eq w) power ≡ false
     → is_some l.spot ≡ true → (rest : List (ℕ × Spot))

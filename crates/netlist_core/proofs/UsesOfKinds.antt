@@ -10,7 +10,7 @@ use Rattle.list_facts.proofs.Different.{place-get}
 use Rattle.list_facts.proofs.Every.{every-get}
 use Rattle.list_facts.proofs.Mentioned.{bytes_one}
 use Rattle.netlist_core.specs.OnGrid.{called_names, inst_in, is_used, used_modules, used_names}
-use Rattle.netlist_core.specs.declared.design.Inst.{Inst}
+use Rattle.design_model.specs.declared.design.Inst.{Inst}
 use Rattle.netlist_core.proofs.UsedNames.{used-different}
 
 filter-passes : {X : Type 0} (p : X → Bool) (xs : List X) → AllByRecursion (λ x. p x ≡ true) (filter p xs)

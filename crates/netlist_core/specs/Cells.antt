@@ -11,9 +11,9 @@ use Rattle.yal_reader.specs.declared.file.Line.{Line}
 use Rattle.yal_reader.specs.declared.file.Module.{Module}
 use Rattle.netlist_core.specs.Answers.{◌>>=◌, unless, found}
 use Rattle.netlist_core.specs.Outline.{outline_of, height_of_outline}
-use Rattle.netlist_core.specs.declared.design.Position.{Position}
-use Rattle.netlist_core.specs.declared.design.Terminal.{Terminal}
-use Rattle.netlist_core.specs.declared.design.CellKind.{CellKind}
+use Rattle.design_model.specs.declared.design.Position.{Position}
+use Rattle.design_model.specs.declared.design.Terminal.{Terminal}
+use Rattle.design_model.specs.declared.design.CellKind.{CellKind}
 use Rattle.netlist_core.specs.declared.fault.DesignFault.{DesignFault}
 use Rattle.netlist_core.specs.declared.fault.DesignFault.TheVariants as faults
 use Rattle.netlist_core.specs.declared.outline.Outline.{Outline}
@@ -115,13 +115,23 @@ kind_fault rules height n box spots positions =
     if clashes [] positions then Some (faults.PinClash n) else
     if list_all (is_on_layer rules.yal) spots then None else Some (faults.WrongLayer n)
 
-abbrev pub kind_at : RuleValues → Outline → Module → List Position → CellKind
-kind_at rules box m positions =
-    record { name = m.name; columns = box.width / rules.grid_column; terminals = terminals_of m.lines; positions = positions }
+-- a module's width in columns, and its positions
+abbrev pub grid_at : RuleValues → Outline → List Position → ℕ × List Position
+grid_at rules box positions = (box.width / rules.grid_column, positions)
+
+-- the same of the module with number n that has these corners and spots, or why it is no kind
+unfoldable pub grid_of : RuleValues → ℕ → ℕ → List ℤ → List (ℕ × Spot) → Result (ℕ × List Position) DesignFault
+grid_of rules height n corners spots = do
+  box ← found (faults.NoShape n) (outline_of corners)
+  positions ← found (faults.OffGrid n) (grid_positions rules.grid_column box spots)
+  unless (kind_fault rules height n box spots positions) (Ok (grid_at rules box positions))
+
+-- a module as a kind with this width and these positions
+abbrev pub kind_at : Module → ℕ × List Position → CellKind
+kind_at m grid = record { name = m.name; columns = grid.0; terminals = terminals_of m.lines; positions = grid.1 }
 
 -- the kind of the module with number n in the file, where all used modules have this height
 unfoldable pub kind_of : RuleValues → ℕ → ℕ → Module → Result CellKind DesignFault
 kind_of rules height n m = do
-  box ← found (faults.NoShape n) (outline_of m.corners)
-  positions ← found (faults.OffGrid n) (grid_positions rules.grid_column box (spots_of m.lines))
-  unless (kind_fault rules height n box (spots_of m.lines) positions) (Ok (kind_at rules box m positions))
+  grid ← grid_of rules height n m.corners (spots_of m.lines)
+  Ok (kind_at m grid)

@@ -7,10 +7,10 @@ use Rattle.yal_reader.specs.declared.file.Call.{Call}
 use Rattle.yal_reader.specs.declared.file.Module.{Module}
 use Rattle.list_facts.specs.Names.{place_among}
 use Rattle.netlist_core.specs.Calls.{terminals_in}
-use Rattle.netlist_core.specs.Netlist.{pins_from}
+use Rattle.design_model.specs.Netlist.{pins_from}
 use Rattle.netlist_core.specs.OnGrid.{inst_in, used_names}
 use Rattle.netlist_core.specs.Signals.{PinWord}
-use Rattle.netlist_core.specs.declared.design.Inst.{Inst}
+use Rattle.design_model.specs.declared.design.Inst.{Inst}
 
 -- the used module at a place
 abbrev pub module_at : List (ℕ × Module) → ℕ → Option Module

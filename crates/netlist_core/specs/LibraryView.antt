@@ -4,7 +4,7 @@ use Rattle.yal_reader.specs.Kept.{IsShort, module_names}
 use Rattle.yal_reader.specs.declared.file.Module.{Module}
 use Rattle.list_facts.specs.Texts.{texts}
 use Rattle.netlist_core.specs.Cells.{terminals_of}
-use Rattle.netlist_core.specs.declared.design.Terminal.{Terminal}
+use Rattle.design_model.specs.declared.design.Terminal.{Terminal}
 use Rattle.netlist_core.specs.declared.library.Library.TheInside.{Inside}
 
 -- the terminals of each module

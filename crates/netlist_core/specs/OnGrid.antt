@@ -9,10 +9,10 @@ use Rattle.list_facts.specs.Names.{place_among}
 use Rattle.netlist_core.specs.Answers.{◌>>=◌, unless, each}
 use Rattle.netlist_core.specs.Calls.{only_parent, is_parent_module, calls_fault, over}
 use Rattle.netlist_core.specs.Cells.{height_of_module, kind_of}
-use Rattle.netlist_core.specs.Netlist.{Netlist}
+use Rattle.design_model.specs.Netlist.{Netlist}
 use Rattle.netlist_core.specs.Signals.{PinWord, all_signals, nets_of, pin_in}
-use Rattle.netlist_core.specs.declared.design.CellKind.{CellKind}
-use Rattle.netlist_core.specs.declared.design.Inst.{Inst}
+use Rattle.design_model.specs.declared.design.CellKind.{CellKind}
+use Rattle.design_model.specs.declared.design.Inst.{Inst}
 use Rattle.netlist_core.specs.declared.fault.Count.TheVariants.{Instances, Pins}
 use Rattle.netlist_core.specs.declared.fault.DesignFault.{DesignFault}
 

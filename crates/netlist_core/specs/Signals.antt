@@ -3,8 +3,8 @@ use Rattle.yal_reader.specs.declared.file.Call.{Call}
 use Rattle.yal_reader.specs.declared.file.Module.{Module}
 use Rattle.list_facts.specs.Names.{mentions, place_among}
 use Rattle.netlist_core.specs.Calls.{module_named, terminals_in}
-use Rattle.netlist_core.specs.declared.design.Pin.{Pin}
-use Rattle.netlist_core.specs.declared.design.Terminal.{Terminal}
+use Rattle.design_model.specs.declared.design.Pin.{Pin}
+use Rattle.design_model.specs.declared.design.Terminal.{Terminal}
 
 -- a signal word at a pin
 pub record PinWord : Type 0 where

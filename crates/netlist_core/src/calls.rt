@@ -6,8 +6,9 @@ ghost use Rattle.netlist_core.specs.OnGrid.{called_names, inst_in};
 ghost use Rattle.std.specs.Prelude.{◌≡◌, ◌<◌, ◌≤◌, ◌^◌, filter, length, map, IfOk};
 ghost use Rattle.yal_reader.specs.Kept.{is_standard};
 
+use crate::DesignFault;
 use crate::library::Library;
-use crate::{DesignFault, Inst};
+use design_model::Inst;
 use indexmap::IndexSet;
 use list_facts::{number, place_of};
 use std::alloc::{AllocError, Global};

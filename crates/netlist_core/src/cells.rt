@@ -1,14 +1,14 @@
 ghost use Rattle.netlist_core.specs.Answers.{Agrees};
-ghost use Rattle.netlist_core.specs.Cells.{height_of_module, kind_fault, kind_of};
+ghost use Rattle.netlist_core.specs.Cells.{grid_of, height_of_module, kind_fault, kind_of};
 ghost use Rattle.std.specs.List.{AllByRecursion};
 ghost use Rattle.std.specs.Prelude.{◌≡◌, ◌<◌, ◌^◌, length, IfOk};
 ghost use Rattle.yal_reader.specs.Kept.{IsKeptModule, IsNear};
 
-use crate::design::{CellKind, Position};
 use crate::fault::DesignFault;
 use crate::outline::{Outline, outline_of};
 use crate::positions::{are_on_layer, grid_positions, has_clash};
 use crate::terminals::{NumberedSpot, power_names, spots, terminal_names, terminals};
+use design_model::{CellKind, Position};
 use geom_core::Items;
 use std::alloc::{AllocError, Global};
 use tech_rules::Rules;
@@ -46,24 +46,51 @@ pub fn kind_of(
     let names = terminal_names(alloc, lines)?;
     let power = power_names(alloc, lines)?;
     let spots = spots(alloc, lines, &names, &power)?;
-    let Some(outline) = outline_of(module.corners.items()) else {
+    let corners = module.corners.items();
+    let grid = grid_of(alloc, rules, height, n, corners, spots.as_slice())?;
+    let terminals = terminals(alloc, &names, &power)?;
+    Ok(CellKind {
+        name: module.name.copied(alloc)?,
+        columns: grid.columns,
+        terminals: Items::new(terminals),
+        positions: grid.positions,
+    })
+}
+
+/// Where a module lies on the grid.
+#[derive(Drop)]
+struct Grid {
+    /// Its width in columns.
+    columns: u32,
+    positions: Items<Position>,
+}
+
+// The width and the positions of the module with number n that has these corners and spots, or why it is no kind.
+#[tactic(auto, unfolding(crate::specs::Cells::grid_of))]
+fn grid_of(
+    alloc: Global,
+    rules: &Rules,
+    height: u32,
+    n: u32,
+    corners: &[i64],
+    spots: &[NumberedSpot],
+) -> Result<Grid, DesignFault>
+    requires { AllByRecursion IsNear corners.now }
+    ensures { Agrees (λ grid. (grid.columns, grid.positions)) result (grid_of rules.now height n corners.now spots.now) }
+{
+    let Some(outline) = outline_of(corners) else {
         return Err(DesignFault::NoShape(n));
     };
-    let Some(positions) = grid_positions(alloc, rules.grid_column, outline, &spots)? else {
+    let Some(positions) = grid_positions(alloc, rules.grid_column, outline, spots)? else {
         return Err(DesignFault::OffGrid(n));
     };
-    match kind_fault(alloc, rules, height, n, outline, &spots, &positions)? {
-        Some(fault) => Err(fault),
-        None => {
-            let terminals = terminals(alloc, &names, &power)?;
-            Ok(CellKind {
-                name: module.name.copied(alloc)?,
-                columns: outline.width / rules.grid_column,
-                terminals: Items::new(terminals),
-                positions: Items::new(positions),
-            })
-        }
+    if let Some(fault) = kind_fault(alloc, rules, height, n, outline, spots, &positions)? {
+        return Err(fault);
     }
+    Ok(Grid {
+        columns: outline.width / rules.grid_column,
+        positions: Items::new(positions),
+    })
 }
 
 // Why a module on the grid is no kind, or None where it is one. The one error is want of memory.

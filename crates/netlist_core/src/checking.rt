@@ -1,7 +1,8 @@
 ghost use Rattle.netlist_core.specs.Answers.{Agrees};
 ghost use Rattle.netlist_core.specs.Checked.{IsChecked};
 ghost use Rattle.netlist_core.specs.OnGrid.{calls_design, on_grid, used_design};
-ghost use Rattle.netlist_core.specs.SameNet.{parent_calls, SameNet};
+ghost use Rattle.design_model.specs.SameNet.{SameNet};
+ghost use Rattle.netlist_core.specs.SignalWords.{parent_calls, word_of};
 ghost use Rattle.netlist_core.specs.Signals.{nets_of, pin_in};
 ghost use Rattle.std.specs.List.{AllByRecursion, IsDistinct};
 ghost use Rattle.std.specs.Prelude.{◌≡◌, ◌<◌, ◌≤◌, ◌+◌, ◌-◌, ◌*◌, ◌^◌, length, map, IfOk};
@@ -12,7 +13,8 @@ use crate::calls::{calls_fault, instances_of, the_parent};
 use crate::library::Library;
 use crate::signals::{Signal, copies, nets_of, pins_of, signals_of};
 use crate::used::{Numbered, height_of, kinds_of, names_of, used_modules};
-use crate::{Count, Design, DesignFault};
+use crate::{Count, DesignFault};
+use design_model::Design;
 use geom_core::Items;
 use std::alloc::Global;
 use tech_rules::Rules;
@@ -26,7 +28,9 @@ pub const MOST_PINS: usize = 200000;
 
 /// The checked design of a file: its PARENT's calls as instances, the modules that they use as kinds on the column grid of the
 /// rules, and the pins with the nets that their signal words make. Two pins have one net exactly where their words are equal.
-/// The height of a design with kinds has room for two pins and the space between them.
+/// Kinds stand in the order of the file, positions in that of their lines, instances in that of the calls, and terminals and
+/// nets in the order of their first mention. The height of a design with kinds has room for two pins and the space between
+/// them; without kinds it is 0.
 ///
 /// It errs with the first of these that holds: NoParent, ManyParents, Limit(Instances) above 20,000; then by instance
 /// UnknownModule, NotStandard or SignalCount; Limit(Pins) above 200,000; then by used module, in the order of the file, NoShape,
@@ -36,7 +40,7 @@ pub fn to_design(alloc: Global, file: &YalFile, rules: &Rules) -> Result<Design,
     requires file { IsKept file.now }
     requires few { HasAtMost (2 ^ 32 - 1) file.now }
     ensures is { Agrees (λ design. design) result (on_grid rules.now file.now) }
-    ensures nets { IfOk result (λ design. SameNet (parent_calls file.now) design.pins) }
+    ensures nets { IfOk result (λ design. SameNet (word_of (parent_calls file.now)) design.pins) }
     ensures high { IfOk result (λ design. 0 < length design.kinds → 2 * rules.now.grid_pin + rules.now.vertical_space ≤ design.height) }
 {
     let parent = the_parent(file)?;
@@ -58,7 +62,7 @@ fn calls_design(
     requires names { AllByRecursion IsKeptCall calls.now }
     requires calls { IsDistinct bytes_eq (call_names calls.now) }
     ensures is { Agrees (λ design. design) result (calls_design rules.now modules.now calls.now) }
-    ensures nets { IfOk result (λ design. SameNet calls.now design.pins) }
+    ensures nets { IfOk result (λ design. SameNet (word_of calls.now) design.pins) }
 {
     if calls.len() > MOST_INSTANCES {
         return Err(DesignFault::Limit(Count::Instances, calls.len() as u64));

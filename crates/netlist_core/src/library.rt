@@ -9,8 +9,8 @@ ghost use Rattle.std.specs.Prelude.{◌≡◌, ◌<◌, ◌-◌, ◌^◌, length
 ghost use Rattle.std.specs.Str.{bytes_eq};
 ghost use Rattle.yal_reader.specs.Kept.{module_names, IsShort};
 
-use crate::Terminal;
 use crate::terminals::{power_names, terminal_names, terminals};
+use design_model::Terminal;
 use geom_core::Items;
 use indexmap::IndexSet;
 use list_facts::{number, place_of};

@@ -69,24 +69,3 @@ fn between(a: (i64, i64), c: (i64, i64)) -> Option<Outline>
         height: a.1.abs_diff(c.1) as u32,
     })
 }
-
-#[cfg(test)]
-mod tests {
-    use super::*;
-    use std::test::Fail;
-
-    #[test]
-    fn corners_have_an_outline(rt: HostRuntime) -> Result<(), Fail> {
-        let want = Outline {
-            left: -4,
-            low: 0,
-            width: 16,
-            height: 40,
-        };
-        assert_eq!(rt; outline_of(&[-4, 0, 12, 0, 12, 40, -4, 40]), Some(want));
-        assert_eq!(rt; outline_of(&[12, 40, 12, 0, -4, 0, -4, 40]), Some(want));
-        assert_eq!(rt; outline_of(&[-4, 0, 12, 40, 12, 0, -4, 40]), None);
-        assert_eq!(rt; outline_of(&[-4, 0, 12, 0, 12, 40]), None);
-        Ok(())
-    }
-}

@@ -4,9 +4,9 @@ ghost use Rattle.std.specs.Option.{option_map};
 ghost use Rattle.std.specs.Prelude.{◌≡◌, ◌<◌, ◌/◌, [], ◌++◌, ◌∷◌, not, IfOk, IsTrue, Vec};
 ghost use Rattle.std.specs.Str.{str_eq_ignore_ascii_case};
 
-use crate::design::Position;
 use crate::outline::Outline;
 use crate::terminals::NumberedSpot;
+use design_model::Position;
 use indexmap::IndexSet;
 use std::alloc::{AllocError, Global};
 
@@ -151,64 +151,4 @@ fn is_same_word(word: &[u8], other: &[u8]) -> bool
     ensures { result ≡ str_eq_ignore_ascii_case word.now other.now }
 {
     word.eq_ignore_ascii_case(other)
-}
-
-#[cfg(test)]
-mod tests {
-    use super::*;
-    use geom_core::Name;
-    use std::test::Fail;
-    use yal_reader::Spot;
-
-    #[test]
-    fn spots_have_positions(rt: HostRuntime) -> Result<(), Fail> {
-        let outline = Outline {
-            left: 0,
-            low: 0,
-            width: 16,
-            height: 40,
-        };
-        let low = Spot {
-            x: 12,
-            y: 0,
-            layer: Name::new(b"poly".to_vec(rt.alloc())?),
-        };
-        let high = Spot {
-            x: 4,
-            y: 40,
-            layer: Name::new(b"POLY".to_vec(rt.alloc())?),
-        };
-        let spots = [
-            NumberedSpot {
-                terminal: 0,
-                spot: &low,
-            },
-            NumberedSpot {
-                terminal: 1,
-                spot: &high,
-            },
-            NumberedSpot {
-                terminal: 0,
-                spot: &low,
-            },
-        ];
-        assert!(rt; are_on_layer(b"Poly", &spots));
-        assert!(rt; !are_on_layer(b"PolyS", &spots));
-        assert!(rt; grid_positions(rt.alloc(), 6, outline, &spots)?.is_none());
-        let bottom = Position {
-            terminal: 0,
-            top: false,
-            column: 1,
-        };
-        let top = Position {
-            terminal: 1,
-            top: true,
-            column: 0,
-        };
-        let positions = grid_positions(rt.alloc(), 8, outline, &spots)?.expect(&rt, "on the grid");
-        assert_eq!(rt; positions.as_slice(), [bottom, top, bottom].as_slice());
-        assert!(rt; has_clash(rt.alloc(), &positions)?);
-        assert!(rt; !has_clash(rt.alloc(), &[bottom, top])?);
-        Ok(())
-    }
 }

@@ -3,7 +3,7 @@ ghost use Rattle.netlist_core.specs.Signals.{all_signals, nets_of, pin_in, signa
 ghost use Rattle.std.specs.Prelude.{◌≡◌, ◌≤◌, ◌<◌, ◌^◌, ◌-◌, ◌++◌, length, map, IfOk, OnOk};
 
 use crate::library::Library;
-use crate::{Pin, Terminal};
+use design_model::{Pin, Terminal};
 use geom_core::Name;
 use indexmap::IndexSet;
 use list_facts::{number, place_of};

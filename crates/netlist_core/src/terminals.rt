@@ -3,7 +3,7 @@ ghost use Rattle.netlist_core.specs.Cells.{power_names, spots_of, terminal_in, t
 ghost use Rattle.std.specs.Prelude.{◌≡◌, ◌<◌, ◌≤◌, ◌^◌, IfOk, length, map};
 ghost use Rattle.yal_reader.specs.Kept.{is_power};
 
-use crate::design::Terminal;
+use design_model::Terminal;
 use geom_core::Name;
 use indexmap::IndexSet;
 use list_facts::{is_among, number, place_of};

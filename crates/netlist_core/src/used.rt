@@ -5,9 +5,10 @@ ghost use Rattle.netlist_core.specs.OnGrid.{height_of, kind_for, kinds_for, used
 ghost use Rattle.std.specs.Prelude.{◌≡◌, ◌<◌, ◌≤◌, ◌-◌, ◌^◌, length, All, IfOk};
 ghost use Rattle.yal_reader.specs.Kept.{IsKeptModule, IsShort};
 
+use crate::DesignFault;
 use crate::calls::called_names;
 use crate::cells::{height_of_module, kind_of};
-use crate::{CellKind, DesignFault};
+use design_model::CellKind;
 use indexmap::IndexSet;
 use list_facts::{is_among, number};
 use std::alloc::{AllocError, Global};

@@ -1,6 +1,6 @@
 use Rattle.std.proofs.Common.{◌≡◌, ◌<◌, ◌≤◌, ◌⊎◌, ℕ, ◌+◌, List, [], ◌∷◌, Bool, Some, refl, ap, sym, ◌∙◌, subst, inl, inr, arith}
-use Rattle.netlist_core.specs.Netlist.{Netlist, IsNetlist}
-use Rattle.netlist_core.specs.declared.design.Pin.{Pin}
+use Rattle.design_model.specs.Netlist.{Netlist, IsNetlist}
+use Rattle.design_model.specs.declared.design.Pin.{Pin}
 use Rattle.row_model.specs.Stands.{turned_column}
 use Rattle.row_model.specs.Widths.{columns_of}
 use Rattle.row_model.specs.declared.rows.Seat.{Seat}

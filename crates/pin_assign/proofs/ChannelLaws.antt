@@ -2,7 +2,7 @@ use Rattle.std.proofs.Common.{◌≡◌, ◌≢◌, ◌<◌, ◌≤◌, ◌⊎�
 use Rattle.std.specs.List.{slice_index}
 use Rattle.channel_model.specs.Nets.{AreNets, StandsIn}
 use Rattle.channel_model.specs.Pins.{ArePaired, IsChannel}
-use Rattle.netlist_core.specs.Netlist.{Netlist, IsNetlist}
+use Rattle.design_model.specs.Netlist.{Netlist, IsNetlist}
 use Rattle.row_model.specs.declared.rows.Seat.{Seat}
 use Rattle.feed_cells.specs.Fed.{Fed, fed_rows, nets_in}
 use Rattle.pin_assign.specs.Sources.{Source, source_net}

@@ -1,8 +1,8 @@
 use Rattle.std.proofs.Common.{◌≡◌, ◌⊎◌, ◌<◌, ℕ, inl, inr, arith, List, [], ◌∷◌, Bool, true, false, cond, filter, map}
 use Rattle.std.specs.List.{AllByRecursion}
-use Rattle.netlist_core.specs.PinOrder.{IsAscending, is_less, pin_pair}
-use Rattle.netlist_core.specs.declared.design.Pin.{Pin}
-use Rattle.netlist_core.proofs.PairOrder.{less-is}
+use Rattle.design_model.specs.PinOrder.{IsAscending, is_less, pin_pair}
+use Rattle.design_model.specs.declared.design.Pin.{Pin}
+use Rattle.design_model.proofs.PairOrder.{less-is}
 use Rattle.pin_assign.specs.Causes.{AreDifferent}
 
 -- what holds of the pairs of pins holds of those that a filter keeps

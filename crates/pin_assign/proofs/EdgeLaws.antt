@@ -5,13 +5,13 @@ use Rattle.std.proofs.lemmas.List.Elements.{All-from_recursion}
 use Rattle.std.proofs.lemmas.Option.{none-some, option_and_then_some, same_Some, slice_get-map}
 use Rattle.std.specs.List.{find, slice_get}
 use Rattle.std.specs.Option.{option_map}
-use Rattle.netlist_core.specs.Netlist.{Netlist, IsNetlist, IsKind, IsPosition}
-use Rattle.netlist_core.specs.PinOrder.{IsAscending, is_less, pin_pair}
-use Rattle.netlist_core.specs.declared.design.CellKind.{CellKind}
-use Rattle.netlist_core.specs.declared.design.Inst.{Inst}
-use Rattle.netlist_core.specs.declared.design.Pin.{Pin}
-use Rattle.netlist_core.specs.declared.design.Position.{Position}
-use Rattle.netlist_core.proofs.PinsInOrder.{pins-ascending}
+use Rattle.design_model.specs.Netlist.{Netlist, IsNetlist, IsKind, IsPosition}
+use Rattle.design_model.specs.PinOrder.{IsAscending, is_less, pin_pair}
+use Rattle.design_model.specs.declared.design.CellKind.{CellKind}
+use Rattle.design_model.specs.declared.design.Inst.{Inst}
+use Rattle.design_model.specs.declared.design.Pin.{Pin}
+use Rattle.design_model.specs.declared.design.Position.{Position}
+use Rattle.design_model.proofs.PinsInOrder.{pins-ascending}
 use Rattle.row_model.specs.Stands.{column_in, edge_column, is_on, positions_in, positions_of, turned_column}
 use Rattle.row_model.specs.Widths.{columns_of, kind_of, width_of}
 use Rattle.pin_assign.proofs.FindLaws.{all-get, contains-get, find-passes, find-some, get-contains}

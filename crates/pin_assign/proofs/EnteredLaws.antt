@@ -5,8 +5,8 @@ use Rattle.std.specs.List.{slice_get}
 use Rattle.std.specs.Option.{option_map}
 use Rattle.channel_model.specs.Nets.{AreNets}
 use Rattle.channel_model.specs.Pins.{IsChannel}
-use Rattle.netlist_core.specs.Netlist.{IsNetlist, Netlist}
-use Rattle.netlist_core.specs.declared.design.Pin.{Pin}
+use Rattle.design_model.specs.Netlist.{IsNetlist, Netlist}
+use Rattle.design_model.specs.declared.design.Pin.{Pin}
 use Rattle.row_model.specs.Rows.{ArePlaced}
 use Rattle.row_model.specs.Stands.{row_in, row_of}
 use Rattle.row_model.specs.declared.rows.Seat.{Seat}

@@ -2,8 +2,8 @@ use Rattle.std.proofs.Common.{◌≡◌, ◌≤◌, ◌==◌, ◌&&◌, ℕ, zer
 use Rattle.std.proofs.lemmas.List.FromFn.{length-range_with_len}
 use Rattle.std.proofs.lemmas.List.{length-map}
 use Rattle.std.specs.List.{AllByRecursion, range_with_len}
-use Rattle.netlist_core.specs.Netlist.{IsNetlist, Netlist}
-use Rattle.netlist_core.specs.declared.design.CellKind.{CellKind}
+use Rattle.design_model.specs.Netlist.{IsNetlist, Netlist}
+use Rattle.design_model.specs.declared.design.CellKind.{CellKind}
 use Rattle.row_model.specs.Rows.{ArePlaced}
 use Rattle.row_model.specs.Widths.{columns_of, kind_of, width_of}
 use Rattle.row_model.specs.declared.rows.Seat.{Seat}

@@ -1,5 +1,5 @@
 use Rattle.std.proofs.Common.{◌≡◌, ◌<◌, ◌≤◌, ◌-◌, ℕ, zero, suc, List, [], map, fold, length, Option, None, Some, slice_get, refl, ap, ◌∙◌, arith}
-use Rattle.netlist_core.specs.Netlist.{IsNetlist, Netlist}
+use Rattle.design_model.specs.Netlist.{IsNetlist, Netlist}
 use Rattle.feed_cells.specs.Fed.{cells_in}
 use Rattle.feed_cells.specs.declared.fed.Item.{Item}
 use Rattle.feed_cells.proofs.FewNets.{nets-few}

@@ -1,7 +1,7 @@
 use Rattle.std.proofs.Common.{◌≡◌, ◌<◌, ℕ, ◌+◌, ◌-◌, List, [], ◌∷◌, map, length, Bool, true, false, Option, None, Some, cond, ◌==◌, slice_get, refl, ap, ◌∙◌, arith, Contains}
 use Rattle.std.specs.Option.{option_map}
-use Rattle.netlist_core.specs.Netlist.{IsNetlist, Netlist}
-use Rattle.netlist_core.specs.declared.design.Pin.{Pin}
+use Rattle.design_model.specs.Netlist.{IsNetlist, Netlist}
+use Rattle.design_model.specs.declared.design.Pin.{Pin}
 use Rattle.row_model.specs.Stands.{Stand, edge_column, or_else, row_in, stand_from, stand_in, stand_of}
 use Rattle.row_model.specs.Widths.{columns_of}
 use Rattle.row_model.proofs.PinLaws.{pin-within}

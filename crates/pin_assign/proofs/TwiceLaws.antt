@@ -1,9 +1,9 @@
 use Rattle.std.proofs.Common.{◌≡◌, ◌⊎◌, ◌<◌, ◌≤◌, ◌+◌, ◌-◌, ℕ, max, inl, inr, refl, sym, subst, ap, ◌∙◌, arith, List, ◌∷◌, Bool, true, false, cond, eqb, Contains, length, map}
 use Rattle.std.proofs.lemmas.Bool.{both_ways, cases_eq, eqb-true}
-use Rattle.netlist_core.specs.Netlist.{IsNetlist, Netlist}
-use Rattle.netlist_core.specs.PinOrder.{IsAscending, pin_pair}
-use Rattle.netlist_core.specs.declared.design.Pin.{Pin}
-use Rattle.netlist_core.proofs.PinsInOrder.{pins-ascending}
+use Rattle.design_model.specs.Netlist.{IsNetlist, Netlist}
+use Rattle.design_model.specs.PinOrder.{IsAscending, pin_pair}
+use Rattle.design_model.specs.declared.design.Pin.{Pin}
+use Rattle.design_model.proofs.PinsInOrder.{pins-ascending}
 use Rattle.row_model.specs.Rows.{ArePlaced}
 use Rattle.row_model.specs.Stands.{row_of}
 use Rattle.row_model.specs.declared.rows.Seat.{Seat}

@@ -1,6 +1,6 @@
 use Rattle.std.specs.Prelude.{◌≡◌, ◌⊎◌, ◌<◌, ◌+◌, ℕ, List, length, Bool, true, false, Contains}
-use Rattle.netlist_core.specs.Netlist.{Netlist}
-use Rattle.netlist_core.specs.declared.design.Pin.{Pin}
+use Rattle.design_model.specs.Netlist.{Netlist}
+use Rattle.design_model.specs.declared.design.Pin.{Pin}
 use Rattle.row_model.specs.declared.rows.Seat.{Seat}
 use Rattle.row_model.specs.Stands.{row_of}
 use Rattle.feed_cells.specs.Crossings.{crossing_of, has_edge, is_in}

@@ -1,7 +1,7 @@
 use Rattle.std.specs.Prelude.{◌==◌, ℕ, List, [], max, Bool, false, ◌&&◌, ◌||◌, if◌then◌else◌, Option, None, Some, map, fold, slice_get, ◌∷◌, ◌++◌}
 use Rattle.std.specs.List.{range_with_len}
-use Rattle.netlist_core.specs.Netlist.{Netlist}
-use Rattle.netlist_core.specs.declared.design.Pin.{Pin}
+use Rattle.design_model.specs.Netlist.{Netlist}
+use Rattle.design_model.specs.declared.design.Pin.{Pin}
 use Rattle.row_model.specs.Widths.{columns_of}
 use Rattle.row_model.specs.declared.rows.Seat.{Seat}
 use Rattle.feed_cells.specs.Crossings.{crossing_of, is_across}

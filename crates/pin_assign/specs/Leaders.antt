@@ -1,6 +1,6 @@
 use Rattle.std.specs.Prelude.{◌==◌, ℕ, List, [], ◌∷◌, ◌++◌, fold, Bool, ◌&&◌, not, if◌then◌else◌, Option, None, Some}
 use Rattle.std.specs.List.{find, list_any}
-use Rattle.netlist_core.specs.declared.design.Pin.{Pin}
+use Rattle.design_model.specs.declared.design.Pin.{Pin}
 use Rattle.pin_assign.specs.Entering.{is_pin}
 use Rattle.pin_assign.specs.PinEdges.{is_through}
 use Rattle.pin_assign.specs.declared.pin_edges.PinEdges.{PinEdges}

@@ -1,6 +1,6 @@
 use Rattle.std.specs.Prelude.{ℕ, ◌+◌, List, Bool, not, Option, None, Some, slice_get, slice_index, if◌then◌else◌}
 use Rattle.channel_model.specs.Pins.{Pins}
-use Rattle.netlist_core.specs.Netlist.{Netlist}
+use Rattle.design_model.specs.Netlist.{Netlist}
 use Rattle.feed_cells.specs.Fed.{Fed, cells_in}
 use Rattle.feed_cells.specs.declared.fed.Item.{Item}
 use Rattle.pin_assign.specs.Sources.{Source, SourceEnters, StandsOver}

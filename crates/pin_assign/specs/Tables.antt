@@ -1,8 +1,8 @@
 use Rattle.std.specs.Prelude.{◌==◌, ℕ, zero, suc, ◌+◌, ◌-◌, List, [], ◌∷◌, ◌++◌, map, length, replicate, Bool, true, false, ◌&&◌, Option, None, Some, slice_get}
 use Rattle.std.specs.List.{find, flat_map, range_with_len}
 use Rattle.channel_model.specs.Pins.{Pins}
-use Rattle.netlist_core.specs.Netlist.{Netlist}
-use Rattle.netlist_core.specs.declared.design.Pin.{Pin}
+use Rattle.design_model.specs.Netlist.{Netlist}
+use Rattle.design_model.specs.declared.design.Pin.{Pin}
 use Rattle.row_model.specs.Stands.{turned_column, edge_column}
 use Rattle.row_model.specs.Widths.{columns_of}
 use Rattle.row_model.specs.declared.rows.Seat.{Seat}

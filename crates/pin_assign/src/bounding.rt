@@ -3,8 +3,8 @@ ghost use Rattle.pin_assign.specs.Bounds.{bound_of, channels_height, most_nets};
 ghost use Rattle.std.specs.Prelude.{◌≡◌, ◌≤◌, length};
 
 use crate::bound::Bound;
+use design_model::Design;
 use feed_cells::FedRows;
-use netlist_core::Design;
 use tech_rules::Rules;
 
 /// The size that a layout of these rows is within, whatever its routing: a channel of n nets has at most 2n tracks, and n columns more than the widest

@@ -2,7 +2,7 @@ ghost use Rattle.row_model.specs.Widths.{columns_of, kind_of};
 ghost use Rattle.std.specs.Option.{option_map};
 ghost use Rattle.std.specs.Prelude.{◌≡◌};
 
-use netlist_core::{CellKind, Design};
+use design_model::{CellKind, Design};
 
 // The kind of the instance with this number, if there is one.
 fn kind_of<'d>(design: &'d Design, instance: u32) -> Option<&'d CellKind>

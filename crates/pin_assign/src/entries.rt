@@ -9,8 +9,8 @@ use crate::by_instance::{CellPins, pins_there};
 use crate::cells::columns_of;
 use crate::entrants::{Entrant, enters};
 use crate::pin_edges::edge_of;
+use design_model::Design;
 use feed_cells::Item;
-use netlist_core::Design;
 use std::alloc::{AllocError, Global};
 
 /// The entries of a row into a channel over an edge, the upper where `top` holds, padded to so many columns, by a table of the instances' pins. The one

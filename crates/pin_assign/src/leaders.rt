@@ -1,4 +1,4 @@
-ghost use Rattle.netlist_core.specs.declared.design.Pin.{Pin as Joined};
+ghost use Rattle.design_model.specs.declared.design.Pin.{Pin as Joined};
 ghost use Rattle.pin_assign.specs.Entering.{is_pin};
 ghost use Rattle.pin_assign.specs.Leaders.{is_in_row, leaders_among, leaders_there, leaders_with, leads_among};
 ghost use Rattle.pin_assign.specs.declared.pin_edges.PinEdges.{PinEdges as Edges};

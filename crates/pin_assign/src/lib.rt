@@ -17,6 +17,3 @@ mod tabling;
 pub use bound::Bound;
 pub use bounding::bound_of;
 pub use tabling::channels;
-
-#[cfg(test)]
-mod tests;

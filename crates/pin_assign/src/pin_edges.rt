@@ -1,9 +1,9 @@
-ghost use Rattle.netlist_core.specs.Netlist.{Netlist};
+ghost use Rattle.design_model.specs.Netlist.{Netlist};
 ghost use Rattle.row_model.specs.PinColumns.{pin_columns};
 ghost use Rattle.pin_assign.specs.PinEdges.{above_there, edge_of, edges_at, highest_of, is_through, lowest_of, tabled_edges};
 ghost use Rattle.std.specs.Prelude.{◌≡◌, map, slice_get, IfOk};
 
-use netlist_core::{Design, Pin};
+use design_model::{Design, Pin};
 use row_model::{PinColumns, all_pin_columns};
 use std::alloc::{AllocError, Global};
 

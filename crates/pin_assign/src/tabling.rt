@@ -12,9 +12,9 @@ use crate::pin_edges::pins_with_edges;
 use crate::reaches::reaches_of;
 use crate::rows_beside::{items_at, items_below};
 use channel_model::Channel;
+use design_model::Design;
 use feed_cells::{FedRows, Item};
 use geom_core::Items;
-use netlist_core::Design;
 use std::alloc::{AllocError, Global};
 
 /// The channels between rows with their feeds, from the lowest up, one more than there are rows: which net enters which channel in which column. Rows that

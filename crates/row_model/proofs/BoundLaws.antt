@@ -2,7 +2,7 @@ use Rattle.std.proofs.Common.{◌≡◌, ◌<◌, ◌≤◌, ℕ, ◌+◌, ◌*�
 use Rattle.std.proofs.lemmas.Option.{same_Some}
 use Rattle.std.specs.List.{AllByRecursion, slice_get}
 use Rattle.list_facts.proofs.Every.{every-get}
-use Rattle.netlist_core.specs.Netlist.{IsNetlist, Netlist}
+use Rattle.design_model.specs.Netlist.{IsNetlist, Netlist}
 use Rattle.row_model.specs.Rows.{ArePlaced}
 use Rattle.row_model.specs.Stands.{Stand, stand_of}
 use Rattle.row_model.specs.Widths.{columns_of, row_width}

@@ -5,11 +5,11 @@ use Rattle.std.specs.List.{AllByRecursion, find, range_with_len}
 use Rattle.std.specs.Option.{option_and_then, option_map}
 use Rattle.list_facts.proofs.Every.{every-from-get, every-weaker}
 use Rattle.list_facts.proofs.Places.{changed-at, list-by, unchanged-past}
-use Rattle.netlist_core.specs.Netlist.{IsKind, IsNetlist, IsPosition, Netlist}
-use Rattle.netlist_core.specs.declared.design.CellKind.{CellKind}
-use Rattle.netlist_core.specs.declared.design.Inst.{Inst}
-use Rattle.netlist_core.specs.declared.design.Pin.{Pin}
-use Rattle.netlist_core.specs.declared.design.Position.{Position}
+use Rattle.design_model.specs.Netlist.{IsKind, IsNetlist, IsPosition, Netlist}
+use Rattle.design_model.specs.declared.design.CellKind.{CellKind}
+use Rattle.design_model.specs.declared.design.Inst.{Inst}
+use Rattle.design_model.specs.declared.design.Pin.{Pin}
+use Rattle.design_model.specs.declared.design.Position.{Position}
 use Rattle.row_model.specs.Stands.{column_in, is_on, positions_in}
 use Rattle.row_model.specs.PinColumns.{before, columns_there, kind_columns, nowhere, pin_columns, position_columns, table_there, terminal_columns, with_position}
 use Rattle.row_model.specs.declared.cell_columns.PinColumns.{PinColumns}

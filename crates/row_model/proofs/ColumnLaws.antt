@@ -2,9 +2,9 @@ use Rattle.std.proofs.Common.{◌≡◌, ◌<◌, ◌≤◌, ℕ, ◌+◌, List,
 use Rattle.std.proofs.lemmas.Option.{none-some, same_Some}
 use Rattle.std.specs.List.{AllByRecursion, find, slice_get, slice_index_or}
 use Rattle.std.specs.Prelude.{◌==◌}
-use Rattle.netlist_core.specs.Netlist.{IsNetlist, Netlist}
-use Rattle.netlist_core.specs.declared.design.Pin.{Pin}
-use Rattle.netlist_core.specs.declared.design.Position.{Position}
+use Rattle.design_model.specs.Netlist.{IsNetlist, Netlist}
+use Rattle.design_model.specs.declared.design.Pin.{Pin}
+use Rattle.design_model.specs.declared.design.Position.{Position}
 use Rattle.row_model.specs.Stands.{Stand, column_at, column_in, column_of, first_column, positions_in, positions_of, stand_of, turned_column}
 use Rattle.row_model.specs.Widths.{columns_of, row_width, width_of}
 use Rattle.row_model.specs.declared.rows.Seat.{Seat}

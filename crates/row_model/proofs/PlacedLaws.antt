@@ -8,7 +8,7 @@ use Rattle.std.proofs.lemmas.Map.Keys.{IsDistinct-IsPermutation}
 use Rattle.std.specs.List.{AllByRecursion, range_with_len, IsDistinct}
 use Rattle.std.specs.Prelude.{All, nat_eq}
 use Rattle.list_facts.proofs.Every.{every-left, every-right, every-weaker}
-use Rattle.netlist_core.specs.Netlist.{IsNetlist, Netlist}
+use Rattle.design_model.specs.Netlist.{IsNetlist, Netlist}
 use Rattle.row_model.specs.Rows.{all_instances, ArePlaced, AreRows, instances_in}
 use Rattle.row_model.specs.declared.rows.Seat.{Seat}
 

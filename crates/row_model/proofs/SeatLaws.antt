@@ -4,7 +4,7 @@ use Rattle.std.proofs.lemmas.Option.{none-some, same_Some}
 use Rattle.std.specs.List.{AllByRecursion, IsDistinct, slice_get}
 use Rattle.std.specs.Prelude.{nat_eq}
 use Rattle.list_facts.proofs.Every.{every-at, every-left, every-right, every-weaker}
-use Rattle.netlist_core.specs.Netlist.{Netlist}
+use Rattle.design_model.specs.Netlist.{Netlist}
 use Rattle.row_model.specs.Rows.{all_instances, AreRows, instances_in}
 use Rattle.row_model.specs.Stands.{Stand, or_else, stand_from, stand_in, stand_of}
 use Rattle.row_model.specs.Widths.{columns_of, row_width}

@@ -7,7 +7,7 @@ use Rattle.std.proofs.lemmas.Option.{same_Some}
 use Rattle.std.specs.List.{AllByRecursion, range_with_len, slice_get}
 use Rattle.std.specs.Prelude.{nat_eq}
 use Rattle.list_facts.proofs.Every.{every-append}
-use Rattle.netlist_core.specs.Netlist.{Netlist}
+use Rattle.design_model.specs.Netlist.{Netlist}
 use Rattle.row_model.specs.Rows.{all_instances, ArePlaced, instances_in}
 use Rattle.row_model.specs.Stands.{Stand, or_else, stand_from, stand_in, stand_of}
 use Rattle.row_model.specs.Widths.{columns_of, row_width}

@@ -6,7 +6,7 @@ use Rattle.std.proofs.lemmas.List.Sorted.{IsPermutation-refl}
 use Rattle.std.specs.List.{range_with_len}
 use Rattle.std.specs.List.Sorted.{IsPermutation}
 use Rattle.std.specs.Prelude.{nat_le}
-use Rattle.netlist_core.specs.Netlist.{IsNetlist, Netlist}
+use Rattle.design_model.specs.Netlist.{IsNetlist, Netlist}
 use Rattle.row_model.specs.Rows.{all_instances, ArePlaced, instances_in}
 use Rattle.row_model.specs.Start.{least_rows, rounded_up, rows_from, start_rows, taken, upright}
 use Rattle.row_model.specs.Widths.{all_columns, columns_of}

@@ -1,6 +1,6 @@
 use Rattle.std.proofs.Common.{◌≡◌, List, [], ◌∷◌, None, Some, true, false, refl}
-use Rattle.netlist_core.specs.Netlist.{Netlist}
-use Rattle.netlist_core.specs.declared.design.CellKind.{CellKind}
+use Rattle.design_model.specs.Netlist.{Netlist}
+use Rattle.design_model.specs.declared.design.CellKind.{CellKind}
 use Rattle.row_model.specs.PinColumns.{pin_columns}
 use Rattle.row_model.specs.Start.{start_rows, upright}
 use Rattle.row_model.specs.Stands.{column_of, stand_of}

@@ -1,13 +1,13 @@
 ghost use Rattle.row_model.specs.PinColumns.{before, columns_there, kind_columns, pin_columns, position_columns, table_there, terminal_columns, with_position};
 ghost use Rattle.row_model.specs.Stands.{positions_of};
 ghost use Rattle.row_model.specs.Widths.{kind_of};
-ghost use Rattle.netlist_core.specs.declared.design.Inst.{Inst};
+ghost use Rattle.design_model.specs.declared.design.Inst.{Inst};
 ghost use Rattle.row_model.specs.declared.cell_columns.PinColumns.{PinColumns as Columns};
 ghost use Rattle.std.specs.Option.{option_map};
 ghost use Rattle.std.specs.Prelude.{◌≡◌, ◌<◌, ℕ, Some, length, map, slice_get, IfOk};
 
+use design_model::{CellKind, Design, Pin, Position};
 use geom_core::Items;
-use netlist_core::{CellKind, Design, Pin, Position};
 use std::alloc::{AllocError, Global};
 
 /// The columns of a pin in its cell, counted from the left side of the cell as it is drawn: that of its first position, that of its first one on the

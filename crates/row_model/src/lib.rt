@@ -14,6 +14,3 @@ pub use standing::column_of;
 pub use starting::{default_rows, start};
 pub use weights::Weights;
 pub use widths::columns_of;
-
-#[cfg(test)]
-mod tests;

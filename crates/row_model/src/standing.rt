@@ -7,7 +7,7 @@ ghost use Rattle.std.specs.Prelude.{◌≡◌, ◌<◌, ◌≤◌, length, slice
 
 use crate::rows::{Rows, Seat};
 use crate::widths::columns_of;
-use netlist_core::{Design, Pin};
+use design_model::{Design, Pin};
 
 /// The column of a pin in its row: that of its terminal's first position, in its cell as it stands, mirrored or upright. Takes
 /// no memory.

@@ -5,8 +5,8 @@ ghost use Rattle.std.specs.Prelude.{◌≡◌, ◌+◌, ◌-◌, ◌*◌, ◌<�
 
 use crate::rows::{Rows, Seat};
 use crate::widths::{all_columns, columns_of};
+use design_model::Design;
 use geom_core::Items;
-use netlist_core::Design;
 use std::alloc::{AllocError, Global};
 use tech_rules::Rules;
 

@@ -1,7 +1,7 @@
 ghost use Rattle.row_model.specs.Widths.{all_columns, columns_of};
 ghost use Rattle.std.specs.Prelude.{◌≡◌, ◌<◌, ◌≤◌, length};
 
-use netlist_core::Design;
+use design_model::Design;
 
 /// The width of an instance in columns, 1 to 100,000,000. Takes no memory.
 pub fn columns_of(design: &Design, instance: u32) -> u32

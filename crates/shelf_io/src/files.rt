@@ -47,17 +47,19 @@ pub(crate) fn empty(alloc: Global, files: &mut Files, name: &str) -> Result<(), 
 }
 
 /// Puts the piece at the end of the name's bytes. Failed comes where the name is lacking or memory
-/// is wanting.
+/// is wanting; an empty piece takes none.
 #[tactic(auto, using(std::proofs::lemmas::Map::Text::text_keys))]
 pub(crate) fn append(files: &mut Files, name: &str, piece: &[u8]) -> Result<(), Failed>
     ensures appended { OnOk result (held files.new name.now
         ≡ appended (held files.old name.now) piece.now) }
     ensures lacking { OnOk result (held files.old name.now ≢ None) }
+    ensures empty { length piece.now ≡ 0 → OnErr result (held files.old name.now ≡ None) }
     ensures same { OnErr result (held files.new name.now ≡ held files.old name.now) }
     ensures others { (other : List ℕ) → other ≢ name.now
         → held files.new other ≡ held files.old other }
 {
     match files.get_mut(name) {
+        Some(_) if piece.is_empty() => Ok(()),
         Some(file) => match file.extend_from_slice(piece) {
             Ok(()) => Ok(()),
             Err(_) => Err(Failed),

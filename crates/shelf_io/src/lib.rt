@@ -19,6 +19,3 @@ pub use mem_sink::MemSink;
 pub use never::{NeverShelf, NeverSink};
 pub use putting::put_all;
 pub use traits::{Failed, Shelf, Sink};
-
-#[cfg(test)]
-mod tests;

@@ -16,7 +16,7 @@ use std::collections::BTreeMap;
 /// Files in memory.
 ///
 /// A call fails where it is marked, where it takes from or puts to a name that is lacking, and
-/// where a file can't grow for want of memory. It keeps one number of failed takes and one of
+/// where a file can't grow for want of memory, which an empty piece never takes. It keeps one number of failed takes and one of
 /// failed calls of `begin` and `put`; each stands for every name.
 #[derive(Drop)]
 pub struct MemShelf {
@@ -103,6 +103,7 @@ impl MemShelf {
         ensures appended { IfOk result (λ n. held self.new name.now
             ≡ appended (held self.old name.now) (take n piece.now)) }
         ensures lacking { OnOk result (held self.old name.now ≢ None) }
+        ensures empty { length piece.now ≡ 0 → OnErr result (held self.old name.now ≡ None) }
         ensures failed { OnErr result (held self.new name.now ≡ held self.old name.now) }
         ensures others { (other : List ℕ) → other ≢ name.now
             → held self.new other ≡ held self.old other }
@@ -187,6 +188,8 @@ impl Shelf for MemShelf {
         ensures raised { OnErr result (failed_writes self.new ≡ raised (failed_writes self.old)) }
         ensures marked { IsTrue (is_marked (plan_of self.old)) → IsErr result }
         ensures lacking { held self.old name.now ≡ None → IsErr result }
+        ensures empty { length piece.now ≡ 0 → is_marked (plan_of self.old) ≡ false
+            → OnErr result (held self.old name.now ≡ None) }
         ensures counted { plan_of self.new ≡ counted (plan_of self.old) }
     {
         if self.plan.fails() {

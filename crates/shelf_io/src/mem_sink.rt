@@ -1,6 +1,6 @@
 //! A sink in memory, which tells what was put to it and fails where it is told to.
 
-ghost use Rattle.std.specs.Prelude.{◌≡◌, ◌<◌, ◌≤◌, ◌++◌, ◌∷◌, ◌-◌, ◌^◌, List, ℕ, [], length, take, min, Some, IsErr, IfOk, OnOk, OnErr, IsTrue};
+ghost use Rattle.std.specs.Prelude.{◌≡◌, ◌<◌, ◌≤◌, ◌++◌, ◌∷◌, ◌-◌, ◌^◌, List, ℕ, [], length, take, min, Some, IsErr, IsOk, false, IfOk, OnOk, OnErr, IsTrue};
 ghost use Rattle.shelf_io.specs.Count.{Rose, raised};
 ghost use Rattle.shelf_io.specs.Told.{Refines, appended};
 ghost use Rattle.shelf_io.specs.Plan.{is_marked, counted};
@@ -11,7 +11,7 @@ use crate::traits::{Failed, Sink};
 use std::alloc::{AllocError, Global};
 
 /// A text in memory that grows by what is put to it. A put fails where it is marked, and where the
-/// text can't grow for want of memory.
+/// text can't grow for want of memory, which an empty piece never takes.
 #[derive(Drop)]
 pub struct MemSink {
     text: Vec<u8>,
@@ -85,6 +85,7 @@ impl Sink for MemSink {
         ensures later { failed_puts self.old ≤ failed_puts self.new }
         ensures raised { OnErr result (failed_puts self.new ≡ raised (failed_puts self.old)) }
         ensures marked { IsTrue (is_marked (plan_of self.old)) → IsErr result }
+        ensures empty { length piece.now ≡ 0 → is_marked (plan_of self.old) ≡ false → IsOk result }
         ensures counted { plan_of self.new ≡ counted (plan_of self.old) }
     {
         let front = self.plan.front(piece);
@@ -92,6 +93,9 @@ impl Sink for MemSink {
         if self.plan.fails() {
             self.failures = raise(self.failures);
             return Err(Failed);
+        }
+        if front.is_empty() {
+            return Ok(n);
         }
         match self.text.extend_from_slice(front) {
             Ok(()) => Ok(n),

@@ -2,7 +2,7 @@ use Rattle.std.specs.Prelude.{◌≡◌, ◌≢◌, ◌⊎◌, ◌≤ℤ◌, ℕ
 use Rattle.geom_core.specs.declared.layout.Layout.{Layout}
 use Rattle.geom_core.specs.declared.layout.Shape.{Shape}
 use Rattle.geom_core.specs.Extent.{Extent}
-use Rattle.tech_rules.specs.Lengths.{Apart}
+use Rattle.geom_core.specs.Rectangles.{Apart}
 use Rattle.tech_rules.specs.Rules.{RuleValues}
 
 -- two rectangles are of one row: they begin and end at the same heights

@@ -1,5 +1,4 @@
-use Rattle.std.specs.Prelude.{◌≡◌, ◌⊎◌, ℕ, ◌*◌, ℤ, pos, ◌+ℤ◌, ◌-ℤ◌, ◌≤ℤ◌, List}
-use Rattle.geom_core.specs.Extent.{Extent}
+use Rattle.std.specs.Prelude.{◌≡◌, ◌⊎◌, ℕ, ◌*◌, ℤ, pos, List}
 use Rattle.tech_rules.specs.Rules.{RuleValues}
 
 -- a length in units, in half centimicrons
@@ -9,38 +8,3 @@ length_in r units = pos (2 * units * r.grid_centi)
 -- the layers of wires
 abbrev pub IsWire : RuleValues → List ℕ → Type 0
 IsWire r layer = (layer ≡ r.horizontal_layer) ⊎ (layer ≡ r.vertical_layer)
-
--- a rectangle of which both sides are at least d long
-pub record HasSides (d : ℤ) (e : Extent) : Type 0 where
-  pub across : (e.x0 +ℤ d) ≤ℤ e.x1
-  pub up : (e.y0 +ℤ d) ≤ℤ e.y1
-
--- a square of side d
-pub record IsSquare (d : ℤ) (e : Extent) : Type 0 where
-  pub across : e.x0 +ℤ d ≡ e.x1
-  pub up : e.y0 +ℤ d ≡ e.y1
-
--- the second rectangle lies in the first
-pub record Encloses (outer inner : Extent) : Type 0 where
-  pub left : outer.x0 ≤ℤ inner.x0
-  pub low : outer.y0 ≤ℤ inner.y0
-  pub right : inner.x1 ≤ℤ outer.x1
-  pub high : inner.y1 ≤ℤ outer.y1
-
--- a rectangle that reaches further by d on every side
-abbrev pub grown : ℤ → Extent → Extent
-grown d e = record { x0 = e.x0 -ℤ d; y0 = e.y0 -ℤ d; x1 = e.x1 +ℤ d; y1 = e.y1 +ℤ d }
-
--- two closed rectangles share a point
-pub record Meet (a b : Extent) : Type 0 where
-  pub left : a.x0 ≤ℤ b.x1
-  pub right : b.x0 ≤ℤ a.x1
-  pub low : a.y0 ≤ℤ b.y1
-  pub high : b.y0 ≤ℤ a.y1
-
--- between two rectangles there is a gap of at least d in x or in y
-pub data Apart (d : ℤ) (a b : Extent) : Type 0 where
-  left_of : (a.x1 +ℤ d) ≤ℤ b.x0 → Apart d a b
-  right_of : (b.x1 +ℤ d) ≤ℤ a.x0 → Apart d a b
-  under : (a.y1 +ℤ d) ≤ℤ b.y0 → Apart d a b
-  above : (b.y1 +ℤ d) ≤ℤ a.y0 → Apart d a b

@@ -1,7 +1,8 @@
 use Rattle.std.specs.Prelude.{◌≡◌, ℕ, List, Contains}
 use Rattle.geom_core.specs.declared.layout.Layout.{Layout}
 use Rattle.geom_core.specs.declared.layout.Shape.{Shape}
-use Rattle.tech_rules.specs.Lengths.{length_in, HasSides, IsSquare, Encloses, grown}
+use Rattle.geom_core.specs.Rectangles.{HasSides, IsSquare, Encloses, grown}
+use Rattle.tech_rules.specs.Lengths.{length_in}
 use Rattle.tech_rules.specs.Rules.{RuleValues}
 
 -- a cut, with what has to enclose it, lies in one shape of this layer

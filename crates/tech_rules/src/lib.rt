@@ -2,16 +2,13 @@
 #![tactic(auto)]
 
 mod document;
-pub mod fault;
-pub mod key;
+mod fault;
+mod key;
 mod reading;
-pub mod rules;
+mod rules;
 mod stated;
 
 pub use fault::RulesFault;
 pub use key::Key;
 pub use reading::read_rules;
 pub use rules::Rules;
-
-#[cfg(test)]
-mod tests;

@@ -120,18 +120,3 @@ fn layer(text: &[u8]) -> LayerName
         None => unreachable!(),
     }
 }
-
-#[cfg(test)]
-mod tests {
-    use super::*;
-    use std::test::Fail;
-
-    #[test]
-    fn the_sample_has_pads_of_four_units(rt: HostRuntime) -> Result<(), Fail> {
-        let rules = Rules::sample(rt.alloc())?;
-        assert_eq!(rt; rules.pad(), 4);
-        assert_eq!(rt; rules.yal.items(), b"POLY".as_slice());
-        assert_eq!(rt; rules.outline_layer.text(), b"XP".as_slice());
-        Ok(())
-    }
-}

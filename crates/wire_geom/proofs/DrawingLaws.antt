@@ -12,7 +12,8 @@ use Rattle.channel_model.specs.declared.wiring.Wiring.{Wiring}
 use Rattle.channel_model.specs.Elements.{Layer, vertical, horizontal, Element, segment, via, elements, net_of, Covers, Meets}
 use Rattle.channel_model.specs.Pins.{Pins}
 use Rattle.channel_model.specs.Wired.{Wired}
-use Rattle.tech_rules.specs.Lengths.{length_in, Apart, Meet, HasSides, IsSquare}
+use Rattle.geom_core.specs.Rectangles.{Apart, Meet, HasSides, IsSquare}
+use Rattle.tech_rules.specs.Lengths.{length_in}
 use Rattle.tech_rules.specs.Rules.{RuleValues, ValidRules, pad}
 use Rattle.wire_geom.specs.declared.drawn.Drawn.{Drawn}
 use Rattle.wire_geom.specs.Boxes.{Box}

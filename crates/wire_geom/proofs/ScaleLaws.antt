@@ -2,7 +2,8 @@ use Rattle.std.proofs.Common.{◌≡◌, ap, ℕ, ◌+◌, ◌*◌, ◌≤◌, a
 use Rattle.std.proofs.Math.Nat.{mul-le-mul_right, add-mul}
 use Rattle.std.proofs.lemmas.Int.{ints}
 use Rattle.std.specs.Prelude.{◌+ℤ◌, ◌-ℤ◌, ◌≤ℤ◌}
-use Rattle.tech_rules.specs.Lengths.{length_in, Apart, left_of, right_of, under, above, Meet}
+use Rattle.geom_core.specs.Rectangles.{Apart, left_of, right_of, under, above, Meet}
+use Rattle.tech_rules.specs.Lengths.{length_in}
 use Rattle.tech_rules.specs.Rules.{RuleValues}
 use Rattle.wire_geom.specs.Boxes.{Box}
 use Rattle.wire_geom.specs.Drawing.{extent_of}

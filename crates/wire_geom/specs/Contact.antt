@@ -1,7 +1,7 @@
 use Rattle.std.specs.Prelude.{◌≡◌, ℕ, List, Contains}
 use Rattle.channel_model.specs.declared.wiring.Wiring.{Wiring}
 use Rattle.channel_model.specs.Elements.{Layer, vertical, horizontal, Element, elements, net_of, Covers, Meets}
-use Rattle.tech_rules.specs.Lengths.{Meet}
+use Rattle.geom_core.specs.Rectangles.{Meet}
 use Rattle.tech_rules.specs.Rules.{RuleValues}
 use Rattle.wire_geom.specs.Drawing.{drawn_by}
 use Rattle.wire_geom.specs.declared.drawn.Drawn.{Drawn}

@@ -1,5 +1,6 @@
 use Rattle.std.specs.Prelude.{◌≡◌, ℕ, List, Contains}
-use Rattle.tech_rules.specs.Lengths.{length_in, HasSides, IsSquare, Encloses, grown}
+use Rattle.geom_core.specs.Rectangles.{HasSides, IsSquare, Encloses, grown}
+use Rattle.tech_rules.specs.Lengths.{length_in}
 use Rattle.tech_rules.specs.Rules.{RuleValues}
 use Rattle.wire_geom.specs.declared.drawn.Drawn.{Drawn}
 

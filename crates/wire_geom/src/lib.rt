@@ -4,8 +4,6 @@
 pub mod boxes;
 pub mod drawing;
 pub mod drawn;
-#[cfg(test)]
-mod tests;
 
 pub use drawing::draw;
 pub use drawn::Drawn;

@@ -1,12 +1,13 @@
-use Rattle.std.proofs.Common.{◌≡◌, ℕ, zero, suc, ◌+◌, ◌≤◌, true, false, List, [], ◌∷◌, ◌++◌, length, subst, None, Some, is_some, Result, Ok, Err, arith, codes, length-append}
+use Rattle.std.proofs.Common.{◌≡◌, ℕ, zero, suc, ◌+◌, ◌<◌, ◌≤◌, true, false, List, [], ◌∷◌, ◌++◌, length, subst, None, Some, is_some, Result, Ok, Err, arith, codes, length-append}
 use Rattle.std.proofs.lemmas.Cmp.{nat_list_eq_equiv}
 use Rattle.std.proofs.lemmas.Map.Keys.{IsDistinct-push}
 use Rattle.std.specs.List.{AllByRecursion, IsDistinct}
 use Rattle.std.specs.Str.{bytes_eq}
 use Rattle.yal_reader.proofs.FuelLaws.{module_names-push}
-use Rattle.yal_reader.proofs.KeptLists.{IsCalls, IsLines, each-push, kept-io_list, kept-network, no-calls}
+use Rattle.yal_reader.proofs.KeptLists.{IsCalls, IsLine, IsLines, each-push, kept-io_list, kept-network, no-calls}
 use Rattle.yal_reader.proofs.KeptWords.{Keeps, Named, ascii-plain, either, err, kept-end, kept-keyword, kept-kind, kept-numbers, kept-past, kept-statement, kept-stop, kept-word, next, ok, tokens-named, uncommented-kept, weaker}
-use Rattle.yal_reader.specs.Kept.{HasAtMost, IsKept, IsKeptModule, IsName, IsNear, IsShort, is_standard, module_names}
+use Rattle.geom_core.specs.Names.{IsName}
+use Rattle.yal_reader.specs.Kept.{HasAtMost, HasSpots, HasSpotWhereDue, IsKept, IsKeptLine, IsKeptModule, IsNear, IsShort, is_standard, module_names}
 use Rattle.yal_reader.specs.Lists.{io_list, is_among, network, unless_taken}
 use Rattle.yal_reader.specs.Sections.{calls_after, corners_after, dimensions, items_of, lines_after, no_parts, passed_after, passed_until, passes_words, section_after, sections}
 use Rattle.yal_reader.specs.Text.{ascii, uncommented}
@@ -14,6 +15,7 @@ use Rattle.yal_reader.specs.Tokens.{Spelled, Token, tokens}
 use Rattle.yal_reader.specs.Words.{a_kind, a_word, after_stop, an_end, is_empty, is_word, past_words, statement, the_word}
 use Rattle.yal_reader.specs.YalReads.{a_module, file_of, heading, module_of, modules}
 use Rattle.yal_reader.specs.declared.file.Kind.{Kind}
+use Rattle.yal_reader.specs.declared.file.Line.{Line}
 use Rattle.yal_reader.specs.declared.file.Module.{Module}
 use Rattle.yal_reader.specs.declared.file.YalFile.{YalFile}
 use Rattle.yal_reader.specs.declared.parts.Parts.{Parts}
@@ -87,8 +89,8 @@ kept-section n most kind parts w ts le p h =
     either (is_word (codes "NETWORK") w) _ _ (λ _. kept-calls n most kind parts w ts le p h) (λ _.
     next (passed_after w ts) _ (kept-passed w ts h) (λ rest k. ok (parts, rest) (p, k)))))
 
--- all sections of a module
-kept-sections : (n most : ℕ) (kind : Kind) (parts : Parts) (ts : List Token) → n ≤ most → IsParts most kind parts → Named ts
+-- all sections of a module; the last of the n is its end
+kept-sections : (n most : ℕ) (kind : Kind) (parts : Parts) (ts : List Token) → n ≤ suc most → IsParts most kind parts → Named ts
     → Keeps (λ x. IsParts most kind x.0 × Named x.1) (sections n kind parts ts)
 unfolding sections
 kept-sections zero most kind parts ts le p h = err _
@@ -121,17 +123,29 @@ kept-heading names ts h =
 -- a module, with at most so many lines and calls
 pub record IsRead (most : ℕ) (m : Module) : Type 0 where
   pub kept : IsKeptModule m
+  pub spots : AllByRecursion (HasSpotWhereDue m.kind) m.lines
   pub short : IsShort most m
+
+-- one half of what each line has
+lines-kept : (kind : Kind) (lines : List Line) → AllByRecursion (IsLine kind) lines → AllByRecursion (IsKeptLine kind) lines
+lines-kept kind [] h = tt
+lines-kept kind (l ∷ ls) h = (h.0.kept, lines-kept kind ls h.1)
+
+-- the other half
+lines-spots : (kind : Kind) (lines : List Line) → AllByRecursion (IsLine kind) lines → AllByRecursion (HasSpotWhereDue kind) lines
+lines-spots kind [] h = tt
+lines-spots kind (l ∷ ls) h = (h.0.spot, lines-spots kind ls h.1)
 
 -- a module of such parts
 module-read : (most : ℕ) (name : List ℕ) (kind : Kind) (parts : Parts) → IsName name → IsParts most kind parts → IsRead most (module_of name kind parts)
 module-read most name kind parts is p = record {
-  kept = record { name = is; corners = p.corners; lines = p.lines.each; calls = p.calls.are.each; distinct = p.calls.are.distinct };
+  kept = record { name = is; corners = p.corners; lines = lines-kept kind (items_of parts.lines) p.lines.each; calls = p.calls.are.each; distinct = p.calls.are.distinct };
+  spots = lines-spots kind (items_of parts.lines) p.lines.each;
   short = record { lines = p.lines.few; calls = p.calls.few };
 }
 
 -- one module, whose name is new
-kept-module : (n most : ℕ) (names : List (List ℕ)) (ts : List Token) → n ≤ most → Named ts
+kept-module : (n most : ℕ) (names : List (List ℕ)) (ts : List Token) → n ≤ suc most → Named ts
     → Keeps (λ x. IsRead most x.0 × (is_among names x.0.name ≡ false) × Named x.1) (a_module n names ts)
 unfolding a_module
 kept-module n most names ts le h =
@@ -151,9 +165,9 @@ modules-push most before m h is free = record {
   distinct = rw (module_names-push before m) (IsDistinct-push nat_list_eq_equiv (module_names before) m.name h.distinct free);
 }
 
--- all modules of a file
-kept-modules : (n most : ℕ) (before : List Module) (ts : List Token) → n ≤ most → AreModules most before → Named ts
-    → Keeps (λ found. AreModules most found × (length found ≤ length before + n)) (modules n before ts)
+-- all modules of a file; the last of the n is its end
+kept-modules : (n most : ℕ) (before : List Module) (ts : List Token) → n ≤ suc most → AreModules most before → Named ts
+    → Keeps (λ found. AreModules most found × (length found < length before + n)) (modules n before ts)
 unfolding modules
 kept-modules zero most before ts le are h = err _
 kept-modules (suc n) most before ts le are h =
@@ -163,12 +177,17 @@ kept-modules (suc n) most before ts le are h =
     (kept-modules n most (before ++ one.0 ∷ []) one.1 (omega (arith, le)) (modules-push most before one.0 are k.0 k.1) k.2)
     (λ found i. (i.0, omega (arith, i.1, length-append before (one.0 ∷ []))))))
 
--- one half of what each module has
+-- the first part of what each module has
 each-kept : (most : ℕ) (modules : List Module) → AllByRecursion (IsRead most) modules → AllByRecursion IsKeptModule modules
 each-kept most [] h = tt
 each-kept most (m ∷ ms) h = (h.0.kept, each-kept most ms h.1)
 
--- the other half
+-- the second
+each-spots : (most : ℕ) (modules : List Module) → AllByRecursion (IsRead most) modules → AllByRecursion (λ (m : Module). AllByRecursion (HasSpotWhereDue m.kind) m.lines) modules
+each-spots most [] h = tt
+each-spots most (m ∷ ms) h = (h.0.spots, each-spots most ms h.1)
+
+-- the third
 each-short : (most : ℕ) (modules : List Module) → AllByRecursion (IsRead most) modules → AllByRecursion (IsShort most) modules
 each-short most [] h = tt
 each-short most (m ∷ ms) h = (h.0.short, each-short most ms h.1)
@@ -178,23 +197,27 @@ no-modules : (most : ℕ) → AreModules most []
 unfolding IsDistinct
 no-modules most = record { each = tt; distinct = tt }
 
+-- what a file that was read has, at most so many of each list
+abbrev pub IsReadFile : ℕ → YalFile → Type 0
+IsReadFile most file = IsKept file × HasSpots file × HasAtMost most file
+
 -- a file of such modules
-file-kept : (size : ℕ) (found : List Module) (text : List ℕ) → length text ≡ size → AreModules (suc (length text)) found → length found ≤ suc (length text)
-    → IsKept (record { modules = found }) × HasAtMost (size + 1) (record { modules = found })
-file-kept size found text e are few =
-    let same : suc (length text) ≡ size + 1 = omega (arith, e) in (
-      record { modules = each-kept (suc (length text)) found are.each; distinct = are.distinct },
-      rw (← same) (record { modules = few; each = each-short (suc (length text)) found are.each }),
-    )
+file-kept : (most : ℕ) (found : List Module) → AreModules most found → length found ≤ most → IsReadFile most (record { modules = found })
+file-kept most found are few = (
+  record { modules = each-kept most found are.each; distinct = are.distinct },
+  record { each = each-spots most found are.each },
+  record { modules = few; each = each-short most found are.each },
+)
 
 -- what a text gives
-kept-file_of : (bytes : List ℕ) → Keeps (λ file. IsKept file × HasAtMost (length bytes + 1) file) (file_of bytes)
+kept-file_of : (bytes : List ℕ) → Keeps (IsReadFile (length bytes)) (file_of bytes)
 unfolding file_of
 kept-file_of bytes =
     next (ascii bytes) _ (ascii-plain bytes) (λ _ plain.
     next (uncommented None bytes) _ (uncommented-kept None bytes plain) (λ text k.
-    next (modules (suc (length text)) [] (tokens text)) _ (kept-modules (suc (length text)) (suc (length text)) [] (tokens text) (omega arith) (no-modules (suc (length text))) (tokens-named text k.0)) (λ found j.
-    ok (record { modules = found }) (file-kept (length bytes) found text k.1 j.0 (omega (arith, j.1))))))
+    next (modules (suc (length text)) [] (tokens text)) _
+    (kept-modules (suc (length text)) (length bytes) [] (tokens text) (omega (arith, k.1)) (no-modules (length bytes)) (tokens-named text k.0)) (λ found j.
+    ok (record { modules = found }) (file-kept (length bytes) found j.0 (omega (arith, k.1, j.1))))))
 
 -- what a reading gives has what the reading keeps
 kept-value : (P : YalFile → Type 0) (r : Result YalFile Stuck) (file : YalFile) → Keeps P r → r ≡ Ok file → P file
@@ -205,5 +228,5 @@ kept-value P (Err e) file h is = absurd (apart is)
     apart is = cc
 
 -- what a text reads as keeps what every file has
-pub reads-kept : (bytes : List ℕ) (file : YalFile) → file_of bytes ≡ Ok file → IsKept file × HasAtMost (length bytes + 1) file
-reads-kept bytes file is = kept-value (λ f. IsKept f × HasAtMost (length bytes + 1) f) (file_of bytes) file (kept-file_of bytes) is
+pub reads-kept : (bytes : List ℕ) (file : YalFile) → file_of bytes ≡ Ok file → IsReadFile (length bytes) file
+reads-kept bytes file is = kept-value (IsReadFile (length bytes)) (file_of bytes) file (kept-file_of bytes) is

@@ -1,11 +1,12 @@
-use Rattle.std.proofs.Common.{◌≡◌, ℕ, zero, suc, ◌+◌, ◌≤◌, true, false, List, [], ◌∷◌, ◌++◌, length, sym, None, Some, IfSome, is_some, Result, arith, codes, length-append}
+use Rattle.std.proofs.Common.{◌≡◌, ℕ, zero, suc, ◌+◌, ◌≤◌, true, false, List, [], ◌∷◌, ◌++◌, length, sym, ◌∙◌, None, Some, IfSome, is_some, Result, arith, codes, length-append}
 use Rattle.std.proofs.lemmas.Cmp.{nat_list_eq_equiv}
 use Rattle.std.proofs.lemmas.Map.Keys.{IsDistinct-push}
 use Rattle.std.specs.List.{AllByRecursion, IsDistinct}
 use Rattle.std.specs.Str.{bytes_eq}
 use Rattle.yal_reader.proofs.FuelLaws.{call_names-push}
 use Rattle.yal_reader.proofs.KeptWords.{Keeps, Named, either, err, kept-end, kept-flow, kept-number, kept-past, kept-statement, kept-stop, kept-word, kept-words, next, ok, weaker}
-use Rattle.yal_reader.specs.Kept.{IsKeptCall, IsKeptLine, IsKeptSpot, IsName, call_names, has_spot, is_parent}
+use Rattle.geom_core.specs.Names.{IsName}
+use Rattle.yal_reader.specs.Kept.{HasSpotWhereDue, IsKeptCall, IsKeptLine, IsKeptSpot, call_names, has_spot, is_parent}
 use Rattle.yal_reader.specs.Lists.{a_spot, call_after, calls_of, calls_until, io_list, is_among, items_until, keeps_lines, line_after, lines_of, lines_until, network, spot_after}
 use Rattle.yal_reader.specs.Numbers.{a_number}
 use Rattle.yal_reader.specs.Tokens.{Spelled, Token}
@@ -52,26 +53,35 @@ kept-spot_after kind flow ts h = either (has_spot kind flow) _ _
     (λ is. next (a_spot ts) _ (kept-spot ts h) (λ x k. ok (Some x.0, x.1) (sym is, k.0, k.1)))
     (λ is. ok (None, ts) (sym is, tt, h))
 
+-- a line that was read
+pub record IsLine (kind : Kind) (l : Line) : Type 0 where
+  pub kept : IsKeptLine kind l
+  pub spot : HasSpotWhereDue kind l
+
+-- a line of these parts
+line-read : (kind : Kind) (l : Line) → IsName l.name → is_some l.spot ≡ has_spot kind l.flow → IfSome l.spot IsKeptSpot → IsLine kind l
+line-read kind l is due near = record { kept = record { name = is; has = λ there. due ∙ there; spot = near }; spot = record { due = due } }
+
 -- a line is of its kind
-pub kept-line : (kind : Kind) (name : Spelled) (ts : List Token) → IsName name.text → Named ts → Keeps (λ x. IsKeptLine kind x.0 × Named x.1) (line_after kind name ts)
+pub kept-line : (kind : Kind) (name : Spelled) (ts : List Token) → IsName name.text → Named ts → Keeps (λ x. IsLine kind x.0 × Named x.1) (line_after kind name ts)
 unfolding line_after
 kept-line kind name ts is h =
     next (a_flow ts) _ (kept-flow ts h) (λ flow kf.
     next (spot_after kind flow.0 flow.1) _ (kept-spot_after kind flow.0 flow.1 kf) (λ spot ks.
     next (past_words spot.1) _ (kept-past spot.1 ks.2) (λ rest kr.
-    ok (record { name = name.text; flow = flow.0; spot = spot.0 }, rest) (record { name = is; has = ks.0; spot = ks.1 }, kr))))
+    ok (record { name = name.text; flow = flow.0; spot = spot.0 }, rest) (line-read kind (record { name = name.text; flow = flow.0; spot = spot.0 }) is ks.0 ks.1, kr))))
 
 -- the lines of a module, at most so many
 pub record IsLines (most : ℕ) (kind : Kind) (lines : List Line) : Type 0 where
-  pub each : AllByRecursion (IsKeptLine kind) lines
+  pub each : AllByRecursion (IsLine kind) lines
   pub few : length lines ≤ most
 
 -- the lines of a list
 pub kept-lines_until : (n : ℕ) (kind : Kind) (ts : List Token) → Named ts → Keeps (λ x. IsLines n kind x.0 × Named x.1) (lines_until kind n [] ts)
 kept-lines_until n kind ts h =
     weaker (lines_until kind n [] ts)
-    (kept-items (AllByRecursion (IsKeptLine kind)) (codes "ENDIOLIST") (λ _. line_after kind)
-    (λ before w rest each is named. weaker (line_after kind w rest) (kept-line kind w rest is named) (λ x k. (each-push (IsKeptLine kind) before x.0 each k.0, k.1))) n [] ts tt h)
+    (kept-items (AllByRecursion (IsLine kind)) (codes "ENDIOLIST") (λ _. line_after kind)
+    (λ before w rest each is named. weaker (line_after kind w rest) (kept-line kind w rest is named) (λ x k. (each-push (IsLine kind) before x.0 each k.0, k.1))) n [] ts tt h)
     (λ x k. (record { each = k.0; few = omega (arith, k.1) }, k.2))
 
 -- the lines of a list, or none

@@ -6,7 +6,8 @@ use Rattle.std.proofs.lemmas.Int.{ints}
 use Rattle.std.specs.Char.{is_ascii_digit}
 use Rattle.std.specs.List.{AllByRecursion}
 use Rattle.yal_reader.proofs.Lexing.{word_byte-from}
-use Rattle.yal_reader.specs.Kept.{IsName, IsNear, is_name_byte}
+use Rattle.geom_core.specs.Names.{IsName, is_name_byte}
+use Rattle.yal_reader.specs.Kept.{IsNear}
 use Rattle.yal_reader.specs.Numbers.{a_number, digits_after, magnitude, number, numbers}
 use Rattle.yal_reader.specs.Reading.{◌>>=◌}
 use Rattle.yal_reader.specs.Text.{ascii, onto, uncommented}

@@ -1,6 +1,7 @@
 use Rattle.std.specs.Prelude.{◌≡◌, ◌≤◌, ◌≤ℤ◌, ℕ, ℤ, pos, negsuc, List, length, map, Bool, true, false, ◌&&◌, not, ◌==◌, nat_le, is_some, IfSome}
 use Rattle.std.specs.List.{AllByRecursion, IsDistinct, list_all}
 use Rattle.std.specs.Str.{bytes_eq}
+use Rattle.geom_core.specs.Names.{IsName}
 use Rattle.yal_reader.specs.declared.file.Kind.{Kind}
 use Rattle.yal_reader.specs.declared.file.Kind.TheVariants as kinds
 use Rattle.yal_reader.specs.declared.file.Flow.{Flow}
@@ -10,17 +11,6 @@ use Rattle.yal_reader.specs.declared.file.Line.{Line}
 use Rattle.yal_reader.specs.declared.file.Call.{Call}
 use Rattle.yal_reader.specs.declared.file.Module.{Module}
 use Rattle.yal_reader.specs.declared.file.YalFile.{YalFile}
-
--- a byte of a word: it shows, and is no semicolon
-abbrev pub is_name_byte : ℕ → Bool
-is_name_byte c = nat_le 33 c && nat_le c 126 && not (c == 59)
-
--- a name has bytes, and each is one of a word
-abbrev pub is_name : List ℕ → Bool
-is_name text = nat_le 1 (length text) && list_all is_name_byte text
-
-abbrev pub IsName : List ℕ → Type 0
-IsName text = is_name text ≡ true
 
 -- a number of magnitude at most 100,000,000
 pub record IsNear (z : ℤ) : Type 0 where
@@ -40,7 +30,7 @@ is_power flows.PWR = true
 is_power flows.GND = true
 is_power _ = false
 
--- a line has a spot just where its module is STANDARD and its flow is no power
+-- a spot is due in the lines of STANDARD modules whose flow is no power
 abbrev pub has_spot : Kind → Flow → Bool
 has_spot kind flow = is_standard kind && not (is_power flow)
 
@@ -49,9 +39,10 @@ pub record IsKeptSpot (s : Spot) : Type 0 where
   pub y : IsNear s.y
   pub layer : IsName s.layer
 
+-- a line where a spot is due has one
 pub record IsKeptLine (kind : Kind) (l : Line) : Type 0 where
   pub name : IsName l.name
-  pub has : is_some l.spot ≡ has_spot kind l.flow
+  pub has : has_spot kind l.flow ≡ true → is_some l.spot ≡ true
   pub spot : IfSome l.spot IsKeptSpot
 
 pub record IsKeptCall (c : Call) : Type 0 where
@@ -77,6 +68,14 @@ pub record IsKeptModule (m : Module) : Type 0 where
 pub record IsKept (file : YalFile) : Type 0 where
   pub modules : AllByRecursion IsKeptModule file.modules
   pub distinct : IsDistinct bytes_eq (module_names file.modules)
+
+-- a line has a spot just where one is due
+pub record HasSpotWhereDue (kind : Kind) (l : Line) : Type 0 where
+  pub due : is_some l.spot ≡ has_spot kind l.flow
+
+-- no line of a file lacks a spot that is due, and none has another
+pub record HasSpots (file : YalFile) : Type 0 where
+  pub each : AllByRecursion (λ (m : Module). AllByRecursion (HasSpotWhereDue m.kind) m.lines) file.modules
 
 -- a module's lines and calls are at most so many
 pub record IsShort (most : ℕ) (m : Module) : Type 0 where

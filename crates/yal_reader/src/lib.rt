@@ -5,8 +5,8 @@
 //! the number of bytes that are left from it on.
 #![tactic(auto)]
 
-pub mod fault;
-pub mod file;
+mod fault;
+mod file;
 mod lists;
 mod modules;
 mod numbers;
@@ -21,6 +21,3 @@ mod words;
 pub use fault::{YalFault, YalKind};
 pub use file::{Call, Flow, Kind, Line, Module, Spot, YalFile};
 pub use modules::read_yal;
-
-#[cfg(test)]
-mod tests;

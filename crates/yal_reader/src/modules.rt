@@ -1,6 +1,6 @@
 ghost use Rattle.list_facts.specs.Texts.{texts};
-ghost use Rattle.std.specs.Prelude.{◌≡◌, ◌<◌, ◌+◌, ◌++◌, ◌∷◌, [], ℕ, Option, length, IfOk};
-ghost use Rattle.yal_reader.specs.Kept.{HasAtMost, IsKept};
+ghost use Rattle.std.specs.Prelude.{◌≡◌, ◌<◌, ◌++◌, ◌∷◌, [], ℕ, Option, length, IfOk};
+ghost use Rattle.yal_reader.specs.Kept.{HasAtMost, HasSpots, IsKept};
 ghost use Rattle.yal_reader.specs.Reading.{Gives};
 ghost use Rattle.yal_reader.specs.Sections.{items_of};
 ghost use Rattle.yal_reader.specs.Seen.{seen};
@@ -120,12 +120,13 @@ fn file_at(alloc: Global, bytes: &[u8]) -> Result<YalFile, Stop>
 }
 
 /// Reads a YAL text: a file exactly where the bytes are one, else the kind and the place of the first fault, or want of memory.
-/// Source: MCNC YAL.
+/// A file has no more modules than the text has bytes, and no module more lines or calls. Source: MCNC YAL.
 #[tactic(auto, unfolding(crate::specs::YalReads::yal_reads))]
 pub fn read_yal(alloc: Global, bytes: &[u8]) -> Result<YalFile, YalFault>
     ensures reads { Reads result (yal_reads bytes.now) }
     ensures kept { IfOk result (λ file. IsKept file) }
-    ensures short { IfOk result (λ file. HasAtMost (length bytes.now + 1) file) }
+    ensures spots { IfOk result (λ file. HasSpots file) }
+    ensures short { IfOk result (λ file. HasAtMost (length bytes.now) file) }
 {
     match file_at(alloc, bytes) {
         Ok(file) => Ok(file),

@@ -7,7 +7,7 @@ use Rattle.channel_model.specs.declared.wiring.Wiring.{Wiring}
 use Rattle.feed_cells.specs.Fed.{items_width}
 use Rattle.feed_cells.specs.declared.fed.Item.{Item}
 use Rattle.list_facts.proofs.Every.{every-from-get}
-use Rattle.netlist_core.specs.Netlist.{Netlist, IsNetlist}
+use Rattle.design_model.specs.Netlist.{Netlist, IsNetlist}
 use Rattle.tech_rules.specs.Rules.{ValidRules}
 use Rattle.channel_stack.specs.Stack.{stack_top}
 use Rattle.channel_stack.proofs.GoodStack.{stack-good}

@@ -1,6 +1,6 @@
 -- The rows of a design are short and its nets are few, so that each part can be counted, and the parts are those of the definition.
 use Rattle.std.proofs.Common.{◌≡◌, ◌≤◌, List, Option, fold, length, map, max, rules, ap, subst, sym, ◌∙◌}
-use Rattle.netlist_core.specs.Netlist.{IsNetlist}
+use Rattle.design_model.specs.Netlist.{IsNetlist}
 use Rattle.feed_cells.specs.Fed.{fed_from, fed_rows, items_width}
 use Rattle.feed_cells.specs.NearStands.{AreShort}
 use Rattle.feed_cells.specs.Tables.{AreNarrow}

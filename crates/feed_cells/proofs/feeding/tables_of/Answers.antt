@@ -1,7 +1,7 @@
 -- The tables are those of the design in its rows.
 use Rattle.std.proofs.Common.{◌≡◌, ◌+◌, ◌<◌, ℕ, List, Some, length, map, slice_get, rules, ap, ap₂, subst, sym, ◌∙◌}
 use Rattle.std.specs.List.{range_with_len}
-use Rattle.netlist_core.specs.Netlist.{IsNetlist}
+use Rattle.design_model.specs.Netlist.{IsNetlist}
 use Rattle.feed_cells.specs.PinStands.{pin_stand}
 use Rattle.feed_cells.specs.Spans.{span_among}
 use Rattle.feed_cells.specs.Tables.{AreStands}

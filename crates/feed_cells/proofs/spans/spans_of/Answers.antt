@@ -1,6 +1,6 @@
 -- The rows of a design are short.
 use Rattle.std.proofs.Common.{◌≡◌, rules, subst}
-use Rattle.netlist_core.specs.Netlist.{IsNetlist}
+use Rattle.design_model.specs.Netlist.{IsNetlist}
 use Rattle.feed_cells.specs.NearStands.{AreShort}
 use Rattle.feed_cells.proofs.ShortRows.{placed-short}
 use Rattle.feed_cells.proofs.spans.spans_of.Goals as goal

@@ -2,9 +2,10 @@ use Rattle.std.proofs.Common.{◌∙◌, List, length, map, arith, ap, sym, subs
 use Rattle.std.proofs.lemmas.Result.{IfOk-weaker}
 use Rattle.yal_reader.specs.declared.file.Module.{Module}
 use Rattle.netlist_core.specs.Calls.{calls_fault}
-use Rattle.netlist_core.specs.SameNet.{SameNet}
+use Rattle.design_model.specs.SameNet.{SameNet}
+use Rattle.netlist_core.specs.SignalWords.{word_of}
 use Rattle.netlist_core.specs.Signals.{PinWord, all_signals, nets_of, pin_in}
-use Rattle.netlist_core.specs.declared.design.Pin.{Pin}
+use Rattle.design_model.specs.declared.design.Pin.{Pin}
 use Rattle.netlist_core.proofs.CheckedCalls.{checked-calls}
 use Rattle.netlist_core.proofs.NetLaws.{nets-agree, words-said}
 use Rattle.netlist_core.proofs.checking.calls_design.Goals as goal
@@ -21,6 +22,6 @@ pub returns-clause-nets : goal.returns-clause-nets
 returns-clause-nets c =
     let signals = c.deref-2.ensures.value ∙ c.in_ok-signals.ensures ∙ ap (λ (ms : List Module). all_signals ms c.args.calls.now) c.in_ok-library.ensures in
     IfOk-weaker c.used_design.result _ _ (λ design is.
-    subst (λ (pins : List Pin). SameNet c.args.calls.now pins) (sym (is ∙ ap (λ (words : List PinWord). map (pin_in (nets_of words)) words) signals))
+    subst (λ (pins : List Pin). SameNet (word_of c.args.calls.now) pins) (sym (is ∙ ap (λ (words : List PinWord). map (pin_in (nets_of words)) words) signals))
     (nets-agree c.args.calls.now (all_signals c.args.modules.now c.args.calls.now) (words-said c.args.modules.now c.args.calls.now)))
     c.used_design.ensures.pins

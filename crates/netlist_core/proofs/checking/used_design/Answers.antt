@@ -3,7 +3,7 @@ use Rattle.std.proofs.lemmas.List.{length-map}
 use Rattle.tech_rules.specs.Rules.{ValidRules}
 use Rattle.yal_reader.specs.declared.file.Module.{Module}
 use Rattle.list_facts.proofs.Different.{mentions-different}
-use Rattle.netlist_core.specs.Netlist.{IsNetlist, Netlist}
+use Rattle.design_model.specs.Netlist.{IsNetlist, Netlist}
 use Rattle.netlist_core.specs.OnGrid.{inst_in, used_names}
 use Rattle.netlist_core.specs.Signals.{pin_in}
 use Rattle.netlist_core.proofs.GoodNetlist.{good-netlist, same-design, used-said}

@@ -3,7 +3,7 @@ use Rattle.std.proofs.lemmas.List.{drop_more}
 use Rattle.yal_reader.specs.declared.file.Module.{Module}
 use Rattle.netlist_core.specs.Answers.{each}
 use Rattle.netlist_core.specs.OnGrid.{kind_for, kinds_for}
-use Rattle.netlist_core.specs.declared.design.CellKind.{CellKind}
+use Rattle.design_model.specs.declared.design.CellKind.{CellKind}
 use Rattle.netlist_core.proofs.EachLaws.{after_front, agrees-stop, each-end, each-more, each-stop}
 use Rattle.netlist_core.proofs.used.kinds_of.Goals as goal
 

@@ -1,5 +1,5 @@
 use Rattle.std.proofs.Common.{rules, ◌≡◌, ◌≤◌, length, ap, arith}
-use Rattle.netlist_core.specs.DesignView.{netlist_of}
+use Rattle.design_model.specs.DesignView.{netlist_of}
 use Rattle.feed_cells.proofs.FewNets.{nets-few}
 use Rattle.pin_assign.proofs.tabling.few_nets.Goals as goal
 

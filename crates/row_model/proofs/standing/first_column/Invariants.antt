@@ -1,7 +1,7 @@
 use Rattle.std.proofs.Common.{◌≡◌, ◌<◌, length}
 use Rattle.std.specs.List.{AllByRecursion, find}
 use Rattle.std.specs.Prelude.{◌==◌}
-use Rattle.netlist_core.specs.declared.design.Position.{Position}
+use Rattle.design_model.specs.declared.design.Position.{Position}
 use Rattle.row_model.specs.Stands.{column_in, first_column}
 use Rattle.row_model.specs.Widths.{columns_of}
 use Rattle.row_model.proofs.standing.first_column.Given as goal

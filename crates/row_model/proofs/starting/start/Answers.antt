@@ -1,6 +1,6 @@
 use Rattle.std.proofs.Common.{◌≡◌, ◌<◌, ◌≤◌, ◌+◌, ◌-◌, ◌/◌, ◌++◌, ℕ, List, [], ◌∷◌, length, map, ap, sym, ◌∙◌, subst, arith, append_assoc}
 use Rattle.std.specs.List.{range_with_len}
-use Rattle.netlist_core.specs.Netlist.{IsNetlist, Netlist}
+use Rattle.design_model.specs.Netlist.{IsNetlist, Netlist}
 use Rattle.row_model.specs.Rows.{ArePlaced, AreRows}
 use Rattle.row_model.specs.Start.{rounded_up, rows_from, start_rows, taken, upright}
 use Rattle.row_model.specs.Widths.{all_columns}

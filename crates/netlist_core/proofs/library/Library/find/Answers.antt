@@ -1,7 +1,7 @@
 use Rattle.std.proofs.Common.{◌∙◌, ap, sym, subst, length, ◌<◌, ◌^◌, List}
 use Rattle.yal_reader.specs.declared.file.Module.{Module}
 use Rattle.netlist_core.specs.Calls.{module_named}
-use Rattle.netlist_core.specs.declared.design.Terminal.{Terminal}
+use Rattle.design_model.specs.declared.design.Terminal.{Terminal}
 use Rattle.netlist_core.proofs.FoundModules.{library-found, library-terminals, library-few}
 use Rattle.netlist_core.proofs.library.Library.find.Goals as goal
 

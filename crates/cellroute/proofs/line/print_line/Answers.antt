@@ -1,7 +1,0 @@
-use Rattle.cellroute.proofs.Puts.{gained}
-use Rattle.cellroute.proofs.line.print_line.Goals as goal
-
-pub returns : goal.returns
-returns g c =
-    let put = c.put_stop.ensures in
-    gained c.put_stop.result _ _ _ _ _ put.whole put.front put.cause

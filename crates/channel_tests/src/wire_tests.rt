@@ -1,0 +1,149 @@
+//! The rectangles of wirings.
+
+ghost use Rattle.std.specs.Prelude.{◌≡◌, IfOk};
+ghost use Rattle.wire_geom.specs.Samples.{joined_pins, near_vias};
+
+use channel_model::{Segment, Via, Wiring};
+use geom_core::{Items, Name};
+use std::alloc::{AllocError, Global};
+use std::test::Fail;
+use tech_rules::Rules;
+use wire_geom::{Drawn, draw};
+
+// Two pins side by side, joined on the one track above them.
+fn joined_pins(alloc: Global) -> Result<Wiring, AllocError>
+    ensures { IfOk result (λ wiring. wiring ≡ joined_pins) }
+{
+    let segments = vec![in alloc;
+        across(0, 0, 1),
+        across(1, 0, 1),
+        Segment::Along {
+            net: 1,
+            track: 1,
+            from: 0,
+            to: 1
+        },
+    ]?;
+    Ok(Wiring {
+        tracks: 1,
+        columns: 2,
+        segments: Items::new(segments),
+        vias: Items::new(vec![in alloc; via(1, 0, 1), via(1, 1, 1)]?),
+    })
+}
+
+// Vias of three nets, as near to each other as a wiring can have them.
+fn near_vias(alloc: Global) -> Result<Wiring, AllocError>
+    ensures { IfOk result (λ wiring. wiring ≡ near_vias) }
+{
+    Ok(Wiring {
+        tracks: 2,
+        columns: 2,
+        segments: Items::new(Vec::new(alloc)),
+        vias: Items::new(vec![in alloc; via(1, 0, 1), via(2, 1, 1), via(3, 0, 2)]?),
+    })
+}
+
+fn across(column: u32, low: u32, high: u32) -> Segment
+    ensures { result ≡ Segment.Across 1 column low high }
+{
+    Segment::Across {
+        net: 1,
+        column,
+        low,
+        high,
+    }
+}
+
+fn via(net: u32, column: u32, track: u32) -> Via
+    ensures { result ≡ record { net = net; column = column; track = track } }
+{
+    Via { net, column, track }
+}
+
+// Rules in which wires are as wide as pads, and pads and cuts with their spaces fill a column and a track.
+fn tight_rules(alloc: Global) -> Result<Rules, AllocError> {
+    let sample = Rules::sample(alloc)?;
+    Ok(Rules {
+        version: 1,
+        yal: Name::new(b"POLY".to_vec(alloc)?),
+        grid_column: 8,
+        grid_track: 8,
+        grid_centi: 4,
+        grid_pin: 4,
+        horizontal_layer: sample.horizontal_layer,
+        horizontal_width: 4,
+        horizontal_space: 4,
+        vertical_layer: sample.vertical_layer,
+        vertical_width: 4,
+        vertical_space: 4,
+        cut_layer: sample.cut_layer,
+        cut_size: 2,
+        cut_enclose: 1,
+        cut_space: 6,
+        outline_layer: sample.outline_layer,
+        anneal_temperature: 1,
+        anneal_stages: 0,
+        anneal_moves: 0,
+        anneal_row_cost: 0,
+        anneal_length_cost: 0,
+    })
+}
+
+// The left, lower, right and upper side.
+fn sides(drawn: &Drawn) -> [i64; 4] {
+    let rect = drawn.shape.rect;
+    [rect.x0, rect.y0, rect.x1, rect.y1]
+}
+
+// In CIF these are `B 300 1000 400 5300;` on NP and so on, where the channel lies above a row of 40 units that stands on one of 8.
+#[test]
+fn two_joined_pins_are_drawn_as_nine_boxes(rt: HostRuntime) -> Result<(), Fail> {
+    let alloc = rt.alloc();
+    let wiring = joined_pins(alloc)?;
+    let drawn = draw(alloc, &wiring, 48, &Rules::sample(alloc)?)?;
+    let boxes: [(&[u8], [i64; 4]); 9] = [
+        (b"NP", [500, 9600, 1100, 11600]),
+        (b"NP", [2100, 9600, 2700, 11600]),
+        (b"NM", [400, 10900, 2800, 11500]),
+        (b"NM", [400, 10800, 1200, 11600]),
+        (b"NP", [400, 10800, 1200, 11600]),
+        (b"NC", [600, 11000, 1000, 11400]),
+        (b"NM", [2000, 10800, 2800, 11600]),
+        (b"NP", [2000, 10800, 2800, 11600]),
+        (b"NC", [2200, 11000, 2600, 11400]),
+    ];
+    assert_eq!(rt; drawn.len(), 9);
+    for (drawn, (layer, expected)) in drawn.iter().zip(boxes) {
+        assert_eq!(rt; drawn.shape.layer.text(), layer);
+        assert_eq!(rt; sides(drawn), expected);
+        assert_eq!(rt; drawn.net, 1);
+    }
+    Ok(())
+}
+
+// Between pads are 4 units, which are 32 half centimicrons, and between cuts 6.
+#[test]
+fn tight_rules_leave_just_their_spaces(rt: HostRuntime) -> Result<(), Fail> {
+    let alloc = rt.alloc();
+    let wiring = near_vias(alloc)?;
+    let drawn = draw(alloc, &wiring, 0, &tight_rules(alloc)?)?;
+    let boxes: [(&[u8], u32, [i64; 4]); 9] = [
+        (b"NM", 1, [16, 48, 48, 80]),
+        (b"NP", 1, [16, 48, 48, 80]),
+        (b"NC", 1, [24, 56, 40, 72]),
+        (b"NM", 2, [80, 48, 112, 80]),
+        (b"NP", 2, [80, 48, 112, 80]),
+        (b"NC", 2, [88, 56, 104, 72]),
+        (b"NM", 3, [16, 112, 48, 144]),
+        (b"NP", 3, [16, 112, 48, 144]),
+        (b"NC", 3, [24, 120, 40, 136]),
+    ];
+    assert_eq!(rt; drawn.len(), 9);
+    for (drawn, (layer, net, expected)) in drawn.iter().zip(boxes) {
+        assert_eq!(rt; drawn.shape.layer.text(), layer);
+        assert_eq!(rt; sides(drawn), expected);
+        assert_eq!(rt; drawn.net, net);
+    }
+    Ok(())
+}

@@ -1,0 +1,13 @@
+//! Tests of the commands over shelves and sinks in memory.
+#![tactic(auto)]
+
+#[cfg(test)]
+mod line_tests;
+#[cfg(test)]
+mod route_tests;
+#[cfg(test)]
+mod size_tests;
+#[cfg(test)]
+mod support;
+#[cfg(test)]
+mod word_tests;

@@ -1,0 +1,40 @@
+use Rattle.std.specs.Prelude.{◌≡◌, ◌⊎◌, ℕ, List, Option, Some, Result, Ok, Err, is_ok, true}
+use Rattle.shelf_io.specs.Count.{Rose}
+use Rattle.commands.specs.Verdict.{rules_verdict}
+use Rattle.commands.specs.declared.refusal.Refusal.{Refusal}
+use Rattle.commands.specs.declared.refusal.Refusal.TheVariants as refusals
+use Rattle.commands.specs.declared.stop.Stop.{Stop}
+use Rattle.commands.specs.declared.stop.Stop.TheVariants.{Refused, ReadFault, WriteFault}
+
+-- what a function answers, seen by view, is what is said, both ways, unless memory ran out
+abbrev pub Answers : {X Y : Type 0} → (X → Y) → Result X Refusal → Result Y Refusal → Type 0
+Answers view (Ok x) said = said ≡ Ok (view x)
+Answers view (Err refusals.Memory) said = Unit {0}
+Answers view (Err refusal) said = said ≡ Err refusal
+
+-- the same of a function that also reads, unless reading failed; it does not write
+abbrev pub Finds : {X Y : Type 0} → (X → Y) → Result X Stop → Result Y Refusal → Type 0
+Finds view (Ok x) said = said ≡ Ok (view x)
+Finds view (Err (Refused refusals.Memory)) said = Unit {0}
+Finds view (Err (Refused refusal)) said = said ≡ Err refusal
+Finds view (Err ReadFault) said = Unit {0}
+Finds view (Err WriteFault) said = ⊥
+
+-- there is a text to write
+abbrev pub HasText : Result (List ℕ) Refusal → Type 0
+HasText (Ok text) = Unit {0}
+HasText (Err refusal) = ⊥
+
+-- a command that ended so ended as is said, unless reading failed or memory ran out; it has written, or failed to, only where there
+-- is a text
+abbrev pub Ends : Result (Unit {0}) Stop → Result (List ℕ) Refusal → Type 0
+Ends (Ok done) said = HasText said
+Ends (Err (Refused refusals.Memory)) said = Unit {0}
+Ends (Err (Refused refusal)) said = said ≡ Err refusal
+Ends (Err ReadFault) said = Unit {0}
+Ends (Err WriteFault) said = HasText said
+
+-- why a read failed: the rules file's read count rose, or the design's file's did and the rules file, where it is told, states rules
+abbrev pub ReadFails : Option (List ℕ) → ℕ → ℕ → ℕ → ℕ → Type 0
+ReadFails told rules_old rules_new design_old design_new =
+    Rose rules_old rules_new ⊎ (Rose design_old design_new × ((bytes : List ℕ) → told ≡ Some bytes → is_ok (rules_verdict bytes) ≡ true))

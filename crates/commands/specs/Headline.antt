@@ -1,0 +1,42 @@
+use Rattle.std.specs.Prelude.{◌≡◌, ℕ, List, Ok}
+use Rattle.geom_core.specs.declared.layout.Layout.{Layout}
+use Rattle.tech_rules.specs.Rules.{RuleValues}
+use Rattle.tech_rules.specs.RulesOf.{rules_of}
+use Rattle.yal_reader.specs.YalReads.{yal_reads}
+use Rattle.yal_reader.specs.declared.file.YalFile.{YalFile}
+use Rattle.design_model.specs.Good.{Good}
+use Rattle.design_model.specs.Netlist.{Netlist}
+use Rattle.netlist_core.specs.OnGrid.{on_grid}
+use Rattle.design_model.specs.SameNet.{SameNet}
+use Rattle.netlist_core.specs.SignalWords.{parent_calls, word_of}
+use Rattle.cif_text.specs.CifReads.{cif_reads}
+use Rattle.cif_text.specs.Meaning.{meaning}
+use Rattle.cif_text.specs.declared.command.Command.{Command}
+
+-- a text is a good layout of a design: it reads as commands of CIF, these mean a layout, and that is good for the design and the rules
+pub record IsGoodText (rules : RuleValues) (d : Netlist) (text : List ℕ) : Type 0 where
+  pub commands : List Command
+  pub layout : Layout
+  pub reads : cif_reads text ≡ Ok commands
+  pub means : meaning commands ≡ Ok layout
+  pub good : Good rules d layout
+
+-- a text is a good layout of what a file says: the file is a design on the grid, whose nets are its pins of equal signal words
+pub record IsGoodFor (rules : RuleValues) (file : YalFile) (text : List ℕ) : Type 0 where
+  pub design : Netlist
+  pub checked : on_grid rules file ≡ Ok design
+  pub nets : SameNet (word_of (parent_calls file)) design.pins
+  pub good : IsGoodText rules design text
+
+-- a text is a good layout of what a text of YAL says
+pub record IsGoodOf (rules : RuleValues) (bytes text : List ℕ) : Type 0 where
+  pub file : YalFile
+  pub read : yal_reads bytes ≡ Ok file
+  pub good : IsGoodFor rules file text
+
+-- the headline: the bytes of the rules file state rules, those of the design's file are a design, and the text is a good layout of it
+-- under these rules
+pub record Headline (stated bytes text : List ℕ) : Type 0 where
+  pub rules : RuleValues
+  pub states : rules_of stated ≡ Ok rules
+  pub good : IsGoodOf rules bytes text

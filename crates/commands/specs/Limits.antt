@@ -1,0 +1,22 @@
+use Rattle.std.specs.Prelude.{ℕ, List, length, nat_lt, if◌then◌else◌, Option, Some, None, Result, Ok, Err}
+use Rattle.commands.specs.Refusing.{or_refusal}
+use Rattle.pin_assign.specs.declared.bound.Bound.{Bound}
+use Rattle.commands.specs.declared.refusal.Limited.{Limited}
+use Rattle.commands.specs.declared.refusal.Limited.TheVariants as limits
+use Rattle.commands.specs.declared.refusal.Refusal.{Refusal}
+use Rattle.commands.specs.declared.refusal.Refusal.TheVariants.{Limit}
+
+-- the refusal of more than so many
+abbrev pub above : Limited → ℕ → ℕ → Option Refusal
+above what most n = if nat_lt most n then Some (Limit what n) else None
+
+-- a file's contents, which have at most 16,777,216 bytes
+unfoldable pub within_limit : Limited → List ℕ → Result (List ℕ) Refusal
+within_limit what bytes = if nat_lt 16777216 (length bytes) then Err (Limit what 16777216) else Ok bytes
+
+-- the first limit that a layout of this size passes: 4,000,000 columns, and 1,000,000,000 centimicrons for the width and for the height
+unfoldable pub size_refusal : Bound → Option Refusal
+size_refusal bound =
+    or_refusal (above limits.Grid 4000000 bound.grid) (
+    or_refusal (above limits.Width 1000000000 bound.width) (
+    above limits.Height 1000000000 bound.height))

@@ -1,0 +1,18 @@
+use Rattle.std.specs.Prelude.{Option, Some, None, Result, Ok, Err}
+use Rattle.commands.specs.declared.refusal.Refusal.{Refusal}
+
+-- a point that may refuse, and what comes after it
+infixl 10 ◌>>=◌
+abbrev pub ◌>>=◌ : {A B : Type 0} → Result A Refusal → (A → Result B Refusal) → Result B Refusal
+◌>>=◌ (Ok a) next = next a
+◌>>=◌ (Err refusal) next = Err refusal
+
+-- what comes next, unless there is a refusal
+abbrev pub unless : {A : Type 0} → Option Refusal → Result A Refusal → Result A Refusal
+unless None next = next
+unless (Some refusal) next = Err refusal
+
+-- the first of two refusals
+abbrev pub or_refusal : Option Refusal → Option Refusal → Option Refusal
+or_refusal None next = next
+or_refusal (Some refusal) next = Some refusal

@@ -1,0 +1,82 @@
+//! What may be refused, and why.
+
+ghost use Rattle.commands.specs.Status.{refusal_status};
+ghost use Rattle.std.specs.Prelude.{◌≡◌};
+
+use geom_core::Name;
+use netlist_core::DesignFault;
+use std::alloc::AllocError;
+use tech_rules::Key;
+use yal_reader::YalKind;
+
+/// What may pass a limit.
+#[derive(Clone, Copy, Debug, PartialEq, Eq)]
+pub enum Limited {
+    /// The bytes of the rules file.
+    Rules,
+    /// The bytes of the design's file.
+    Design,
+    /// The instances of the design.
+    Instances,
+    /// The pins of the design.
+    Pins,
+    /// The columns of all channels together.
+    Grid,
+    /// The width of the layout in centimicrons.
+    Width,
+    /// The height of the layout in centimicrons.
+    Height,
+}
+
+/// Why there is no text to write.
+#[derive(Debug, Drop)]
+pub enum Refusal {
+    /// The words are no command.
+    Usage,
+    /// The rules file is no text of TOML.
+    Toml,
+    /// A key of the rules file is missing.
+    Missing(Key),
+    /// The value at a key of the rules file is of another kind, or out of its range.
+    Range(Key),
+    /// The rule of this number does not hold.
+    Tight(u8),
+    /// The design's file is no YAL, for this reason at this byte.
+    Yal(YalKind, u64),
+    /// The file is no design, for this reason, which is neither a limit nor want of memory; with the name of the instance or of the
+    /// module that it speaks of.
+    Design(DesignFault, Option<Name>),
+    /// A limit is passed. The number is the limit itself for a file, and else how many there are.
+    Limit(Limited, u64),
+    /// The rules ask for annealing, which is not built.
+    Unbuilt,
+    /// Memory ran out.
+    Memory,
+}
+
+impl From<AllocError> for Refusal {
+    ghost use Rattle.commands.specs.declared.refusal.Refusal.TheVariants.{Memory};
+
+    ghost from_gives = { λ _ refusal. refusal ≡ Memory };
+
+    fn from(_: AllocError) -> Self {
+        Refusal::Memory
+    }
+}
+
+impl Refusal {
+    /// The number with which the program ends. Takes no memory.
+    pub fn status(&self) -> u8
+        ensures { result ≡ refusal_status self.now }
+    {
+        match self {
+            Refusal::Usage => 2,
+            Refusal::Yal(..) => 3,
+            Refusal::Toml | Refusal::Missing(_) | Refusal::Range(_) | Refusal::Tight(_) => 4,
+            Refusal::Design(..) => 5,
+            Refusal::Limit(..) => 6,
+            Refusal::Memory => 10,
+            Refusal::Unbuilt => 11,
+        }
+    }
+}

@@ -1,0 +1,150 @@
+//! The top call: a command's words, a shelf with the files, and a sink for lines.
+
+ghost use Rattle.commands.specs.Answers.{Ends, ReadFails};
+ghost use Rattle.commands.specs.Command.{Names, command_of};
+ghost use Rattle.commands.specs.Gains.{Gains};
+ghost use Rattle.commands.specs.Headline.{Headline};
+ghost use Rattle.commands.specs.Outcome.{ending_line, EndsAs, Holds, HoldsFront};
+ghost use Rattle.commands.specs.Status.{ending_status, is_status, verdict_status};
+ghost use Rattle.commands.specs.Verdict.{files_verdict, verdict};
+ghost use Rattle.shelf_io.specs.Count.{Rose, Still};
+ghost use Rattle.std.specs.Prelude.{◌≡◌, ◌≢◌, ◌⊎◌, List, ℕ, Some, None, true};
+
+use crate::command::{Route, WordsFault, read_command};
+use crate::line::print_line;
+use crate::refusal::Refusal;
+use crate::stages::{prepare, write};
+use crate::stop::Stop;
+use crate::word::Word;
+use shelf_io::{Shelf, Sink};
+use std::alloc::Global;
+
+/// How a command ended.
+#[derive(Clone, Copy, Debug, PartialEq, Eq)]
+pub struct Ended {
+    /// 0 where the text is written; 2 where the words are no command; 3, 4 and 5 where the design's file, the rules file or the design
+    /// is refused; 6 where a limit is passed; 8 and 9 where reading and writing failed; 10 for want of memory; 11 for what is not
+    /// built yet.
+    pub status: u8,
+}
+
+// Routes a design under the rules of a file into another file.
+fn route<S: Shelf>(alloc: Global, shelf: &mut S, names: &Route<'_>) -> Result<(), Stop>
+    ensures told { (said : _) → files_verdict names.now.rows (S.holds shelf.old names.now.rules.now) (S.holds shelf.old names.now.design.now) ≡ Some said
+        → Ends result said }
+    ensures written { (said : _) → files_verdict names.now.rows (S.holds shelf.old names.now.rules.now) (S.holds shelf.old names.now.design.now) ≡ Some said
+        → ending_status result ≡ 0 → Holds said (S.holds shelf.new names.now.out.now) }
+    ensures headline { (stated bytes held : List ℕ) → S.holds shelf.old names.now.rules.now ≡ Some stated
+        → S.holds shelf.old names.now.design.now ≡ Some bytes → ending_status result ≡ 0
+        → S.holds shelf.new names.now.out.now ≡ Some held → Headline stated bytes held }
+    ensures front { (said : _) → files_verdict names.now.rows (S.holds shelf.old names.now.rules.now) (S.holds shelf.old names.now.design.now) ≡ Some said
+        → ending_status result ≡ 9 → HoldsFront said (S.holds shelf.old names.now.out.now) (S.holds shelf.new names.now.out.now) }
+    ensures read_cause { ending_status result ≡ 8
+        → ReadFails (S.holds shelf.old names.now.rules.now)
+        (S.read_faults shelf.old names.now.rules.now) (S.read_faults shelf.new names.now.rules.now)
+        (S.read_faults shelf.old names.now.design.now) (S.read_faults shelf.new names.now.design.now) }
+    ensures write_cause { ending_status result ≡ 9
+        → Rose (S.write_faults shelf.old names.now.out.now) (S.write_faults shelf.new names.now.out.now) }
+    ensures reads { ending_status result ≢ 8 → S.read_faults shelf.new ≡ S.read_faults shelf.old }
+    ensures writes { ending_status result ≢ 9 → S.write_faults shelf.new ≡ S.write_faults shelf.old }
+    ensures untouched { ending_status result ≢ 0 → ending_status result ≢ 9 → S.holds shelf.new ≡ S.holds shelf.old }
+    ensures others { (other : List ℕ) → other ≢ names.now.out.now → S.holds shelf.new other ≡ S.holds shelf.old other }
+    ensures command { ending_status result ≢ 2 }
+    ensures complete { (said : _) → files_verdict names.now.rows (S.holds shelf.old names.now.rules.now) (S.holds shelf.old names.now.design.now) ≡ Some said
+        → Still (S.read_faults shelf.old names.now.rules.now) (S.read_faults shelf.new names.now.rules.now)
+        → Still (S.read_faults shelf.old names.now.design.now) (S.read_faults shelf.new names.now.design.now)
+        → Still (S.write_faults shelf.old names.now.out.now) (S.write_faults shelf.new names.now.out.now)
+        → (ending_status result ≡ verdict_status said) ⊎ (ending_status result ≡ 10) }
+{
+    let text = prepare(alloc, shelf, names.rules, names.design, names.rows)?;
+    match write(shelf, names.out, text.as_slice()) {
+        Ok(()) => Ok(()),
+        Err(_) => Err(Stop::WriteFault),
+    }
+}
+
+// Prints the line of what stopped a command, if anything did, and gives the status.
+fn end<K: Sink>(out: &mut K, ending: &Result<(), Stop>) -> u8
+    ensures status { result ≡ ending_status ending.now }
+    ensures line { Gains (ending_line ending.now) (K.written out.old) (K.written out.new) (K.faults out.old) (K.faults out.new) }
+    ensures silent { ending_status ending.now ≡ 0 → K.written out.new ≡ K.written out.old }
+    ensures calm { ending_status ending.now ≡ 0 → K.faults out.new ≡ K.faults out.old }
+{
+    match ending {
+        Ok(()) => 0,
+        Err(stop) => {
+            print_line(out, stop);
+            stop.status()
+        }
+    }
+}
+
+/// Does the command that the words give: `route DESIGN RULES OUT [--rows K]` reads the rules from the file RULES and the design in YAL from
+/// the file DESIGN, sets its cells in K rows, from 1 to 512, or in as many as make the layout about square, with feeds where nets cross rows,
+/// joins each net by wires in the channels between the rows, and writes the layout in CIF into the file OUT. Every status but 0 prints one
+/// line, with the first cause, to the sink; if that fails the status stays.
+///
+/// What may refuse comes in this order: the words, reading RULES, the rules, reading DESIGN, YAL, the design, what is not built yet, the
+/// limits of grid, width and height, writing OUT. Where the shelf tells the files that it comes to, the status is that of the
+/// verdict on them, unless it is 8 and a read count rose, 9 and OUT's write count rose, or 10. On 0 OUT holds the text of the
+/// verdict. Every status but 0 and 9 leaves all files as they were; after 9 OUT holds what it held, or a front of the text. 10 may come for
+/// want of memory at any time before OUT is begun.
+pub fn run<S: Shelf, K: Sink>(alloc: Global, words: &[Word], shelf: &mut S, out: &mut K) -> Ended
+    ensures listed { is_status result.status ≡ true }
+    ensures usage { result.status ≡ 2 → command_of words.now ≡ None }
+    ensures no_command { command_of words.now ≡ None → (result.status ≡ 2) ⊎ (result.status ≡ 10) }
+
+    // The status and the line: both are of one end, which is the verdict's wherever the files that it comes to are told.
+    ensures ends { EndsAs (verdict words.now (S.holds shelf.old)) result.status
+        (K.written out.old) (K.written out.new) (K.faults out.old) (K.faults out.new) }
+
+    // Status 0: the file to write, where the shelf tells it, holds exactly the text of the verdict.
+    ensures written { (names : Names) (said : _) → command_of words.now ≡ Some names
+        → verdict words.now (S.holds shelf.old) ≡ Some said
+        → result.status ≡ 0 → Holds said (S.holds shelf.new names.out) }
+
+    // The headline: what is written reads as a layout that is good for the design under the rules.
+    ensures headline { (names : Names) (stated bytes held : List ℕ) → command_of words.now ≡ Some names
+        → S.holds shelf.old names.rules ≡ Some stated → S.holds shelf.old names.design ≡ Some bytes
+        → result.status ≡ 0 → S.holds shelf.new names.out ≡ Some held → Headline stated bytes held }
+
+    // Status 9: there is a text, and the file to write holds what it held, or a front of the text.
+    ensures front { (names : Names) (said : _) → command_of words.now ≡ Some names
+        → verdict words.now (S.holds shelf.old) ≡ Some said
+        → result.status ≡ 9 → HoldsFront said (S.holds shelf.old names.out) (S.holds shelf.new names.out) }
+
+    // Status 8 and 9 come only where a count rose, and where it rose they come.
+    ensures read_cause { (names : Names) → command_of words.now ≡ Some names → result.status ≡ 8
+        → ReadFails (S.holds shelf.old names.rules) (S.read_faults shelf.old names.rules) (S.read_faults shelf.new names.rules)
+        (S.read_faults shelf.old names.design) (S.read_faults shelf.new names.design) }
+    ensures write_cause { (names : Names) → command_of words.now ≡ Some names → result.status ≡ 9
+        → Rose (S.write_faults shelf.old names.out) (S.write_faults shelf.new names.out) }
+    ensures reads { result.status ≢ 8 → S.read_faults shelf.new ≡ S.read_faults shelf.old }
+    ensures writes { result.status ≢ 9 → S.write_faults shelf.new ≡ S.write_faults shelf.old }
+
+    // Nothing is lost.
+    ensures untouched { result.status ≢ 0 → result.status ≢ 9 → S.holds shelf.new ≡ S.holds shelf.old }
+    ensures others { (names : Names) (other : List ℕ) → command_of words.now ≡ Some names
+        → other ≢ names.out → S.holds shelf.new other ≡ S.holds shelf.old other }
+
+    // Where nothing fails the status is the verdict's, want of memory aside.
+    ensures complete { (names : Names) (said : _) → command_of words.now ≡ Some names
+        → verdict words.now (S.holds shelf.old) ≡ Some said
+        → Still (S.read_faults shelf.old names.rules) (S.read_faults shelf.new names.rules)
+        → Still (S.read_faults shelf.old names.design) (S.read_faults shelf.new names.design)
+        → Still (S.write_faults shelf.old names.out) (S.write_faults shelf.new names.out)
+        → (result.status ≡ verdict_status said) ⊎ (result.status ≡ 10) }
+
+    // Status 0 prints nothing.
+    ensures silent { result.status ≡ 0 → K.written out.new ≡ K.written out.old }
+    ensures calm { result.status ≡ 0 → K.faults out.new ≡ K.faults out.old }
+{
+    let ending = match read_command(alloc, words) {
+        Ok(names) => route(alloc, shelf, &names),
+        Err(WordsFault::Usage) => Err(Stop::Refused(Refusal::Usage)),
+        Err(WordsFault::Memory) => Err(Stop::Refused(Refusal::Memory)),
+    };
+    Ended {
+        status: end(out, &ending),
+    }
+}

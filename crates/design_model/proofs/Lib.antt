@@ -1,0 +1,4 @@
+-- pins in the order of their instances and terminals
+pub mod PairOrder
+-- the pins of a design stand in order, one for each terminal that is no power
+pub mod PinsInOrder

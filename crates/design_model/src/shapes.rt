@@ -1,0 +1,140 @@
+ghost use Rattle.design_model.specs.Drawing.{drawing_of, extent_of, middle_of, outline_shape, pin_high, pin_low, position_shape};
+ghost use Rattle.design_model.specs.Netlist.{IsKind};
+ghost use Rattle.design_model.specs.declared.design.CellKind.{CellKind as Kind};
+ghost use Rattle.std.specs.Prelude.{◌≡◌, ◌<◌, ◌≤◌, ◌+◌, ◌*◌, length, slice_get, IfOk};
+
+use crate::design::{CellKind, Design, Position};
+use geom_core::{Rect, Shape};
+use std::alloc::{AllocError, Global};
+use tech_rules::Rules;
+
+/// The drawing of the cell kind with this number, in half centimicrons, its lower left corner at (0, 0): its outline, and
+/// then for each of its positions in order a pin of the vertical layer and width, in the middle of its column, that reaches
+/// inward from its edge. The one error is want of memory.
+pub fn drawing(
+    alloc: Global,
+    design: &Design,
+    rules: &Rules,
+    kind: u32,
+) -> Result<Vec<Shape>, AllocError>
+    requires kind { kind < length design.now.kinds }
+    requires high { 2 * rules.now.grid_pin + rules.now.vertical_space ≤ design.now.height }
+    ensures { IfOk result (λ shapes. (k : Kind) → slice_get design.now.kinds kind ≡ Some k → shapes.items ≡ drawing_of rules.now design.now.height k) }
+{
+    shapes_of(
+        alloc,
+        rules,
+        design.height,
+        &design.kinds.items()[kind as usize],
+    )
+}
+
+// The drawing of a kind of this height.
+fn shapes_of(
+    alloc: Global,
+    rules: &Rules,
+    height: u32,
+    kind: &CellKind,
+) -> Result<Vec<Shape>, AllocError>
+    requires kind { IsKind kind.now }
+    requires high { 2 * rules.now.grid_pin + rules.now.vertical_space ≤ height }
+    requires low { height ≤ 200000000 }
+    ensures { IfOk result (λ shapes. shapes.items ≡ drawing_of rules.now height kind.now) }
+{
+    let mut shapes = Vec::new(alloc);
+    shapes.push(outline_shape(rules, height, kind))?;
+    for position in kind.positions.items() {
+        shapes.push(position_shape(rules, height, *position))?;
+    }
+    Ok(shapes)
+}
+
+#[tactic(auto, unfolding(crate::specs::Drawing::outline_shape))]
+fn outline_shape(rules: &Rules, height: u32, kind: &CellKind) -> Shape
+    requires some { 0 < kind.now.columns }
+    requires few { kind.now.columns ≤ 100000000 }
+    requires high { 2 * rules.now.grid_pin + rules.now.vertical_space ≤ height }
+    requires low { height ≤ 200000000 }
+    ensures { result ≡ outline_shape rules.now height kind.now }
+{
+    let width = u64::from(kind.columns) * u64::from(rules.grid_column);
+    Shape {
+        layer: rules.outline_layer,
+        rect: rect_of(
+            u64::from(rules.grid_centi),
+            0,
+            0,
+            2 * width,
+            2 * u64::from(height),
+        ),
+    }
+}
+
+#[tactic(auto, unfolding(crate::specs::Drawing::position_shape))]
+fn position_shape(rules: &Rules, height: u32, position: Position) -> Shape
+    requires column { position.column < 100000000 }
+    requires high { 2 * rules.now.grid_pin + rules.now.vertical_space ≤ height }
+    requires low { height ≤ 200000000 }
+    ensures { result ≡ position_shape rules.now height position }
+{
+    let middle = middle_of(u64::from(rules.grid_column), u64::from(position.column));
+    let width = u64::from(rules.vertical_width);
+    let pin = u64::from(rules.grid_pin);
+    let (low, high) = pin_ends(pin, u64::from(height), position.top);
+    Shape {
+        layer: rules.vertical_layer,
+        rect: rect_of(
+            u64::from(rules.grid_centi),
+            middle - width,
+            low,
+            middle + width,
+            high,
+        ),
+    }
+}
+
+// The middle of a column in half units.
+fn middle_of(pitch: u64, column: u64) -> u64
+    requires few { column < 100000000 }
+    requires narrow { pitch ≤ 1000 }
+    ensures is { result ≡ middle_of pitch column }
+    ensures beyond { pitch ≤ result }
+    ensures within { result ≤ 200000001000 }
+{
+    2 * (column * pitch) + pitch
+}
+
+// The lower and the upper end of a pin in half units.
+fn pin_ends(pin: u64, height: u64, top: bool) -> (u64, u64)
+    requires some { 0 < pin }
+    requires high { 2 * pin ≤ height }
+    requires low { height ≤ 200000000 }
+    ensures low { result.0 ≡ pin_low pin height top }
+    ensures high { result.1 ≡ pin_high pin height top }
+    ensures apart { result.0 < result.1 }
+    ensures within { result.1 ≤ 400000000 }
+{
+    if top {
+        (2 * (height - pin), 2 * height)
+    } else {
+        (0, 2 * pin)
+    }
+}
+
+// The rectangle with these sides in half units.
+fn rect_of(centi: u64, x0: u64, y0: u64, x1: u64, y1: u64) -> Rect
+    requires some { 0 < centi }
+    requires few { centi ≤ 1000 }
+    requires wide { x0 < x1 }
+    requires high { y0 < y1 }
+    requires x { x1 ≤ 400000000000 }
+    requires y { y1 ≤ 400000000000 }
+    ensures { result ≡ extent_of centi x0 y0 x1 y1 }
+{
+    Rect {
+        x0: (x0 * centi) as i64,
+        y0: (y0 * centi) as i64,
+        x1: (x1 * centi) as i64,
+        y1: (y1 * centi) as i64,
+    }
+}

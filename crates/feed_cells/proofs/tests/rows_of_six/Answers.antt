@@ -1,9 +1,0 @@
-use Rattle.std.proofs.Common.{◌≡◌, length, rules, subst, sym}
-use Rattle.row_model.specs.Rows.{ArePlaced}
-use Rattle.feed_cells.proofs.SampleRows.{two_each-placed}
-use Rattle.feed_cells.proofs.tests.rows_of_six.Goals as goal
-
-pub returns : goal.returns
-returns g c =
-    let many : length c.args.design.now.instances ≡ 6 = search rules in
-    subst (ArePlaced c.args.design.now) (sym c.in_ok-rows.ensures) (two_each-placed c.args.design.now many)

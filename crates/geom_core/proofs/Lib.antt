@@ -1,0 +1,2 @@
+-- signed numbers that are written and read back
+pub mod Signed

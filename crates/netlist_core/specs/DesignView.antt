@@ -1,8 +1,0 @@
-use Rattle.netlist_core.specs.Netlist.{Netlist, IsNetlist}
-use Rattle.netlist_core.specs.declared.design.Design.TheInside.{Inside}
-
-abbrev pub netlist_of : Inside → Netlist
-netlist_of a = record { kinds = a.kinds; height = a.height; instances = a.instances; pins = a.pins; nets = a.nets }
-
-pub record IsDesign (a : Inside) : Type 0 where
-  pub netlist : IsNetlist (netlist_of a)

@@ -1,0 +1,9 @@
+//! Tests of the crates of placement: rows, feeds, and the tables of channels.
+#![tactic(auto)]
+
+#[cfg(test)]
+mod feed_tests;
+#[cfg(test)]
+mod pin_tests;
+#[cfg(test)]
+mod row_tests;

@@ -1,0 +1,157 @@
+//! The tables of channels, and the bound of a layout.
+
+ghost use Rattle.feed_cells.specs.Fed.{IsFed};
+ghost use Rattle.std.specs.Prelude.{◌<◌, ◌≤◌, IfOk};
+
+use channel_model::Channel;
+use design_model::Design;
+use feed_cells::{FedRows, insert_feeds};
+use pin_assign::{Bound, bound_of, channels};
+use row_model::start;
+use samples::{CELLS, SampleFault, designed};
+use std::alloc::{AllocError, Global};
+use std::process::Abort;
+use std::test::Fail;
+use tech_rules::Rules;
+
+/// A cell of two columns, with a pin below in the first and above in the second, and another above in the first.
+const PAIR: &str =
+    "MODULE PAIR; TYPE STANDARD; DIMENSIONS 0 0 16 0 16 40 0 40; IOLIST; a I 4 0 3 POLY; a I 12 40 3 POLY; y O 4 40 3 POLY; ENDIOLIST; ENDMODULE;";
+
+/// The design with these calls.
+fn designed_with(alloc: Global, calls: &str) -> Result<Design, SampleFault> {
+    let modules = format!(in alloc; "{CELLS}{PAIR}").map_err(|_| SampleFault::Memory)?;
+    designed(alloc, modules.as_str(), calls)
+}
+
+/// The rows that a design begins with, with their feeds.
+fn fed_in(alloc: Global, design: &Design, count: u32) -> Result<FedRows, AllocError>
+    requires some { 0 < count }
+    requires few { count ≤ 512 }
+    ensures { IfOk result (λ fed. IsFed design.now fed) }
+{
+    let rows = start(alloc, design, count)?;
+    let fed = insert_feeds(alloc, design, &rows)?;
+    Ok(fed)
+}
+
+/// The channels of a design with these calls in so many rows.
+fn channels_of(
+    rt: &impl Abort,
+    alloc: Global,
+    calls: &str,
+    count: u32,
+) -> Result<Vec<Channel>, Fail>
+    requires some { 0 < count }
+    requires few { count ≤ 512 }
+{
+    let design = designed_with(alloc, calls)?;
+    let fed = fed_in(alloc, &design, count)?;
+    assert!(rt; fed.width <= 4000000);
+    Ok(channels(alloc, &design, &fed)?)
+}
+
+/// The bound of rows of a design with their feeds.
+fn bound_in(design: &Design, fed: &FedRows, rules: &Rules) -> Bound
+    requires { IsFed design.now fed.now }
+{
+    let _pins = &design.pins;
+    bound_of(design, fed, rules)
+}
+
+/// Calls, the number of rows, and for each channel the nets at its upper and at its lower edge.
+struct Tabled {
+    calls: &'static str,
+    rows: u32,
+    channels: &'static [(&'static [u32], &'static [u32])],
+}
+
+const TABLED: [Tabled; 7] = [
+    Tabled {
+        calls: "u1 BUF b; u2 BUF a; u3 INV a; u4 INV b;",
+        rows: 2,
+        channels: &[(&[0, 0], &[0, 0]), (&[2, 1], &[1, 2]), (&[0, 0], &[0, 0])],
+    },
+    Tabled {
+        calls: "u1 BUF n; u2 INV p; u3 INV q; u4 INV n;",
+        rows: 4,
+        channels: &[
+            (&[0, 0], &[0, 0]),
+            (&[1, 0], &[1, 0]),
+            (&[1, 0], &[1, 0]),
+            (&[1, 0], &[1, 0]),
+            (&[0, 0], &[0, 0]),
+        ],
+    },
+    Tabled {
+        calls: "u1 BUF n; u2 THR n; u3 INV n;",
+        rows: 3,
+        channels: &[(&[0], &[0]), (&[1], &[1]), (&[1], &[1]), (&[0], &[0])],
+    },
+    Tabled {
+        calls: "u1 BUF n; u2 THR n; u3 INV p;",
+        rows: 3,
+        channels: &[(&[0], &[0]), (&[1], &[1]), (&[0], &[0]), (&[0], &[0])],
+    },
+    Tabled {
+        calls: "u1 PAIR n m; u2 PAIR n m;",
+        rows: 1,
+        channels: &[
+            (&[1, 0, 1, 0], &[0, 0, 0, 0]),
+            (&[0, 0, 0, 0], &[2, 0, 2, 0]),
+        ],
+    },
+    Tabled {
+        calls: "u1 BUF n;",
+        rows: 1,
+        channels: &[(&[0], &[0]), (&[0], &[0])],
+    },
+    Tabled {
+        calls: "",
+        rows: 1,
+        channels: &[(&[], &[]), (&[], &[])],
+    },
+];
+
+/// Whether channels have these nets.
+fn are_channels(channels: &[Channel], wanted: &[(&[u32], &[u32])]) -> bool {
+    if channels.len() != wanted.len() {
+        return false;
+    }
+    for (channel, (top, bottom)) in channels.iter().zip(wanted) {
+        if channel.top.items() != *top || channel.bottom.items() != *bottom {
+            return false;
+        }
+    }
+    true
+}
+
+#[test]
+fn nets_enter_channels(rt: HostRuntime) -> Result<(), Fail> {
+    for (i, case) in TABLED.iter().enumerate() {
+        assert!(rt; case.rows > 0);
+        assert!(rt; case.rows <= 512);
+        let made = channels_of(&rt, rt.alloc(), case.calls, case.rows)?;
+        assert!(rt; are_channels(made.as_slice(), case.channels), "case {i}");
+    }
+    Ok(())
+}
+
+#[test]
+fn a_layout_is_within_its_bound(rt: HostRuntime) -> Result<(), Fail> {
+    let rules = Rules::sample(rt.alloc())?;
+    let design = designed_with(rt.alloc(), "u1 BUF n; u2 INV p; u3 INV q; u4 INV n;")?;
+    let fed = fed_in(rt.alloc(), &design, 4)?;
+    assert_eq!(rt;
+        bound_in(&design, &fed, &rules),
+        Bound {
+            width: 2400,
+            height: 24800,
+            grid: 15
+        }
+    );
+    let none = designed_with(rt.alloc(), "")?;
+    let empty = fed_in(rt.alloc(), &none, 1)?;
+    assert_eq!(rt; bound_in(&none, &empty, &rules).grid, 0);
+    Ok(())
+}

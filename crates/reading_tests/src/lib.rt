@@ -1,0 +1,15 @@
+//! Tests of the crates that read: lists and rectangles, shelves and sinks, names, rules files, texts of YAL, and checked designs.
+#![tactic(auto)]
+
+#[cfg(test)]
+mod design_tests;
+#[cfg(test)]
+mod geometry_tests;
+#[cfg(test)]
+mod name_tests;
+#[cfg(test)]
+mod rules_tests;
+#[cfg(test)]
+mod shelf_tests;
+#[cfg(test)]
+mod yal_tests;

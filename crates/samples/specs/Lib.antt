@@ -1,0 +1,2 @@
+-- the design of a text under the sample rules
+pub mod Sampled

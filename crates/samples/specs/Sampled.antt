@@ -1,0 +1,12 @@
+use Rattle.std.specs.Prelude.{◌≡◌, ℕ, List, Ok}
+use Rattle.tech_rules.specs.Sample.{sample}
+use Rattle.yal_reader.specs.YalReads.{yal_reads}
+use Rattle.yal_reader.specs.declared.file.YalFile.{YalFile}
+use Rattle.design_model.specs.Netlist.{Netlist}
+use Rattle.netlist_core.specs.OnGrid.{on_grid}
+
+-- a text reads as a file that is this design under the sample rules
+pub record IsSampled (text : List ℕ) (d : Netlist) : Type 0 where
+  pub file : YalFile
+  pub reads : yal_reads text ≡ Ok file
+  pub checked : on_grid sample file ≡ Ok d
