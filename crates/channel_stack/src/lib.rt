@@ -2,7 +2,7 @@
 #![tactic(auto)]
 
 mod bases;
-pub mod placed;
+mod placed;
 mod places;
 mod stacking;
 

@@ -2,9 +2,9 @@
 //! (Mead and Conway, Introduction to VLSI Systems, 1980: CIF 2.0).
 #![tactic(auto)]
 
-pub mod command;
-pub mod fault;
-pub mod print;
+mod command;
+mod fault;
+mod print;
 
 pub use command::{Command, UserKind};
 pub use fault::{CifFault, CifKind};

@@ -2,6 +2,7 @@
 
 use crate::support::{ONE_INVERTER, ended, routed, rules_with, shelf_with};
 use samples::{BUFFER, CELLS, INVERTER, POWERED, RING, RULES, THROUGH, design_text};
+use std::alloc::{AllocError, Global};
 use std::test::Fail;
 
 const TWO_INVERTERS: &str =
@@ -43,13 +44,22 @@ fn designs_and_their_texts(rt: HostRuntime) -> Result<(), Fail> {
     ];
     for (name, modules, calls, want) in rows {
         let text = design_text(rt.alloc(), modules, calls)?;
-        let mut shelf = shelf_with(rt.alloc(), RULES, text.as_str())?;
-        assert_eq!(rt; routed(rt.alloc(), &mut shelf)?, 0, "{name}");
-        assert_eq!(rt; shelf.get("o"), Some(want.as_bytes()), "{name}");
-        assert_eq!(rt; shelf.get("d"), Some(text.as_bytes()), "{name}");
-        assert_eq!(rt; shelf.get("r"), Some(RULES.as_bytes()), "{name}");
+        assert!(rt; is_routed(rt.alloc(), text.as_str(), want)?, "{name}");
     }
     Ok(())
+}
+
+// Whether `route d r o` gives this layout for this design and leaves its two files as they are.
+fn is_routed(alloc: Global, design: &str, want: &str) -> Result<bool, AllocError> {
+    let mut shelf = shelf_with(alloc, RULES, design)?;
+    if routed(alloc, &mut shelf)? != 0 {
+        return Ok(false);
+    }
+    Ok(
+        shelf.get("o") == Some(want.as_bytes())
+            && shelf.get("d") == Some(design.as_bytes())
+            && shelf.get("r") == Some(RULES.as_bytes()),
+    )
 }
 
 #[test]

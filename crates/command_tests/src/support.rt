@@ -49,24 +49,29 @@ pub fn shelf_with(alloc: Global, rules: &str, design: &str) -> Result<MemShelf, 
 
 /// The status of `route d r o` over this shelf; 255 where it is 0 and something was printed.
 pub fn routed(alloc: Global, shelf: &mut MemShelf) -> Result<u8, AllocError> {
-    let (status, out) = ended(alloc, &["route", "d", "r", "o"], shelf)?;
+    let (status, out) = ended(alloc, ROUTE, shelf)?;
     if status == 0 && !out.bytes().is_empty() {
         return Ok(255);
     }
     Ok(status)
 }
 
-/// A refusal of `route d r o` writes nothing and prints this line.
+/// The words `route d r o`.
+pub const ROUTE: &[&str] = &["route", "d", "r", "o"];
+
+/// A refusal of `route d r o` over these rules and this design writes nothing and prints this line.
 pub fn is_refused(
     alloc: Global,
-    shelf: &mut MemShelf,
+    rules: &str,
+    design: &str,
     status: u8,
     line: &str,
 ) -> Result<bool, AllocError> {
-    is_refused_in(alloc, &["route", "d", "r", "o"], shelf, status, line)
+    let mut shelf = shelf_with(alloc, rules, design)?;
+    is_refused_in(alloc, ROUTE, &mut shelf, status, line)
 }
 
-/// The same of other words.
+/// The same of these words over this shelf.
 pub fn is_refused_in(
     alloc: Global,
     texts: &[&str],

@@ -63,7 +63,7 @@ fn words_of_a_command(rt: HostRuntime) -> Result<(), Fail> {
 
 /// Words, the file that they write, and where the last of seven cells of one column lies in as many rows as they ask for. Without a number there are two rows,
 /// which make the layout about square; the first cell of row k lies at y 800 + 4800 * k.
-const ASKED: [(&[&str], &str, &str); 15] = [
+const ASKED: &[(&[&str], &str, &str)] = &[
     (&["route", "d", "r", "o"], "o", "C 1 T 1600 5600;\nE\n"),
     (
         &["route", "d", "r", "o", "--rows", "1"],
@@ -142,7 +142,7 @@ fn words_that_ask_for_rows(rt: HostRuntime) -> Result<(), Fail> {
     let calls =
         "u1 INV n1;\nu2 INV n2;\nu3 INV n3;\nu4 INV n4;\nu5 INV n5;\nu6 INV n6;\nu7 INV n7;\n";
     let text = design_text(rt.alloc(), INVERTER, calls)?;
-    for (texts, out, last) in ASKED {
+    for &(texts, out, last) in ASKED {
         let mut shelf = shelf_with(rt.alloc(), RULES, text.as_str())?;
         let (status, _) = ended(rt.alloc(), texts, &mut shelf)?;
         assert_eq!(rt; status, 0, "{last}");

@@ -12,8 +12,6 @@ pub mod NetLaws
 pub mod SpanLaws
 -- rows of a design are few and short
 pub mod ShortRows
--- rows that tests are made of
-pub mod SampleRows
 -- the parts of the answer are those of the definition
 pub mod FedAnswer
 -- how wide rows with feeds can be

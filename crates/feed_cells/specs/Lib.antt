@@ -22,5 +22,3 @@ pub mod Spans
 pub mod Tables
 -- the feeds of a row by tables
 pub mod RowFeeds
--- rows that tests are made of
-pub mod Samples

@@ -1,8 +1,8 @@
 //! Feed cells: where a net crosses a row in which no pin of it leads through, a feed takes it to the other side.
 #![tactic(auto)]
 
-pub mod crossing;
-pub mod fed;
+mod crossing;
+mod fed;
 mod fed_rows;
 mod feeding;
 mod led_table;

@@ -1,6 +1,6 @@
 //! Lists of names, numbered in the order of their first mention, and facts about lists.
 #![tactic(auto)]
 
-pub mod names;
+mod names;
 
 pub use names::{is_among, is_new, number, place_of};

@@ -41,9 +41,11 @@ library-terminals a is place m at =
     ∙ ap (option_map (λ (m : Module). terminals_of m.lines)) at
 
 -- a module has at most as many terminals as lines
-pub few-terminals : (lines : List Line) → length (terminals_of lines) ≤ length lines
-few-terminals lines =
-    omega (arith, length-map (terminal_names lines) (terminal_in (power_names lines)), length-mentions (line_names lines), length-map lines (λ (l : Line). l.name))
+pub few-names : (lines : List Line) → length (terminal_names lines) ≤ length lines
+few-names lines = omega (arith, length-mentions (line_names lines), length-map lines (λ (l : Line). l.name))
+
+few-terminals : (lines : List Line) → length (terminals_of lines) ≤ length lines
+few-terminals lines = omega (arith, length-map (terminal_names lines) (terminal_in (power_names lines)), few-names lines)
 
 short-at : (most : ℕ) (ms : List Module) (place : ℕ) (m : Module) → AllByRecursion (IsShort most) ms → slice_get ms place ≡ Some m → length m.lines ≤ most
 short-at most [] place m short at = cc

@@ -7,7 +7,7 @@ ghost use Rattle.yal_reader.specs.Kept.{IsKeptModule, IsNear};
 use crate::fault::DesignFault;
 use crate::outline::{Outline, outline_of};
 use crate::positions::{are_on_layer, grid_positions, has_clash};
-use crate::terminals::{NumberedSpot, power_names, spots, terminal_names, terminals};
+use crate::terminals::{NumberedSpot, pinout_of};
 use design_model::{CellKind, Position};
 use geom_core::Items;
 use std::alloc::{AllocError, Global};
@@ -42,17 +42,13 @@ pub fn kind_of(
     requires lines { length «module».now.lines < 2 ^ 32 }
     ensures { Agrees (λ kind. kind) result (kind_of rules.now height n «module».now) }
 {
-    let lines = module.lines.items();
-    let names = terminal_names(alloc, lines)?;
-    let power = power_names(alloc, lines)?;
-    let spots = spots(alloc, lines, &names, &power)?;
+    let pinout = pinout_of(alloc, module.lines.items())?;
     let corners = module.corners.items();
-    let grid = grid_of(alloc, rules, height, n, corners, spots.as_slice())?;
-    let terminals = terminals(alloc, &names, &power)?;
+    let grid = grid_of(alloc, rules, height, n, corners, pinout.spots.as_slice())?;
     Ok(CellKind {
         name: module.name.copied(alloc)?,
         columns: grid.columns,
-        terminals: Items::new(terminals),
+        terminals: Items::new(pinout.terminals),
         positions: grid.positions,
     })
 }

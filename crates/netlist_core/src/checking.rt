@@ -9,10 +9,10 @@ ghost use Rattle.std.specs.Prelude.{◌≡◌, ◌<◌, ◌≤◌, ◌+◌, ◌-
 ghost use Rattle.std.specs.Str.{bytes_eq};
 ghost use Rattle.yal_reader.specs.Kept.{call_names, module_names, HasAtMost, IsKept, IsKeptCall, IsKeptModule, IsShort};
 
-use crate::calls::{calls_fault, instances_of, the_parent};
+use crate::calls::{calls_fault, the_parent};
 use crate::library::Library;
-use crate::signals::{Signal, copies, nets_of, pins_of, signals_of};
-use crate::used::{Numbered, height_of, kinds_of, names_of, used_modules};
+use crate::signals::{Signal, connections_of, signals_of};
+use crate::used::{Numbered, height_of, instances_among, kinds_of, used_modules};
 use crate::{Count, DesignFault};
 use design_model::Design;
 use geom_core::Items;
@@ -99,13 +99,13 @@ fn used_design(
         Ok(kinds) => kinds,
         Err(fault) => return Err(fault),
     };
-    let names = names_of(alloc, used)?;
-    let nets = nets_of(alloc, signals)?;
+    let instances = instances_among(alloc, used, calls)?;
+    let connections = connections_of(alloc, signals)?;
     Ok(Design {
         kinds: Items::new(kinds),
         height: height_of(used),
-        instances: Items::new(instances_of(alloc, &names, calls)?),
-        pins: Items::new(pins_of(alloc, &nets, signals)?),
-        nets: Items::new(copies(alloc, &nets)?),
+        instances: Items::new(instances),
+        pins: Items::new(connections.pins),
+        nets: Items::new(connections.nets),
     })
 }

@@ -76,6 +76,26 @@ pub fn signals_of<'a>(
     Ok(signals)
 }
 
+/// The pins and the nets of a design.
+#[derive(Drop)]
+pub struct Connections {
+    pub pins: Vec<Pin>,
+    pub nets: Vec<Name>,
+}
+
+/// The pins of these words and the nets that the words make. The one error is want of memory.
+pub fn connections_of(alloc: Global, signals: &[Signal]) -> Result<Connections, AllocError>
+    requires { length signals.now < 2 ^ 32 - 1 }
+    ensures pins { IfOk result (λ c. c.pins.items ≡ map (pin_in (nets_of signals.now)) signals.now) }
+    ensures nets { IfOk result (λ c. c.nets.items ≡ nets_of signals.now) }
+{
+    let nets = nets_of(alloc, signals)?;
+    Ok(Connections {
+        pins: pins_of(alloc, &nets, signals)?,
+        nets: copies(alloc, &nets)?,
+    })
+}
+
 /// The nets that these words make, in the order of their first mention. The one error is want of memory.
 #[tactic(auto, unfolding(crate::specs::Signals::nets_of))]
 pub fn nets_of<'a>(alloc: Global, signals: &[Signal<'a>]) -> Result<IndexSet<&'a [u8]>, AllocError>

@@ -1,5 +1,5 @@
 ghost use Rattle.list_facts.specs.Texts.{texts};
-ghost use Rattle.netlist_core.specs.Cells.{power_names, spots_of, terminal_in, terminal_names};
+ghost use Rattle.netlist_core.specs.Cells.{power_names, spots_of, terminal_in, terminal_names, terminals_of};
 ghost use Rattle.std.specs.Prelude.{◌≡◌, ◌<◌, ◌≤◌, ◌^◌, IfOk, length, map};
 ghost use Rattle.yal_reader.specs.Kept.{is_power};
 
@@ -27,13 +27,34 @@ impl<'a> Model for NumberedSpot<'a> {
     ghost view = { λ s. (s.terminal, s.spot.now) };
 }
 
+/// What the lines of a module say of its terminals.
+#[derive(Drop)]
+pub struct Pinout<'a> {
+    pub terminals: Vec<Terminal>,
+    /// In the order of the lines, without those of power terminals.
+    pub spots: Vec<NumberedSpot<'a>>,
+}
+
+/// The terminals of these lines and their spots. The one error is want of memory.
+pub fn pinout_of<'a>(alloc: Global, lines: &'a [Line]) -> Result<Pinout<'a>, AllocError>
+    requires { length lines.now < 2 ^ 32 }
+    ensures terminals { IfOk result (λ pinout. pinout.terminals.items ≡ terminals_of lines.entry.now) }
+    ensures spots { IfOk result (λ pinout. pinout.spots.items ≡ spots_of lines.entry.now) }
+{
+    let names = terminal_names(alloc, lines)?;
+    let power = power_names(alloc, lines)?;
+    Ok(Pinout {
+        terminals: terminals(alloc, &names, &power)?,
+        spots: spots(alloc, lines, &names, &power)?,
+    })
+}
+
 /// The names of the terminals that these lines have, in the order of their first mention. The one error is want of memory.
 pub fn terminal_names<'a>(
     alloc: Global,
     lines: &'a [Line],
 ) -> Result<IndexSet<&'a [u8]>, AllocError>
-    ensures names { IfOk result (λ names. texts names.keys ≡ terminal_names lines.entry.now) }
-    ensures few { IfOk result (λ names. length (texts names.keys) ≤ length lines.entry.now) }
+    ensures { IfOk result (λ names. texts names.keys ≡ terminal_names lines.entry.now) }
 {
     let mut names = IndexSet::new(alloc);
     for line in lines {

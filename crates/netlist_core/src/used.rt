@@ -1,14 +1,16 @@
 ghost use Rattle.list_facts.specs.Names.{mentions};
 ghost use Rattle.list_facts.specs.Texts.{texts};
 ghost use Rattle.netlist_core.specs.Answers.{Agrees};
-ghost use Rattle.netlist_core.specs.OnGrid.{height_of, kind_for, kinds_for, used_modules, used_names};
-ghost use Rattle.std.specs.Prelude.{◌≡◌, ◌<◌, ◌≤◌, ◌-◌, ◌^◌, length, All, IfOk};
+ghost use Rattle.netlist_core.specs.OnGrid.{height_of, inst_in, kind_for, kinds_for, used_modules, used_names};
+ghost use Rattle.std.specs.List.{IsDistinct};
+ghost use Rattle.std.specs.Prelude.{◌≡◌, ◌<◌, ◌≤◌, ◌-◌, ◌^◌, length, map, All, IfOk};
+ghost use Rattle.std.specs.Str.{bytes_eq};
 ghost use Rattle.yal_reader.specs.Kept.{IsKeptModule, IsShort};
 
 use crate::DesignFault;
-use crate::calls::called_names;
+use crate::calls::{called_names, instances_of};
 use crate::cells::{height_of_module, kind_of};
-use design_model::CellKind;
+use design_model::{CellKind, Inst};
 use indexmap::IndexSet;
 use list_facts::{is_among, number};
 use std::alloc::{AllocError, Global};
@@ -71,6 +73,20 @@ pub fn names_of<'a>(alloc: Global, used: &[Numbered<'a>]) -> Result<IndexSet<&'a
         number(&mut names, numbered.module.name.items())?;
     }
     Ok(names)
+}
+
+/// The instances that calls of these modules make. The one error is want of memory.
+pub fn instances_among(
+    alloc: Global,
+    used: &[Numbered],
+    calls: &[Call],
+) -> Result<Vec<Inst>, AllocError>
+    requires few { length used.now < 2 ^ 32 }
+    requires different { IsDistinct bytes_eq (used_names used.now) }
+    ensures { IfOk result (λ instances. instances.items ≡ map (inst_in (used_names used.now)) calls.now) }
+{
+    let names = names_of(alloc, used)?;
+    instances_of(alloc, &names, calls)
 }
 
 /// The height of the first of these modules, or 0 where there is none. Takes no memory.

@@ -2,7 +2,7 @@
 #![tactic(auto)]
 
 mod aboves;
-pub mod bound;
+mod bound;
 mod bounding;
 mod by_instance;
 mod cells;

@@ -59,6 +59,17 @@ fn bound_in(design: &Design, fed: &FedRows, rules: &Rules) -> Bound
     bound_of(design, fed, rules)
 }
 
+/// The bound of a design with these calls in so many rows, under the sample rules.
+fn bound_with(alloc: Global, calls: &str, count: u32) -> Result<Bound, Fail>
+    requires some { 0 < count }
+    requires few { count ≤ 512 }
+{
+    let rules = Rules::sample(alloc)?;
+    let design = designed_with(alloc, calls)?;
+    let fed = fed_in(alloc, &design, count)?;
+    Ok(bound_in(&design, &fed, &rules))
+}
+
 /// Calls, the number of rows, and for each channel the nets at its upper and at its lower edge.
 struct Tabled {
     calls: &'static str,
@@ -139,19 +150,15 @@ fn nets_enter_channels(rt: HostRuntime) -> Result<(), Fail> {
 
 #[test]
 fn a_layout_is_within_its_bound(rt: HostRuntime) -> Result<(), Fail> {
-    let rules = Rules::sample(rt.alloc())?;
-    let design = designed_with(rt.alloc(), "u1 BUF n; u2 INV p; u3 INV q; u4 INV n;")?;
-    let fed = fed_in(rt.alloc(), &design, 4)?;
+    let bound = bound_with(rt.alloc(), "u1 BUF n; u2 INV p; u3 INV q; u4 INV n;", 4)?;
     assert_eq!(rt;
-        bound_in(&design, &fed, &rules),
+        bound,
         Bound {
             width: 2400,
             height: 24800,
             grid: 15
         }
     );
-    let none = designed_with(rt.alloc(), "")?;
-    let empty = fed_in(rt.alloc(), &none, 1)?;
-    assert_eq!(rt; bound_in(&none, &empty, &rules).grid, 0);
+    assert_eq!(rt; bound_with(rt.alloc(), "", 1)?.grid, 0);
     Ok(())
 }

@@ -1,6 +1,6 @@
 //! The plain router, which wires every channel: each net owns two tracks and one column of its own.
 #![tactic(auto)]
 
-pub mod router;
+mod router;
 
 pub use router::plain;

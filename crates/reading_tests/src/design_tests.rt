@@ -143,20 +143,26 @@ fn corners_have_an_outline(rt: HostRuntime) -> Result<(), Fail> {
         )?;
         let design = designed(alloc, module.as_str(), "u C n;");
         if let Ok(design) = &design {
-            assert_eq!(rt; design.height, 40, "{corners}");
-            assert_eq!(rt; design.kinds.items().len(), 1);
-            let kind = &design.kinds.items()[0];
-            assert_eq!(rt; kind.columns, 2, "{corners}");
-            let position = Position {
-                terminal: 0,
-                top: true,
-                column: 1,
-            };
-            assert_eq!(rt; kind.positions.items(), [position].as_slice(), "{corners}");
+            assert!(rt; has_one_kind(design), "{corners}");
         }
         assert_eq!(rt; fault_in(design)?, want, "{corners}");
     }
     Ok(())
+}
+
+/// Whether the one kind is two columns wide and 40 high, with a pin at the top of the second.
+fn has_one_kind(design: &Design) -> bool {
+    let [kind] = design.kinds.items() else {
+        return false;
+    };
+    let [position] = kind.positions.items() else {
+        return false;
+    };
+    design.height == 40
+        && kind.columns == 2
+        && position.terminal == 0
+        && position.top
+        && position.column == 1
 }
 
 #[test]
@@ -320,8 +326,8 @@ fn a_design_is_looked_up(rt: HostRuntime) -> Result<(), Fail> {
     Ok(())
 }
 
-/// A text with a cell of so many terminals, called so often.
-fn many(alloc: Global, instances: u32, terminals: u32) -> Result<String, Fail> {
+/// The text of a cell of so many terminals.
+fn wide(alloc: Global, terminals: u32) -> Result<String, AllocError> {
     let width = 8 * u64::from(terminals);
     let mut text = format!(in alloc;
         "MODULE M; TYPE STANDARD; DIMENSIONS 0 0 {width} 0 {width} 40 0 40; IOLIST;\n"
@@ -331,6 +337,12 @@ fn many(alloc: Global, instances: u32, terminals: u32) -> Result<String, Fail> {
         text.push_str(&format!(in alloc; "t{n} I {x} 0 3 POLY;")?)?;
     }
     text.push_str(" ENDIOLIST; ENDMODULE;\n")?;
+    Ok(text)
+}
+
+/// A text with a cell of so many terminals, called so often.
+fn many(alloc: Global, instances: u32, terminals: u32) -> Result<String, AllocError> {
+    let mut text = wide(alloc, terminals)?;
     text.push_str(HEAD)?;
     for i in 0..instances {
         text.push_str(&format!(in alloc; "i{i} M")?)?;

@@ -1,11 +1,11 @@
 //! Rows of cells: which instance stands in which row, in which order, and where.
 #![tactic(auto)]
 
-pub mod cell_columns;
-pub mod rows;
+mod cell_columns;
+mod rows;
 mod standing;
 mod starting;
-pub mod weights;
+mod weights;
 mod widths;
 
 pub use cell_columns::{PinColumns, all_pin_columns, pin_columns};
