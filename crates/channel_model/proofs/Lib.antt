@@ -12,3 +12,5 @@ pub mod DensityLaws
 pub mod Worked
 -- the nets of a channel are one list
 pub mod NetLists
+-- the nets of a channel as a function of its pins
+pub mod NetsOf

@@ -1,6 +1,7 @@
 use Rattle.std.proofs.Common.{◌≡◌, ◌∷◌, [], ℕ, List, refl}
 use Rattle.channel_model.specs.Pins.{Pins, are_matched}
 use Rattle.channel_model.specs.Density.{density_of}
+use Rattle.channel_model.specs.Nets.{nets_of}
 use Rattle.std.specs.Prelude.{true, false}
 
 -- the channel with bottom pins 1, 2 and top pins 2, 1
@@ -14,7 +15,12 @@ both = 1 ∷ (2 ∷ [])
 pub crossed-matched : are_matched crossed ≡ true
 crossed-matched = refl
 
-pub crossed-density : density_of crossed both ≡ 2
+pub crossed-nets : nets_of crossed ≡ both
+unfolding nets_of
+crossed-nets = refl
+
+pub crossed-density : density_of crossed ≡ 2
+unfolding nets_of
 crossed-density = refl
 
 -- a net that stands once

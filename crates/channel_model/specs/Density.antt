@@ -1,6 +1,7 @@
 use Rattle.std.specs.Prelude.{◌&&◌, ℕ, zero, suc, List, length, Bool, nat_le, count_by, max}
 use Rattle.std.specs.List.{filter_map}
 use Rattle.channel_model.specs.declared.reach.Reach.{Reach}
+use Rattle.channel_model.specs.Nets.{nets_of}
 use Rattle.channel_model.specs.Pins.{Pins}
 use Rattle.channel_model.specs.Reach.{span_of}
 
@@ -21,6 +22,6 @@ greatest f (suc n) = max (greatest f n) (f n)
 abbrev pub most_over : List Reach → ℕ → ℕ
 most_over spans columns = greatest (λ column. count_by (is_over column) spans) columns
 
--- the greatest number, over all columns, of these nets over a column
-abbrev pub density_of : Pins → List ℕ → ℕ
-density_of pins nets = most_over (spans_of pins nets) (length pins.top)
+-- the greatest number, over all columns, of nets over a column
+abbrev pub density_of : Pins → ℕ
+density_of pins = most_over (spans_of pins (nets_of pins)) (length pins.top)

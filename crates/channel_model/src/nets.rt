@@ -1,4 +1,4 @@
-ghost use Rattle.channel_model.specs.Nets.{AreNets, place_of};
+ghost use Rattle.channel_model.specs.Nets.{AreNets, nets_of, place_of};
 ghost use Rattle.channel_model.specs.Pins.{is_pin};
 ghost use Rattle.std.specs.List.Sorted.{IsStrictlyIncreasing};
 ghost use Rattle.std.specs.Prelude.{◌≡◌, ◌<◌, ◌≤◌, ◌+◌, ◌*◌, ◌++◌, IfOk, Contains, filter, length, slice_index};
@@ -8,6 +8,7 @@ use std::alloc::{AllocError, Global};
 
 /// The nets of a channel, each once, in number order, in O(W log W) time for W columns. The one error is want of memory.
 pub fn nets_of(alloc: Global, channel: &Channel) -> Result<Vec<u32>, AllocError>
+    ensures is { IfOk result (λ nets. nets.items ≡ nets_of channel.now) }
     ensures nets { IfOk result (λ nets. AreNets channel.now nets.items) }
     ensures few { IfOk result (λ nets. length nets.items ≤ 2 * length channel.now.top) }
 {

@@ -2,7 +2,7 @@ ghost use Rattle.channel_model.specs.Density.{density_of, most_over, spans_of};
 ghost use Rattle.channel_model.specs.Nets.{AreNets};
 ghost use Rattle.channel_model.specs.Reach.{IsReach, joined};
 ghost use Rattle.std.specs.Option.{option_to_list};
-ghost use Rattle.std.specs.Prelude.{◌≡◌, ◌==◌, ◌<◌, ◌≤◌, ◌^◌, ◌++◌, ℕ, List, IfOk, OnOk, All, count_by, length, slice_index, vec_len};
+ghost use Rattle.std.specs.Prelude.{◌≡◌, ◌==◌, ◌<◌, ◌≤◌, ◌^◌, ◌++◌, ℕ, IfOk, OnOk, All, count_by, length, slice_index, vec_len};
 
 use crate::channel::Channel;
 use crate::nets::nets_of;
@@ -12,8 +12,7 @@ use std::alloc::{AllocError, Global};
 /// The density of a channel: the greatest number, over all columns, of nets whose first pin is not right of the column and
 /// whose last pin is not left of it, in O(W log W) time for W columns. The one error is want of memory.
 pub fn density(alloc: Global, channel: &Channel) -> Result<u32, AllocError>
-    ensures { IfOk result (λ density.
-        (nets : List ℕ) × AreNets channel.now nets × (density ≡ density_of channel.now nets)) }
+    ensures { IfOk result (λ density. density ≡ density_of channel.now) }
 {
     let nets = nets_of(alloc, channel)?;
     let spans = spans_of(alloc, channel, &nets)?;

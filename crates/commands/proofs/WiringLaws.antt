@@ -1,11 +1,8 @@
 use Rattle.std.proofs.Common.{drop, append_assoc, append-nil, ◌≡◌, refl, ap, sym, ◌∙◌, subst, ◌<◌, ◌≤◌, ◌+◌, ℕ, zero, suc, List, [], ◌∷◌, ◌++◌, map, length, Some, None, arith}
-use Rattle.std.specs.List.{range_with_len}
+use Rattle.std.proofs.lemmas.Option.{none-some, same_Some}
 use Rattle.std.specs.Prelude.{slice_get}
-use Rattle.channel_model.specs.Nets.{AreNets}
 use Rattle.channel_model.specs.Pins.{Pins}
-use Rattle.channel_model.specs.Wired.{Wired}
 use Rattle.channel_model.specs.declared.wiring.Wiring.{Wiring}
-use Rattle.channel_model.proofs.NetLists.{AreNets-one}
 use Rattle.plain_router.specs.Plain.{plain_of}
 use Rattle.commands.specs.Wirings.{IsPlain, ArePlain}
 
@@ -29,42 +26,20 @@ pub plain-end : (channels : List Pins) (n : ℕ) (ws : List Wiring) → length c
 plain-end channels n ws past so =
     subst (ArePlain channels) (append-nil ws) (so [] (subst (λ (ps : List Pins). ArePlain ps []) (sym (drop-past n channels past)) tt))
 
--- the plain wirings of channels of which the nets are known
-module _ (pins : ℕ → Pins) (nets : ℕ → List ℕ) where
-  abbrev stated : ℕ → Wiring
-  stated k = plain_of (pins k) (nets k)
+-- plain wirings are those that are stated, one for each channel, and each connects its channel
+pub plain-stated : (channels : List Pins) (ws : List Wiring) → ArePlain channels ws → ws ≡ map plain_of channels
+plain-stated [] [] plain = refl
+plain-stated [] (w ∷ ws) plain = absurd plain
+plain-stated (p ∷ ps) [] plain = absurd plain
+plain-stated (p ∷ ps) (w ∷ ws) plain =
+    let first : w ≡ plain_of p = plain.0.stated in
+    let others = plain-stated ps ws plain.1 in
+    (λ i. first i ∷ others i)
 
-  pub plain-stated : (start count : ℕ) (ws : List Wiring) → ((k : ℕ) → start ≤ k → k < start + count → AreNets (pins k) (nets k))
-      → ArePlain (map pins (range_with_len start count)) ws → ws ≡ map stated (range_with_len start count)
-  plain-stated start zero [] known plain = refl
-  plain-stated start zero (w ∷ ws) known plain = absurd plain
-  plain-stated start (suc count) [] known plain = absurd plain
-  plain-stated start (suc count) (w ∷ ws) known plain =
-      let same : plain.0.nets ≡ nets start = AreNets-one (pins start) plain.0.nets (nets start) plain.0.are_nets (known start (omega arith) (omega arith)) in
-      let first : w ≡ stated start = plain.0.stated ∙ ap (plain_of (pins start)) same in
-      let others = plain-stated (start + 1) count ws (λ k low high. known k (omega arith) (omega arith)) plain.1 in
-      (λ i. first i ∷ others i)
-
-  pub plain-wired : (start count : ℕ) (ws : List Wiring) → ArePlain (map pins (range_with_len start count)) ws
-      → (k : ℕ) (w : Wiring) → slice_get ws k ≡ Some w → Wired (pins (start + k)) w
-  plain-wired start zero [] plain k w at = absurd (none at)
-    where
-      none : None ≡ Some w → ⊥
-      none e = cc
-  plain-wired start zero (v ∷ ws) plain k w at = absurd plain
-  plain-wired start (suc count) [] plain k w at = absurd plain
-  plain-wired start (suc count) (v ∷ ws) plain zero w at =
-      let here : start ≡ start + 0 = omega arith in
-      subst (λ n. Wired (pins n) w) here (subst (Wired (pins start)) (same at) plain.0.wired)
-    where
-      same : Some v ≡ Some w → v ≡ w
-      same e = cc
-  plain-wired start (suc count) (v ∷ ws) plain (suc k) w at =
-      let there : start + 1 + k ≡ start + suc k = omega arith in
-      subst (λ n. Wired (pins n) w) there (plain-wired (start + 1) count ws plain.1 k w at)
-
-  pub plain-each : (start count : ℕ) (ws : List Wiring) → ArePlain (map pins (range_with_len start count)) ws → length ws ≡ count
-  plain-each start zero [] plain = refl
-  plain-each start zero (w ∷ ws) plain = absurd plain
-  plain-each start (suc count) [] plain = absurd plain
-  plain-each start (suc count) (w ∷ ws) plain = ap suc (plain-each (start + 1) count ws plain.1)
+pub plain-at : (channels : List Pins) (ws : List Wiring) → ArePlain channels ws → (k : ℕ) (w : Wiring) → slice_get ws k ≡ Some w
+    → (p : Pins) × (slice_get channels k ≡ Some p) × IsPlain p w
+plain-at [] [] plain k w at = absurd (none-some w at)
+plain-at [] (v ∷ ws) plain k w at = absurd plain
+plain-at (p ∷ ps) [] plain k w at = absurd plain
+plain-at (p ∷ ps) (v ∷ ws) plain zero w at = (p, refl, subst (IsPlain p) (same_Some v w at) plain.0)
+plain-at (p ∷ ps) (v ∷ ws) plain (suc k) w at = plain-at ps ws plain.1 k w at

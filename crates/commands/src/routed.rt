@@ -30,7 +30,7 @@ pub fn routed_text(
     requires netlist { IsNetlist design.now }
     requires high { 0 < length design.now.kinds → 2 * rules.now.grid_pin + rules.now.vertical_space ≤ design.now.height }
     requires fed { IsFed design.now fed.now }
-    requires grid { (pins.bound_of rules.now design.now fed.now).grid ≤ 4000000 }
+    requires narrow { fed.now.width ≤ 4000000 }
     requires width { (pins.bound_of rules.now design.now fed.now).width ≤ 1000000000 }
     requires height { (pins.bound_of rules.now design.now fed.now).height ≤ 1000000000 }
     ensures text { IfOk result (λ text. text.items ≡ routed_text rules.now design.now fed.now) }

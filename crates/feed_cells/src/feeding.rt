@@ -1,4 +1,4 @@
-ghost use Rattle.feed_cells.specs.Fed.{fed_rows};
+ghost use Rattle.feed_cells.specs.Fed.{fed_rows, IsFed};
 ghost use Rattle.feed_cells.specs.NearStands.{AreShort};
 ghost use Rattle.feed_cells.specs.Tables.{AreTables};
 ghost use Rattle.row_model.specs.Rows.{ArePlaced};
@@ -19,10 +19,11 @@ use std::alloc::{AllocError, Global};
 
 /// The rows with a feed wherever a net crosses a row in which no pin of it leads through: before the first cell that does not begin left of the middle
 /// of the net's pins, or behind the last; feeds at one place in the order of their nets. Then the width of the widest row, and how many nets stand in
-/// each channel. The one error is want of memory.
+/// each channel. Each instance stands once in them, as before. The one error is want of memory.
 pub fn insert_feeds(alloc: Global, design: &Design, rows: &Rows) -> Result<FedRows, AllocError>
     requires { ArePlaced design.now rows.now }
-    ensures { IfOk result (λ fed. fed ≡ fed_rows design.now rows.now) }
+    ensures is { IfOk result (λ fed. fed ≡ fed_rows design.now rows.now) }
+    ensures fed { IfOk result (λ fed. IsFed design.now fed) }
 {
     // The bounds of the design's type are known once a field is read.
     let _pins = &design.pins;

@@ -32,10 +32,10 @@ pub mod EnteredLaws
 pub mod NetLaws
 -- the size that a layout is within
 pub mod BoundLaws
+-- how many channels there are, how wide they are, and how many nets they have
+pub mod ChannelTables
 -- rows with their feeds are of bounded sizes
 pub mod FedBounds
--- rows with their feeds, and those within the limit of the grid
-pub mod FedDesigns
 -- the entries of a cell, laid pin by pin
 pub mod LaidLaws
 -- the pins, the reaches of nets, their leaders and what enters, by tables

@@ -4,6 +4,8 @@ pub mod Entering
 pub mod Causes
 -- the tables of the channels
 pub mod Tables
+-- how many channels there are, how wide they are, and how many nets they have
+pub mod ChannelTables
 -- the pins and feeds along a row
 pub mod Sources
 -- which nets the pins and feeds of a row leave in which columns

@@ -1,3 +1,4 @@
+ghost use Rattle.feed_cells.specs.Fed.{IsFed};
 ghost use Rattle.pin_assign.specs.Bounded.{AreBounded, AreFewNets};
 ghost use Rattle.pin_assign.specs.Bounds.{bound_of, channels_height, most_nets};
 ghost use Rattle.std.specs.Prelude.{◌≡◌, ◌≤◌, length};
@@ -8,11 +9,23 @@ use feed_cells::FedRows;
 use tech_rules::Rules;
 
 /// The size that a layout of these rows is within, whatever its routing: a channel of n nets has at most 2n tracks, and n columns more than the widest
-/// row. The bounds on the rows hold of all that are made by inserting feeds. Takes no memory, and steps as the number of channels.
-#[tactic(auto, using(crate::proofs::BoundLaws::bound_laws), unfolding(crate::specs::Bounds::bound_of))]
+/// row. Takes no memory, and steps as the number of channels.
 pub fn bound_of(design: &Design, fed: &FedRows, rules: &Rules) -> Bound
+    requires { IsFed design.now fed.now }
+    ensures is { result ≡ bound_of rules.now design.now fed.now }
+    ensures wide { fed.now.width ≤ result.grid }
+{
+    // The bounds of the design's type are known once a field is read.
+    let _pins = &design.pins;
+    bound_within(design, fed, rules)
+}
+
+// The same of rows that are not too long or too many.
+#[tactic(auto, using(crate::proofs::BoundLaws::bound_laws), unfolding(crate::specs::Bounds::bound_of))]
+fn bound_within(design: &Design, fed: &FedRows, rules: &Rules) -> Bound
     requires { AreBounded fed.now }
-    ensures { result ≡ bound_of rules.now design.now fed.now }
+    ensures is { result ≡ bound_of rules.now design.now fed.now }
+    ensures wide { fed.now.width ≤ result.grid }
 {
     let rows = fed.rows.items().len() as u64;
     let nets = fed.nets.items();

@@ -1,4 +1,5 @@
 ghost use Rattle.feed_cells.specs.Fed.{IsFed, cells_in};
+ghost use Rattle.pin_assign.specs.ChannelTables.{AreTablesFor};
 ghost use Rattle.pin_assign.specs.Tabled.{AreTabled};
 ghost use Rattle.pin_assign.specs.Tables.{table_of, tables_of};
 ghost use Rattle.std.specs.Prelude.{◌≡◌, ◌≤◌, length, IfOk};
@@ -18,11 +19,12 @@ use geom_core::Items;
 use std::alloc::{AllocError, Global};
 
 /// The channels between rows with their feeds, from the lowest up, one more than there are rows: which net enters which channel in which column. Rows that
-/// are within the limit of the grid are at most 4,000,000 columns wide. The one error is want of memory.
+/// are within the limit of the grid are at most 4,000,000 columns wide. Each net of a channel has two entries in it, or more. The one error is want of memory.
 pub fn channels(alloc: Global, design: &Design, fed: &FedRows) -> Result<Vec<Channel>, AllocError>
     requires fed { IsFed design.now fed.now }
     requires narrow { fed.now.width ≤ 4000000 }
-    ensures { IfOk result (λ v. v.items ≡ tables_of design.now fed.now) }
+    ensures is { IfOk result (λ v. v.items ≡ tables_of design.now fed.now) }
+    ensures tables { IfOk result (λ v. AreTablesFor fed.now v.items) }
 {
     // The bounds of the design's type are known once a field is read.
     let _pins = &design.pins;

@@ -10,7 +10,7 @@ use Rattle.channel_model.specs.Elements.{Layer, vertical, horizontal, Element, s
 use Rattle.channel_model.specs.Wired.{IsOnGrid, KeepsEdges}
 use Rattle.channel_model.proofs.PlaceLaws.{place_of-member, place_of-is}
 use Rattle.channel_model.proofs.ReachLaws.{ReachesAll, reach_of-all}
-use Rattle.plain_router.specs.Plain.{for_pins, for_nets, lane_of, bottom_across, top_across, bottom_via, top_via, lane_segments, lane_vias, net_segments, net_vias, plain_of}
+use Rattle.plain_router.specs.Plain.{for_pins, for_nets, lane_of, bottom_across, top_across, bottom_via, top_via, lane_segments, lane_vias, net_segments, net_vias, plain_with}
 use Rattle.plain_router.proofs.PinLaws.{All-of_one, All-of_two, All-of_three, All-for_pins, All-for_nets}
 
 module _ (pins : Pins) (nets : List ℕ) where
@@ -175,7 +175,7 @@ module _ (pins : Pins) (nets : List ℕ) where
     listed_top : (column : ℕ) → 0 < get_or pins.top column 0 → Contains nets (get_or pins.top column 0)
     listed_top column some = are.listed (get_or pins.top column 0) (some, (column, inl refl))
 
-    sound_segments : All (λ s. Sound (segment s)) (plain_of pins nets).segments
+    sound_segments : All (λ s. Sound (segment s)) (plain_with pins nets).segments
     sound_segments =
         All-append (λ s. Sound (segment s))
         (for_pins (bottom_across nets) pins.bottom (length pins.bottom) ++ for_pins (top_across nets) pins.top (length pins.top))
@@ -193,7 +193,7 @@ module _ (pins : Pins) (nets : List ℕ) where
         (sym channel.matched) (reach_of pins.bottom net (length pins.bottom)) (reach_of pins.top net (length pins.top))
         (reach_of-all pins.bottom net (length pins.bottom)) (reach_of-all pins.top net (length pins.top))))
 
-    sound_vias : All (λ v. Sound (via v)) (plain_of pins nets).vias
+    sound_vias : All (λ v. Sound (via v)) (plain_with pins nets).vias
     sound_vias =
         All-append (λ v. Sound (via v))
         (for_pins (bottom_via nets) pins.bottom (length pins.bottom) ++ for_pins (top_via nets) pins.top (length pins.top))
@@ -220,8 +220,8 @@ module _ (pins : Pins) (nets : List ℕ) where
         (reach_of pins.bottom net (length pins.bottom)) (reach_of pins.top net (length pins.top))))
 
     -- each element of the plain wiring is sound
-    pub all_sound : All Sound (elements (plain_of pins nets))
+    pub all_sound : All Sound (elements (plain_with pins nets))
     all_sound =
-        All-append Sound (map segment (plain_of pins nets).segments) (map via (plain_of pins nets).vias)
-        (All-map Sound segment (plain_of pins nets).segments sound_segments)
-        (All-map Sound via (plain_of pins nets).vias sound_vias)
+        All-append Sound (map segment (plain_with pins nets).segments) (map via (plain_with pins nets).vias)
+        (All-map Sound segment (plain_with pins nets).segments sound_segments)
+        (All-map Sound via (plain_with pins nets).vias sound_vias)

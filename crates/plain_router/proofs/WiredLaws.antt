@@ -7,14 +7,15 @@ use Rattle.channel_model.specs.declared.wiring.Segment.{Segment}
 use Rattle.channel_model.specs.declared.wiring.Via.{Via}
 use Rattle.channel_model.specs.declared.wiring.Wiring.{Wiring}
 use Rattle.channel_model.specs.Pins.{Pins, IsChannel}
-use Rattle.channel_model.specs.Nets.{AreNets, place_of}
+use Rattle.channel_model.specs.Nets.{AreNets, nets_of, place_of}
+use Rattle.channel_model.proofs.NetsOf.{nets-are}
 use Rattle.channel_model.specs.Reach.{reach_of}
 use Rattle.channel_model.specs.Elements.{Element, segment, via, elements, net_of}
 use Rattle.channel_model.specs.Wired.{Linked, Wired}
 use Rattle.channel_model.proofs.PlaceLaws.{place_of-member, place_of-is}
 use Rattle.channel_model.proofs.ReachLaws.{ReachesAll, reach_of-all}
 use Rattle.plain_router.specs.declared.router.Lane.{Lane}
-use Rattle.plain_router.specs.Plain.{for_pins, for_nets, lane_of, bottom_across, top_across, bottom_via, top_via, net_segments, net_vias, plain_of}
+use Rattle.plain_router.specs.Plain.{for_pins, for_nets, lane_of, bottom_across, top_across, bottom_via, top_via, net_segments, net_vias, plain_of, plain_with}
 use Rattle.plain_router.proofs.PinLaws.{All-for_pins, All-for_nets, Contains-for_pins, Contains-for_nets}
 use Rattle.plain_router.proofs.ChainLaws.{Linked-trans, Linked-sym}
 use Rattle.plain_router.proofs.OwnerLaws.{Sound, owner_same, all_sound}
@@ -26,7 +27,7 @@ Contains-map f xs x member =
 
 module _ (pins : Pins) (nets : List ℕ) (channel : IsChannel pins) (are : AreNets pins nets) where
   abbrev wiring : Wiring
-  wiring = plain_of pins nets
+  wiring = plain_with pins nets
 
   abbrev below_of : ℕ → Option Reach
   below_of net = reach_of pins.bottom net (length pins.bottom)
@@ -221,6 +222,9 @@ module _ (pins : Pins) (nets : List ℕ) (channel : IsChannel pins) (are : AreNe
             (subst (λ n. Linked wiring (home n) f) (sym same) (Linked-sym second (to_home f second)));
       }
 
--- a wiring that is stated to be the plain one connects the channel
-pub wired_from_stated : (pins : Pins) (w : Wiring) → IsChannel pins → (nets : List ℕ) × AreNets pins nets × (w ≡ plain_of pins nets) → Wired pins w
-wired_from_stated pins w channel stated = rw stated.2 (plain_wired pins stated.0 channel stated.1)
+-- the plain wiring connects the channel
+pub plain-wired : (pins : Pins) → IsChannel pins → Wired pins (plain_of pins)
+plain-wired pins channel = plain_wired pins (nets_of pins) channel (nets-are pins)
+
+pub wired_from_stated : (pins : Pins) (w : Wiring) → IsChannel pins → w ≡ plain_of pins → Wired pins w
+wired_from_stated pins w channel stated = rw stated (plain-wired pins channel)

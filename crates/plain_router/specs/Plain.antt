@@ -5,7 +5,7 @@ use Rattle.channel_model.specs.declared.wiring.Segment.TheVariants.{Across, Alon
 use Rattle.channel_model.specs.declared.wiring.Via.{Via}
 use Rattle.channel_model.specs.declared.wiring.Wiring.{Wiring}
 use Rattle.channel_model.specs.Pins.{Pins}
-use Rattle.channel_model.specs.Nets.{place_of}
+use Rattle.channel_model.specs.Nets.{nets_of, place_of}
 use Rattle.channel_model.specs.Reach.{reach_of}
 use Rattle.plain_router.specs.declared.router.Lane.{Lane}
 
@@ -64,8 +64,8 @@ net_vias pins nets net place =
     lane_vias (lane_of (length pins.top) nets net place) (reach_of pins.bottom net (length pins.bottom)) (reach_of pins.top net (length pins.top))
 
 -- the wiring of a channel with these nets
-abbrev pub plain_of : Pins → List ℕ → Wiring
-plain_of pins nets = record {
+abbrev pub plain_with : Pins → List ℕ → Wiring
+plain_with pins nets = record {
   tracks = 2 * length nets;
   columns = length pins.top + length nets;
   segments = (for_pins (bottom_across nets) pins.bottom (length pins.bottom) ++ for_pins (top_across nets) pins.top (length pins.top))
@@ -73,3 +73,7 @@ plain_of pins nets = record {
   vias = (for_pins (bottom_via nets) pins.bottom (length pins.bottom) ++ for_pins (top_via nets) pins.top (length pins.top))
       ++ for_nets (net_vias pins nets) nets (length nets);
 }
+
+-- the plain wiring of a channel
+abbrev pub plain_of : Pins → Wiring
+plain_of pins = plain_with pins (nets_of pins)

@@ -2,7 +2,7 @@ ghost use Rattle.channel_model.specs.Nets.{AreNets};
 ghost use Rattle.channel_model.specs.Wired.{Wired};
 ghost use Rattle.plain_router.specs.Plain.{plain_of, for_pins, for_nets, net_segments, net_vias, bottom_across, top_across, bottom_via, top_via, lane_segments, lane_vias};
 ghost use Rattle.std.specs.List.Sorted.{IsStrictlyIncreasing};
-ghost use Rattle.std.specs.Prelude.{◌≡◌, ◌<◌, ◌≤◌, ◌++◌, ℕ, List, IfOk, OnOk, Contains, length, slice_index};
+ghost use Rattle.std.specs.Prelude.{◌≡◌, ◌<◌, ◌≤◌, ◌++◌, ℕ, IfOk, OnOk, Contains, length, slice_index};
 
 use channel_model::{Channel, Reach, Segment, Via, Wiring, nets_of, place_of, reaches};
 use geom_core::Items;
@@ -63,8 +63,7 @@ impl Lane {
 /// of the top pins, each by column, then net by net its joining Across, its lower and its upper Along; the vias follow the
 /// Acrosses in that order, the lower end first. The one error is want of memory.
 pub fn plain(alloc: Global, channel: &Channel) -> Result<Wiring, AllocError>
-    ensures stated { IfOk result (λ wiring.
-        (nets : List ℕ) × AreNets channel.now nets × (wiring ≡ plain_of channel.now nets)) }
+    ensures stated { IfOk result (λ wiring. wiring ≡ plain_of channel.now) }
     ensures wired { IfOk result (λ wiring. Wired channel.now wiring) }
 {
     let nets = nets_of(alloc, channel)?;

@@ -12,14 +12,13 @@ use Rattle.wire_geom.specs.declared.drawn.Drawn.{Drawn}
 use Rattle.commands.specs.LayoutText.{placed_text}
 use Rattle.commands.specs.Text.{routed_text}
 use Rattle.commands.specs.Wirings.{ArePlain, wirings_of}
-use Rattle.commands.proofs.FedRouted.{fed-routed, fed-stated, fed-wired, good-routed, narrow-rows}
+use Rattle.commands.proofs.FedRouted.{fed-stated, good-routed}
+use Rattle.commands.proofs.RoutedLaws.{plain-routed, plain-wirings}
+use Rattle.pin_assign.specs.ChannelTables.{AreTablesFor}
 use Rattle.commands.proofs.routed.routed_text.Goals as goal
 
 pub channels-requires-clause-fed : goal.channels-requires-clause-fed
 channels-requires-clause-fed c = c.requires.fed
-
-pub channels-requires-clause-narrow : goal.channels-requires-clause-narrow
-channels-requires-clause-narrow c = narrow-rows c.args.rules.now c.args.design.now c.args.fed.now c.requires.grid
 
 pub stack-requires-clause-fed : goal.stack-requires-clause-fed
 stack-requires-clause-fed c = c.requires.fed
@@ -30,9 +29,10 @@ stack-requires-clause-routed c =
     let d = c.args.design.now in
     let fed = c.args.fed.now in
     let first : ArePlain (tables_of d fed) c.in_ok-wirings.wirings.items =
-    subst (λ (l : List Pins). ArePlain l c.in_ok-wirings.wirings.items) (c.as_slice.ensures.value ∙ c.in_ok-channels.ensures) c.in_ok-wirings.ensures in
+    subst (λ (l : List Pins). ArePlain l c.in_ok-wirings.wirings.items) (c.as_slice.ensures.value ∙ c.in_ok-channels.ensures.is) c.in_ok-wirings.ensures in
+    let tables : AreTablesFor fed (tables_of d fed) = subst (AreTablesFor fed) c.in_ok-channels.ensures.is c.in_ok-channels.ensures.tables in
     let plain : ArePlain (tables_of d fed) c.as_slice-2.result.now = subst (ArePlain (tables_of d fed)) (sym c.as_slice-2.ensures.value) first in
-    fed-routed d c.requires.netlist fed c.requires.fed c.as_slice-2.result.now plain r c.requires.width c.requires.height
+    plain-routed d fed c.as_slice-2.result.now plain tables r c.requires.width c.requires.height
 
 pub written_text-requires-clause-valid : goal.written_text-requires-clause-valid
 written_text-requires-clause-valid c = c.requires.valid
@@ -47,9 +47,10 @@ written_text-requires-clause-reach c =
     let fed = c.args.fed.now in
     let ws = c.as_slice-2.result.now in
     let first : ArePlain (tables_of d fed) c.in_ok-wirings.wirings.items =
-    subst (λ (l : List Pins). ArePlain l c.in_ok-wirings.wirings.items) (c.as_slice.ensures.value ∙ c.in_ok-channels.ensures) c.in_ok-wirings.ensures in
+    subst (λ (l : List Pins). ArePlain l c.in_ok-wirings.wirings.items) (c.as_slice.ensures.value ∙ c.in_ok-channels.ensures.is) c.in_ok-wirings.ensures in
+    let tables : AreTablesFor fed (tables_of d fed) = subst (AreTablesFor fed) c.in_ok-channels.ensures.is c.in_ok-channels.ensures.tables in
     let plain : ArePlain (tables_of d fed) ws = subst (ArePlain (tables_of d fed)) (sym c.as_slice-2.ensures.value) first in
-    let routed = fed-routed d c.requires.netlist fed c.requires.fed ws plain r c.requires.width c.requires.height in
+    let routed = plain-routed d fed ws plain tables r c.requires.width c.requires.height in
     subst (λ (s : Stacked). AllByRecursion (λ (drawn : List Drawn). AllByRecursion (λ (a : Drawn). IsShapeInReach a.shape) drawn) s.shapes)
     (sym c.in_ok-placed.ensures.stacked) (stack-reach r d fed ws c.requires.valid c.requires.fed routed)
 
@@ -61,9 +62,10 @@ returns-clause-text c =
     let fed = c.args.fed.now in
     let ws = c.as_slice-2.result.now in
     let first : ArePlain (tables_of d fed) c.in_ok-wirings.wirings.items =
-    subst (λ (l : List Pins). ArePlain l c.in_ok-wirings.wirings.items) (c.as_slice.ensures.value ∙ c.in_ok-channels.ensures) c.in_ok-wirings.ensures in
+    subst (λ (l : List Pins). ArePlain l c.in_ok-wirings.wirings.items) (c.as_slice.ensures.value ∙ c.in_ok-channels.ensures.is) c.in_ok-wirings.ensures in
+    let tables : AreTablesFor fed (tables_of d fed) = subst (AreTablesFor fed) c.in_ok-channels.ensures.is c.in_ok-channels.ensures.tables in
     let plain : ArePlain (tables_of d fed) ws = subst (ArePlain (tables_of d fed)) (sym c.as_slice-2.ensures.value) first in
-    let stated : ws ≡ wirings_of d (cells_in fed.rows) = fed-stated d c.requires.netlist fed c.requires.fed ws plain in
+    let stated : ws ≡ wirings_of d (cells_in fed.rows) = fed-stated d fed c.requires.fed ws plain in
     IfOk-weaker c.written_text.result _ _ (λ text made.
     made ∙ ap (placed_text r d fed) c.in_ok-placed.ensures.stacked ∙ ap (λ (v : List Wiring). placed_text r d fed (stack_of r d fed v)) stated) c.written_text.ensures
 
@@ -74,10 +76,11 @@ returns-clause-good c =
     let fed = c.args.fed.now in
     let ws = c.as_slice-2.result.now in
     let first : ArePlain (tables_of d fed) c.in_ok-wirings.wirings.items =
-    subst (λ (l : List Pins). ArePlain l c.in_ok-wirings.wirings.items) (c.as_slice.ensures.value ∙ c.in_ok-channels.ensures) c.in_ok-wirings.ensures in
+    subst (λ (l : List Pins). ArePlain l c.in_ok-wirings.wirings.items) (c.as_slice.ensures.value ∙ c.in_ok-channels.ensures.is) c.in_ok-wirings.ensures in
+    let tables : AreTablesFor fed (tables_of d fed) = subst (AreTablesFor fed) c.in_ok-channels.ensures.is c.in_ok-channels.ensures.tables in
     let plain : ArePlain (tables_of d fed) ws = subst (ArePlain (tables_of d fed)) (sym c.as_slice-2.ensures.value) first in
-    let routed = fed-routed d c.requires.netlist fed c.requires.fed ws plain r c.requires.width c.requires.height in
-    let wired = fed-wired d c.requires.netlist fed c.requires.fed ws plain in
+    let routed = plain-routed d fed ws plain tables r c.requires.width c.requires.height in
+    let wired = plain-wirings d fed ws plain tables in
     let good = c.in_ok-placed.ensures.good c.requires.high wired in
     IfOk-weaker c.written_text.result _ _ (λ text made.
     good-routed r c.requires.valid d c.requires.netlist c.requires.high fed c.requires.fed ws routed good text.items

@@ -6,7 +6,7 @@ use Rattle.feed_cells.specs.NearStands.{AreShort}
 use Rattle.feed_cells.specs.Tables.{AreNarrow}
 use Rattle.feed_cells.specs.declared.fed.Item.{Item}
 use Rattle.feed_cells.specs.declared.net_span.NetSpan.{NetSpan}
-use Rattle.feed_cells.proofs.FedAnswer.{fed-is, tables-few}
+use Rattle.feed_cells.proofs.FedAnswer.{fed-from, fed-is, tables-few}
 use Rattle.feed_cells.proofs.FedWidths.{fed-narrow}
 use Rattle.feed_cells.proofs.ShortRows.{placed-short}
 use Rattle.feed_cells.proofs.feeding.insert_feeds.Goals as goal
@@ -45,8 +45,8 @@ counts_in-requires-clause-nets c =
     subst (λ (l : List (Option NetSpan)). length l ≤ 200000) (sym c.as_slice-4.ensures.value)
     (tables-few c.args.design.now c.items-rows.result.now c.in_ok-pins.pins.items c.in_ok-pins.spans.items is c.in_ok-pins.ensures)
 
-pub returns : goal.returns
-returns c =
+pub returns-clause-is : goal.returns-clause-is
+returns-clause-is c =
     let same : c.items-rows.result.now ≡ c.args.rows.now = cc in
     let fed : c.as_slice-3.result.now ≡ fed_from c.args.design.now c.items-rows.result.now 0 c.items-rows.result.now =
     c.as_slice-3.ensures.value ∙ c.in_ok-fed.ensures in
@@ -56,3 +56,6 @@ returns c =
     (c.greatest_width-width.ensures ∙ ap (λ (l : List (List Item)). fold max 0 (map (items_width c.args.design.now) l)) fed)
     (c.new-2.ensures ∙ c.in_ok-nets.ensures)
     ∙ ap (fed_rows c.args.design.now) same
+
+pub returns-clause-fed : goal.returns-clause-fed
+returns-clause-fed c = fed-from c.args.design.now c.args.rows.now _ c.requires (returns-clause-is c)
