@@ -9,7 +9,8 @@ use Rattle.std.specs.Option.{option_map}
 use Rattle.design_model.specs.Netlist.{Netlist}
 use Rattle.row_model.specs.Widths.{columns_of}
 use Rattle.row_model.specs.declared.rows.Seat.{Seat}
-use Rattle.feed_cells.specs.Fed.{all_nets, cells_in, fed_from, fed_row, fed_rows, feeds_at, items_from, items_width, seat_in, seats_in}
+use Rattle.feed_cells.specs.Crossings.{all_nets}
+use Rattle.feed_cells.specs.Fed.{cells_in, fed_from, fed_row, fed_rows, feeds_at, items_from, items_width, seat_in, seats_in}
 use Rattle.feed_cells.specs.Feeds.{feed_place, is_fed, lefts_of, middle_of}
 use Rattle.feed_cells.specs.Standing.{IsFeed, Stands, seated, feeding}
 use Rattle.feed_cells.specs.declared.fed.Item.{Item}

@@ -9,10 +9,11 @@ use Rattle.design_model.specs.declared.design.CellKind.{CellKind}
 use Rattle.design_model.specs.declared.design.Inst.{Inst}
 use Rattle.row_model.specs.Widths.{columns_of, width_of}
 use Rattle.row_model.specs.declared.rows.Seat.{Seat}
-use Rattle.feed_cells.specs.Fed.{all_nets, feeds_at, fed_from, item_width, items_from, items_width}
+use Rattle.feed_cells.specs.Crossings.{all_nets}
+use Rattle.feed_cells.specs.Fed.{feeds_at, fed_from, item_width, items_from, items_width}
 use Rattle.feed_cells.specs.Feeds.{feed_place, is_fed}
-use Rattle.feed_cells.specs.NearStands.{AreShort}
-use Rattle.feed_cells.specs.Tables.{AreNarrow}
+use Rattle.row_model.specs.NearStands.{AreShort}
+use Rattle.feed_cells.specs.Sizes.{AreNarrow}
 use Rattle.feed_cells.specs.declared.fed.Item.{Item}
 use Rattle.feed_cells.specs.declared.fed.Item.TheVariants.{Cell, Feed}
 use Rattle.feed_cells.proofs.FewNets.{filter-short, nets-few}
@@ -77,6 +78,11 @@ from-width d rows row seats is few place (s ∷ rest) =
     let columns : columns_of d s.instance ≤ 100000000 = columns-few d is s.instance in
     let behind : items_width d (items_from d rows row seats (place + 1) rest) ≤ 200000 + 100200000 * length rest = from-width d rows row seats is few (place + 1) rest in
     omega arith
+
+-- a row of at most 20,000 cells is at most 3,000,000,000,000 columns wide with its feeds
+pub row-narrow : (d : Netlist) (rows : List (List Seat)) → IsNetlist d → (row : ℕ) (seats : List Seat) → length seats ≤ 20000
+    → items_width d (items_from d rows row seats 0 seats) ≤ 3000000000000
+row-narrow d rows is row seats short = let width = from-width d rows row seats is (nets-few d is) 0 seats in omega arith
 
 -- rows with feeds are narrow
 rows-narrow : (d : Netlist) (rows : List (List Seat)) → IsNetlist d → length d.nets ≤ 200000 → (row : ℕ) (rest : List (List Seat)) → AreShort rest

@@ -8,20 +8,19 @@ pub mod CrossingLaws
 pub mod FedLaws
 -- nets that stand in channels, and nets that are alone
 pub mod NetLaws
--- the span of a net gives its crossing and its middle
+-- lists by the numbers of nets
+pub mod NetTableLaws
+-- the span of a net gives its crossing and its middle, and its leaders by which pin it crosses rows
 pub mod SpanLaws
--- rows of a design are few and short
-pub mod ShortRows
+pub mod LeaderLaws
+-- the pins and nets of a placement
+pub mod PlacementLaws
 -- the parts of the answer are those of the definition
 pub mod FedAnswer
 -- how wide rows with feeds can be
 pub mod FedWidths
 -- a design has no more nets than pins
 pub mod FewNets
--- the pins of a design are those of its instances
-pub mod PinsWithin
--- tables as lists
-pub mod TableLists
 -- the feeds of a row by tables are those of the definition
 pub mod RowFeedLaws
 -- how many elements pass a test that the first ones pass

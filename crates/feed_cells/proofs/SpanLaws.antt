@@ -5,28 +5,28 @@ use Rattle.row_model.specs.Stands.{column_of}
 use Rattle.row_model.specs.declared.rows.Seat.{Seat}
 use Rattle.feed_cells.specs.Crossings.{crossing_of, crossing_of_pins, highest, lowest, pins_of}
 use Rattle.feed_cells.specs.Feeds.{middle_of, middle_of_pins}
-use Rattle.feed_cells.specs.PinStands.{pin_at, pin_column, pin_stand}
+use Rattle.row_model.specs.PinPlaces.{pin_column, pin_place, pin_place_at}
 use Rattle.feed_cells.specs.Spans.{crossing_in, joined, middle_in, span_among, span_of, span_with}
-use Rattle.feed_cells.specs.declared.net_span.NetSpan.{NetSpan}
+use Rattle.feed_cells.specs.declared.net_spans.NetSpan.{NetSpan}
 
 -- how far pins of one net reach together with more of its pins
 abbrev reached : Netlist → List (List Seat) → Option NetSpan → List Pin → Option NetSpan
 reached d rows s [] = s
-reached d rows s (p ∷ ps) = reached d rows (Some (joined s (pin_stand d rows p))) ps
+reached d rows s (p ∷ ps) = reached d rows (Some (joined s (pin_place d rows p))) ps
 
 -- the pins of other nets change nothing
 net-reached : (d : Netlist) (rows : List (List Seat)) (net : ℕ) (s : Option NetSpan) (ps : List Pin)
-    → fold (span_with net) s (map (pin_stand d rows) ps) ≡ reached d rows s (filter (λ (p : Pin). p.net == net) ps)
-unfolding pin_at
+    → fold (span_with net) s (map (pin_place d rows) ps) ≡ reached d rows s (filter (λ (p : Pin). p.net == net) ps)
+unfolding pin_place_at
 net-reached d rows net s [] = refl
 net-reached d rows net s (p ∷ ps) =
-    by (p.net == net) (net-reached d rows net (Some (joined s (pin_stand d rows p))) ps) (net-reached d rows net s ps)
+    by (p.net == net) (net-reached d rows net (Some (joined s (pin_place d rows p))) ps) (net-reached d rows net s ps)
   where
     by : (b : Bool)
-        → fold (span_with net) (Some (joined s (pin_stand d rows p))) (map (pin_stand d rows) ps)
-        ≡ reached d rows (Some (joined s (pin_stand d rows p))) (filter (λ (q : Pin). q.net == net) ps)
-        → fold (span_with net) s (map (pin_stand d rows) ps) ≡ reached d rows s (filter (λ (q : Pin). q.net == net) ps)
-        → fold (span_with net) (cond b (Some (joined s (pin_stand d rows p))) s) (map (pin_stand d rows) ps)
+        → fold (span_with net) (Some (joined s (pin_place d rows p))) (map (pin_place d rows) ps)
+        ≡ reached d rows (Some (joined s (pin_place d rows p))) (filter (λ (q : Pin). q.net == net) ps)
+        → fold (span_with net) s (map (pin_place d rows) ps) ≡ reached d rows s (filter (λ (q : Pin). q.net == net) ps)
+        → fold (span_with net) (cond b (Some (joined s (pin_place d rows p))) s) (map (pin_place d rows) ps)
         ≡ reached d rows s (cond b (p ∷ filter (λ (q : Pin). q.net == net) ps) (filter (λ (q : Pin). q.net == net) ps))
     by true is other = is
     by false is other = other
@@ -41,13 +41,13 @@ reached-many : (d : Netlist) (rows : List (List Seat)) (floor ceiling left right
       left = fold min left (map (column_of d rows) ps);
       right = fold max right (map (column_of d rows) ps);
     })
-unfolding pin_at pin_column column_of
+unfolding pin_place_at pin_column column_of
 reached-many d rows floor ceiling left right [] = refl
 reached-many d rows floor ceiling left right (p ∷ ps) =
     reached-many d rows (max floor (lowest d rows p)) (min ceiling (highest d rows p)) (min left (column_of d rows p)) (max right (column_of d rows p)) ps
 
 crossing-reached : (d : Netlist) (rows : List (List Seat)) (ps : List Pin) → crossing_in (reached d rows None ps) ≡ crossing_of_pins d rows ps
-unfolding pin_at pin_column column_of
+unfolding pin_place_at pin_column column_of
 crossing-reached d rows [] = refl
 crossing-reached d rows (p ∷ []) = refl
 crossing-reached d rows (p ∷ q ∷ ps) =
@@ -55,7 +55,7 @@ crossing-reached d rows (p ∷ q ∷ ps) =
     (min (column_of d rows p) (column_of d rows q)) (max (column_of d rows p) (column_of d rows q)) ps)
 
 middle-reached : (d : Netlist) (rows : List (List Seat)) (ps : List Pin) → middle_in (reached d rows None ps) ≡ middle_of_pins d rows ps
-unfolding pin_at pin_column column_of
+unfolding pin_place_at pin_column column_of
 middle-reached d rows [] = refl
 middle-reached d rows (p ∷ []) = refl
 middle-reached d rows (p ∷ q ∷ ps) =

@@ -1,4 +1,5 @@
-use Rattle.std.specs.Prelude.{◌==◌, ℕ, ◌+◌, List, [], ◌∷◌, map, fold, filter, min, max, Bool, true, false, ◌&&◌, if◌then◌else◌, nat_le, nat_lt, is_some}
+use Rattle.std.specs.Prelude.{◌==◌, ℕ, ◌+◌, List, [], ◌∷◌, map, fold, filter, length, min, max, Bool, true, false, ◌&&◌, if◌then◌else◌, nat_le, nat_lt, is_some}
+use Rattle.std.specs.List.{range_with_len}
 use Rattle.design_model.specs.Netlist.{Netlist}
 use Rattle.design_model.specs.declared.design.Pin.{Pin}
 use Rattle.row_model.specs.Stands.{row_of, edge_column}
@@ -20,6 +21,10 @@ highest d rows p = if has_edge d true p then row_of d rows p.instance + 1 else r
 -- the pins of a net, in order
 abbrev pub pins_of : Netlist → ℕ → List Pin
 pins_of d net = filter (λ (p : Pin). p.net == net) d.pins
+
+-- the numbers of a design's nets
+abbrev pub all_nets : Netlist → List ℕ
+all_nets d = range_with_len 1 (length d.nets)
 
 -- the greatest and the least of numbers, of which the first stands apart
 abbrev pub greatest : ℕ → List ℕ → ℕ

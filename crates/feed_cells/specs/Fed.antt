@@ -4,14 +4,10 @@ use Rattle.design_model.specs.Netlist.{Netlist}
 use Rattle.row_model.specs.Rows.{ArePlaced}
 use Rattle.row_model.specs.Widths.{columns_of}
 use Rattle.row_model.specs.declared.rows.Seat.{Seat}
-use Rattle.feed_cells.specs.Crossings.{crossing_of, is_in}
+use Rattle.feed_cells.specs.Crossings.{all_nets, crossing_of, is_in}
 use Rattle.feed_cells.specs.Feeds.{is_fed, feed_place}
 use Rattle.feed_cells.specs.declared.fed.Item.{Item}
 use Rattle.feed_cells.specs.declared.fed.Item.TheVariants.{Cell, Feed}
-
--- the numbers of a design's nets
-abbrev pub all_nets : Netlist → List ℕ
-all_nets d = range_with_len 1 (length d.nets)
 
 -- the feeds that stand in a row before the seat of this number, in the order of their nets
 abbrev pub feeds_at : Netlist → List (List Seat) → ℕ → List Seat → ℕ → List Item

@@ -1,4 +1,4 @@
-use Rattle.std.specs.Prelude.{◌==◌, ℕ, ◌+◌, ◌/◌, List, [], ◌∷◌, map, Bool, true, false, ◌&&◌, not, Option, count_by, nat_lt}
+use Rattle.std.specs.Prelude.{◌==◌, ℕ, ◌+◌, ◌/◌, List, [], ◌∷◌, map, Bool, true, false, ◌&&◌, not, Option, None, Some, count_by, nat_lt}
 use Rattle.std.specs.List.{find, list_any}
 use Rattle.design_model.specs.Netlist.{Netlist}
 use Rattle.design_model.specs.declared.design.Pin.{Pin}
@@ -14,6 +14,15 @@ leads_through d rows net row p = p.net == net && row_of d rows p.instance == row
 -- the pin by which a net crosses a row: the first that leads through, if one does
 abbrev pub leader : Netlist → List (List Seat) → ℕ → ℕ → Option Pin
 leader d rows net row = find (leads_through d rows net row) d.pins
+
+-- whether two pins are one: no two pins have one terminal of one instance
+abbrev pub is_pin : Pin → Option Pin → Bool
+is_pin p None = false
+is_pin p (Some q) = p.instance == q.instance && p.terminal == q.terminal
+
+-- whether a pin's net crosses the pin's row by this pin
+abbrev pub is_leader : Netlist → List (List Seat) → Pin → Bool
+is_leader d rows p = is_across (crossing_of d rows p.net) (row_of d rows p.instance) && is_pin p (leader d rows p.net (row_of d rows p.instance))
 
 -- whether a net crosses a row by a feed
 abbrev pub is_fed : Netlist → List (List Seat) → ℕ → ℕ → Bool

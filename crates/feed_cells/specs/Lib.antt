@@ -6,19 +6,20 @@ pub mod Touching
 pub mod Channels
 -- which net crosses which row by what, and where a feed stands
 pub mod Feeds
+-- where the pins and nets of a design in rows stand
+pub mod Placement
+pub mod PlacementLists
+pub mod PlacementView
 -- rows with their feeds
 pub mod Fed
 pub mod FedView
 -- what stands in a row with its feeds
 pub mod Standing
--- where an instance stands, and how far that can be
-pub mod NearStands
-pub mod StandView
--- what of a pin decides where its net stands
-pub mod PinStands
--- how far the pins of a net reach, taken up one by one
+-- how far the pins of a net reach, and by what it crosses rows, taken up pin by pin
 pub mod Spans
--- tables by the numbers of instances and nets
-pub mod Tables
+pub mod Leaders
+pub mod NetTables
 -- the feeds of a row by tables
 pub mod RowFeeds
+-- how wide rows are, and how many nets channels have
+pub mod Sizes

@@ -1,5 +1,9 @@
+ghost use Rattle.feed_cells.specs.Fed.{item_width};
+ghost use Rattle.std.specs.Prelude.{◌≡◌};
+
+use design_model::Design;
 use geom_core::Items;
-use row_model::Seat;
+use row_model::{Seat, columns_of};
 use std::marker::Model;
 
 /// What stands in a row: the cell of an instance, or a feed of one column for the net with this number.
@@ -7,6 +11,18 @@ use std::marker::Model;
 pub enum Item {
     Cell(Seat),
     Feed(u32),
+}
+
+impl Item {
+    /// The width in columns: a feed has one. Takes no memory.
+    pub fn width(self, design: &Design) -> u32
+        ensures { result ≡ item_width design.now self }
+    {
+        match self {
+            Item::Cell(seat) => columns_of(design, seat.instance),
+            Item::Feed(_) => 1,
+        }
+    }
 }
 
 /// Rows of cells and feeds, from the lowest row up and in each from left to right; the width of the widest row in columns; and for each channel, from

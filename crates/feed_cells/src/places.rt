@@ -1,13 +1,10 @@
 ghost use Rattle.feed_cells.specs.Feeds.{lefts_of};
 ghost use Rattle.feed_cells.specs.RowFeeds.{place_among};
-ghost use Rattle.feed_cells.specs.Spans.{middle_in};
 ghost use Rattle.std.specs.List.Sorted.{IsNonDecreasingBy};
 ghost use Rattle.std.specs.Prelude.{◌≡◌, ◌≤◌, ℕ, length, nat_lt, IfOk};
 
-use crate::net_span::NetSpan;
-use crate::stands::columns_of;
 use design_model::Design;
-use row_model::Seat;
+use row_model::{Seat, columns_of};
 use std::alloc::{AllocError, Global};
 
 /// The first columns of the seats of a row. The one error is want of memory.
@@ -38,14 +35,4 @@ pub fn place_among(lefts: &[u64], middle: u64) -> usize
             ensures { result ≡ nat_lt left.now middle }
         { *left < middle },
     )
-}
-
-/// The middle of the columns of a net whose pins reach so far.
-pub fn middle_in(span: Option<NetSpan>) -> u64
-    ensures { result ≡ middle_in span }
-{
-    match span {
-        Some(span) => ((u128::from(span.left) + u128::from(span.right)) / 2) as u64,
-        None => 0,
-    }
 }

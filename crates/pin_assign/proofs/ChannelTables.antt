@@ -11,18 +11,13 @@ use Rattle.row_model.specs.Rows.{ArePlaced}
 use Rattle.row_model.specs.declared.rows.Seat.{Seat}
 use Rattle.feed_cells.specs.Fed.{Fed, IsFed, cells_in, fed_rows, nets_in}
 use Rattle.feed_cells.proofs.FedLaws.{fed-long}
+use Rattle.feed_cells.proofs.NetTableLaws.{image-at}
 use Rattle.pin_assign.specs.ChannelTables.{AreTablesFor}
 use Rattle.pin_assign.specs.Tables.{table_of, tables_of}
 use Rattle.pin_assign.proofs.EnteredLaws.{table-nets}
 use Rattle.pin_assign.proofs.WidthLaws.{table-top_length}
 
--- what stands at a place of the images of numbers in order, and what does not stand past them
-image-at : {A : Type 0} (f : ℕ → A) (start count k : ℕ) → k < count → slice_get (map f (range_with_len start count)) k ≡ Some (f (start + k))
-image-at f start zero k within = absurd (omega arith)
-image-at f start (suc count) zero within = ap (λ (n : ℕ). Some (f n)) (let same : start ≡ start + 0 = omega arith in same)
-image-at f start (suc count) (suc k) within =
-    image-at f (start + 1) count k (omega arith) ∙ ap (λ (n : ℕ). Some (f n)) (let same : start + 1 + k ≡ start + suc k = omega arith in same)
-
+-- nothing stands past the images of numbers in order
 image-within : {A : Type 0} (f : ℕ → A) (start count k : ℕ) (a : A) → slice_get (map f (range_with_len start count)) k ≡ Some a → k < count
 image-within f start zero k a is = absurd (none-some a is)
 image-within f start (suc count) zero a is = omega arith

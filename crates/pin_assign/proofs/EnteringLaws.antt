@@ -10,14 +10,14 @@ use Rattle.row_model.specs.Stands.{column_in, is_on, positions_of, row_of}
 use Rattle.row_model.specs.declared.rows.Seat.{Seat}
 use Rattle.feed_cells.specs.Crossings.{crossing_of, has_edge, highest, is_across, is_in, lowest, pins_of}
 use Rattle.feed_cells.specs.Channels.{AllTouch, AreSpread, first_channel}
-use Rattle.feed_cells.specs.Feeds.{is_fed, leader, leads_through}
+use Rattle.feed_cells.specs.Feeds.{is_fed, leader, leads_through, is_leader, is_pin}
 use Rattle.feed_cells.specs.Touching.{channel_beside}
 use Rattle.feed_cells.specs.declared.crossing.Crossing.{Crossing}
 use Rattle.feed_cells.specs.declared.crossing.Crossing.TheVariants.{Alone, One, Many}
 use Rattle.feed_cells.proofs.CrossingLaws.{in-net, many-channels, one-channel, pin-ordered, touches-between}
 use Rattle.feed_cells.proofs.Members.{find-member}
 use Rattle.pin_assign.specs.Causes.{IsEntered, Leads, Through}
-use Rattle.pin_assign.specs.Entering.{enters, enters_by, is_leader, is_pin}
+use Rattle.pin_assign.specs.Entering.{enters, enters_by}
 
 -- the pins of a net with one channel, by the net's crossing
 pub all-touch : (d : Netlist) (rows : List (List Seat)) (net b : ℕ) → crossing_of d rows net ≡ One b → AllTouch d rows (pins_of d net) b

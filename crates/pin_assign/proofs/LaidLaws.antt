@@ -4,23 +4,12 @@ use Rattle.std.proofs.lemmas.List.{get_or-replicate, length-replicate}
 use Rattle.std.proofs.lemmas.Option.{same_Some, slice_get-get_or}
 use Rattle.std.specs.List.{range_with_len}
 use Rattle.std.specs.Option.{option_map}
-use Rattle.pin_assign.specs.Entrants.{laid, laid_entries}
-use Rattle.pin_assign.specs.declared.entrants.Entrant.{Entrant}
-
--- a list is known by its elements
-list-by : {X : Type 0} (f : ℕ → X) (a : ℕ) (xs : List X) → ((i : ℕ) → i < length xs → slice_get xs i ≡ Some (f (i + a)))
-    → xs ≡ map f (range_with_len a (length xs))
-list-by f a [] has = refl
-list-by {X = X} f a (x ∷ xs) has =
-    let first : Some x ≡ Some (f (0 + a)) = has 0 (omega arith) in
-    let none : 0 + a ≡ a = omega arith in
-    let head : x ≡ f a = same_Some x (f (0 + a)) first ∙ ap f none in
-    let tail : xs ≡ map f (range_with_len (a + 1) (length xs)) =
-    list-by f (a + 1) xs (λ i below. (let more : suc i + a ≡ i + (a + 1) = omega arith in has (suc i) (omega arith) ∙ ap (λ (n : ℕ). Some (f n)) more)) in
-    ap (λ (y : X). y ∷ xs) head ∙ ap (λ (ys : List X). f a ∷ ys) tail
+use Rattle.list_facts.proofs.Places.{list-by}
+use Rattle.feed_cells.specs.declared.placement.PlacedPin.{PlacedPin}
+use Rattle.pin_assign.specs.Tabled.{laid, laid_entries}
 
 -- a list of no entries, changed column by column
-pub laid-are : (mirror : Bool) (columns : ℕ) (top : Bool) (channel : ℕ) (pins : List Entrant) (items new : List ℕ) (len : ℕ) → items ≡ replicate columns 0
+pub laid-are : (mirror : Bool) (columns : ℕ) (top : Bool) (channel : ℕ) (pins : List PlacedPin) (items new : List ℕ) (len : ℕ) → items ≡ replicate columns 0
     → len ≡ length new → length new ≡ length items
     → ((k : ℕ) → slice_get new k ≡ option_map (λ (net : ℕ). fold (laid mirror columns top channel k) net pins) (slice_get items k))
     → take len (new ++ drop (length new) items) ≡ laid_entries mirror columns top channel pins

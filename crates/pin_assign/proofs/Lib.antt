@@ -38,14 +38,9 @@ pub mod ChannelTables
 pub mod FedBounds
 -- the entries of a cell, laid pin by pin
 pub mod LaidLaws
--- the pins, the reaches of nets, their leaders and what enters, by tables
-pub mod TabledPins
-pub mod ReachLaws
-pub mod LeaderLaws
-pub mod EntrantLaws
 -- the entries of rows by tables
 pub mod TabledEntries
--- the table of the pins of a design
-pub mod TabledDesign
+-- the rows beside a channel, by its number
+pub mod BelowLaws
 -- worked tables, computed
 pub mod Worked

@@ -5,8 +5,8 @@ use Rattle.std.specs.List.{range_with_len}
 use Rattle.std.specs.List.Sorted.{IsStrictlyIncreasing}
 use Rattle.design_model.specs.Netlist.{Netlist}
 use Rattle.row_model.specs.declared.rows.Seat.{Seat}
-use Rattle.feed_cells.specs.Crossings.{crossing_of, is_in}
-use Rattle.feed_cells.specs.Fed.{all_nets, nets_in}
+use Rattle.feed_cells.specs.Crossings.{all_nets, crossing_of, is_in}
+use Rattle.feed_cells.specs.Fed.{nets_in}
 use Rattle.pin_assign.proofs.FindLaws.{contains-filter, filter-contains}
 
 -- numbers one after another increase

@@ -16,25 +16,29 @@ use Rattle.row_model.specs.declared.rows.Seat.{Seat}
 use Rattle.feed_cells.specs.Fed.{Fed, IsFed, cells_in, fed_rows, seats_in}
 use Rattle.feed_cells.specs.declared.fed.Item.{Item}
 use Rattle.feed_cells.specs.declared.fed.Item.TheVariants.{Cell, Feed}
-use Rattle.pin_assign.specs.Entering.{enters}
-use Rattle.pin_assign.specs.Entrants.{entrant, enters_as, is_laid, laid, laid_entries, pins_there, tabled_entries, with_pin}
-use Rattle.pin_assign.specs.PinEdges.{edge_of, pin_edges}
-use Rattle.pin_assign.specs.Tabled.{AreTabled, items_there}
+use Rattle.pin_assign.specs.Entering.{enters, enters_by}
+use Rattle.feed_cells.specs.Crossings.{crossing_of}
+use Rattle.feed_cells.specs.Placement.{placed_pin, placement_of}
+use Rattle.feed_cells.specs.PlacementLists.{PlacementLists}
+use Rattle.feed_cells.specs.declared.crossing.Crossing.{Crossing}
+use Rattle.feed_cells.specs.declared.crossing.Crossing.TheVariants.{Alone, Many, One}
+use Rattle.feed_cells.specs.declared.placement.PlacedPin.{PlacedPin}
+use Rattle.feed_cells.proofs.NetTableLaws.{map-same}
+use Rattle.feed_cells.proofs.PlacementLaws.{placement-pins}
+use Rattle.row_model.specs.PinPlaces.{edge_of, pin_place_at}
+use Rattle.pin_assign.specs.Tabled.{AreTabled, enters_as, is_laid, items_there, laid, laid_entries, pins_there, tabled_entries, with_pin}
 use Rattle.pin_assign.specs.Tables.{cell_entries, enters_in, is_in_column, item_entries, net_in, padded, row_below, row_entries, table_of}
-use Rattle.pin_assign.specs.declared.entrants.Entrant.{Entrant}
-use Rattle.pin_assign.proofs.EntrantLaws.{entrant-enters}
 use Rattle.pin_assign.proofs.EnteredLaws.{table-channel}
-use Rattle.pin_assign.proofs.TabledPins.{map-same}
 
 -- the pins of an instance, taken one by one, are those that a filter keeps
-with-pins : (i : ℕ) (pins all : List Entrant) → fold (with_pin i) pins all ≡ pins ++ filter (λ (a : Entrant). a.edges.pin.instance == i) all
+with-pins : (i : ℕ) (pins all : List PlacedPin) → fold (with_pin i) pins all ≡ pins ++ filter (λ (a : PlacedPin). a.place.pin.instance == i) all
 with-pins i pins [] = sym (append-nil pins)
-with-pins i pins (a ∷ all) = by (a.edges.pin.instance == i) (with-pins i (pins ++ a ∷ []) all ∙ append_assoc pins (a ∷ []) (filter (λ (b : Entrant). b.edges.pin.instance == i) all)) (with-pins i pins all)
+with-pins i pins (a ∷ all) = by (a.place.pin.instance == i) (with-pins i (pins ++ a ∷ []) all ∙ append_assoc pins (a ∷ []) (filter (λ (b : PlacedPin). b.place.pin.instance == i) all)) (with-pins i pins all)
   where
-    by : (b : Bool) → fold (with_pin i) (pins ++ a ∷ []) all ≡ pins ++ (a ∷ filter (λ (b : Entrant). b.edges.pin.instance == i) all)
-        → fold (with_pin i) pins all ≡ pins ++ filter (λ (b : Entrant). b.edges.pin.instance == i) all
+    by : (b : Bool) → fold (with_pin i) (pins ++ a ∷ []) all ≡ pins ++ (a ∷ filter (λ (b : PlacedPin). b.place.pin.instance == i) all)
+        → fold (with_pin i) pins all ≡ pins ++ filter (λ (b : PlacedPin). b.place.pin.instance == i) all
         → fold (with_pin i) (cond b (pins ++ a ∷ []) pins) all
-        ≡ pins ++ cond b (a ∷ filter (λ (b : Entrant). b.edges.pin.instance == i) all) (filter (λ (b : Entrant). b.edges.pin.instance == i) all)
+        ≡ pins ++ cond b (a ∷ filter (λ (b : PlacedPin). b.place.pin.instance == i) all) (filter (λ (b : PlacedPin). b.place.pin.instance == i) all)
     by true is other = is
     by false is other = other
 
@@ -43,32 +47,39 @@ abbrev entry_or : ℕ → ℕ → ℕ
 entry_or net other = cond (net == 0) other net
 
 module _ (d : Netlist) (rows : List (List Seat)) (s : Seat) (top : Bool) (channel column : ℕ) where
-  abbrev lays : Entrant → Bool
+  abbrev lays : PlacedPin → Bool
   lays a = is_laid s.mirror (columns_of d s.instance) top channel column a
 
-  abbrev lay_on : ℕ → Entrant → ℕ
+  abbrev lay_on : ℕ → PlacedPin → ℕ
   lay_on net a = laid s.mirror (columns_of d s.instance) top channel column net a
 
-  abbrev own : Entrant → Bool
-  own a = a.edges.pin.instance == s.instance
+  abbrev own : PlacedPin → Bool
+  own a = a.place.pin.instance == s.instance
 
-  edge-same : (t : Bool) (p : Pin) → edge_of t (pin_edges d rows p) ≡ edge_column d t p
-  unfolding pin_edges
+  edge-same : (t : Bool) (p : Pin) → edge_of t (placed_pin d rows p).place ≡ edge_column d t p
+  unfolding placed_pin pin_place_at
   edge-same true p = refl
   edge-same false p = refl
 
+  -- such a pin enters the channels that it is to
+  placed-enters : (p : Pin) → enters_as (placed_pin d rows p).crossing (placed_pin d rows p) channel ≡ enters d rows p channel
+  unfolding placed_pin enters pin_place_at
+  placed-enters p = by (crossing_of d rows p.net)
+    where
+      by : (c : Crossing) → enters_as c (placed_pin d rows p) channel ≡ enters_by c d rows p channel
+      by Alone = refl
+      by (One b) = refl
+      by (Many lo hi) = refl
+
   -- a pin is laid where it enters
-  lays-same : (p : Pin) → lays (entrant d rows p) ≡ (is_in_column (edge_column d top p) s.mirror (columns_of d s.instance) column && enters d rows p channel)
-  unfolding entrant
+  lays-same : (p : Pin) → lays (placed_pin d rows p) ≡ (is_in_column (edge_column d top p) s.mirror (columns_of d s.instance) column && enters d rows p channel)
+  unfolding placed_pin
   lays-same p =
       ap (λ (o : Option ℕ). is_in_column o s.mirror (columns_of d s.instance) column && enters-of p) (edge-same top p)
-      ∙ ap (λ (b : Bool). is_in_column (edge_column d top p) s.mirror (columns_of d s.instance) column && b) (entrant-enters d rows p channel)
+      ∙ ap (λ (b : Bool). is_in_column (edge_column d top p) s.mirror (columns_of d s.instance) column && b) (placed-enters p)
     where
-      use_entrant : Pin → Entrant
-      use_entrant q = entrant d rows q
-
       enters-of : Pin → Bool
-      enters-of q = enters_as (use_entrant q).crossing (use_entrant q) channel
+      enters-of q = enters_as (placed_pin d rows q).crossing (placed_pin d rows q) channel
 
   -- the entry of a pin, and those behind it
   lay-step : (net other own_net : ℕ) (is : Bool) → (own_net == 0) ≡ false
@@ -86,8 +97,8 @@ module _ (d : Netlist) (rows : List (List Seat)) (s : Seat) (top : Bool) (channe
 
   -- the pins of a cell, laid one by one, leave what a search for the first of a column finds
   laid-found : (net : ℕ) (ps : List Pin) → AllByRecursion (λ (p : Pin). (p.net == 0) ≡ false) ps
-      → fold lay_on net (filter own (map (entrant d rows) ps)) ≡ entry_or net (net_in (find (enters_in d rows top channel s column) ps))
-  unfolding entrant pin_edges
+      → fold lay_on net (filter own (map (placed_pin d rows) ps)) ≡ entry_or net (net_in (find (enters_in d rows top channel s column) ps))
+  unfolding placed_pin pin_place_at
   laid-found net [] some = none (net == 0) refl
     where
       none : (b : Bool) → (net == 0) ≡ b → net ≡ cond b 0 net
@@ -95,21 +106,29 @@ module _ (d : Netlist) (rows : List (List Seat)) (s : Seat) (top : Bool) (channe
       none false is = refl
   laid-found net (p ∷ ps) some =
       by (p.instance == s.instance)
-      (laid-found (lay_on net (entrant d rows p)) ps some.1
-      ∙ lay-step net (net_in (find (enters_in d rows top channel s column) ps)) p.net (lays (entrant d rows p)) some.0
+      (laid-found (lay_on net (placed_pin d rows p)) ps some.1
+      ∙ lay-step net (net_in (find (enters_in d rows top channel s column) ps)) p.net (lays (placed_pin d rows p)) some.0
       ∙ ap (λ (b : Bool). entry_or net (cond b p.net (net_in (find (enters_in d rows top channel s column) ps)))) (lays-same p)
       ∙ ap (entry_or net) (sym (net-if (is_in_column (edge_column d top p) s.mirror (columns_of d s.instance) column && enters d rows p channel) p (find (enters_in d rows top channel s column) ps))))
       (laid-found net ps some.1)
     where
       by : (b : Bool)
-          → fold lay_on (lay_on net (entrant d rows p)) (filter own (map (entrant d rows) ps))
+          → fold lay_on (lay_on net (placed_pin d rows p)) (filter own (map (placed_pin d rows) ps))
           ≡ entry_or net (net_in (cond (is_in_column (edge_column d top p) s.mirror (columns_of d s.instance) column && enters d rows p channel) (Some p) (find (enters_in d rows top channel s column) ps)))
-          → fold lay_on net (filter own (map (entrant d rows) ps)) ≡ entry_or net (net_in (find (enters_in d rows top channel s column) ps))
-          → fold lay_on net (cond b (entrant d rows p ∷ filter own (map (entrant d rows) ps)) (filter own (map (entrant d rows) ps)))
+          → fold lay_on net (filter own (map (placed_pin d rows) ps)) ≡ entry_or net (net_in (find (enters_in d rows top channel s column) ps))
+          → fold lay_on net (cond b (placed_pin d rows p ∷ filter own (map (placed_pin d rows) ps)) (filter own (map (placed_pin d rows) ps)))
           ≡ entry_or net (net_in (cond (b && is_in_column (edge_column d top p) s.mirror (columns_of d s.instance) column && enters d rows p channel) (Some p)
           (find (enters_in d rows top channel s column) ps)))
       by true is other = is
       by false is other = other
+
+-- what is the same of each column is the same of all
+columns-same : (f g : ℕ → ℕ) → (ns : List ℕ) → ((n : ℕ) → f n ≡ g n) → map f ns ≡ map g ns
+columns-same f g ns same = map-same (λ (n : ℕ). Unit {0}) f g (λ n _. same n) ns (every ns)
+  where
+    every : (ms : List ℕ) → AllByRecursion (λ (n : ℕ). Unit {0}) ms
+    every [] = tt
+    every (m ∷ ms) = (tt, every ms)
 
 -- what is the same of each item is the same of a row
 flat-same : (f g : Item → List ℕ) → ((item : Item) → f item ≡ g item) → (items : List Item) → flat_map f items ≡ flat_map g items
@@ -123,34 +142,34 @@ nets-some d good = recursion_from_All (λ (p : Pin). (p.net == 0) ≡ false) d.p
     some : {n m : ℕ} → (0 < n) × (n ≤ m) → (n == 0) ≡ false
     some {n = n} h = let positive = h.0 in grind (arith, nat_tests)
 
-module _ (d : Netlist) (good : IsNetlist d) (rows : List (List Seat)) (table : List (List Entrant)) (tabled : AreTabled d rows table) (top : Bool) (channel : ℕ) where
-  cell-pins : (s : Seat) (pins : List Entrant) → pins ≡ fold (with_pin s.instance) [] (map (entrant d rows) d.pins)
+module _ (d : Netlist) (good : IsNetlist d) (rows : List (List Seat)) (table : List (List PlacedPin)) (tabled : AreTabled d rows table) (top : Bool) (channel : ℕ) where
+  cell-pins : (s : Seat) (pins : List PlacedPin) → pins ≡ fold (with_pin s.instance) [] (map (placed_pin d rows) d.pins)
       → laid_entries s.mirror (columns_of d s.instance) top channel pins ≡ cell_entries d rows top channel s
   unfolding laid_entries
   cell-pins s pins is =
-      map-same (λ (column : ℕ). fold (laid s.mirror (columns_of d s.instance) top channel column) 0 pins)
+      columns-same (λ (column : ℕ). fold (laid s.mirror (columns_of d s.instance) top channel column) 0 pins)
       (λ (column : ℕ). net_in (find (enters_in d rows top channel s column) d.pins)) (range_with_len 0 (columns_of d s.instance))
-      (λ column member. ap (fold (laid s.mirror (columns_of d s.instance) top channel column) 0) (is ∙ with-pins s.instance [] (map (entrant d rows) d.pins))
+      (λ column. ap (fold (laid s.mirror (columns_of d s.instance) top channel column) 0) (is ∙ with-pins s.instance [] (map (placed_pin d rows) d.pins))
       ∙ laid-found d rows s top channel column 0 d.pins (nets-some d good))
 
   -- there is no cell without an instance
-  no-columns : (instance : ℕ) → length d.instances < instance → columns_of d instance ≡ 0
+  no-columns : (instance : ℕ) → length d.instances ≤ instance → columns_of d instance ≡ 0
   no-columns instance past =
-      ap (λ (o : Option Inst). width_of (option_and_then (λ (i : Inst). slice_get d.kinds i.kind) o)) (slice_get_past d.instances instance (omega arith))
+      ap (λ (o : Option Inst). width_of (option_and_then (λ (i : Inst). slice_get d.kinds i.kind) o)) (slice_get_past d.instances instance past)
 
   cell-same : (s : Seat) → laid_entries s.mirror (columns_of d s.instance) top channel (pins_there (slice_get table s.instance)) ≡ cell_entries d rows top channel s
   unfolding laid_entries
-  cell-same s = by (cases_lt (length d.instances) s.instance)
+  cell-same s = by (cases_lt s.instance (length d.instances))
     where
-      none : (columns : ℕ) → columns ≡ 0 → (pins : List Entrant) → laid_entries s.mirror columns top channel pins
+      none : (columns : ℕ) → columns ≡ 0 → (pins : List PlacedPin) → laid_entries s.mirror columns top channel pins
           ≡ map (λ (column : ℕ). net_in (find (enters_in d rows top channel s column) d.pins)) (range_with_len 0 columns)
       none zero is pins = refl
       none (suc n) is pins = absurd (omega arith)
 
-      by : (length d.instances < s.instance) ⊎ (s.instance ≤ length d.instances)
+      by : (s.instance < length d.instances) ⊎ (length d.instances ≤ s.instance)
           → laid_entries s.mirror (columns_of d s.instance) top channel (pins_there (slice_get table s.instance)) ≡ cell_entries d rows top channel s
-      by (inl past) = none (columns_of d s.instance) (no-columns s.instance past) (pins_there (slice_get table s.instance))
-      by (inr within) = cell-pins s (pins_there (slice_get table s.instance)) (ap pins_there (tabled.each s.instance within))
+      by (inr past) = none (columns_of d s.instance) (no-columns s.instance past) (pins_there (slice_get table s.instance))
+      by (inl within) = cell-pins s (pins_there (slice_get table s.instance)) (ap pins_there (tabled.each s.instance within))
 
   -- the entries of a row by a table are those of the definition
   item-same : (item : Item) → tabled_entries d table top channel item ≡ item_entries d rows top channel item
@@ -163,7 +182,7 @@ module _ (d : Netlist) (good : IsNetlist d) (rows : List (List Seat)) (table : L
   row-same (Some items) = flat-same (tabled_entries d table top channel) (item_entries d rows top channel) item-same items
 
 -- the lists of a channel by a table are those of its table
-pub table-made : (d : Netlist) → IsNetlist d → (fed : Fed) (table : List (List Entrant)) → AreTabled d (cells_in fed.rows) table → (channel : ℕ) (top bottom : List ℕ)
+pub table-made : (d : Netlist) → IsNetlist d → (fed : Fed) (table : List (List PlacedPin)) → AreTabled d (cells_in fed.rows) table → (channel : ℕ) (top bottom : List ℕ)
     → top ≡ padded fed.width (flat_map (tabled_entries d table false channel) (items_there (slice_get fed.rows channel)))
     → bottom ≡ padded fed.width (flat_map (tabled_entries d table true channel) (items_there (row_below fed.rows channel)))
     → record { top = top; bottom = bottom } ≡ table_of d fed channel
@@ -187,3 +206,11 @@ channel-made d good fed fed_is few channel within pins is = subst IsChannel (sym
         table-channel d (cells_in fed.rows) good fed_is.placed (subst (λ (f : Fed). f.width ≤ 4000000) fed_is.is few) channel (omega arith)
 
 pub ruleset made_laws = (table-made, channel-made)
+
+-- a table of the pins of a placement has the pins of its design in these rows
+pub placement-tabled : (d : Netlist) (rows : List (List Seat)) (lists : PlacementLists) (table : List (List PlacedPin)) → lists ≡ placement_of d rows
+    → ((i : ℕ) → i < length d.instances → slice_get table i ≡ Some (fold (with_pin i) [] lists.pins)) → AreTabled d rows table
+placement-tabled d rows lists table is each = record {
+  each = λ i within. each i within
+      ∙ ap (λ (pins : List PlacedPin). Some (fold (with_pin i) [] pins)) (ap (λ (l : PlacementLists). l.pins) is ∙ placement-pins d rows);
+}

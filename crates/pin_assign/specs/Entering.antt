@@ -1,21 +1,12 @@
-use Rattle.std.specs.Prelude.{◌==◌, ℕ, ◌+◌, max, List, Bool, false, ◌&&◌, ◌||◌, Option, None, Some}
+use Rattle.std.specs.Prelude.{◌==◌, ℕ, ◌+◌, max, List, Bool, false, ◌&&◌, ◌||◌}
 use Rattle.design_model.specs.Netlist.{Netlist}
 use Rattle.design_model.specs.declared.design.Pin.{Pin}
 use Rattle.row_model.specs.Stands.{row_of}
 use Rattle.row_model.specs.declared.rows.Seat.{Seat}
-use Rattle.feed_cells.specs.Crossings.{lowest, crossing_of, is_across}
-use Rattle.feed_cells.specs.Feeds.{leader}
+use Rattle.feed_cells.specs.Crossings.{lowest, crossing_of}
+use Rattle.feed_cells.specs.Feeds.{is_leader}
 use Rattle.feed_cells.specs.declared.crossing.Crossing.{Crossing}
 use Rattle.feed_cells.specs.declared.crossing.Crossing.TheVariants.{Alone, One, Many}
-
--- whether two pins are one: no two pins have one terminal of one instance
-abbrev pub is_pin : Pin → Option Pin → Bool
-is_pin p None = false
-is_pin p (Some q) = p.instance == q.instance && p.terminal == q.terminal
-
--- whether a pin's net crosses the pin's row by this pin
-abbrev pub is_leader : Netlist → List (List Seat) → Pin → Bool
-is_leader d rows p = is_across (crossing_of d rows p.net) (row_of d rows p.instance) && is_pin p (leader d rows p.net (row_of d rows p.instance))
 
 -- whether a pin of a net that crosses so enters a channel: the one channel of all pins; or the lowest that the pin touches from `lo` on, and where the net crosses
 -- the pin's row by it the two beside the row

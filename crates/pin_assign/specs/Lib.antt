@@ -16,9 +16,5 @@ pub mod Places
 pub mod Bounds
 -- sizes of rows with feeds that keep the bound of a layout below 2 ^ 64
 pub mod Bounded
--- the edges of pins, how far nets reach, by what they cross rows, and what enters a channel, by tables
-pub mod PinEdges
-pub mod Reaches
-pub mod Leaders
-pub mod Entrants
+-- what enters a channel, by a table of the instances' pins
 pub mod Tabled

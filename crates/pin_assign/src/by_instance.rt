@@ -1,36 +1,36 @@
-ghost use Rattle.pin_assign.specs.Entrants.{pins_there, with_pin};
-ghost use Rattle.pin_assign.specs.declared.entrants.Entrant.{Entrant as Entering};
+ghost use Rattle.feed_cells.specs.declared.placement.PlacedPin.{PlacedPin as Placed};
+ghost use Rattle.pin_assign.specs.Tabled.{pins_there, with_pin};
 ghost use Rattle.std.specs.Option.{option_map};
-ghost use Rattle.std.specs.Prelude.{◌≡◌, ◌≤◌, [], ℕ, List, Some, fold, slice_get, IfOk, OnOk};
+ghost use Rattle.std.specs.Prelude.{◌≡◌, ◌<◌, [], ℕ, List, Some, fold, slice_get, IfOk, OnOk};
 
-use crate::entrants::Entrant;
+use feed_cells::PlacedPin;
 use std::alloc::{AllocError, Global};
 use std::marker::Model;
 
 /// The pins of an instance, in order. Contracts see the list.
 #[derive(Debug, Drop)]
 pub struct CellPins {
-    pub pins: Vec<Entrant>,
+    pub pins: Vec<PlacedPin>,
 }
 
 impl Model for CellPins {
     ghost use Rattle.std.specs.Prelude.{List};
-    ghost use Rattle.pin_assign.specs.declared.entrants.Entrant.{Entrant as Entering};
+    ghost use Rattle.feed_cells.specs.declared.placement.PlacedPin.{PlacedPin as Placed};
 
-    ghost Value = { List Entering };
+    ghost Value = { List Placed };
 
     ghost view = { λ a. a.pins.items };
 }
 
-/// The pins of each instance up to the last, by the numbers of the instances. The one error is want of memory.
+/// The pins of each of so many instances, by the numbers of the instances. The one error is want of memory.
 pub fn pins_by_instance(
     alloc: Global,
-    last: u32,
-    pins: &[Entrant],
+    instances: usize,
+    pins: &[PlacedPin],
 ) -> Result<Vec<CellPins>, AllocError>
-    ensures { IfOk result (λ v. (i : ℕ) → i ≤ last → slice_get v.items i ≡ Some (fold (with_pin i) [] pins.now)) }
+    ensures { IfOk result (λ v. (i : ℕ) → i < instances → slice_get v.items i ≡ Some (fold (with_pin i) [] pins.now)) }
 {
-    let mut table = no_pins(alloc, last)?;
+    let mut table = no_pins(alloc, instances)?;
     let mut rest = pins;
     while let Some((pin, after)) = rest.split_first() {
         put(table.as_mut_slice(), *pin)?;
@@ -40,14 +40,11 @@ pub fn pins_by_instance(
 }
 
 // Instances without pins.
-fn no_pins(alloc: Global, last: u32) -> Result<Vec<CellPins>, AllocError>
-    ensures { IfOk result (λ v. (i : ℕ) → i ≤ last → slice_get v.items i ≡ Some []) }
+fn no_pins(alloc: Global, instances: usize) -> Result<Vec<CellPins>, AllocError>
+    ensures { IfOk result (λ v. (i : ℕ) → i < instances → slice_get v.items i ≡ Some []) }
 {
     let mut table = Vec::new(alloc);
-    table.push(CellPins {
-        pins: Vec::new(alloc),
-    })?;
-    for i in 0..last {
+    for i in 0..instances {
         table.push(CellPins {
             pins: Vec::new(alloc),
         })?;
@@ -56,10 +53,10 @@ fn no_pins(alloc: Global, last: u32) -> Result<Vec<CellPins>, AllocError>
 }
 
 // Puts a pin behind those of its instance.
-fn put(table: &mut [CellPins], pin: Entrant) -> Result<(), AllocError>
-    ensures { OnOk result ((i : ℕ) → slice_get table.new i ≡ option_map (λ (pins : List Entering). with_pin i pins pin) (slice_get table.old i)) }
+fn put(table: &mut [CellPins], pin: PlacedPin) -> Result<(), AllocError>
+    ensures { OnOk result ((i : ℕ) → slice_get table.new i ≡ option_map (λ (pins : List Placed). with_pin i pins pin) (slice_get table.old i)) }
 {
-    let n = pin.edges.pin.instance as usize;
+    let n = pin.place.pin.instance as usize;
     if n < table.len() {
         let cell = &mut table[n];
         cell.pins.push(pin)?;
@@ -68,7 +65,7 @@ fn put(table: &mut [CellPins], pin: Entrant) -> Result<(), AllocError>
 }
 
 /// The pins of an instance by a table.
-pub fn pins_there<'t>(table: &'t [CellPins], instance: u32) -> &'t [Entrant]
+pub fn pins_there<'t>(table: &'t [CellPins], instance: u32) -> &'t [PlacedPin]
     ensures { result.now ≡ pins_there (slice_get table.now instance) }
 {
     match table.get(instance as usize) {

@@ -1,21 +1,18 @@
-ghost use Rattle.pin_assign.specs.Entrants.{is_laid, laid, laid_entries, tabled_entries};
+ghost use Rattle.pin_assign.specs.Tabled.{enters_as, is_laid, laid, laid_entries, tabled_entries};
 ghost use Rattle.pin_assign.specs.Tables.{padded};
-ghost use Rattle.row_model.specs.Stands.{turned_column};
 ghost use Rattle.std.specs.List.{flat_map};
 ghost use Rattle.std.specs.Option.{option_map};
 ghost use Rattle.std.specs.Prelude.{◌≡◌, ◌++◌, ◌≤◌, ℕ, fold, slice_get, IfOk, OnOk};
 
 use crate::by_instance::{CellPins, pins_there};
-use crate::cells::columns_of;
-use crate::entrants::{Entrant, enters};
-use crate::pin_edges::edge_of;
 use design_model::Design;
-use feed_cells::Item;
+use feed_cells::{Crossing, Item, PlacedPin};
+use row_model::{columns_of, turned_column};
 use std::alloc::{AllocError, Global};
 
 /// The entries of a row into a channel over an edge, the upper where `top` holds, padded to so many columns, by a table of the instances' pins. The one
 /// error is want of memory. Takes steps as the number of columns and of pins.
-#[tactic(auto, unfolding(crate::specs::Entrants::tabled_entries))]
+#[tactic(auto, unfolding(crate::specs::Tabled::tabled_entries))]
 pub fn row_entries(
     alloc: Global,
     design: &Design,
@@ -39,7 +36,7 @@ pub fn row_entries(
 }
 
 // Puts the entries of an item behind others.
-#[tactic(auto, unfolding(crate::specs::Entrants::tabled_entries))]
+#[tactic(auto, unfolding(crate::specs::Tabled::tabled_entries))]
 fn add_item(
     alloc: Global,
     entries: &mut Vec<u32>,
@@ -64,14 +61,14 @@ fn add_item(
 }
 
 // The entries of a cell of so many columns, which may be mirrored, over an edge into a channel.
-#[tactic(auto, unfolding(crate::specs::Entrants::laid_entries))]
+#[tactic(auto, unfolding(crate::specs::Tabled::laid_entries))]
 fn laid_entries(
     alloc: Global,
     mirror: bool,
     columns: u32,
     top: bool,
     channel: u32,
-    pins: &[Entrant],
+    pins: &[PlacedPin],
 ) -> Result<Vec<u32>, AllocError>
     ensures { IfOk result (λ v. v.items ≡ laid_entries mirror columns top channel pins.now) }
 {
@@ -87,7 +84,7 @@ fn lay_all(
     columns: u32,
     top: bool,
     channel: u32,
-    pins: &[Entrant],
+    pins: &[PlacedPin],
 )
     ensures { (k : ℕ) → slice_get entries.new k ≡ option_map (λ (net : ℕ). fold (laid mirror columns top channel k) net pins.now) (slice_get entries.old k) }
 {
@@ -99,28 +96,32 @@ fn lay_all(
 }
 
 // Lays the entry of a pin, if it has one and its column has none.
-fn lay(entries: &mut [u32], mirror: bool, columns: u32, top: bool, channel: u32, pin: Entrant)
+fn lay(entries: &mut [u32], mirror: bool, columns: u32, top: bool, channel: u32, pin: PlacedPin)
     ensures { (k : ℕ) → slice_get entries.new k ≡ option_map (λ (net : ℕ). laid mirror columns top channel k net pin) (slice_get entries.old k) }
 {
     if !enters(pin, channel) {
         return;
     }
-    let Some(own) = edge_of(top, pin.edges) else {
+    let Some(own) = pin.place.edge(top) else {
         return;
     };
     let column = turned_column(mirror, columns, own) as usize;
     if column < entries.len() && entries[column] == 0 {
-        entries[column] = pin.edges.pin.net;
+        entries[column] = pin.place.pin.net;
     }
 }
 
-// The column of a cell's position in its cell, counted from the left, where the cell of so many columns may be mirrored.
-fn turned_column(mirror: bool, columns: u32, column: u32) -> u32
-    ensures { result ≡ turned_column mirror columns column }
+// Whether a pin enters a channel.
+fn enters(pin: PlacedPin, channel: u32) -> bool
+    ensures { result ≡ enters_as pin.crossing pin channel }
 {
-    if mirror {
-        columns.saturating_sub(1).saturating_sub(column)
-    } else {
-        column
+    match pin.crossing {
+        Crossing::Alone => false,
+        Crossing::One(only) => channel == only,
+        Crossing::Many { lo, .. } => {
+            let row = u32::from(pin.place.row);
+            channel == pin.place.lowest().max(lo)
+                || pin.leads && (channel == row || channel == row + 1)
+        }
     }
 }

@@ -1,34 +1,36 @@
 ghost use Rattle.feed_cells.specs.Fed.{IsFed, cells_in};
+ghost use Rattle.feed_cells.specs.Placement.{placement_of};
 ghost use Rattle.pin_assign.specs.ChannelTables.{AreTablesFor};
 ghost use Rattle.pin_assign.specs.Tabled.{AreTabled};
 ghost use Rattle.pin_assign.specs.Tables.{table_of, tables_of};
 ghost use Rattle.std.specs.Prelude.{◌≡◌, ◌≤◌, length, IfOk};
 
-use crate::aboves::aboves_of;
 use crate::by_instance::{CellPins, pins_by_instance};
-use crate::entrants::entrants_of;
 use crate::entries::row_entries;
-use crate::leaders::leaders_of;
-use crate::pin_edges::pins_with_edges;
-use crate::reaches::reaches_of;
 use crate::rows_beside::{items_at, items_below};
 use channel_model::Channel;
 use design_model::Design;
-use feed_cells::{FedRows, Item};
-use geom_core::Items;
+use feed_cells::{FedRows, Placement};
 use std::alloc::{AllocError, Global};
 
-/// The channels between rows with their feeds, from the lowest up, one more than there are rows: which net enters which channel in which column. Rows that
+/// The channels between rows with their feeds, from the lowest up, one more than there are rows, by where the pins of the design stand: which net enters which
+/// channel in which column. Rows that
 /// are within the limit of the grid are at most 4,000,000 columns wide. Each net of a channel has two entries in it, or more. The one error is want of memory.
-pub fn channels(alloc: Global, design: &Design, fed: &FedRows) -> Result<Vec<Channel>, AllocError>
+pub fn channels(
+    alloc: Global,
+    design: &Design,
+    fed: &FedRows,
+    placement: &Placement,
+) -> Result<Vec<Channel>, AllocError>
     requires fed { IsFed design.now fed.now }
+    requires placement { placement.now ≡ placement_of design.now (cells_in fed.now.rows) }
     requires narrow { fed.now.width ≤ 4000000 }
     ensures is { IfOk result (λ v. v.items ≡ tables_of design.now fed.now) }
     ensures tables { IfOk result (λ v. AreTablesFor fed.now v.items) }
 {
     // The bounds of the design's type are known once a field is read.
     let _pins = &design.pins;
-    let table = table_of_pins(alloc, design, fed.rows.items())?;
+    let table = table_of_pins(alloc, design, fed, placement)?;
     let mut channels = Vec::new(alloc);
     channels.push(channel_at(alloc, design, fed, table.as_slice(), 0)?)?;
     let mut channel = 1;
@@ -41,39 +43,20 @@ pub fn channels(alloc: Global, design: &Design, fed: &FedRows) -> Result<Vec<Cha
     Ok(channels)
 }
 
-// The pins of each instance, with their rows, edges and the crossings of their nets.
-#[tactic(auto, using(crate::proofs::TabledDesign::tabled_laws))]
+// The pins of each instance.
 fn table_of_pins(
     alloc: Global,
     design: &Design,
-    rows: &[Items<Item>],
+    fed: &FedRows,
+    placement: &Placement,
 ) -> Result<Vec<CellPins>, AllocError>
-    requires { length rows.now ≤ 514 }
-    ensures { IfOk result (λ v. AreTabled design.now (cells_in rows.now) v.items) }
+    requires { placement.now ≡ placement_of design.now (cells_in fed.now.rows) }
+    ensures { IfOk result (λ v. AreTabled design.now (cells_in fed.now.rows) v.items) }
 {
+    // The bounds of the design's type are known once a field is read.
     let _pins = &design.pins;
-    let instances = design.instances.items().len();
-    let nets = few_nets(design);
-    let aboves = aboves_of(alloc, instances, rows)?;
-    let pins = pins_with_edges(alloc, design, aboves.as_slice())?;
-    let reaches = reaches_of(alloc, nets, pins.as_slice())?;
-    let leaders = leaders_of(alloc, nets, pins.as_slice())?;
-    let entrants = entrants_of(
-        alloc,
-        pins.as_slice(),
-        reaches.as_slice(),
-        leaders.as_slice(),
-    )?;
-    pins_by_instance(alloc, instances as u32, entrants.as_slice())
-}
-
-// The number of a design's nets.
-#[tactic(auto, using(crate::proofs::TabledDesign::net_laws))]
-fn few_nets(design: &Design) -> u32
-    ensures { result ≡ length design.now.nets }
-{
-    let _pins = &design.pins;
-    design.nets.items().len() as u32
+    let count = design.instances.items().len();
+    pins_by_instance(alloc, count, placement.pins.items())
 }
 
 // The channel with this number, by a table of the instances' pins.

@@ -4,7 +4,7 @@ pub mod WidthLaws
 pub mod StartLaws
 -- rows that hold each instance once
 pub mod PlacedLaws
--- the columns of pins
+-- pins are of instances
 pub mod PinLaws
 -- where instances stand, and the seats there
 pub mod StandLaws
@@ -12,9 +12,5 @@ pub mod StandLaws
 pub mod SeatLaws
 -- worked rows, computed
 pub mod Worked
--- how wide rows are
-pub mod BoundLaws
--- the columns of pins lie within their rows
-pub mod ColumnLaws
 -- the columns of pins in their cells
 pub mod CellColumns

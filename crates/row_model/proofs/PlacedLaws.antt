@@ -9,6 +9,7 @@ use Rattle.std.specs.List.{AllByRecursion, range_with_len, IsDistinct}
 use Rattle.std.specs.Prelude.{All, nat_eq}
 use Rattle.list_facts.proofs.Every.{every-left, every-right, every-weaker}
 use Rattle.design_model.specs.Netlist.{IsNetlist, Netlist}
+use Rattle.row_model.specs.NearStands.{AreShort}
 use Rattle.row_model.specs.Rows.{all_instances, ArePlaced, AreRows, instances_in}
 use Rattle.row_model.specs.declared.rows.Seat.{Seat}
 
@@ -93,3 +94,8 @@ rows-within-from count most (seats ∷ rows) h few = (
 pub rows-within : (d : Netlist) (rows : List (List Seat)) → IsNetlist d → ArePlaced d rows → AllByRecursion (IsWithin (length d.instances) 20000) rows
 rows-within d rows good placed =
     rows-within-from (length d.instances) 20000 rows (placed-within d rows placed) (omega (arith, placed-length d rows placed, good.few_instances))
+
+-- so they are short
+pub placed-short : (d : Netlist) (rows : List (List Seat)) → IsNetlist d → ArePlaced d rows → AreShort rows
+placed-short d rows good placed =
+    every-weaker (IsWithin (length d.instances) 20000) (λ (seats : List Seat). length seats ≤ 20000) (λ seats h. h.1) rows (rows-within d rows good placed)

@@ -7,6 +7,11 @@ pub mod Widths
 pub mod Start
 -- where instances and pins stand
 pub mod Stands
+pub mod StandView
+pub mod PinPlaces
+-- how far a stand can be, and tables of stands
+pub mod NearStands
+pub mod StandTables
 -- what annealing weighs
 pub mod Weights
 pub mod WeightsView

@@ -1,11 +1,11 @@
 ghost use Rattle.row_model.specs.PinColumns.{before, columns_there, kind_columns, pin_columns, position_columns, table_there, terminal_columns, with_position};
 ghost use Rattle.row_model.specs.Stands.{positions_of};
-ghost use Rattle.row_model.specs.Widths.{kind_of};
 ghost use Rattle.design_model.specs.declared.design.Inst.{Inst};
 ghost use Rattle.row_model.specs.declared.cell_columns.PinColumns.{PinColumns as Columns};
 ghost use Rattle.std.specs.Option.{option_map};
 ghost use Rattle.std.specs.Prelude.{◌≡◌, ◌<◌, ℕ, Some, length, map, slice_get, IfOk};
 
+use crate::widths::kind_of;
 use design_model::{CellKind, Design, Pin, Position};
 use geom_core::Items;
 use std::alloc::{AllocError, Global};
@@ -160,14 +160,6 @@ fn joined(columns: PinColumns, position: Position) -> PinColumns
         bottom: columns.bottom.or(if position.top { None } else { column }),
         top: columns.top.or(if position.top { column } else { None }),
     }
-}
-
-// The kind of the instance with this number, if there is one.
-fn kind_of<'d>(design: &'d Design, instance: u32) -> Option<&'d CellKind>
-    ensures { option_map (λ k. k.now) result ≡ kind_of design.now instance }
-{
-    let found = design.instances.items().get(instance as usize)?;
-    design.kinds.items().get(found.kind as usize)
 }
 
 // The positions of an instance's kind, in order.

@@ -2,15 +2,15 @@
 #![tactic(auto)]
 
 mod cell_columns;
+mod places;
 mod rows;
-mod standing;
+mod stands;
 mod starting;
 mod weights;
 mod widths;
 
-pub use cell_columns::{PinColumns, all_pin_columns, pin_columns};
+pub use places::{PinPlace, column_of, pin_place, pin_places, turned_column};
 pub use rows::{Rows, Seat};
-pub use standing::column_of;
 pub use starting::{default_rows, start};
 pub use weights::Weights;
-pub use widths::columns_of;
+pub use widths::{columns_of, kind_of};

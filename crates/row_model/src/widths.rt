@@ -1,17 +1,29 @@
-ghost use Rattle.row_model.specs.Widths.{all_columns, columns_of};
+ghost use Rattle.design_model.specs.Netlist.{IsKind};
+ghost use Rattle.row_model.specs.Widths.{all_columns, columns_of, kind_of};
+ghost use Rattle.std.specs.Option.{option_map};
 ghost use Rattle.std.specs.Prelude.{◌≡◌, ◌<◌, ◌≤◌, length};
 
-use design_model::Design;
+use design_model::{CellKind, Design};
 
-/// The width of an instance in columns, 1 to 100,000,000. Takes no memory.
+/// The kind of the instance with this number, if there is one. Takes no memory.
+pub fn kind_of<'d>(design: &'d Design, instance: u32) -> Option<&'d CellKind>
+    ensures { option_map (λ k. k.now) result ≡ kind_of design.now instance }
+{
+    let found = design.instances.items().get(instance as usize)?;
+    design.kinds.items().get(found.kind as usize)
+}
+
+/// The width of the instance with this number in columns, 1 to 100,000,000; 0 where there is none. Takes no memory.
 pub fn columns_of(design: &Design, instance: u32) -> u32
-    requires { instance < length design.now.instances }
     ensures width { result ≡ columns_of design.now instance }
-    ensures some { 0 < result }
     ensures few { result ≤ 100000000 }
 {
-    let kind = design.instances.items()[instance as usize].kind;
-    design.kinds.items()[kind as usize].columns
+    // The bounds of the design's type are known once a field is read.
+    let _instances = &design.instances;
+    match kind_of(design, instance) {
+        Some(kind) => kind.columns,
+        None => 0,
+    }
 }
 
 /// The width of all instances in columns. Takes no memory.

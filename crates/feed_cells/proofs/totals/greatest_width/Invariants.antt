@@ -1,6 +1,6 @@
 use Rattle.std.proofs.Common.{◌≡◌, length, fold, map, max}
 use Rattle.feed_cells.specs.Fed.{items_width}
-use Rattle.feed_cells.specs.Tables.{AreNarrow}
+use Rattle.feed_cells.specs.Sizes.{AreNarrow}
 use Rattle.feed_cells.proofs.totals.greatest_width.Given as goal
 
 abbrev pub invariant-loop-items : goal.invariant-loop-items

@@ -1,6 +1,6 @@
 use Rattle.std.proofs.Common.{◌≡◌, ℕ, length, fold, slice_get}
 use Rattle.std.specs.Option.{option_map}
-use Rattle.pin_assign.specs.Entrants.{laid}
+use Rattle.pin_assign.specs.Tabled.{laid}
 use Rattle.pin_assign.proofs.entries.lay_all.Given as goal
 
 abbrev pub invariant-loop-pin : goal.invariant-loop-pin

@@ -1,6 +1,6 @@
 use Rattle.std.proofs.Common.{◌≡◌, ◌++◌, length}
 use Rattle.std.specs.List.{flat_map}
-use Rattle.pin_assign.specs.Entrants.{tabled_entries}
+use Rattle.pin_assign.specs.Tabled.{tabled_entries}
 use Rattle.pin_assign.proofs.entries.row_entries.Given as goal
 
 abbrev pub invariant-loop-item : goal.invariant-loop-item

@@ -2,8 +2,7 @@ use Rattle.std.proofs.Common.{rules, ◌≡◌, true, false}
 use Rattle.std.specs.List.{flat_map, slice_get}
 use Rattle.channel_model.specs.Pins.{Pins}
 use Rattle.design_model.specs.Netlist.{IsNetlist}
-use Rattle.pin_assign.specs.Entrants.{tabled_entries}
-use Rattle.pin_assign.specs.Tabled.{items_there}
+use Rattle.pin_assign.specs.Tabled.{items_there, tabled_entries}
 use Rattle.pin_assign.specs.Tables.{padded, row_below}
 use Rattle.pin_assign.proofs.TabledEntries.{channel-made, table-made}
 use Rattle.pin_assign.proofs.tabling.channel_at.Goals as goal

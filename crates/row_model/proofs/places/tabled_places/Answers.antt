@@ -1,0 +1,19 @@
+-- The pins of a design are of its instances.
+use Rattle.std.proofs.Common.{◌≡◌, List, ◌<◌, length, map, rules, ap, subst, sym, ◌∙◌}
+use Rattle.std.specs.List.{AllByRecursion}
+use Rattle.design_model.specs.Netlist.{IsNetlist}
+use Rattle.design_model.specs.declared.design.Pin.{Pin}
+use Rattle.row_model.specs.PinColumns.{pin_columns}
+use Rattle.row_model.specs.PinPlaces.{pin_place}
+use Rattle.row_model.proofs.PinLaws.{pins-within}
+use Rattle.row_model.proofs.places.tabled_places.Goals as goal
+
+pub loop-pin-init : goal.loop-pin-init
+loop-pin-init c =
+    let is : IsNetlist c.args.design.now = search rules in
+    let pins : c.args.design.now.pins ≡ c.items-rest.result.now = cc in
+    record {
+      same = search rules;
+      beside = c.requires.columns ∙ ap (map (pin_columns c.args.design.now)) pins;
+      within = subst (AllByRecursion (λ (p : Pin). p.instance < length c.args.design.now.instances)) pins (pins-within c.args.design.now is);
+    }
