@@ -3,14 +3,14 @@
 ghost use Rattle.commands.specs.Headline.{IsGoodText};
 ghost use Rattle.commands.specs.Text.{routed_text};
 ghost use Rattle.feed_cells.specs.Fed.{IsFed};
-ghost use Rattle.design_model.specs.Netlist.{IsNetlist};
+ghost use Rattle.design_model.specs.Room.{HasRoom};
 ghost use Rattle.pin_assign.specs.Bounds as pins;
 ghost use Rattle.std.specs.Prelude.{◌≡◌, ◌<◌, ◌≤◌, ◌+◌, ◌*◌, length, IfOk};
 ghost use Rattle.tech_rules.specs.Rules.{ValidRules};
 
-use crate::layout_text::written_text;
 use crate::wirings::route_channels;
 use channel_stack::stack;
+use cif_writer::written_text;
 use design_model::Design;
 use feed_cells::FedRows;
 use pin_assign::channels;
@@ -27,8 +27,7 @@ pub fn routed_text(
     rules: &Rules,
 ) -> Result<Vec<u8>, AllocError>
     requires valid { ValidRules rules.now }
-    requires netlist { IsNetlist design.now }
-    requires high { 0 < length design.now.kinds → 2 * rules.now.grid_pin + rules.now.vertical_space ≤ design.now.height }
+    requires high { HasRoom rules.now design.now }
     requires fed { IsFed design.now fed.now }
     requires narrow { fed.now.width ≤ 4000000 }
     requires width { (pins.bound_of rules.now design.now fed.now).width ≤ 1000000000 }

@@ -17,7 +17,7 @@ use Rattle.pin_assign.proofs.EnteredLaws.{table-nets}
 use Rattle.pin_assign.proofs.WidthLaws.{table-top_length}
 
 -- what stands at a place of the images of numbers in order, and what does not stand past them
-image-at : {A : Type 0} (f : ℕ → A) (start count k : ℕ) → k < count → slice_get (map f (range_with_len start count)) k ≡ Some (f (start + k))
+pub image-at : {A : Type 0} (f : ℕ → A) (start count k : ℕ) → k < count → slice_get (map f (range_with_len start count)) k ≡ Some (f (start + k))
 image-at f start zero k within = absurd (omega arith)
 image-at f start (suc count) zero within = ap (λ (n : ℕ). Some (f n)) (let same : start ≡ start + 0 = omega arith in same)
 image-at f start (suc count) (suc k) within =
