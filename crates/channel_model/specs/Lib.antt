@@ -8,3 +8,5 @@ pub mod Density
 -- wirings, and when one connects a channel
 pub mod Elements
 pub mod Wired
+-- how many tracks and columns a router may take
+pub mod Limits

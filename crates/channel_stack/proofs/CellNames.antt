@@ -1,96 +1,80 @@
-use Rattle.std.proofs.Common.{◌≡◌, refl, ap, sym, ◌∙◌, subst, ℕ, suc, ◌+◌, List, [], ◌∷◌, ◌++◌, length, map, Bool, true, false, Some, Option, arith}
+use Rattle.std.proofs.Common.{◌≡◌, refl, ap, sym, ◌∙◌, subst, ℕ, suc, ◌+◌, List, [], ◌∷◌, ◌++◌, length, map, Bool, true, false, Some, None, Option, arith}
 use Rattle.std.proofs.lemmas.Bool.{both_ways}
 use Rattle.std.proofs.lemmas.List.{map-append}
 use Rattle.std.proofs.lemmas.List.Sorted.{IsPermutation-map}
 use Rattle.std.proofs.lemmas.Map.Keys.{IsDistinct-IsPermutation}
 use Rattle.std.specs.List.{AllByRecursion, range_with_len}
 use Rattle.std.specs.List.Sorted.{IsPermutation}
-use Rattle.std.specs.Prelude.{slice_get, unwrap_or}
+use Rattle.std.specs.Prelude.{slice_get}
 use Rattle.std.specs.Str.{bytes_eq}
 use Rattle.geom_core.specs.declared.layout.Cell as layouts
+use Rattle.geom_core.specs.declared.turn.Place.{Place}
 use Rattle.tech_rules.specs.Rules.{RuleValues}
 use Rattle.design_model.specs.CellsMatch.{cell_names, instance_names}
 use Rattle.design_model.specs.Netlist.{Netlist, IsNetlist}
 use Rattle.design_model.specs.declared.design.Inst.{Inst}
-use Rattle.cif_text.specs.Symbols.{Symbol}
-use Rattle.cif_text.specs.Written as written
-use Rattle.cif_text.specs.WrittenLayout.{item_shapes, items_cells, items_shapes}
 use Rattle.list_facts.proofs.Different.{place-get}
 use Rattle.list_facts.proofs.Mentioned.{bytes_one, bytes_same}
 use Rattle.channel_model.specs.declared.wiring.Wiring.{Wiring}
 use Rattle.wire_geom.specs.Drawing.{drawing}
-use Rattle.wire_geom.specs.declared.drawn.Drawn.{Drawn}
 use Rattle.row_model.specs.Rows.{ArePlaced, all_instances, instances_in}
 use Rattle.feed_cells.specs.Fed.{Fed, cells_in, item_width, seats_in}
 use Rattle.feed_cells.specs.declared.fed.Item.{Item}
 use Rattle.feed_cells.specs.declared.fed.Item.TheVariants.{Cell, Feed}
 use Rattle.layout_laws.proofs.ListPlaces.{map-at}
 use Rattle.layout_laws.specs.Plans.{channel_height}
-use Rattle.channel_stack.specs.Layouts.{copies_of, copy_of, items_of, layout_of, name_of, wires_of}
+use Rattle.channel_stack.specs.Layouts.{item_shapes, layout_of, row_cells, row_shapes, stacked_cells}
+use Rattle.channel_stack.specs.declared.placed.PlacedItem.{PlacedItem}
 use Rattle.channel_stack.specs.Stack.{channel_bases, drawings, item_place, placed_from, placed_rows, row_bases, stack_of}
-use Rattle.channel_stack.proofs.FoundSymbols.{symbols_in}
 use Rattle.channel_stack.proofs.KnownItems.{IsKnown, KnownCell, rows-known}
-use Rattle.channel_stack.proofs.LayoutCells.{cells-append, one-cell}
+use Rattle.channel_stack.proofs.LayoutCells.{one-cell}
+use Rattle.channel_stack.proofs.LayoutShapes.{stack_layout}
 
 abbrev names_of : List layouts.Cell → List (List ℕ)
 names_of cells = map (λ (c : layouts.Cell). c.name) cells
 
 -- the name of the instance with this number
+abbrev name_in : Option Inst → List ℕ
+name_in None = []
+name_in (Some inst) = inst.name
+
 abbrev name_at : Netlist → ℕ → List ℕ
-name_at d n = unwrap_or (name_of (slice_get d.instances n)) []
+name_at d n = name_in (slice_get d.instances n)
 
--- wires are no cells
-wires-nameless : (symbols : List Symbol) (first : ℕ) (drawn : List Drawn) → items_cells symbols first (wires_of drawn) ≡ []
-wires-nameless symbols first [] = refl
-wires-nameless symbols first (a ∷ drawn) = wires-nameless symbols (first + 1) drawn
-
-module _ (r : RuleValues) (d : Netlist) (fed : Fed) where
-  abbrev symbols : List Symbol
-  symbols = symbols_in r d fed
-
-  -- the names in two parts of the main level
-  names-append : (first : ℕ) (xs ys : List written.Item)
-      → names_of (items_cells symbols first (xs ++ ys)) ≡ names_of (items_cells symbols first xs) ++ names_of (items_cells symbols (first + length (items_shapes symbols xs)) ys)
-  names-append first xs ys =
-      ap names_of (cells-append symbols first xs ys)
-      ∙ map-append (λ (c : layouts.Cell). c.name) (items_cells symbols first xs) (items_cells symbols (first + length (items_shapes symbols xs)) ys)
-
+module _ (r : RuleValues) (d : Netlist) where
   -- the cells of a row have the names of their seats' instances
-  row-names : (first base left : ℕ) (items : List Item) → AllByRecursion (IsKnown d fed) items
-      → names_of (items_cells symbols first (copies_of d (placed_from r d base left items))) ≡ map (name_at d) (instances_in (seats_in items))
+  row-names : (first base left : ℕ) (items : List Item) → AllByRecursion (IsKnown d) items
+      → names_of (row_cells r d first (placed_from r d base left items)) ≡ map (name_at d) (instances_in (seats_in items))
   row-names first base left [] known = refl
   row-names first base left (Cell s ∷ items) known =
-      let copy : written.Item = copy_of d (Cell s) (item_place r d base left (Cell s)) in
+      let place : Place = item_place r d base left (Cell s) in
       let here : KnownCell d s = known.0 in
-      let next : ℕ = first + length (item_shapes symbols copy) in
-      let more : List layouts.Cell = items_cells symbols next (copies_of d (placed_from r d base (left + item_width d (Cell s)) items)) in
-      ap (λ (l : List layouts.Cell). names_of (l ++ more)) (one-cell r d fed first s (item_place r d base left (Cell s)) here)
+      let next : ℕ = first + length (item_shapes r d (record { item = Cell s; place = place })) in
+      let more : List layouts.Cell = row_cells r d next (placed_from r d base (left + item_width d (Cell s)) items) in
+      ap (λ (l : List layouts.Cell). names_of (l ++ more)) (one-cell r d first s place here)
       ∙ ap (λ (l : List (List ℕ)). here.inst.name ∷ l) (row-names next base (left + item_width d (Cell s)) items known.1)
-      ∙ ap (λ (o : Option Inst). unwrap_or (name_of o) [] ∷ map (name_at d) (instances_in (seats_in items))) (sym here.is_instance)
+      ∙ ap (λ (o : Option Inst). name_in o ∷ map (name_at d) (instances_in (seats_in items))) (sym here.is_instance)
   row-names first base left (Feed net ∷ items) known =
-      row-names (first + length (item_shapes symbols (copy_of d (Feed net) (item_place r d base left (Feed net))))) base (left + item_width d (Feed net)) items known.1
+      row-names (first + length (item_shapes r d (record { item = Feed net; place = item_place r d base left (Feed net) }))) base (left + item_width d (Feed net)) items known.1
 
-  -- the cells of the main level have the names of all seats' instances
-  levels-names : (first base : ℕ) (ws : List Wiring) (rows : List (List Item)) → length ws ≡ length rows + 1 → AllByRecursion (AllByRecursion (IsKnown d fed)) rows
-      → names_of (items_cells symbols first (items_of d (drawings r ws (channel_bases r d.height base ws)) (placed_rows r d rows (row_bases r d.height base ws))))
+  -- the cells of all rows have the names of all seats' instances
+  levels-names : (first base : ℕ) (ws : List Wiring) (rows : List (List Item)) → length ws ≡ length rows + 1 → AllByRecursion (AllByRecursion (IsKnown d)) rows
+      → names_of (stacked_cells r d first (drawings r ws (channel_bases r d.height base ws)) (placed_rows r d rows (row_bases r d.height base ws)))
       ≡ map (name_at d) (all_instances (cells_in rows))
   levels-names first base [] [] each known = absurd (omega arith)
   levels-names first base [] (items ∷ rows) each known = absurd (omega arith)
-  levels-names first base (w ∷ []) [] each known = ap names_of (wires-nameless symbols first (drawing r base w))
-  levels-names first base (w ∷ (v ∷ ws)) [] each known = ap names_of (wires-nameless symbols first (drawing r base w))
+  levels-names first base (w ∷ []) [] each known = refl
+  levels-names first base (w ∷ (v ∷ ws)) [] each known = refl
   levels-names first base (w ∷ []) (items ∷ rows) each known = absurd (omega arith)
   levels-names first base (w ∷ (v ∷ ws)) (items ∷ rows) each known =
       let floor : ℕ = base + channel_height r w in
       let next : ℕ = floor + d.height in
-      let wires : List written.Item = wires_of (drawing r base w) in
-      let copies : List written.Item = copies_of d (placed_from r d floor 0 items) in
-      let above : List written.Item = items_of d (drawings r (v ∷ ws) (channel_bases r d.height next (v ∷ ws))) (placed_rows r d rows (row_bases r d.height next (v ∷ ws))) in
-      let second : ℕ = first + length (items_shapes symbols wires) in
-      let third : ℕ = second + length (items_shapes symbols copies) in
-      names-append first wires (copies ++ above)
-      ∙ ap (λ (l : List layouts.Cell). names_of l ++ names_of (items_cells symbols second (copies ++ above))) (wires-nameless symbols first (drawing r base w))
-      ∙ names-append second copies above
-      ∙ ap (λ (l : List (List ℕ)). l ++ names_of (items_cells symbols third above)) (row-names second floor 0 items known.0)
+      let placed : List PlacedItem = placed_from r d floor 0 items in
+      let second : ℕ = first + length (drawing r base w) in
+      let third : ℕ = second + length (row_shapes r d placed) in
+      let above : List layouts.Cell = stacked_cells r d third (drawings r (v ∷ ws) (channel_bases r d.height next (v ∷ ws))) (placed_rows r d rows (row_bases r d.height next (v ∷ ws))) in
+      map-append (λ (c : layouts.Cell). c.name) (row_cells r d second placed) above
+      ∙ ap (λ (l : List (List ℕ)). l ++ names_of above) (row-names second floor 0 items known.0)
       ∙ ap (λ (l : List (List ℕ)). map (name_at d) (instances_in (seats_in items)) ++ l) (levels-names third next (v ∷ ws) rows (omega arith) known.1)
       ∙ sym (map-append (name_at d) (instances_in (seats_in items)) (all_instances (cells_in rows)))
 
@@ -104,7 +88,7 @@ names-range value at from (x ∷ xs) same =
 
 -- the names of all instances are those at their numbers
 names-are : (d : Netlist) → map (name_at d) (range_with_len 0 (length d.instances)) ≡ instance_names d
-names-are d = names-range (λ (o : Option Inst). unwrap_or (name_of o) []) (slice_get d.instances) 0 d.instances (λ k n is. ap (slice_get d.instances) (omega arith))
+names-are d = names-range name_in (slice_get d.instances) 0 d.instances (λ k n is. ap (slice_get d.instances) (omega arith))
 
 -- the test of two names does not heed their order
 names-flip : (v w : List ℕ) → bytes_eq v w ≡ bytes_eq w v
@@ -118,24 +102,24 @@ names-flip v w = by (bytes_eq v w) (bytes_eq w v) refl refl
 
 module _ (r : RuleValues) (d : Netlist) (is : IsNetlist d) (fed : Fed) (placed : ArePlaced d (cells_in fed.rows)) (ws : List Wiring) (each : length ws ≡ length fed.rows + 1) where
   -- the cells of the layout have the names of the seats' instances
-  layout-names : cell_names (layout_of r d fed ws) ≡ map (name_at d) (all_instances (cells_in fed.rows))
+  layout-names : cell_names (stack_layout r d fed ws) ≡ map (name_at d) (all_instances (cells_in fed.rows))
   unfolding layout_of stack_of
-  layout-names = levels-names r d fed 0 0 ws fed.rows each (rows-known d fed placed is)
+  layout-names = levels-names r d 0 0 ws fed.rows each (rows-known d fed placed is)
 
   -- the cells have the names of the instances, each once
-  pub stack-names : IsPermutation (instance_names d) (cell_names (layout_of r d fed ws))
+  pub stack-names : IsPermutation (instance_names d) (cell_names (stack_layout r d fed ws))
   stack-names =
       let range : List ℕ = range_with_len 0 (length d.instances) in
       let moved : IsPermutation (map (name_at d) range) (map (name_at d) (all_instances (cells_in fed.rows))) =
       IsPermutation-map (name_at d) range (all_instances (cells_in fed.rows)) placed.once in
-      subst (λ (l : List (List ℕ)). IsPermutation l (cell_names (layout_of r d fed ws))) (names-are d)
+      subst (λ (l : List (List ℕ)). IsPermutation l (cell_names (stack_layout r d fed ws))) (names-are d)
       (subst (IsPermutation (map (name_at d) range)) (sym layout-names) moved)
 
   -- cells of one name are one
-  pub named-once : (n m : ℕ) (a b : layouts.Cell) → slice_get (layout_of r d fed ws).cells n ≡ Some a → slice_get (layout_of r d fed ws).cells m ≡ Some b → a.name ≡ b.name → n ≡ m
+  pub named-once : (n m : ℕ) (a b : layouts.Cell) → slice_get (stack_layout r d fed ws).cells n ≡ Some a → slice_get (stack_layout r d fed ws).cells m ≡ Some b → a.name ≡ b.name → n ≡ m
   named-once n m a b first second same =
-      let names : List (List ℕ) = cell_names (layout_of r d fed ws) in
+      let names : List (List ℕ) = cell_names (stack_layout r d fed ws) in
       let different = IsDistinct-IsPermutation bytes_eq names-flip (instance_names d) names stack-names is.different_instances in
-      let one = place-get names n a.name different (map-at (λ (c : layouts.Cell). c.name) (layout_of r d fed ws).cells n a first) in
-      let other = place-get names m b.name different (map-at (λ (c : layouts.Cell). c.name) (layout_of r d fed ws).cells m b second) in
+      let one = place-get names n a.name different (map-at (λ (c : layouts.Cell). c.name) (stack_layout r d fed ws).cells n a first) in
+      let other = place-get names m b.name different (map-at (λ (c : layouts.Cell). c.name) (stack_layout r d fed ws).cells m b second) in
       cc

@@ -1,8 +1,9 @@
-use Rattle.std.proofs.Common.{◌+◌, ◌*◌, ◌<◌, ◌≤◌, List, length, sym, subst}
+use Rattle.std.proofs.Common.{List, sym, subst}
 use Rattle.geom_core.specs.declared.layout.Layout.{Layout}
 use Rattle.tech_rules.specs.Rules.{RuleValues, ValidRules}
 use Rattle.design_model.specs.Good.{Good}
 use Rattle.design_model.specs.Netlist.{Netlist, IsNetlist}
+use Rattle.design_model.specs.Room.{HasRoom}
 use Rattle.channel_model.specs.declared.wiring.Wiring.{Wiring}
 use Rattle.row_model.specs.Rows.{ArePlaced}
 use Rattle.row_model.specs.declared.rows.Seat.{Seat}
@@ -13,7 +14,6 @@ use Rattle.layout_laws.specs.Plans.{plan_drawn}
 use Rattle.layout_laws.proofs.LabelLaws.{labelled-nets, labelled-spaced, labelled-wide}
 use Rattle.layout_laws.proofs.PlanLaws.{plan-apart, plan-wide}
 use Rattle.layout_laws.proofs.ThreadLaws.{plan-chained}
-use Rattle.channel_stack.specs.Layouts.{layout_of}
 use Rattle.channel_stack.specs.Planned.{net_at, plan_of}
 use Rattle.channel_stack.specs.Routed.{AreWired}
 use Rattle.channel_stack.proofs.LayoutDraws.{stack-draws}
@@ -21,14 +21,15 @@ use Rattle.channel_stack.proofs.LayoutRows.{stack-in_rows}
 use Rattle.channel_stack.proofs.LayoutShows.{stack-cells, stack-shows}
 use Rattle.channel_stack.proofs.PlanThreads.{stack-threaded}
 use Rattle.channel_stack.proofs.StackPlan.{stack-plan}
+use Rattle.channel_stack.proofs.LayoutShapes.{stack_layout}
 
 -- the layout of rows whose channels are wired is good
-rows-good : (r : RuleValues) → ValidRules r → (d : Netlist) → IsNetlist d → (0 < length d.kinds → 2 * r.grid_pin + r.vertical_space ≤ d.height)
+rows-good : (r : RuleValues) → ValidRules r → (d : Netlist) → IsNetlist d → HasRoom r d
     → (rows : List (List Seat)) → ArePlaced d rows → ArePlaced d (cells_in (fed_rows d rows).rows) → (ws : List Wiring) → AreWired d (fed_rows d rows) ws
-    → Good r d (layout_of r d (fed_rows d rows) ws)
+    → Good r d (stack_layout r d (fed_rows d rows) ws)
 rows-good r valid d is room rows placed seated ws wired =
     let fed : Fed = fed_rows d rows in
-    let l : Layout = layout_of r d fed ws in
+    let l : Layout = stack_layout r d fed ws in
     let plan = plan_of r d fed ws in
     let planned = stack-plan r valid d is room rows placed ws wired in
     let threaded = stack-threaded r valid d is rows placed ws l (stack-draws r valid d is room fed seated ws wired.each) in
@@ -47,10 +48,10 @@ rows-good r valid d is room rows placed seated ws wired =
     }
 
 -- the layout of rows with feeds whose channels are wired, by whatever router, is good
-pub stack-good : (r : RuleValues) → ValidRules r → (d : Netlist) → IsNetlist d → (0 < length d.kinds → 2 * r.grid_pin + r.vertical_space ≤ d.height)
-    → (fed : Fed) → IsFed d fed → (ws : List Wiring) → AreWired d fed ws → Good r d (layout_of r d fed ws)
+pub stack-good : (r : RuleValues) → ValidRules r → (d : Netlist) → IsNetlist d → HasRoom r d
+    → (fed : Fed) → IsFed d fed → (ws : List Wiring) → AreWired d fed ws → Good r d (stack_layout r d fed ws)
 stack-good r valid d is room fed from ws wired =
     let rows = cells_in fed.rows in
     let seated : ArePlaced d (cells_in (fed_rows d rows).rows) = subst (ArePlaced d) (sym (cells-fed d rows)) from.placed in
-    subst (λ (f : Fed). Good r d (layout_of r d f ws)) (sym from.is)
+    subst (λ (f : Fed). Good r d (stack_layout r d f ws)) (sym from.is)
     (rows-good r valid d is room rows from.placed seated ws (subst (λ (f : Fed). AreWired d f ws) from.is wired))

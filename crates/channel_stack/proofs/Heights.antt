@@ -8,9 +8,9 @@ use Rattle.feed_cells.specs.declared.fed.Item.{Item}
 use Rattle.layout_laws.specs.Plans.{channel_height}
 use Rattle.design_model.specs.Netlist.{Netlist}
 use Rattle.tech_rules.specs.Rules.{RuleValues, ValidRules}
-use Rattle.channel_stack.specs.Routed.{IsRouted}
-use Rattle.channel_stack.specs.Stack.{stack_top}
-use Rattle.channel_stack.proofs.StackBounds.{channel-below, rows-narrow, top-small, width-small}
+use Rattle.channel_stack.specs.Routed.{IsRouted, IsWithin}
+use Rattle.channel_stack.specs.Stack.{stack_of, stack_top}
+use Rattle.channel_stack.proofs.StackBounds.{channel-below, grid-bounded, rows-narrow, top-bounded, top-small, width-bounded, width-small}
 
 -- the upper edge of the first of the channels that are left
 pub first-top : (r : RuleValues) (height base : ℕ) (rest : List Wiring) (w : Wiring) (above : List Wiring) → rest ≡ w ∷ above
@@ -47,3 +47,12 @@ rows-fit r d fed ws valid is_fed routed =
       where
         same-width : items_width d items ≤ fed.width → fed.width ≤ fed.width
         same-width h = omega arith
+
+-- the stack of a routed design is within its bound
+pub stack-within : (r : RuleValues) (d : Netlist) (fed : Fed) (ws : List Wiring) → IsFed d fed → IsRouted r d fed ws → IsWithin r d fed ws (stack_of r d fed ws)
+unfolding stack_of
+stack-within r d fed ws is_fed routed = record {
+  width = width-bounded r d fed ws is_fed routed;
+  height = top-bounded r d fed ws is_fed routed;
+  grid = grid-bounded r d fed ws is_fed routed;
+}

@@ -1,9 +1,9 @@
-use Rattle.std.proofs.Common.{◌≡◌, refl, ap, sym, ◌∙◌, subst, ℕ, zero, suc, ◌+◌, ◌*◌, ◌<◌, ◌≤◌, List, [], ◌∷◌, ◌++◌, length, map, true, Option, Some, None, Contains, arith, inl, inr}
+use Rattle.std.proofs.Common.{◌≡◌, refl, ap, sym, ◌∙◌, subst, ℕ, zero, suc, ◌+◌, ◌<◌, ◌≤◌, List, [], ◌∷◌, ◌++◌, length, map, Option, Some, None, Contains, arith, inl, inr}
 use Rattle.std.proofs.lemmas.List.Elements.{All-contains, All-weaker}
 use Rattle.std.proofs.lemmas.List.FromFn.{get_or-range_with_len, length-range_with_len}
 use Rattle.std.proofs.lemmas.List.Sorted.{Contains-permutation, IsPermutation-sym}
 use Rattle.std.proofs.lemmas.Option.{slice_get_within}
-use Rattle.std.specs.List.{AllByRecursion, list_any, range_with_len}
+use Rattle.std.specs.List.{AllByRecursion, range_with_len}
 use Rattle.std.specs.Prelude.{slice_get}
 use Rattle.tech_rules.specs.Rules.{RuleValues, ValidRules}
 use Rattle.design_model.specs.Netlist.{Netlist, IsNetlist, IsKind, IsPosition}
@@ -11,24 +11,22 @@ use Rattle.design_model.specs.Drawing.{drawing_of}
 use Rattle.design_model.specs.declared.design.CellKind.{CellKind}
 use Rattle.design_model.specs.declared.design.Inst.{Inst}
 use Rattle.design_model.specs.declared.design.Position.{Position}
-use Rattle.geom_core.specs.Moving.{turn_at}
-use Rattle.cif_text.specs.WrittenLayout.{item_shapes, copied_shapes}
-use Rattle.cif_text.specs.Symbols.{symbol_of, moved_shapes}
+use Rattle.design_model.specs.Room.{HasRoom}
+use Rattle.geom_core.specs.Moving.{moved_shape, turn_at}
 use Rattle.list_facts.proofs.Every.{every-from-get}
 use Rattle.wire_geom.proofs.ListLaws.{Contains-flat_map, Contains-flat_map_cases}
 use Rattle.wire_geom.specs.declared.drawn.Drawn.{Drawn}
 use Rattle.row_model.specs.Rows.{ArePlaced, all_instances, instances_in}
 use Rattle.row_model.specs.Widths.{kind_of}
 use Rattle.row_model.specs.declared.rows.Seat.{Seat}
-use Rattle.feed_cells.proofs.Members.{any-member, map-cases, map-member, member-cases, member-head, member-tail}
+use Rattle.feed_cells.proofs.Members.{map-cases, map-member, member-cases, member-head, member-tail}
 use Rattle.feed_cells.specs.Fed.{Fed, cells_in, seats_in}
 use Rattle.feed_cells.specs.declared.fed.Item.{Item}
 use Rattle.feed_cells.specs.declared.fed.Item.TheVariants.{Cell, Feed}
 use Rattle.layout_laws.proofs.ListPlaces.{at-contains, contains-at}
-use Rattle.channel_stack.specs.Layouts.{copy_of, has_feed, is_feed, number_of}
+use Rattle.channel_stack.specs.Layouts.{item_shapes, kind_drawing}
 use Rattle.channel_stack.specs.Planned.{seat_drawn, seat_of}
 use Rattle.channel_stack.specs.Stack.{item_place}
-use Rattle.channel_stack.proofs.FoundSymbols.{symbols_in, kind-found, feed-found}
 use Rattle.channel_stack.proofs.PlacedShapes.{cell-drawn, feed-drawn}
 
 -- the instance and the kind of a seat, which are of the design
@@ -40,10 +38,10 @@ pub record KnownCell (d : Netlist) (s : Seat) : Type 0 where
   pub is_kind_of : kind_of d s.instance ≡ Some kind
   pub good : IsKind kind
 
--- an item has a symbol: a cell's instance is of the design, and where a feed stands there are feeds
-abbrev pub IsKnown : Netlist → Fed → Item → Type 0
-IsKnown d fed (Cell s) = KnownCell d s
-IsKnown d fed (Feed net) = has_feed fed.rows ≡ true
+-- an item has a drawing: a cell's instance is of the design
+abbrev pub IsKnown : Netlist → Item → Type 0
+IsKnown d (Cell s) = KnownCell d s
+IsKnown d (Feed net) = Unit {0}
 
 -- what stands at a place within a list
 at-place : {A : Type 0} (xs : List A) (k : ℕ) → k < length xs → (x : A) × (slice_get xs k ≡ Some x)
@@ -154,22 +152,22 @@ module _ (d : Netlist) (fed : Fed) (placed : ArePlaced d (cells_in fed.rows)) wh
       Contains-flat_map instances_in (cells_in fed.rows) (seats_in items) s.instance (map-member seats_in fed.rows items row) own in
       range-below (length d.instances) s.instance (Contains-permutation all range s.instance (IsPermutation-sym range all placed.once) listed)
 
-  -- all items of the rows have symbols
-  pub item-known : IsNetlist d → (items : List Item) → Contains fed.rows items → (item : Item) → Contains items item → IsKnown d fed item
+  -- all items of the rows have drawings
+  pub item-known : IsNetlist d → (items : List Item) → Contains fed.rows items → (item : Item) → Contains items item → IsKnown d item
   item-known is items row (Cell s) member =
       let inst = at-place d.instances s.instance (seat-within items s row member) in instance-known d is s inst.0 inst.1
-  item-known is items row (Feed net) member = any-member (list_any is_feed) fed.rows items row (any-member is_feed items (Feed net) member refl)
+  item-known is items row (Feed net) member = tt
 
-  pub rows-known : IsNetlist d → AllByRecursion (AllByRecursion (IsKnown d fed)) fed.rows
+  pub rows-known : IsNetlist d → AllByRecursion (AllByRecursion (IsKnown d)) fed.rows
   rows-known is =
-      every-from-get (AllByRecursion (IsKnown d fed)) fed.rows
-      (λ k items at. every-from-get (IsKnown d fed) items
+      every-from-get (AllByRecursion (IsKnown d)) fed.rows
+      (λ k items at. every-from-get (IsKnown d) items
       (λ j item there. item-known is items (at-contains fed.rows k items at) item (at-contains items j item there)))
 
 -- the drawing of a cell's kind, copied to the cell's place, is that of its seat
-pub known-drawn : (r : RuleValues) → ValidRules r → (d : Netlist) → (0 < length d.kinds → 2 * r.grid_pin + r.vertical_space ≤ d.height) → (s : Seat)
+pub known-drawn : (r : RuleValues) → ValidRules r → (d : Netlist) → HasRoom r d → (s : Seat)
     → (known : KnownCell d s) → (base left : ℕ)
-    → moved_shapes (turn_at (item_place r d base left (Cell s))) (drawing_of r d.height known.kind)
+    → map (moved_shape (turn_at (item_place r d base left (Cell s)))) (drawing_of r d.height known.kind)
     ≡ map (λ (a : Drawn). a.shape) (seat_drawn r base d.height left (seat_of d (Cell s)))
 known-drawn r valid d room s known base left =
     let some : 0 < length d.kinds = (let w = slice_get_within d.kinds known.inst.kind known.kind known.is_kind in omega arith) in
@@ -178,12 +176,9 @@ known-drawn r valid d room s known base left =
     (All-weaker (IsPosition known.kind) (λ (p : Position). p.column < known.kind.columns) (λ p is. is.column) known.kind.positions known.good.positions)
 
 -- the shapes of an item are those of its seat
-pub item-drawn : (r : RuleValues) → ValidRules r → (d : Netlist) → (0 < length d.kinds → 2 * r.grid_pin + r.vertical_space ≤ d.height) → (fed : Fed)
-    → (item : Item) → IsKnown d fed item → (base left : ℕ)
-    → item_shapes (symbols_in r d fed) (copy_of d item (item_place r d base left item)) ≡ map (λ (a : Drawn). a.shape) (seat_drawn r base d.height left (seat_of d item))
-item-drawn r valid d room fed (Cell s) known base left =
-    ap (λ (o : Option Inst). copied_shapes (item_place r d base left (Cell s)) (symbol_of (number_of o) (symbols_in r d fed))) known.is_instance
-    ∙ ap (copied_shapes (item_place r d base left (Cell s))) (kind-found r d fed known.inst.kind known.kind known.is_kind)
+pub item-drawn : (r : RuleValues) → ValidRules r → (d : Netlist) → HasRoom r d → (item : Item) → IsKnown d item → (base left : ℕ)
+    → item_shapes r d (record { item = item; place = item_place r d base left item }) ≡ map (λ (a : Drawn). a.shape) (seat_drawn r base d.height left (seat_of d item))
+item-drawn r valid d room (Cell s) known base left =
+    ap (λ (o : Option CellKind). map (moved_shape (turn_at (item_place r d base left (Cell s)))) (kind_drawing r d.height o)) known.is_kind_of
     ∙ known-drawn r valid d room s known base left
-item-drawn r valid d room fed (Feed net) known base left =
-    ap (copied_shapes (item_place r d base left (Feed net))) (feed-found r d fed known) ∙ feed-drawn r valid d net base left
+item-drawn r valid d room (Feed net) known base left = feed-drawn r valid d net base left

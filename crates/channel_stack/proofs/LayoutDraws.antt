@@ -1,10 +1,11 @@
-use Rattle.std.proofs.Common.{◌≡◌, refl, ap, sym, ◌∙◌, ℕ, suc, ◌+◌, ◌*◌, ◌<◌, ◌≤◌, List, ◌∷◌, ◌++◌, length, map, Some, Option, arith}
+use Rattle.std.proofs.Common.{◌≡◌, refl, ap, sym, ◌∙◌, ℕ, suc, ◌+◌, List, ◌∷◌, ◌++◌, length, map, Some, Option, arith}
 use Rattle.std.proofs.lemmas.List.Elements.{Contains-append_right}
 use Rattle.std.specs.Prelude.{slice_get}
 use Rattle.tech_rules.specs.Rules.{RuleValues, ValidRules}
 use Rattle.design_model.specs.Netlist.{Netlist, IsNetlist}
 use Rattle.design_model.specs.declared.design.CellKind.{CellKind}
 use Rattle.design_model.specs.declared.design.Position.{Position}
+use Rattle.design_model.specs.Room.{HasRoom}
 use Rattle.channel_model.specs.declared.wiring.Wiring.{Wiring}
 use Rattle.row_model.specs.Rows.{ArePlaced}
 use Rattle.row_model.specs.Stands.{positions_in, positions_of}
@@ -15,13 +16,14 @@ use Rattle.feed_cells.specs.declared.fed.Item.{Item}
 use Rattle.feed_cells.specs.declared.fed.Item.TheVariants.{Cell}
 use Rattle.layout_laws.proofs.ListPlaces.{at-contains, map-at}
 use Rattle.layout_laws.specs.Plans.{plan_drawn, row_base}
-use Rattle.channel_stack.specs.Layouts.{layout_of}
+use Rattle.channel_stack.specs.Layouts.{cell_at}
 use Rattle.channel_stack.specs.Planned.{plan_of, seat_drawn, seat_of, spot_drawn, spot_of}
 use Rattle.channel_stack.specs.Shown.{DrawsSeat, DrawsSpots}
 use Rattle.channel_stack.specs.Stack.{item_place}
 use Rattle.channel_stack.proofs.KnownItems.{KnownCell, item-known}
-use Rattle.channel_stack.proofs.LayoutCells.{CellStands, cell_at, cell-stands}
+use Rattle.channel_stack.proofs.LayoutCells.{CellStands, cell-stands}
 use Rattle.channel_stack.proofs.ListParts.{part-get}
+use Rattle.channel_stack.proofs.LayoutShapes.{stack_layout}
 
 -- a position of a seat stands behind the seat's outline
 pub spot-at : (r : RuleValues) (d : Netlist) (base left : ℕ) (s : Seat) (i : ℕ) (p : Position) → slice_get (positions_of d s.instance) i ≡ Some p
@@ -31,7 +33,7 @@ spot-at r d base left s i p at =
 
 -- each position of a seat's cell is drawn where it stands in the plan
 pub seat-draws : (r : RuleValues) (d : Netlist) (fed : Fed) (ws : List Wiring) (k : ℕ) (front : List Item) (s : Seat) (known : KnownCell d s)
-    → CellStands r d fed ws k front s known.inst known.kind → DrawsSeat r d fed ws (layout_of r d fed ws) k front s
+    → CellStands r d fed ws k front s known.inst known.kind → DrawsSeat r d fed ws (stack_layout r d fed ws) k front s
 seat-draws r d fed ws k front s known c = record {
   cell = c.number;
   spots = λ i p at. record {
@@ -65,8 +67,8 @@ cell-known d is fed placed k front s back at =
     (Contains-append_right front (Cell s ∷ back) (Cell s) (member-head (Cell s) back))
 
 -- the positions of all seats are drawn where they stand in the plan
-pub stack-draws : (r : RuleValues) → ValidRules r → (d : Netlist) → IsNetlist d → (0 < length d.kinds → 2 * r.grid_pin + r.vertical_space ≤ d.height)
-    → (fed : Fed) → ArePlaced d (cells_in fed.rows) → (ws : List Wiring) → length ws ≡ length fed.rows + 1 → DrawsSpots r d fed ws (layout_of r d fed ws)
+pub stack-draws : (r : RuleValues) → ValidRules r → (d : Netlist) → IsNetlist d → HasRoom r d
+    → (fed : Fed) → ArePlaced d (cells_in fed.rows) → (ws : List Wiring) → length ws ≡ length fed.rows + 1 → DrawsSpots r d fed ws (stack_layout r d fed ws)
 stack-draws r valid d is room fed placed ws each = record {
   seat = λ k front s back within at.
       let known = cell-known d is fed placed k front s back at in

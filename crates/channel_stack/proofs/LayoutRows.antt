@@ -10,6 +10,7 @@ use Rattle.tech_rules.specs.InRows.{InRows, SameRow, IsBelow}
 use Rattle.geom_core.specs.Rectangles.{Apart, left_of, right_of, under, above}
 use Rattle.tech_rules.specs.Rules.{RuleValues, ValidRules}
 use Rattle.design_model.specs.Netlist.{Netlist, IsNetlist}
+use Rattle.design_model.specs.Room.{HasRoom}
 use Rattle.channel_model.specs.Elements.{elements}
 use Rattle.channel_model.specs.declared.wiring.Wiring.{Wiring}
 use Rattle.wire_geom.proofs.ListLaws.{Contains-flat_map_cases, Contains-map_cases}
@@ -22,9 +23,8 @@ use Rattle.feed_cells.specs.declared.fed.Item.{Item}
 use Rattle.layout_laws.proofs.ListPlaces.{at-contains, at-map}
 use Rattle.layout_laws.specs.Plans.{channel_height, plan_drawn}
 use Rattle.layout_laws.specs.Seats.{Seat, Spot}
-use Rattle.channel_stack.specs.Layouts.{layout_of}
 use Rattle.channel_stack.specs.Planned.{outline_drawn, plan_of, row_drawn, seat_drawn, seat_of, spot_drawn}
-use Rattle.channel_stack.proofs.LayoutShapes.{levels, plan-levels, stack-shapes}
+use Rattle.channel_stack.proofs.LayoutShapes.{levels, plan-levels, stack-shapes, stack_layout}
 use Rattle.channel_stack.proofs.ListParts.{in-either}
 
 -- a rectangle and a later one: they stand side by side in one row, or the later one lies above
@@ -190,10 +190,10 @@ follows-parted : (a b : Extent) → Follows b a → Apart (pos 0) a b
 follows-parted a b (beside same right) = right_of (omega (arith, ints))
 follows-parted a b (over high) = above (omega (arith, ints))
 
-module _ (r : RuleValues) (valid : ValidRules r) (d : Netlist) (is : IsNetlist d) (room : 0 < length d.kinds → 2 * r.grid_pin + r.vertical_space ≤ d.height)
+module _ (r : RuleValues) (valid : ValidRules r) (d : Netlist) (is : IsNetlist d) (room : HasRoom r d)
     (fed : Fed) (placed : ArePlaced d (cells_in fed.rows)) (ws : List Wiring) (each : length ws ≡ length fed.rows + 1) where
   -- an outline of the layout follows an earlier one
-  shapes-follow : (i j : ℕ) (s t : Shape) → i < j → slice_get (layout_of r d fed ws).shapes i ≡ Some s → slice_get (layout_of r d fed ws).shapes j ≡ Some t
+  shapes-follow : (i j : ℕ) (s t : Shape) → i < j → slice_get (stack_layout r d fed ws).shapes i ≡ Some s → slice_get (stack_layout r d fed ws).shapes j ≡ Some t
       → s.layer ≡ r.outline_layer → t.layer ≡ r.outline_layer → Follows s.rect t.rect
   shapes-follow i j s t before at_s at_t out other =
       let shapes = stack-shapes r valid d is room fed placed ws each in
@@ -205,7 +205,7 @@ module _ (r : RuleValues) (valid : ValidRules r) (d : Netlist) (is : IsNetlist d
       (plan-order r valid d fed ws each i j a.0 b.0 before a.1 b.1 (ap (λ (x : Shape). x.layer) a.2 ∙ out) (ap (λ (x : Shape). x.layer) b.2 ∙ other)))
 
   -- two different outlines follow one another in one order or the other
-  either-follows : (i j : ℕ) (s t : Shape) → i ≢ j → slice_get (layout_of r d fed ws).shapes i ≡ Some s → slice_get (layout_of r d fed ws).shapes j ≡ Some t
+  either-follows : (i j : ℕ) (s t : Shape) → i ≢ j → slice_get (stack_layout r d fed ws).shapes i ≡ Some s → slice_get (stack_layout r d fed ws).shapes j ≡ Some t
       → s.layer ≡ r.outline_layer → t.layer ≡ r.outline_layer → Follows s.rect t.rect ⊎ Follows t.rect s.rect
   either-follows i j s t differ at_s at_t out other =
       elim (cases_lt i j) [
@@ -217,7 +217,7 @@ module _ (r : RuleValues) (valid : ValidRules r) (d : Netlist) (is : IsNetlist d
       ]
 
   -- the cells and feeds stand in rows
-  pub stack-in_rows : InRows r (layout_of r d fed ws)
+  pub stack-in_rows : InRows r (stack_layout r d fed ws)
   stack-in_rows = record {
     rows = λ i j s t differ at_s at_t out other.
         elim (either-follows i j s t differ at_s at_t out other) [ inl first ↦ follows-rows s.rect t.rect first | inr second ↦ follows-back s.rect t.rect second ];

@@ -1,13 +1,12 @@
-use Rattle.std.proofs.Common.{◌≡◌, refl, ap, sym, ◌∙◌, append_assoc, ℕ, zero, suc, ◌+◌, ◌*◌, ◌<◌, ◌≤◌, List, [], ◌∷◌, ◌++◌, length, map, arith}
+use Rattle.std.proofs.Common.{◌≡◌, refl, ap, sym, ◌∙◌, append_assoc, ℕ, zero, suc, ◌+◌, List, [], ◌∷◌, ◌++◌, length, map, arith}
 use Rattle.std.proofs.lemmas.List.{map-append}
 use Rattle.std.specs.List.{AllByRecursion}
 use Rattle.std.specs.Prelude.{slice_get, slice_index, unwrap_or}
+use Rattle.geom_core.specs.declared.layout.Layout.{Layout}
 use Rattle.geom_core.specs.declared.layout.Shape.{Shape}
 use Rattle.tech_rules.specs.Rules.{RuleValues, ValidRules}
 use Rattle.design_model.specs.Netlist.{Netlist, IsNetlist}
-use Rattle.cif_text.specs.Symbols.{Symbol}
-use Rattle.cif_text.specs.Written as written
-use Rattle.cif_text.specs.WrittenLayout.{item_shapes, items_shapes}
+use Rattle.design_model.specs.Room.{HasRoom}
 use Rattle.channel_model.specs.declared.wiring.Wiring.{Wiring}
 use Rattle.wire_geom.specs.Drawing.{drawing}
 use Rattle.wire_geom.specs.declared.drawn.Drawn.{Drawn}
@@ -16,14 +15,14 @@ use Rattle.feed_cells.specs.Fed.{Fed, cells_in, item_width}
 use Rattle.feed_cells.specs.declared.fed.Item.{Item}
 use Rattle.feed_cells.specs.declared.fed.Item.TheVariants.{Cell, Feed}
 use Rattle.layout_laws.specs.Plans.{Plan, channel_height, drawn_to, plan_drawn}
-use Rattle.channel_stack.specs.Layouts.{copies_of, items_of, layout_of, wires_of}
+use Rattle.channel_stack.specs.Layouts.{channel_shapes, layout_of, row_shapes, stacked_shapes}
 use Rattle.channel_stack.specs.Planned.{plan_of, row_drawn, seat_drawn, seat_of, wiring_at}
 use Rattle.channel_stack.specs.Stack.{channel_bases, drawings, placed_from, placed_rows, row_bases, stack_of}
-use Rattle.channel_stack.proofs.FoundSymbols.{symbols_in}
 use Rattle.channel_stack.proofs.KnownItems.{IsKnown, item-drawn, rows-known}
 
-abbrev pub shapes_in : List Drawn → List Shape
-shapes_in drawn = map (λ (a : Drawn). a.shape) drawn
+-- the layout of a routed design
+abbrev pub stack_layout : RuleValues → Netlist → Fed → List Wiring → Layout
+stack_layout r d fed ws = layout_of r d (stack_of r d fed ws)
 
 -- the rectangles of channels and rows on one another, from the lowest channel up
 abbrev pub levels : RuleValues → Netlist → ℕ → List Wiring → List (List Item) → List Drawn
@@ -32,57 +31,38 @@ levels r d base (w ∷ ws) [] = drawing r base w
 levels r d base (w ∷ ws) (items ∷ rows) =
     drawing r base w ++ (row_drawn r (base + channel_height r w) d.height 0 (map (seat_of d) items) ++ levels r d (base + channel_height r w + d.height) ws rows)
 
--- the shapes of the main level in two parts
-pub shapes-append : (symbols : List Symbol) (xs ys : List written.Item) → items_shapes symbols (xs ++ ys) ≡ items_shapes symbols xs ++ items_shapes symbols ys
-shapes-append symbols [] ys = refl
-shapes-append symbols (x ∷ xs) ys =
-    ap (λ (l : List Shape). item_shapes symbols x ++ l) (shapes-append symbols xs ys)
-    ∙ sym (append_assoc (item_shapes symbols x) (items_shapes symbols xs) (items_shapes symbols ys))
-
--- the shapes of wires
-pub wires-drawn : (symbols : List Symbol) (drawn : List Drawn) → items_shapes symbols (wires_of drawn) ≡ shapes_in drawn
-wires-drawn symbols [] = refl
-wires-drawn symbols (a ∷ drawn) = ap (λ (l : List Shape). a.shape ∷ l) (wires-drawn symbols drawn)
-
-module _ (r : RuleValues) (valid : ValidRules r) (d : Netlist) (room : 0 < length d.kinds → 2 * r.grid_pin + r.vertical_space ≤ d.height) (fed : Fed) where
+module _ (r : RuleValues) (valid : ValidRules r) (d : Netlist) (room : HasRoom r d) where
   -- the shapes of a row's items are those of its seats
-  pub row-shapes : (items : List Item) → AllByRecursion (IsKnown d fed) items → (base left : ℕ)
-      → items_shapes (symbols_in r d fed) (copies_of d (placed_from r d base left items)) ≡ shapes_in (row_drawn r base d.height left (map (seat_of d) items))
+  pub row-shapes : (items : List Item) → AllByRecursion (IsKnown d) items → (base left : ℕ)
+      → row_shapes r d (placed_from r d base left items) ≡ channel_shapes (row_drawn r base d.height left (map (seat_of d) items))
   row-shapes [] known base left = refl
   row-shapes (item ∷ items) known base left =
       let rest : List Drawn = row_drawn r base d.height (left + (seat_of d item).width) (map (seat_of d) items) in
-      ap (λ (l : List Shape). l ++ items_shapes (symbols_in r d fed) (copies_of d (placed_from r d base (left + item_width d item) items)))
-      (item-drawn r valid d room fed item known.0 base left)
-      ∙ ap (λ (l : List Shape). shapes_in (seat_drawn r base d.height left (seat_of d item)) ++ l)
-      (row-shapes items known.1 base (left + item_width d item) ∙ ap (λ (n : ℕ). shapes_in (row_drawn r base d.height n (map (seat_of d) items))) (same_left item left))
+      ap (λ (l : List Shape). l ++ row_shapes r d (placed_from r d base (left + item_width d item) items)) (item-drawn r valid d room item known.0 base left)
+      ∙ ap (λ (l : List Shape). channel_shapes (seat_drawn r base d.height left (seat_of d item)) ++ l)
+      (row-shapes items known.1 base (left + item_width d item) ∙ ap (λ (n : ℕ). channel_shapes (row_drawn r base d.height n (map (seat_of d) items))) (same_left item left))
       ∙ sym (map-append (λ (a : Drawn). a.shape) (seat_drawn r base d.height left (seat_of d item)) rest)
     where
       same_left : (one : Item) (from : ℕ) → from + item_width d one ≡ from + (seat_of d one).width
       same_left (Cell s) from = refl
       same_left (Feed net) from = refl
 
-  -- the shapes of the main level are those of the channels and rows
-  levels-shapes : (base : ℕ) (ws : List Wiring) (rows : List (List Item)) → length ws ≡ length rows + 1 → AllByRecursion (AllByRecursion (IsKnown d fed)) rows
-      → items_shapes (symbols_in r d fed) (items_of d (drawings r ws (channel_bases r d.height base ws)) (placed_rows r d rows (row_bases r d.height base ws)))
-      ≡ shapes_in (levels r d base ws rows)
+  -- the shapes of channels and rows on one another
+  levels-shapes : (base : ℕ) (ws : List Wiring) (rows : List (List Item)) → length ws ≡ length rows + 1 → AllByRecursion (AllByRecursion (IsKnown d)) rows
+      → stacked_shapes r d (drawings r ws (channel_bases r d.height base ws)) (placed_rows r d rows (row_bases r d.height base ws))
+      ≡ channel_shapes (levels r d base ws rows)
   levels-shapes base [] rows each known = refl
-  levels-shapes base (w ∷ []) [] each known = wires-drawn (symbols_in r d fed) (drawing r base w)
-  levels-shapes base (w ∷ (v ∷ ws)) [] each known = wires-drawn (symbols_in r d fed) (drawing r base w)
+  levels-shapes base (w ∷ []) [] each known = refl
+  levels-shapes base (w ∷ (v ∷ ws)) [] each known = refl
   levels-shapes base (w ∷ []) (items ∷ rows) each known = absurd (omega arith)
   levels-shapes base (w ∷ (v ∷ ws)) (items ∷ rows) each known =
-      let symbols : List Symbol = symbols_in r d fed in
       let floor : ℕ = base + channel_height r w in
       let next : ℕ = floor + d.height in
       let row : List Drawn = row_drawn r floor d.height 0 (map (seat_of d) items) in
-      let copies : List written.Item = copies_of d (placed_from r d floor 0 items) in
-      let above : List written.Item = items_of d (drawings r (v ∷ ws) (channel_bases r d.height next (v ∷ ws))) (placed_rows r d rows (row_bases r d.height next (v ∷ ws))) in
-      let more : items_shapes symbols above ≡ shapes_in (levels r d next (v ∷ ws) rows) = levels-shapes next (v ∷ ws) rows (omega arith) known.1 in
-      shapes-append symbols (wires_of (drawing r base w)) (copies ++ above)
-      ∙ ap (λ (l : List Shape). l ++ items_shapes symbols (copies ++ above)) (wires-drawn symbols (drawing r base w))
-      ∙ ap (λ (l : List Shape). shapes_in (drawing r base w) ++ l)
-      (shapes-append symbols copies above
-      ∙ ap (λ (l : List Shape). l ++ items_shapes symbols above) (row-shapes items known.0 floor 0)
-      ∙ ap (λ (l : List Shape). shapes_in row ++ l) more
+      let above : List Shape = stacked_shapes r d (drawings r (v ∷ ws) (channel_bases r d.height next (v ∷ ws))) (placed_rows r d rows (row_bases r d.height next (v ∷ ws))) in
+      ap (λ (l : List Shape). channel_shapes (drawing r base w) ++ l)
+      (ap (λ (l : List Shape). l ++ above) (row-shapes items known.0 floor 0)
+      ∙ ap (λ (l : List Shape). channel_shapes row ++ l) (levels-shapes next (v ∷ ws) rows (omega arith) known.1)
       ∙ sym (map-append (λ (a : Drawn). a.shape) row (levels r d next (v ∷ ws) rows)))
       ∙ sym (map-append (λ (a : Drawn). a.shape) (drawing r base w) (row ++ levels r d next (v ∷ ws) rows))
 
@@ -133,9 +113,9 @@ module _ (r : RuleValues) (d : Netlist) where
   plan-levels fed ws each = drawn-up r (plan_of r d fed ws) (length fed.rows) ∙ sym (levels-up 0 ws fed.rows each)
 
 -- the shapes of the layout are the rectangles of its plan
-pub stack-shapes : (r : RuleValues) → ValidRules r → (d : Netlist) → IsNetlist d → (0 < length d.kinds → 2 * r.grid_pin + r.vertical_space ≤ d.height)
+pub stack-shapes : (r : RuleValues) → ValidRules r → (d : Netlist) → IsNetlist d → HasRoom r d
     → (fed : Fed) → ArePlaced d (cells_in fed.rows) → (ws : List Wiring) → length ws ≡ length fed.rows + 1
-    → (layout_of r d fed ws).shapes ≡ map (λ (a : Drawn). a.shape) (plan_drawn r (plan_of r d fed ws))
+    → (stack_layout r d fed ws).shapes ≡ map (λ (a : Drawn). a.shape) (plan_drawn r (plan_of r d fed ws))
 unfolding layout_of stack_of
 stack-shapes r valid d is room fed placed ws each =
-    levels-shapes r valid d room fed 0 ws fed.rows each (rows-known d fed placed is) ∙ ap shapes_in (sym (plan-levels r d fed ws each))
+    levels-shapes r valid d room 0 ws fed.rows each (rows-known d fed placed is) ∙ ap channel_shapes (sym (plan-levels r d fed ws each))

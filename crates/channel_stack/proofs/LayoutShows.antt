@@ -1,4 +1,4 @@
-use Rattle.std.proofs.Common.{◌≡◌, refl, ap, sym, ◌∙◌, subst, inl, inr, ℕ, suc, ◌+◌, ◌*◌, ◌<◌, ◌≤◌, List, length, map, take, drop, Bool, true, false, Some, None, Option, Contains, arith}
+use Rattle.std.proofs.Common.{◌≡◌, refl, ap, sym, ◌∙◌, subst, inl, inr, ℕ, suc, ◌+◌, ◌<◌, List, length, map, take, drop, Bool, true, false, Some, None, Option, Contains, arith}
 use Rattle.std.proofs.lemmas.Bool.{both_ways}
 use Rattle.std.proofs.lemmas.List.{length-map}
 use Rattle.std.proofs.lemmas.List.Sorted.{Contains-permutation, IsPermutation-sym}
@@ -16,6 +16,7 @@ use Rattle.design_model.specs.Netlist.{Netlist, IsNetlist}
 use Rattle.design_model.specs.declared.design.CellKind.{CellKind}
 use Rattle.design_model.specs.declared.design.Inst.{Inst}
 use Rattle.design_model.specs.declared.design.Pin.{Pin}
+use Rattle.design_model.specs.Room.{HasRoom}
 use Rattle.geom_core.specs.Moving.{turn_at}
 use Rattle.channel_model.specs.declared.wiring.Wiring.{Wiring}
 use Rattle.wire_geom.specs.declared.drawn.Drawn.{Drawn}
@@ -32,15 +33,15 @@ use Rattle.pin_assign.proofs.EdgeLaws.{EdgePosition, edge-position, pin-found}
 use Rattle.layout_laws.proofs.ListPlaces.{at-contains, contains-at, map-at}
 use Rattle.layout_laws.specs.Labels.{ShowsPins}
 use Rattle.layout_laws.specs.Plans.{plan_drawn, row_base}
-use Rattle.channel_stack.specs.Layouts.{layout_of}
+use Rattle.channel_stack.specs.Layouts.{cell_at, channel_shapes}
 use Rattle.channel_stack.specs.Planned.{net_at, net_found, plan_of, seat_drawn, seat_of, spot_drawn, spot_of}
 use Rattle.channel_stack.specs.Shown.{DrawsSpot, DrawsSeat}
 use Rattle.channel_stack.specs.Stack.{item_place}
 use Rattle.channel_stack.proofs.CellNames.{named-once, stack-names}
 use Rattle.channel_stack.proofs.KnownItems.{KnownCell, SeatedAt, known-drawn, seated}
-use Rattle.channel_stack.proofs.LayoutCells.{CellStands, cell_at, cell-stands}
+use Rattle.channel_stack.proofs.LayoutCells.{CellStands, cell-stands}
 use Rattle.channel_stack.proofs.LayoutDraws.{cell-known, seat-draws, spot-at}
-use Rattle.channel_stack.proofs.LayoutShapes.{shapes_in, stack-shapes}
+use Rattle.channel_stack.proofs.LayoutShapes.{stack-shapes, stack_layout}
 use Rattle.channel_stack.proofs.ListParts.{part-get, part-map, part-taken}
 
 -- a cell of the layout is that of an instance's seat
@@ -79,10 +80,10 @@ pub pin-net : (d : Netlist) → IsNetlist d → (p : Pin) → Contains d.pins p 
 unfolding net_at
 pin-net d is p listed = ap net_found (pin-found d is p listed)
 
-module _ (r : RuleValues) (valid : ValidRules r) (d : Netlist) (is : IsNetlist d) (room : 0 < length d.kinds → 2 * r.grid_pin + r.vertical_space ≤ d.height)
+module _ (r : RuleValues) (valid : ValidRules r) (d : Netlist) (is : IsNetlist d) (room : HasRoom r d)
     (fed : Fed) (placed : ArePlaced d (cells_in fed.rows)) (ws : List Wiring) (each : length ws ≡ length fed.rows + 1) where
   -- the cell with an instance's name is that of its seat
-  pub cell-is : (number instance : ℕ) (copy : layouts.Cell) (inst : Inst) → slice_get (layout_of r d fed ws).cells number ≡ Some copy
+  pub cell-is : (number instance : ℕ) (copy : layouts.Cell) (inst : Inst) → slice_get (stack_layout r d fed ws).cells number ≡ Some copy
       → slice_get d.instances instance ≡ Some inst → copy.name ≡ inst.name → IsCellOf r d fed ws number instance copy inst
   cell-is number instance copy inst at_cell at_instance named =
       let seat : SeatedAt fed.rows instance = seated d fed placed instance (slice_get_within d.instances instance inst at_instance) in
@@ -99,15 +100,15 @@ module _ (r : RuleValues) (valid : ValidRules r) (d : Netlist) (is : IsNetlist d
         known = known;
         same_inst = same;
         stands = stands;
-        is = same_Some copy cell (sym at_cell ∙ ap (slice_get (layout_of r d fed ws).cells) one ∙ stands.at);
+        is = same_Some copy cell (sym at_cell ∙ ap (slice_get (stack_layout r d fed ws).cells) one ∙ stands.at);
       }
 
   -- each cell is that of an instance's seat
-  pub every-cell : (number : ℕ) (copy : layouts.Cell) → slice_get (layout_of r d fed ws).cells number ≡ Some copy
+  pub every-cell : (number : ℕ) (copy : layouts.Cell) → slice_get (stack_layout r d fed ws).cells number ≡ Some copy
       → (instance : ℕ) × (inst : Inst) × IsCellOf r d fed ws number instance copy inst
   every-cell number copy at_cell =
-      let names : List (List ℕ) = cell_names (layout_of r d fed ws) in
-      let named : Contains names copy.name = at-contains names number copy.name (map-at (λ (c : layouts.Cell). c.name) (layout_of r d fed ws).cells number copy at_cell) in
+      let names : List (List ℕ) = cell_names (stack_layout r d fed ws) in
+      let named : Contains names copy.name = at-contains names number copy.name (map-at (λ (c : layouts.Cell). c.name) (stack_layout r d fed ws).cells number copy at_cell) in
       let listed : Contains (instance_names d) copy.name =
       Contains-permutation names (instance_names d) copy.name (IsPermutation-sym (instance_names d) names (stack-names r d is fed placed ws each)) named in
       let inst = map-cases (λ (i : Inst). i.name) d.instances copy.name listed in
@@ -121,7 +122,7 @@ module _ (r : RuleValues) (valid : ValidRules r) (d : Netlist) (is : IsNetlist d
       same_Some c.known.kind kind (sym c.known.is_kind ∙ ap (λ (i : Inst). slice_get d.kinds i.kind) c.same_inst ∙ is_kind)
 
   -- the shape with a terminal's drawing is a vertical wire of the terminal's net
-  pub stack-drawn : (cell instance terminal i : ℕ) → Draws d (layout_of r d fed ws) cell instance terminal i
+  pub stack-drawn : (cell instance terminal i : ℕ) → Draws d (stack_layout r d fed ws) cell instance terminal i
       → (a : Drawn) × (slice_get (plan_drawn r (plan_of r d fed ws)) i ≡ Some a) × (a.shape.layer ≡ r.vertical_layer) × (a.net ≡ net_at d instance terminal)
   stack-drawn cell instance terminal i dr =
       let c : IsCellOf r d fed ws cell instance dr.copy dr.inst = cell-is cell instance dr.copy dr.inst dr.is_cell dr.is_instance dr.named in
@@ -140,26 +141,26 @@ module _ (r : RuleValues) (valid : ValidRules r) (d : Netlist) (is : IsNetlist d
       )
 
   -- a pin with a position on an edge is drawn
-  edge-shown : (top : Bool) (p : Pin) (own : ℕ) → EdgePosition d top p own → (i : ℕ) × DrawsPin d (layout_of r d fed ws) p i
+  edge-shown : (top : Bool) (p : Pin) (own : ℕ) → EdgePosition d top p own → (i : ℕ) × DrawsPin d (stack_layout r d fed ws) p i
   edge-shown top p own e =
       let seat : SeatedAt fed.rows p.instance = seated d fed placed p.instance (kind-instance d p.instance e.kind e.is_kind) in
       let known : KnownCell d seat.seat = cell-known d is fed placed seat.row seat.front seat.seat seat.back seat.at in
       let stands = cell-stands r valid d is room fed placed ws each seat.row seat.front seat.seat seat.back seat.at known in
-      let draws : DrawsSeat r d fed ws (layout_of r d fed ws) seat.row seat.front seat.seat = seat-draws r d fed ws seat.row seat.front seat.seat known stands in
+      let draws : DrawsSeat r d fed ws (stack_layout r d fed ws) seat.row seat.front seat.seat = seat-draws r d fed ws seat.row seat.front seat.seat known stands in
       let at : slice_get (positions_of d seat.seat.instance) e.place ≡ Some e.position =
       ap (λ (n : ℕ). slice_get (positions_of d n) e.place) seat.own ∙ ap (λ (o : Option CellKind). slice_get (positions_in o) e.place) e.is_kind ∙ e.at in
-      let spot : DrawsSpot r d fed ws (layout_of r d fed ws) seat.row seat.front seat.seat draws.cell e.position = draws.spots e.place e.position at in (
+      let spot : DrawsSpot r d fed ws (stack_layout r d fed ws) seat.row seat.front seat.seat draws.cell e.position = draws.spots e.place e.position at in (
         spot.shape,
         record {
           cell = draws.cell;
           draws =
-              subst (λ (n : ℕ). Draws d (layout_of r d fed ws) draws.cell n p.terminal spot.shape) seat.own
-              (subst (λ (n : ℕ). Draws d (layout_of r d fed ws) draws.cell seat.seat.instance n spot.shape) e.terminal spot.draws);
+              subst (λ (n : ℕ). Draws d (stack_layout r d fed ws) draws.cell n p.terminal spot.shape) seat.own
+              (subst (λ (n : ℕ). Draws d (stack_layout r d fed ws) draws.cell seat.seat.instance n spot.shape) e.terminal spot.draws);
         },
       )
 
   -- each pin is drawn
-  pub stack-shown : (p : Pin) → Contains d.pins p → (i : ℕ) × DrawsPin d (layout_of r d fed ws) p i
+  pub stack-shown : (p : Pin) → Contains d.pins p → (i : ℕ) × DrawsPin d (stack_layout r d fed ws) p i
   stack-shown p listed =
       elim (pin-edge d is p listed) [
         | inl low ↦ (let e = pin-position d false p low in edge-shown false p e.0 e.1)
@@ -167,7 +168,7 @@ module _ (r : RuleValues) (valid : ValidRules r) (d : Netlist) (is : IsNetlist d
       ]
 
   -- the layout shows the pins of the design with their nets
-  pub stack-shows : ShowsPins r d (layout_of r d fed ws) (plan_drawn r (plan_of r d fed ws)) (net_at d)
+  pub stack-shows : ShowsPins r d (stack_layout r d fed ws) (plan_drawn r (plan_of r d fed ws)) (net_at d)
   stack-shows = record {
     shapes = stack-shapes r valid d is room fed placed ws each;
     drawn = stack-drawn;
@@ -177,37 +178,37 @@ module _ (r : RuleValues) (valid : ValidRules r) (d : Netlist) (is : IsNetlist d
 
   -- the shapes of a seat's cell are those of its kind, under the cell's turn
   cell-shapes : (k : ℕ) (front : List Item) (s : Seat) (known : KnownCell d s) → (c : CellStands r d fed ws k front s known.inst known.kind)
-      → take (length (drawing_of r d.height known.kind)) (drop c.first (layout_of r d fed ws).shapes)
+      → take (length (drawing_of r d.height known.kind)) (drop c.first (stack_layout r d fed ws).shapes)
       ≡ map (moved_shape (turn_at (item_place r d (row_base r (plan_of r d fed ws) k) (items_width d front) (Cell s)))) (drawing_of r d.height known.kind)
   cell-shapes k front s known c =
       let base : ℕ = row_base r (plan_of r d fed ws) k in
       let left : ℕ = items_width d front in
       let own : List Drawn = seat_drawn r base d.height left (seat_of d (Cell s)) in
       let turn : (Shape → Shape) = moved_shape (turn_at (item_place r d base left (Cell s))) in
-      let drawn : map turn (drawing_of r d.height known.kind) ≡ shapes_in own = known-drawn r valid d room s known base left in
-      let many : length (drawing_of r d.height known.kind) ≡ length (shapes_in own) = sym (length-map (drawing_of r d.height known.kind) turn) ∙ ap length drawn in
-      ap (λ (n : ℕ). take n (drop c.first (layout_of r d fed ws).shapes)) many
-      ∙ ap (λ (l : List Shape). take (length (shapes_in own)) (drop c.first l)) (stack-shapes r valid d is room fed placed ws each)
-      ∙ part-taken (shapes_in (plan_drawn r (plan_of r d fed ws))) c.first (shapes_in own)
+      let drawn : map turn (drawing_of r d.height known.kind) ≡ channel_shapes own = known-drawn r valid d room s known base left in
+      let many : length (drawing_of r d.height known.kind) ≡ length (channel_shapes own) = sym (length-map (drawing_of r d.height known.kind) turn) ∙ ap length drawn in
+      ap (λ (n : ℕ). take n (drop c.first (stack_layout r d fed ws).shapes)) many
+      ∙ ap (λ (l : List Shape). take (length (channel_shapes own)) (drop c.first l)) (stack-shapes r valid d is room fed placed ws each)
+      ∙ part-taken (channel_shapes (plan_drawn r (plan_of r d fed ws))) c.first (channel_shapes own)
       (part-map (λ (a : Drawn). a.shape) (plan_drawn r (plan_of r d fed ws)) c.first own c.part)
       ∙ sym drawn
 
   -- a cell with an instance's name is a copy of the instance's kind
-  stack-copy : (number instance : ℕ) (cell : layouts.Cell) (inst : Inst) (kind : CellKind) → slice_get (layout_of r d fed ws).cells number ≡ Some cell
+  stack-copy : (number instance : ℕ) (cell : layouts.Cell) (inst : Inst) (kind : CellKind) → slice_get (stack_layout r d fed ws).cells number ≡ Some cell
       → slice_get d.instances instance ≡ Some inst → cell.name ≡ inst.name → slice_get d.kinds inst.kind ≡ Some kind
-      → IsCopyOf r d.height (layout_of r d fed ws) kind cell
+      → IsCopyOf r d.height (stack_layout r d fed ws) kind cell
   stack-copy number instance cell inst kind at_cell at_instance named is_kind =
       let c : IsCellOf r d fed ws number instance cell inst = cell-is number instance cell inst at_cell at_instance named in
-      subst (λ (k : CellKind). IsCopyOf r d.height (layout_of r d fed ws) k cell) (same-kind number instance cell inst kind is_kind c)
-      (subst (λ (x : layouts.Cell). IsCopyOf r d.height (layout_of r d fed ws) c.known.kind x) (sym c.is)
+      subst (λ (k : CellKind). IsCopyOf r d.height (stack_layout r d fed ws) k cell) (same-kind number instance cell inst kind is_kind c)
+      (subst (λ (x : layouts.Cell). IsCopyOf r d.height (stack_layout r d fed ws) c.known.kind x) (sym c.is)
       (record { symbol = refl; upright = refl; shapes = cell-shapes c.row c.front c.seat c.known c.stands }))
 
   -- the cells have the instances' names, each once, and each is a copy of its instance's kind
-  pub stack-cells : CellsMatch r d (layout_of r d fed ws)
+  pub stack-cells : CellsMatch r d (stack_layout r d fed ws)
   stack-cells = record {
     names = stack-names r d is fed placed ws each;
     copies = λ cell inst kind has_cell has_inst named is_kind.
-        let n = contains-at (layout_of r d fed ws).cells cell has_cell in
+        let n = contains-at (stack_layout r d fed ws).cells cell has_cell in
         let m = contains-at d.instances inst has_inst in
         stack-copy n.0 m.0 cell inst kind n.1 m.1 named is_kind;
   }

@@ -1,17 +1,5 @@
--- boxes that are whole in centimicrons
-pub mod WholeBoxes
--- symbols that can be written
-pub mod WritableSymbols
--- rectangles of wirings that can be written
-pub mod WritableWires
 -- how high and how wide a stack is
 pub mod StackBounds
--- the items of rows with feeds
-pub mod FedItems
--- what stands at the main level can be written
-pub mod WritableItems
--- the layout of a routed design can be written, and what is written means it
-pub mod Writable
 -- how high and how wide routed designs are
 pub mod Heights
 -- a worked layout
@@ -40,9 +28,7 @@ pub mod PlanThreads
 pub mod ListParts
 -- a symbol that is copied to its place
 pub mod PlacedShapes
--- the symbols of kinds and feeds are found
-pub mod FoundSymbols
--- where instances are seated, and that each item has a symbol, whose copy is drawn as its seat
+-- where instances are seated, and that each item has a drawing, which at its place is that of its seat
 pub mod KnownItems
 -- the shapes of a layout are the rectangles of its plan
 pub mod LayoutShapes

@@ -1,6 +1,6 @@
-use Rattle.std.proofs.Common.{◌≡◌, ap, sym, ◌∙◌, ℕ, zero, suc, ◌+◌, List, [], ◌∷◌, ◌++◌, length, map, take, drop, Some, inl, inr, arith}
+use Rattle.std.proofs.Common.{◌≡◌, append_assoc, ap, sym, ◌∙◌, ℕ, zero, suc, ◌+◌, List, [], ◌∷◌, ◌++◌, length, map, take, drop, Some, inl, inr, arith}
 use Rattle.std.proofs.Math.Seq.{drop-append_seam, take-append_seam}
-use Rattle.std.proofs.lemmas.List.{length-map, map-append}
+use Rattle.std.proofs.lemmas.List.{length-append, length-map, map-append}
 use Rattle.std.proofs.lemmas.Option.{none-some}
 use Rattle.std.specs.Prelude.{slice_get, ◌⊎◌}
 
@@ -53,4 +53,21 @@ part-map {X = X} f xs start ys p = record {
   after = map f p.after;
   is = ap (map f) p.is ∙ map-append f p.before (ys ++ p.after) ∙ ap (λ l. map f p.before ++ l) (map-append f ys p.after);
   at = p.at ∙ sym (length-map p.before f);
+}
+
+-- a part of a list is one of the list with more behind it, or before it
+pub part-before : {X : Type 0} (xs more : List X) (start : ℕ) (ys : List X) → Part xs start ys → Part (xs ++ more) start ys
+part-before {X = X} xs more start ys p = record {
+  before = p.before;
+  after = p.after ++ more;
+  is = ap (λ (l : List X). l ++ more) p.is ∙ append_assoc p.before (ys ++ p.after) more ∙ ap (λ (l : List X). p.before ++ l) (append_assoc ys p.after more);
+  at = p.at;
+}
+
+pub part-behind : {X : Type 0} (xs more : List X) (start : ℕ) (ys : List X) → Part xs start ys → Part (more ++ xs) (length more + start) ys
+part-behind {X = X} xs more start ys p = record {
+  before = more ++ p.before;
+  after = p.after;
+  is = ap (λ (l : List X). more ++ l) p.is ∙ sym (append_assoc more p.before (ys ++ p.after));
+  at = ap (λ (n : ℕ). length more + n) p.at ∙ sym (length-append more p.before);
 }

@@ -12,7 +12,6 @@ use Rattle.design_model.specs.Netlist.{Netlist}
 use Rattle.design_model.specs.declared.design.CellKind.{CellKind}
 use Rattle.design_model.specs.declared.design.Position.{Position}
 use Rattle.geom_core.specs.Moving.{moved_shape}
-use Rattle.cif_text.specs.Symbols.{moved_shapes}
 use Rattle.geom_core.specs.Moving.{turn_at}
 use Rattle.row_model.specs.Stands.{turned_column, positions_in}
 use Rattle.row_model.specs.Widths.{kind_of, columns_of, width_of}
@@ -111,7 +110,7 @@ module _ (r : RuleValues) (valid : ValidRules r) (height : ℕ) (high : r.grid_p
 
   -- the drawings of a cell's positions are its spots
   pins-drawn : (d : Netlist) (s : seats.Seat) (base left : ℕ) (ps : List Position) → All (λ (p : Position). p.column < columns_of d s.instance) ps
-      → moved_shapes (turn_at (place_at r base s.mirror (corner_column s.mirror left (columns_of d s.instance)))) (map (position_shape r height) ps)
+      → map (moved_shape (turn_at (place_at r base s.mirror (corner_column s.mirror left (columns_of d s.instance))))) (map (position_shape r height) ps)
       ≡ map (λ (a : Drawn). a.shape) (map (spot_drawn r base height left) (map (spot_of d s) ps))
   unfolding position_shape
   pins-drawn d s base left [] all = refl
@@ -120,13 +119,13 @@ module _ (r : RuleValues) (valid : ValidRules r) (height : ℕ) (high : r.grid_p
       let here = pin-moved base left width p.column s.mirror p.top (All-head (λ (q : Position). q.column < width) p ps all) in
       let more = pins-drawn d s base left ps (All-tail (λ (q : Position). q.column < width) p ps all) in
       ap (λ (e : Extent). record { layer = r.vertical_layer; rect = e }
-      ∷ moved_shapes (turn_at (place_at r base s.mirror (corner_column s.mirror left width))) (map (position_shape r height) ps)) here
+      ∷ map (moved_shape (turn_at (place_at r base s.mirror (corner_column s.mirror left width)))) (map (position_shape r height) ps)) here
       ∙ ap (λ (l : List Shape). record { layer = r.vertical_layer; rect = post_rect r base height (post_of p) (left + turned_column s.mirror width p.column) } ∷ l) more
 
   -- the drawing of a kind, copied to a cell's place, is that of the cell's seat
   pub cell-drawn : (d : Netlist) (s : seats.Seat) (kind : CellKind) (base left : ℕ) → kind_of d s.instance ≡ Some kind
       → All (λ (p : Position). p.column < kind.columns) kind.positions
-      → moved_shapes (turn_at (item_place r d base left (Cell s))) (drawing_of r height kind)
+      → map (moved_shape (turn_at (item_place r d base left (Cell s)))) (drawing_of r height kind)
       ≡ map (λ (a : Drawn). a.shape) (seat_drawn r base height left (seat_of d (Cell s)))
   unfolding outline_shape
   cell-drawn d s kind base left is within =
@@ -136,14 +135,14 @@ module _ (r : RuleValues) (valid : ValidRules r) (height : ℕ) (high : r.grid_p
       ∙ outline-moved base left (columns_of d s.instance) s.mirror in
       let pins = pins-drawn d s base left kind.positions (subst (λ (n : ℕ). All (λ (p : Position). p.column < n) kind.positions) (sym width) within) in
       let place = turn_at (item_place r d base left (Cell s)) in
-      ap (λ (e : Extent). record { layer = r.outline_layer; rect = e } ∷ moved_shapes place (map (position_shape r height) kind.positions)) outline
+      ap (λ (e : Extent). record { layer = r.outline_layer; rect = e } ∷ map (moved_shape place) (map (position_shape r height) kind.positions)) outline
       ∙ ap (λ (l : List Shape). (outline_drawn r base height left (left + columns_of d s.instance)).shape ∷ l) pins
       ∙ ap (λ (ps : List Position). (outline_drawn r base height left (left + columns_of d s.instance)).shape
       ∷ map (λ (a : Drawn). a.shape) (map (spot_drawn r base height left) (map (spot_of d s) ps))) (sym (ap positions_in is))
 
 -- the drawing of a feed, copied to its place, is that of its seat
 pub feed-drawn : (r : RuleValues) → ValidRules r → (d : Netlist) (net base left : ℕ)
-    → moved_shapes (turn_at (item_place r d base left (Feed net))) (feed_drawing r d.height)
+    → map (moved_shape (turn_at (item_place r d base left (Feed net)))) (feed_drawing r d.height)
     ≡ map (λ (a : Drawn). a.shape) (seat_drawn r base d.height left (seat_of d (Feed net)))
 unfolding feed_drawing
 feed-drawn r valid d net base left =

@@ -9,15 +9,16 @@ use Rattle.std.specs.Prelude.{slice_get, option_map}
 use Rattle.list_facts.proofs.Every.{every-from-get}
 use Rattle.tech_rules.specs.Rules.{RuleValues, ValidRules}
 use Rattle.design_model.specs.Netlist.{Netlist}
+use Rattle.channel_model.specs.Limits.{most_tracks}
 use Rattle.channel_model.specs.declared.wiring.Wiring.{Wiring}
 use Rattle.row_model.proofs.WidthLaws.{at-place}
 use Rattle.feed_cells.specs.Fed.{Fed, IsFed, cells_in, fed_rows, items_width, nets_in, seats_in}
 use Rattle.feed_cells.specs.declared.fed.Item.{Item}
 use Rattle.feed_cells.proofs.FedLaws.{fed-width}
-use Rattle.pin_assign.specs.Bounds.{bound_of, channels_height, most_nets}
+use Rattle.pin_assign.specs.Bounds.{bound_of, channels_height, channels_width, most_nets}
 use Rattle.layout_laws.specs.Plans.{channel_height}
 use Rattle.channel_stack.specs.Routed.{IsRouted}
-use Rattle.channel_stack.specs.Stack.{channel_bases, row_bases, stack_top, most_columns}
+use Rattle.channel_stack.specs.Stack.{channel_bases, row_bases, stack_top, most_columns, total_columns}
 
 -- the lower edge of a stack is not above its upper one, and neither is the upper edge of its first channel
 pub base-below : (r : RuleValues) (height base : ℕ) (ws : List Wiring) → base ≤ stack_top r height base ws
@@ -55,11 +56,11 @@ rows-below r height top base (w ∷ (v ∷ ws)) low =
     (omega (arith, channel-below r height base w (v ∷ ws)), rows-below r height top (base + channel_height r w + height) (v ∷ ws) low)
 
 -- one channel more
-heights-more : (r : RuleValues) (n : ℕ) (ns : List ℕ) → channels_height r (n ∷ ns) ≡ (2 * n + 1) * r.grid_track + channels_height r ns
-heights-more r n ns = sum_by-cons (λ (x : ℕ). x) ((2 * n + 1) * r.grid_track) (map (λ (m : ℕ). (2 * m + 1) * r.grid_track) ns)
+heights-more : (r : RuleValues) (n : ℕ) (ns : List ℕ) → channels_height r (n ∷ ns) ≡ (most_tracks n + 1) * r.grid_track + channels_height r ns
+heights-more r n ns = sum_by-cons (λ (x : ℕ). x) ((most_tracks n + 1) * r.grid_track) (map (λ (m : ℕ). (most_tracks m + 1) * r.grid_track) ns)
 
-channel-low : (r : RuleValues) (n : ℕ) (w : Wiring) → w.tracks ≤ 2 * n → channel_height r w ≤ (2 * n + 1) * r.grid_track
-channel-low r n w few = let more : w.tracks + 1 ≤ 2 * n + 1 = omega arith in mul-le-mul_right r.grid_track more
+channel-low : (r : RuleValues) (n : ℕ) (w : Wiring) → w.tracks ≤ most_tracks n → channel_height r w ≤ (most_tracks n + 1) * r.grid_track
+channel-low r n w few = let more : w.tracks + 1 ≤ most_tracks n + 1 = omega arith in mul-le-mul_right r.grid_track more
 
 next-row : (rows height : ℕ) → suc rows * height ≡ rows * height + height
 next-row rows height =
@@ -68,9 +69,9 @@ next-row rows height =
     let moved : suc rows * height ≡ (rows + 1) * height = ap (λ (n : ℕ). n * height) same in
     omega arith
 
--- a stack whose channels have at most two tracks for each of so many nets
+-- a stack whose channels have no more tracks than a router may take for so many nets
 top-bound : (r : RuleValues) (height base rows : ℕ) (ws : List Wiring) (ns : List ℕ) → length ws ≡ rows + 1 → length ns ≡ rows + 1
-    → ((k n : ℕ) (w : Wiring) → slice_get ws k ≡ Some w → slice_get ns k ≡ Some n → w.tracks ≤ 2 * n)
+    → ((k n : ℕ) (w : Wiring) → slice_get ws k ≡ Some w → slice_get ns k ≡ Some n → w.tracks ≤ most_tracks n)
     → stack_top r height base ws ≤ base + (rows * height + channels_height r ns)
 top-bound r height base rows [] ns many each few = absurd (omega arith)
 top-bound r height base rows (w ∷ ws) [] many each few = absurd (omega arith)
@@ -130,14 +131,12 @@ rows-narrow d fed is = every-from-get (λ (items : List Item). items_width d ite
         subst (λ (f : Fed). items_width d items ≤ f.width) (sym is.is)
         (fed-width d (cells_in fed.rows) k items (subst (λ (f : Fed). slice_get f.rows k ≡ Some items) is.is at))
 
--- no wiring has more columns than the widest row and the most nets together
-columns-within : (r : RuleValues) (d : Netlist) (fed : Fed) (ws : List Wiring) → IsFed d fed → IsRouted r d fed ws
-    → most_columns ws ≤ fed.width + most_nets fed.nets
-columns-within r d fed ws is routed =
-    greatest-within (fed.width + most_nets fed.nets) 0 ws (omega arith)
-    (every-from-get (λ (w : Wiring). w.columns ≤ fed.width + most_nets fed.nets) ws narrow)
+-- no wiring has more columns than the bound's
+columns-narrow : (r : RuleValues) (d : Netlist) (fed : Fed) (ws : List Wiring) → IsFed d fed → IsRouted r d fed ws
+    → AllByRecursion (λ (w : Wiring). w.columns ≤ channels_width fed) ws
+columns-narrow r d fed ws is routed = every-from-get (λ (w : Wiring). w.columns ≤ channels_width fed) ws narrow
   where
-    narrow : (k : ℕ) (w : Wiring) → slice_get ws k ≡ Some w → w.columns ≤ fed.width + most_nets fed.nets
+    narrow : (k : ℕ) (w : Wiring) → slice_get ws k ≡ Some w → w.columns ≤ channels_width fed
     narrow k w at =
         let inside : k < length ws = slice_get_within ws k w at in
         let each : length ws ≡ length fed.rows + 1 = routed.each in
@@ -145,6 +144,9 @@ columns-within r d fed ws is routed =
         let nets = at-place fed.nets k (omega arith) in
         let most : nets.0 ≤ most_nets fed.nets = number-within 0 fed.nets k nets.0 nets.1 in
         omega (arith, routed.columns k nets.0 w at nets.1)
+
+columns-within : (r : RuleValues) (d : Netlist) (fed : Fed) (ws : List Wiring) → IsFed d fed → IsRouted r d fed ws → most_columns ws ≤ channels_width fed
+columns-within r d fed ws is routed = greatest-within (channels_width fed) 0 ws (omega arith) (columns-narrow r d fed ws is routed)
 
 -- what keeps the numbers of a stack's layout small: its width and height, those of its rows, and its bases
 pub record IsBounded (r : RuleValues) (d : Netlist) (fed : Fed) (ws : List Wiring) : Type 0 where
@@ -155,28 +157,57 @@ pub record IsBounded (r : RuleValues) (d : Netlist) (fed : Fed) (ws : List Wirin
   pub channel_bases : AllByRecursion (λ (base : ℕ). base ≤ stack_top r d.height 0 ws) (channel_bases r d.height 0 ws)
   pub row_bases : AllByRecursion (λ (base : ℕ). base ≤ stack_top r d.height 0 ws) (row_bases r d.height 0 ws)
 
-top-within : (r : RuleValues) (d : Netlist) (fed : Fed) (ws : List Wiring) → IsFed d fed → IsRouted r d fed ws
-    → stack_top r d.height 0 ws * r.grid_centi ≤ 1000000000
+-- a stack is no higher than its bound
+pub top-bounded : (r : RuleValues) (d : Netlist) (fed : Fed) (ws : List Wiring) → IsFed d fed → IsRouted r d fed ws
+    → stack_top r d.height 0 ws * r.grid_centi ≤ (bound_of r d fed).height
 unfolding bound_of
-top-within r d fed ws is routed =
+top-bounded r d fed ws is routed =
     let low : stack_top r d.height 0 ws ≤ length fed.rows * d.height + channels_height r fed.nets =
     let high : stack_top r d.height 0 ws ≤ 0 + (length fed.rows * d.height + channels_height r fed.nets) =
     top-bound r d.height 0 (length fed.rows) ws fed.nets routed.each (nets-counted d fed is)
     (λ (k n : ℕ) (w : Wiring) (a : slice_get ws k ≡ Some w) (b : slice_get fed.nets k ≡ Some n). routed.tracks k n w a b) in
     omega arith in
-    let product : stack_top r d.height 0 ws * r.grid_centi ≤ (length fed.rows * d.height + channels_height r fed.nets) * r.grid_centi =
-    mul-le-mul_right r.grid_centi low in
-    let limit : (length fed.rows * d.height + channels_height r fed.nets) * r.grid_centi ≤ 1000000000 = routed.height in
+    mul-le-mul_right r.grid_centi low
+
+top-within : (r : RuleValues) (d : Netlist) (fed : Fed) (ws : List Wiring) → IsFed d fed → IsRouted r d fed ws
+    → stack_top r d.height 0 ws * r.grid_centi ≤ 1000000000
+top-within r d fed ws is routed =
+    let low : stack_top r d.height 0 ws * r.grid_centi ≤ (bound_of r d fed).height = top-bounded r d fed ws is routed in
+    let limit : (bound_of r d fed).height ≤ 1000000000 = routed.height in
     omega arith
+
+-- nor wider
+columns-bounded : (r : RuleValues) (d : Netlist) (fed : Fed) (columns : ℕ) → columns ≤ channels_width fed
+    → columns * r.grid_column * r.grid_centi ≤ (bound_of r d fed).width
+unfolding bound_of
+columns-bounded r d fed columns narrow =
+    let across : columns * r.grid_column ≤ channels_width fed * r.grid_column = mul-le-mul_right r.grid_column narrow in
+    mul-le-mul_right r.grid_centi across
+
+pub width-bounded : (r : RuleValues) (d : Netlist) (fed : Fed) (ws : List Wiring) → IsFed d fed → IsRouted r d fed ws
+    → most_columns ws * r.grid_column * r.grid_centi ≤ (bound_of r d fed).width
+width-bounded r d fed ws is routed = columns-bounded r d fed (most_columns ws) (columns-within r d fed ws is routed)
+
+-- and its wirings have no more columns together
+total-within : (bound : ℕ) (ws : List Wiring) → AllByRecursion (λ (w : Wiring). w.columns ≤ bound) ws → total_columns ws ≤ length ws * bound
+total-within bound [] all = omega arith
+total-within bound (w ∷ ws) all =
+    let here : w.columns ≤ bound = all.0 in
+    let more : total_columns ws ≤ length ws * bound = total-within bound ws all.1 in
+    omega (arith, sum_by-cons (λ (n : ℕ). n) w.columns (map (λ (v : Wiring). v.columns) ws), next-row (length ws) bound)
+
+pub grid-bounded : (r : RuleValues) (d : Netlist) (fed : Fed) (ws : List Wiring) → IsFed d fed → IsRouted r d fed ws → total_columns ws ≤ (bound_of r d fed).grid
+unfolding bound_of
+grid-bounded r d fed ws is routed =
+    let each : length ws ≡ length fed.rows + 1 = routed.each in
+    subst (λ (n : ℕ). total_columns ws ≤ n * channels_width fed) each (total-within (channels_width fed) ws (columns-narrow r d fed ws is routed))
 
 -- columns of at most the bound's are narrow
 width-within : (r : RuleValues) (d : Netlist) (fed : Fed) (ws : List Wiring) → IsRouted r d fed ws → (columns : ℕ)
-    → columns ≤ fed.width + most_nets fed.nets → columns * r.grid_column * r.grid_centi ≤ 1000000000
-unfolding bound_of
+    → columns ≤ channels_width fed → columns * r.grid_column * r.grid_centi ≤ 1000000000
 width-within r d fed ws routed columns narrow =
-    let across : columns * r.grid_column ≤ (fed.width + most_nets fed.nets) * r.grid_column = mul-le-mul_right r.grid_column narrow in
-    let product : columns * r.grid_column * r.grid_centi ≤ (fed.width + most_nets fed.nets) * r.grid_column * r.grid_centi = mul-le-mul_right r.grid_centi across in
-    let limit : (fed.width + most_nets fed.nets) * r.grid_column * r.grid_centi ≤ 1000000000 = routed.width in
+    let low : columns * r.grid_column * r.grid_centi ≤ (bound_of r d fed).width = columns-bounded r d fed columns narrow in
+    let limit : (bound_of r d fed).width ≤ 1000000000 = routed.width in
     omega arith
 
 pub bases-within : (r : RuleValues) (d : Netlist) (fed : Fed) (ws : List Wiring) → IsFed d fed → IsRouted r d fed ws → IsBounded r d fed ws

@@ -1,4 +1,4 @@
-use Rattle.std.proofs.Common.{◌≡◌, sym, ap, subst, ℕ, ◌+◌, ◌*◌, ◌<◌, ◌≤◌, List, [], length, get_or, map, Some, Contains, arith}
+use Rattle.std.proofs.Common.{◌≡◌, ◌∙◌, sym, ap, subst, ℕ, ◌+◌, ◌<◌, List, [], length, get_or, map, Some, Contains, arith}
 use Rattle.std.proofs.lemmas.List.Elements.{All-contains, All-from_recursion}
 use Rattle.std.specs.Prelude.{◌==◌, slice_get}
 use Rattle.list_facts.proofs.Every.{every-get}
@@ -6,6 +6,7 @@ use Rattle.tech_rules.specs.Rules.{RuleValues, ValidRules}
 use Rattle.design_model.specs.Netlist.{Netlist, IsNetlist}
 use Rattle.design_model.specs.declared.design.Inst.{Inst}
 use Rattle.design_model.specs.declared.design.Pin.{Pin}
+use Rattle.design_model.specs.Room.{HasRoom}
 use Rattle.channel_model.specs.declared.wiring.Wiring.{Wiring}
 use Rattle.row_model.specs.Rows.{ArePlaced}
 use Rattle.row_model.specs.declared.rows.Seat as seats
@@ -16,6 +17,8 @@ use Rattle.feed_cells.specs.Standing.{Stands, seated, feeding}
 use Rattle.feed_cells.specs.declared.fed.Item.{Item}
 use Rattle.feed_cells.proofs.FedLaws.{fed-row-some, item-stands}
 use Rattle.feed_cells.proofs.Members.{find-member, map-cases}
+use Rattle.pin_assign.proofs.ChannelTables.{image-at}
+use Rattle.pin_assign.specs.Tables.{table_of}
 use Rattle.layout_laws.specs.Plans.{IsPlan, channel_height}
 use Rattle.layout_laws.specs.Seats.{Seat, IsSeat, SpotAt}
 use Rattle.layout_laws.specs.Uprights.{AreSpotted}
@@ -73,12 +76,15 @@ row-spotted r valid d base height items a member wired =
     }
 
 -- the rows and channels of a wired design are a plan; where the design has kinds, they are high enough
-pub stack-plan : (r : RuleValues) → ValidRules r → (d : Netlist) → IsNetlist d → (0 < length d.kinds → 2 * r.grid_pin + r.vertical_space ≤ d.height)
+pub stack-plan : (r : RuleValues) → ValidRules r → (d : Netlist) → IsNetlist d → HasRoom r d
     → (rows : List (List seats.Seat)) → ArePlaced d rows → (ws : List Wiring) → AreWired d (fed_rows d rows) ws → IsPlan r (plan_of r d (fed_rows d rows) ws)
 stack-plan r valid d good tall rows placed ws wired =
     let fed : Fed = fed_rows d rows in
     record {
-      wired = λ k within. wired.wired k (wiring_at ws k) (wiring-there ws k (omega (arith, within, wired.each)));
+      wired = λ k within.
+          wired.wired k (table_of d fed k) (wiring_at ws k)
+          (image-at (table_of d fed) 0 (length fed.rows + 1) k (omega arith) ∙ ap (λ (n : ℕ). Some (table_of d fed n)) (omega arith))
+          (wiring-there ws k (omega (arith, within, wired.each)));
       tall = λ k within seat member.
           let found = map-cases (seat_of d) (row_at fed k) seat member in
           tall (row-some d good rows placed k within found.0 found.1);

@@ -1,5 +1,7 @@
-use Rattle.std.specs.Prelude.{ℕ, ◌+◌, ◌*◌, ◌-◌, List, [], ◌∷◌, ◌++◌, map, length, Bool, true, false, Option, None, Some, slice_get}
-use Rattle.std.specs.List.{list_any}
+use Rattle.std.specs.Prelude.{ℕ, ◌+◌, ◌*◌, ◌-◌, List, [], ◌∷◌, ◌++◌, map, length, Option, None, Some, slice_get}
+use Rattle.std.specs.List.{flat_map}
+use Rattle.geom_core.specs.Moving.{moved_shape, turn_at}
+use Rattle.geom_core.specs.declared.layout.Cell as layouts
 use Rattle.geom_core.specs.declared.layout.Layout.{Layout}
 use Rattle.geom_core.specs.declared.layout.Shape.{Shape}
 use Rattle.geom_core.specs.declared.turn.Place.{Place}
@@ -8,19 +10,12 @@ use Rattle.design_model.specs.Drawing.{drawing_of, extent_of, middle_of}
 use Rattle.design_model.specs.Netlist.{Netlist}
 use Rattle.design_model.specs.declared.design.CellKind.{CellKind}
 use Rattle.design_model.specs.declared.design.Inst.{Inst}
-use Rattle.cif_text.specs.Written as written
-use Rattle.cif_text.specs.WrittenLayout.{written_layout}
-use Rattle.feed_cells.specs.Fed.{Fed}
+use Rattle.row_model.specs.Widths.{kind_of}
 use Rattle.feed_cells.specs.declared.fed.Item.{Item}
 use Rattle.feed_cells.specs.declared.fed.Item.TheVariants.{Cell, Feed}
-use Rattle.channel_model.specs.declared.wiring.Wiring.{Wiring}
 use Rattle.wire_geom.specs.declared.drawn.Drawn.{Drawn}
-use Rattle.channel_stack.specs.Stack.{Stacked, stack_of}
+use Rattle.channel_stack.specs.Stack.{Stacked}
 use Rattle.channel_stack.specs.declared.placed.PlacedItem.{PlacedItem}
-
--- a kind as a symbol: its name and its drawing
-abbrev pub symbol_for : RuleValues → ℕ → CellKind → written.Drawn
-symbol_for r height kind = record { name = Some kind.name; shapes = drawing_of r height kind }
 
 -- the drawing of a feed: its outline, and a vertical wire from its lower edge to its upper one in its middle
 abbrev pub feed_outline : RuleValues → ℕ → Shape
@@ -35,54 +30,67 @@ feed_wire r height = record {
 unfoldable pub feed_drawing : RuleValues → ℕ → List Shape
 feed_drawing r height = feed_outline r height ∷ (feed_wire r height ∷ [])
 
--- whether an item is a feed, and whether there is one in these rows
-abbrev pub is_feed : Item → Bool
-is_feed (Cell s) = false
-is_feed (Feed net) = true
+-- what an item draws: a cell the drawing of its instance's kind, and a feed its own
+abbrev pub kind_drawing : RuleValues → ℕ → Option CellKind → List Shape
+kind_drawing r height None = []
+kind_drawing r height (Some kind) = drawing_of r height kind
 
-abbrev pub has_feed : List (List Item) → Bool
-has_feed rows = list_any (list_any is_feed) rows
+abbrev pub item_drawing : RuleValues → Netlist → Item → List Shape
+item_drawing r d (Cell s) = kind_drawing r d.height (kind_of d s.instance)
+item_drawing r d (Feed net) = feed_drawing r d.height
 
--- the symbol of feeds, which has no name, where there are feeds
-abbrev pub feed_symbol : RuleValues → ℕ → Bool → List written.Drawn
-feed_symbol r height false = []
-feed_symbol r height true = record { name = None; shapes = feed_drawing r height } ∷ []
+-- the shapes of an item: what it draws, moved by its place
+abbrev pub item_shapes : RuleValues → Netlist → PlacedItem → List Shape
+item_shapes r d p = map (moved_shape (turn_at p.place)) (item_drawing r d p.item)
 
--- the symbols of a layout: the kinds in their order, numbered from 1, and behind them that of feeds
-abbrev pub symbols_of : RuleValues → Netlist → Fed → List written.Drawn
-symbols_of r d fed = map (symbol_for r d.height) d.kinds ++ feed_symbol r d.height (has_feed fed.rows)
+-- those of a row, item by item, and those of a channel
+abbrev pub row_shapes : RuleValues → Netlist → List PlacedItem → List Shape
+row_shapes r d row = flat_map (item_shapes r d) row
 
--- an instance's name and the number of its symbol
-abbrev pub name_of : Option Inst → Option (List ℕ)
-name_of None = None
-name_of (Some inst) = Some inst.name
+abbrev pub channel_shapes : List Drawn → List Shape
+channel_shapes drawn = map (λ (a : Drawn). a.shape) drawn
 
-abbrev pub number_of : Option Inst → ℕ
-number_of None = 0
-number_of (Some inst) = inst.kind + 1
+-- from the bottom up: the shapes of channel 0, of row 0, of channel 1, and so on
+abbrev pub stacked_shapes : RuleValues → Netlist → List (List Drawn) → List (List PlacedItem) → List Shape
+stacked_shapes r d [] rows = []
+stacked_shapes r d (channel ∷ channels) [] = channel_shapes channel
+stacked_shapes r d (channel ∷ channels) (row ∷ rows) = channel_shapes channel ++ (row_shapes r d row ++ stacked_shapes r d channels rows)
 
--- a cell is a copy of its kind's symbol with its instance's name, and a feed one of the feeds' symbol without a name
-abbrev pub copy_of : Netlist → Item → Place → written.Item
-copy_of d (Cell s) place = written.copy (name_of (slice_get d.instances s.instance)) (number_of (slice_get d.instances s.instance)) place
-copy_of d (Feed net) place = written.copy None (length d.kinds + 1) place
+-- the cell of an instance of a kind at a place, whose first shape has this number
+abbrev pub cell_at : RuleValues → ℕ → Inst → CellKind → Place → ℕ → layouts.Cell
+cell_at r height inst kind place first = record {
+  name = inst.name;
+  symbol = kind.name;
+  turn = turn_at place;
+  first = first;
+  count = length (drawing_of r height kind);
+}
 
-abbrev pub copies_of : Netlist → List PlacedItem → List written.Item
-copies_of d items = map (λ (p : PlacedItem). copy_of d p.item p.place) items
+abbrev pub kind_cells : RuleValues → ℕ → Inst → Place → ℕ → Option CellKind → List layouts.Cell
+kind_cells r height inst place first None = []
+kind_cells r height inst place first (Some kind) = cell_at r height inst kind place first ∷ []
 
--- rectangles of wires stand alone
-abbrev pub wires_of : List Drawn → List written.Item
-wires_of drawn = map (λ (a : Drawn). written.alone a.shape) drawn
+abbrev pub instance_cells : RuleValues → Netlist → Place → ℕ → Option Inst → List layouts.Cell
+instance_cells r d place first None = []
+instance_cells r d place first (Some inst) = kind_cells r d.height inst place first (slice_get d.kinds inst.kind)
 
--- from the bottom up: channel 0, row 0, channel 1, and so on
-abbrev pub items_of : Netlist → List (List Drawn) → List (List PlacedItem) → List written.Item
-items_of d [] rows = []
-items_of d (drawn ∷ channels) [] = wires_of drawn
-items_of d (drawn ∷ channels) (row ∷ rows) = wires_of drawn ++ (copies_of d row ++ items_of d channels rows)
+-- the cell of an item whose first shape has this number: a feed is none
+abbrev pub item_cells : RuleValues → Netlist → ℕ → Item → Place → List layouts.Cell
+item_cells r d first (Cell s) place = instance_cells r d place first (slice_get d.instances s.instance)
+item_cells r d first (Feed net) place = []
 
--- the main level of a layout
-abbrev pub main_items : Netlist → Stacked → List written.Item
-main_items d placed = items_of d placed.shapes placed.cells
+-- the cells of a row whose first shape has this number
+abbrev pub row_cells : RuleValues → Netlist → ℕ → List PlacedItem → List layouts.Cell
+row_cells r d first [] = []
+row_cells r d first (p ∷ row) = item_cells r d first p.item p.place ++ row_cells r d (first + length (item_shapes r d p)) row
 
--- the layout of a routed design
-unfoldable pub layout_of : RuleValues → Netlist → Fed → List Wiring → Layout
-layout_of r d fed ws = written_layout (symbols_of r d fed) (main_items d (stack_of r d fed ws))
+-- the cells of the rows, from the bottom up, behind a first shape of this number
+abbrev pub stacked_cells : RuleValues → Netlist → ℕ → List (List Drawn) → List (List PlacedItem) → List layouts.Cell
+stacked_cells r d first [] rows = []
+stacked_cells r d first (channel ∷ channels) [] = []
+stacked_cells r d first (channel ∷ channels) (row ∷ rows) =
+    row_cells r d (first + length channel) row ++ stacked_cells r d (first + length channel + length (row_shapes r d row)) channels rows
+
+-- the layout that a placed design is
+unfoldable pub layout_of : RuleValues → Netlist → Stacked → Layout
+layout_of r d placed = record { cells = stacked_cells r d 0 placed.shapes placed.cells; shapes = stacked_shapes r d placed.shapes placed.cells }

@@ -1,24 +1,39 @@
-use Rattle.std.specs.Prelude.{◌≡◌, ◌≤◌, ℕ, ◌+◌, ◌*◌, List, length, All, Some, slice_get}
+use Rattle.std.specs.Prelude.{◌≡◌, ◌≤◌, ℕ, ◌+◌, List, length, All, Some, slice_get}
 use Rattle.channel_model.specs.Elements.{elements}
+use Rattle.channel_model.specs.Limits.{most_extra, most_tracks}
+use Rattle.channel_model.specs.Pins.{Pins}
 use Rattle.channel_model.specs.Wired.{Wired, IsOnGrid}
 use Rattle.channel_model.specs.declared.wiring.Wiring.{Wiring}
 use Rattle.design_model.specs.Netlist.{Netlist}
 use Rattle.feed_cells.specs.Fed.{Fed}
 use Rattle.pin_assign.specs.Bounds.{bound_of}
-use Rattle.pin_assign.specs.Tables.{table_of}
+use Rattle.pin_assign.specs.Tables.{tables_of}
 use Rattle.tech_rules.specs.Rules.{RuleValues}
+use Rattle.channel_stack.specs.Stack.{Stacked, stack_of, total_columns}
 
--- there is one wiring for each channel, and it connects the channel's table
+-- there is one wiring for each channel, and it connects its channel
 pub record AreWired (d : Netlist) (fed : Fed) (ws : List Wiring) : Type 0 where
   pub each : length ws ≡ length fed.rows + 1
-  pub wired : (k : ℕ) (w : Wiring) → slice_get ws k ≡ Some w → Wired (table_of d fed k) w
+  pub wired : (k : ℕ) (pins : Pins) (w : Wiring) → slice_get (tables_of d fed) k ≡ Some pins → slice_get ws k ≡ Some w → Wired pins w
 
--- there is one wiring for each channel, whose elements lie in its columns and lines; it has at most two tracks for each net of the channel and as many columns more than the widest row as
--- there are nets; and the layout's bound passes no limit
+-- there is one wiring for each channel, whose elements lie in its columns and lines; it has no more tracks than a router may take for the channel's nets, and no more columns beyond
+-- the widest row; and the layout's bound passes no limit
 pub record IsRouted (r : RuleValues) (d : Netlist) (fed : Fed) (ws : List Wiring) : Type 0 where
   pub each : length ws ≡ length fed.rows + 1
   pub on_grid : (k : ℕ) (w : Wiring) → slice_get ws k ≡ Some w → All (IsOnGrid w.columns w.tracks) (elements w)
-  pub tracks : (k nets : ℕ) (w : Wiring) → slice_get ws k ≡ Some w → slice_get fed.nets k ≡ Some nets → w.tracks ≤ 2 * nets
-  pub columns : (k nets : ℕ) (w : Wiring) → slice_get ws k ≡ Some w → slice_get fed.nets k ≡ Some nets → w.columns ≤ fed.width + nets
+  pub tracks : (k nets : ℕ) (w : Wiring) → slice_get ws k ≡ Some w → slice_get fed.nets k ≡ Some nets → w.tracks ≤ most_tracks nets
+  pub columns : (k nets : ℕ) (w : Wiring) → slice_get ws k ≡ Some w → slice_get fed.nets k ≡ Some nets → w.columns ≤ fed.width + most_extra nets
   pub width : (bound_of r d fed).width ≤ 1000000000
   pub height : (bound_of r d fed).height ≤ 1000000000
+
+-- a stack is within the layout's bound: its width, its height, and the columns of all its wirings together
+pub record IsWithin (r : RuleValues) (d : Netlist) (fed : Fed) (ws : List Wiring) (placed : Stacked) : Type 0 where
+  pub width : placed.width ≤ (bound_of r d fed).width
+  pub height : placed.height ≤ (bound_of r d fed).height
+  pub grid : total_columns ws ≤ (bound_of r d fed).grid
+
+-- what is placed is the stack of a design's rows and of wirings that are routed
+pub record IsStacked (r : RuleValues) (d : Netlist) (fed : Fed) (placed : Stacked) : Type 0 where
+  pub wirings : List Wiring
+  pub routed : IsRouted r d fed wirings
+  pub is : placed ≡ stack_of r d fed wirings

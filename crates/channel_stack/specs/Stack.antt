@@ -1,4 +1,4 @@
-use Rattle.std.specs.Prelude.{ℕ, pos, ◌+◌, ◌*◌, List, [], ◌∷◌, map, fold, max, Bool, false, if◌then◌else◌}
+use Rattle.std.specs.Prelude.{ℕ, pos, ◌+◌, ◌*◌, List, [], ◌∷◌, map, fold, max, sum, Bool, false, if◌then◌else◌}
 use Rattle.geom_core.specs.declared.turn.Place.{Place}
 use Rattle.tech_rules.specs.Rules.{RuleValues}
 use Rattle.design_model.specs.Netlist.{Netlist}
@@ -70,6 +70,10 @@ drawings r (w ∷ ws) (base ∷ bases) = drawing r base w ∷ drawings r ws base
 -- the columns of the widest wiring
 abbrev pub most_columns : List Wiring → ℕ
 most_columns ws = fold max 0 (map (λ (w : Wiring). w.columns) ws)
+
+-- the columns of all wirings together
+abbrev pub total_columns : List Wiring → ℕ
+total_columns ws = sum (map (λ (w : Wiring). w.columns) ws)
 
 -- rows and channels on one another, from y 0 up
 pub record Stacked : Type 0 where

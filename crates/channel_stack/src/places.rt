@@ -1,9 +1,8 @@
 //! The places of cells and feeds in their rows.
 
 ghost use Rattle.channel_stack.specs.Stack.{corner_column, is_mirrored, item_place, place_at, placed_from, placed_rows};
-ghost use Rattle.feed_cells.specs.Fed.{item_width, items_width};
+ghost use Rattle.feed_cells.specs.Fed.{items_width};
 ghost use Rattle.feed_cells.specs.declared.fed.Item.{Item};
-ghost use Rattle.row_model.specs.Widths.{columns_of};
 ghost use Rattle.std.specs.List.{AllByRecursion};
 ghost use Rattle.std.specs.Prelude.{◌≡◌, ◌<◌, ◌^◌, List, IfOk};
 
@@ -13,29 +12,6 @@ use feed_cells::Item;
 use geom_core::{Items, Place};
 use std::alloc::{AllocError, Global};
 use tech_rules::Rules;
-
-// The width of an instance in columns.
-fn columns_of(design: &Design, instance: u32) -> u32
-    ensures { result ≡ columns_of design.now instance }
-{
-    let Some(inst) = design.instances.items().get(instance as usize) else {
-        return 0;
-    };
-    match design.kinds.items().get(inst.kind as usize) {
-        Some(kind) => kind.columns,
-        None => 0,
-    }
-}
-
-// The width of an item in columns.
-fn item_width(design: &Design, item: Item) -> u32
-    ensures { result ≡ item_width design.now item }
-{
-    match item {
-        Item::Cell(seat) => columns_of(design, seat.instance),
-        Item::Feed(_) => 1,
-    }
-}
 
 fn is_mirrored(item: Item) -> bool
     ensures { result ≡ is_mirrored item }
@@ -67,7 +43,7 @@ fn item_place(design: &Design, rules: &Rules, base: u32, left: u64, item: Item) 
 {
     let mirror = is_mirrored(item);
     let corner = if mirror {
-        left + u64::from(item_width(design, item))
+        left + u64::from(item.width(design))
     } else {
         left
     };
@@ -91,7 +67,7 @@ fn placed_row(
     while let Some((item, after)) = rest.split_first() {
         let place = item_place(design, rules, base, left, *item);
         placed.push(PlacedItem { item: *item, place })?;
-        left += u64::from(item_width(design, *item));
+        left += u64::from(item.width(design));
         rest = after;
     }
     Ok(placed)

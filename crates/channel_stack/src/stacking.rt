@@ -4,10 +4,11 @@ ghost use Rattle.channel_model.specs.Elements.{elements};
 ghost use Rattle.channel_model.specs.Wired.{IsOnGrid};
 ghost use Rattle.channel_model.specs.declared.wiring.Wiring.{Wiring};
 ghost use Rattle.channel_stack.specs.Layouts.{layout_of};
-ghost use Rattle.channel_stack.specs.Routed.{AreWired, IsRouted};
+ghost use Rattle.channel_stack.specs.Routed.{AreWired, IsRouted, IsStacked, IsWithin};
 ghost use Rattle.channel_stack.specs.Stack.{drawings, stack_of};
 ghost use Rattle.feed_cells.specs.Fed.{IsFed};
 ghost use Rattle.design_model.specs.Good.{Good};
+ghost use Rattle.design_model.specs.Room.{HasRoom};
 ghost use Rattle.std.specs.List.{All, AllByRecursion};
 ghost use Rattle.std.specs.Prelude.{◌≡◌, ◌<◌, ◌≤◌, ◌+◌, ◌*◌, length, IfOk};
 
@@ -51,7 +52,8 @@ fn drawings(
 /// as high as t + 1 tracks. The rows with feeds are those of their cells; there is one wiring for each channel, within the tracks and columns of the
 /// bound, which passes no limit. The one error is want of memory.
 ///
-/// Where each wiring connects its channel, by whatever router, and the cells have room for their pins, the layout is good for the design and the rules.
+/// The layout is within its bound. Where each wiring connects its channel, by whatever router, and the cells have room for their pins, the layout that the result
+/// is is good for the design and the rules.
 #[tactic(auto, unfolding(crate::specs::Stack::stack_of))]
 pub fn stack(
     alloc: Global,
@@ -63,8 +65,10 @@ pub fn stack(
     requires fed { IsFed design.now fed.now }
     requires routed { IsRouted rules.now design.now fed.now wirings.now }
     ensures stacked { IfOk result (λ placed. placed ≡ stack_of rules.now design.now fed.now wirings.now) }
-    ensures good { IfOk result (λ _. (0 < length design.now.kinds → 2 * rules.now.grid_pin + rules.now.vertical_space ≤ design.now.height)
-        → AreWired design.now fed.now wirings.now → Good rules.now design.now (layout_of rules.now design.now fed.now wirings.now)) }
+    ensures laid { IfOk result (λ placed. IsStacked rules.now design.now fed.now placed) }
+    ensures within { IfOk result (λ placed. IsWithin rules.now design.now fed.now wirings.now placed) }
+    ensures good { IfOk result (λ placed. HasRoom rules.now design.now → AreWired design.now fed.now wirings.now
+        → Good rules.now design.now (layout_of rules.now design.now placed)) }
 {
     let centi = u64::from(rules.grid_centi);
     let height = design.height;

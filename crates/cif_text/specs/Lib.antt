@@ -21,6 +21,8 @@ pub mod Scales
 pub mod Symbols
 -- the layout that commands mean
 pub mod Meaning
+-- the layout that a text reads as
+pub mod ReadsAs
 -- the commands of a written layout, and what they mean
 pub mod Written
 pub mod WrittenLayout

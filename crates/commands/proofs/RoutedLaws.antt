@@ -1,8 +1,7 @@
-use Rattle.std.proofs.Common.{◌≡◌, ap, sym, ◌∙◌, subst, ◌≤◌, ◌+◌, ◌*◌, ℕ, zero, suc, List, map, length, Some, All, Contains, arith, refl}
+use Rattle.std.proofs.Common.{◌≡◌, ap, sym, ◌∙◌, subst, refl, ◌≤◌, ◌+◌, ◌*◌, ℕ, zero, suc, List, [], ◌∷◌, map, length, Some, All, Contains, arith}
 use Rattle.std.proofs.lemmas.List.{length-map}
 use Rattle.std.proofs.lemmas.List.Elements.{All-weaker, All-contains_itself}
 use Rattle.std.proofs.lemmas.Option.{none-some, same_Some}
-use Rattle.std.specs.List.{range_with_len}
 use Rattle.std.specs.Prelude.{slice_get}
 use Rattle.channel_model.specs.Elements.{elements}
 use Rattle.channel_model.specs.Nets.{nets_of}
@@ -14,49 +13,52 @@ use Rattle.feed_cells.specs.Fed.{Fed}
 use Rattle.design_model.specs.Netlist.{Netlist}
 use Rattle.pin_assign.specs.Bounds.{bound_of}
 use Rattle.pin_assign.specs.ChannelTables.{AreTablesFor}
-use Rattle.pin_assign.specs.Tables.{table_of, tables_of}
+use Rattle.pin_assign.specs.Tables.{tables_of}
 use Rattle.plain_router.specs.Plain.{plain_of}
 use Rattle.tech_rules.specs.Rules.{RuleValues}
-use Rattle.commands.specs.Wirings.{ArePlain, IsPlain}
-use Rattle.commands.proofs.WiringLaws.{plain-at, plain-stated}
 
--- what stands at a place of the images of numbers in order
-image-at : {A : Type 0} (f : ℕ → A) (start count k : ℕ) (a : A) → slice_get (map f (range_with_len start count)) k ≡ Some a → f (start + k) ≡ a
-image-at f start zero k a at = absurd (none-some a at)
-image-at f start (suc count) zero a at = ap f (let same : start + 0 ≡ start = omega arith in same) ∙ same_Some (f start) a at
-image-at f start (suc count) (suc k) a at =
-    ap f (let same : start + suc k ≡ start + 1 + k = omega arith in same) ∙ image-at f (start + 1) count k a at
+-- the plain wiring at a place is that of the channel there
+plain-at : (channels : List Pins) (k : ℕ) (w : Wiring) → slice_get (map plain_of channels) k ≡ Some w → (p : Pins) × (slice_get channels k ≡ Some p) × (plain_of p ≡ w)
+plain-at [] k w at = absurd (none-some w at)
+plain-at (p ∷ channels) zero w at = (p, refl, same_Some (plain_of p) w at)
+plain-at (p ∷ channels) (suc k) w at = plain-at channels k w at
 
-module _ (d : Netlist) (fed : Fed) (ws : List Wiring) (plain : ArePlain (tables_of d fed) ws) (tables : AreTablesFor fed (tables_of d fed)) where
+-- where plain wirings connect the channels of rows with feeds
+module _ (d : Netlist) (fed : Fed) (channels : List Pins) (are : channels ≡ tables_of d fed) (tables : AreTablesFor fed channels)
+    (wired : (k : ℕ) (pins : Pins) → slice_get channels k ≡ Some pins → Wired pins (plain_of pins)) (ws : List Wiring) (stated : ws ≡ map plain_of channels) where
+  at : (k : ℕ) (w : Wiring) → slice_get ws k ≡ Some w → (p : Pins) × (slice_get channels k ≡ Some p) × (plain_of p ≡ w)
+  at k w there = plain-at channels k w (ap (λ (l : List Wiring). slice_get l k) (sym stated) ∙ there)
+
   each : length ws ≡ length fed.rows + 1
-  each = ap length (plain-stated (tables_of d fed) ws plain) ∙ length-map (tables_of d fed) plain_of ∙ tables.many
+  each = ap length stated ∙ length-map channels plain_of ∙ tables.many
 
-  table-at : (k : ℕ) (p : Pins) → slice_get (tables_of d fed) k ≡ Some p → table_of d fed k ≡ p
-  table-at k p at = ap (table_of d fed) (let same : k ≡ 0 + k = omega arith in same) ∙ image-at (table_of d fed) 0 (length fed.rows + 1) k p at
+  wired-at : (k : ℕ) (pins : Pins) (w : Wiring) → slice_get channels k ≡ Some pins → slice_get ws k ≡ Some w → Wired pins w
+  wired-at k pins w listed there =
+      let p = at k w there in
+      let same : pins ≡ p.0 = same_Some pins p.0 (sym listed ∙ p.1) in
+      subst (λ (v : Wiring). Wired pins v) (ap plain_of same ∙ p.2) (wired k pins listed)
 
-  -- the plain wirings connect their channels
+  -- the wirings connect their channels
   pub plain-wirings : AreWired d fed ws
   plain-wirings = record {
     each = each;
-    wired = λ k w at.
-        let p = plain-at (tables_of d fed) ws plain k w at in
-        subst (λ (pins : Pins). Wired pins w) (sym (table-at k p.0 p.1)) p.2.wired;
+    wired = λ k pins w listed there. wired-at k pins w (ap (λ (l : List Pins). slice_get l k) are ∙ listed) there;
   }
 
   -- and lie within the tracks and columns of the bound
   pub plain-routed : (r : RuleValues) → (bound_of r d fed).width ≤ 1000000000 → (bound_of r d fed).height ≤ 1000000000 → IsRouted r d fed ws
   plain-routed r width height = record {
     each = each;
-    on_grid = λ k w at. grid-of (plain-at (tables_of d fed) ws plain k w at).0 w (plain-at (tables_of d fed) ws plain k w at).2.wired;
-    tracks = λ k nets w at there.
-        let p = plain-at (tables_of d fed) ws plain k w at in
-        let w_is : w.tracks ≡ 2 * length (nets_of p.0) = ap (λ (v : Wiring). v.tracks) p.2.stated in
-        let n_is : nets ≡ length (nets_of p.0) = nets-of k nets p.0 there p.1 in
+    on_grid = λ k w there. let p = at k w there in grid-of p.0 w (wired-at k p.0 w p.1 there);
+    tracks = λ k nets w there counted.
+        let p = at k w there in
+        let w_is : 2 * length (nets_of p.0) ≡ w.tracks = ap (λ (v : Wiring). v.tracks) p.2 in
+        let n_is : nets ≡ length (nets_of p.0) = nets-of k nets p.0 counted p.1 in
         omega arith;
-    columns = λ k nets w at there.
-        let p = plain-at (tables_of d fed) ws plain k w at in
-        let w_is : w.columns ≡ length p.0.top + length (nets_of p.0) = ap (λ (v : Wiring). v.columns) p.2.stated in
-        let n_is : nets ≡ length (nets_of p.0) = nets-of k nets p.0 there p.1 in
+    columns = λ k nets w there counted.
+        let p = at k w there in
+        let w_is : length p.0.top + length (nets_of p.0) ≡ w.columns = ap (λ (v : Wiring). v.columns) p.2 in
+        let n_is : nets ≡ length (nets_of p.0) = nets-of k nets p.0 counted p.1 in
         let long : length p.0.top ≡ fed.width = tables.wide k p.0 p.1 in
         omega arith;
     width = width;
@@ -67,5 +69,5 @@ module _ (d : Netlist) (fed : Fed) (ws : List Wiring) (plain : ArePlain (tables_
       grid-of pins w is =
           All-weaker (Contains (elements w)) (IsOnGrid w.columns w.tracks) (λ e listed. (is.on_grid e listed).0) (elements w) (All-contains_itself (elements w))
 
-      nets-of : (k nets : ℕ) (p : Pins) → slice_get fed.nets k ≡ Some nets → slice_get (tables_of d fed) k ≡ Some p → nets ≡ length (nets_of p)
-      nets-of k nets p there at = same_Some nets (length (nets_of p)) (sym there ∙ tables.nets k p at)
+      nets-of : (k nets : ℕ) (p : Pins) → slice_get fed.nets k ≡ Some nets → slice_get channels k ≡ Some p → nets ≡ length (nets_of p)
+      nets-of k nets p counted listed = same_Some nets (length (nets_of p)) (sym counted ∙ tables.nets k p listed)

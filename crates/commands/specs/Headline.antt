@@ -9,16 +9,12 @@ use Rattle.design_model.specs.Netlist.{Netlist}
 use Rattle.netlist_core.specs.OnGrid.{on_grid}
 use Rattle.design_model.specs.SameNet.{SameNet}
 use Rattle.netlist_core.specs.SignalWords.{parent_calls, word_of}
-use Rattle.cif_text.specs.CifReads.{cif_reads}
-use Rattle.cif_text.specs.Meaning.{meaning}
-use Rattle.cif_text.specs.declared.command.Command.{Command}
+use Rattle.cif_text.specs.ReadsAs.{ReadsAs}
 
--- a text is a good layout of a design: it reads as commands of CIF, these mean a layout, and that is good for the design and the rules
+-- a text is a good layout of a design: it reads as commands of CIF that mean a layout, and that is good for the design and the rules
 pub record IsGoodText (rules : RuleValues) (d : Netlist) (text : List ℕ) : Type 0 where
-  pub commands : List Command
   pub layout : Layout
-  pub reads : cif_reads text ≡ Ok commands
-  pub means : meaning commands ≡ Ok layout
+  pub reads : ReadsAs text layout
   pub good : Good rules d layout
 
 -- a text is a good layout of what a file says: the file is a design on the grid, whose nets are its pins of equal signal words

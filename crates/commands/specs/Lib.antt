@@ -3,10 +3,8 @@ pub mod RowsWord
 pub mod RowCountView
 pub mod Command
 pub mod Seen
--- how many rows, their wirings, and the written text
+-- how many rows, the wirings of their channels, and the written text
 pub mod Rows
-pub mod Wirings
-pub mod LayoutText
 pub mod Text
 -- points that may refuse, the limits, what is not built yet, and the names in faults
 pub mod Refusing

@@ -3,13 +3,9 @@
 
 mod command;
 mod fault_name;
-mod feed_text;
-mod kind_text;
-mod layout_text;
 mod limits;
 mod line;
 mod outcome;
-mod printing;
 mod refusal;
 mod routed;
 mod rows_word;

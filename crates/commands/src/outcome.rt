@@ -7,6 +7,7 @@ ghost use Rattle.commands.specs.Status.{refusal_status};
 ghost use Rattle.commands.specs.Verdict.{design_refusal, file_verdict, rows_verdict, stated_rules, text_for};
 ghost use Rattle.std.specs.Prelude.{◌≡◌, ◌≢◌, ◌<◌, ◌≤◌, ◌+◌, ◌*◌, ◌-◌, ◌^◌, length, IfErr, IfOk};
 ghost use Rattle.yal_reader.specs.Kept.{HasAtMost, IsKept};
+ghost use Rattle.design_model.specs.Room.{HasRoom};
 
 use crate::fault_name::fault_name;
 use crate::limits::size_refusal;
@@ -15,7 +16,7 @@ use crate::routed::routed_text;
 use crate::rows_word::RowCount;
 use crate::unbuilt::is_unbuilt;
 use design_model::Design;
-use feed_cells::insert_feeds;
+use feed_cells::{insert_feeds, place};
 use netlist_core::{Count, DesignFault, to_design};
 use pin_assign::bound_of;
 use row_model::{default_rows, start};
@@ -53,7 +54,7 @@ fn rows_for(design: &Design, rules: &Rules, asked: Option<RowCount>) -> u32
 // The text of the layout of a design in so many rows, if that is built and within the limits.
 #[tactic(auto, unfolding(crate::specs::Verdict::rows_verdict, crate::specs::Text::text_of, crate::specs::Text::bound_for))]
 fn rows_text(alloc: Global, design: &Design, rules: &Rules, rows: u32) -> Result<Vec<u8>, Refusal>
-    requires high { 0 < length design.now.kinds → 2 * rules.now.grid_pin + rules.now.vertical_space ≤ design.now.height }
+    requires high { HasRoom rules.now design.now }
     requires some { 1 ≤ rows }
     requires few { rows ≤ 512 }
     ensures made { Answers (λ text. text.items) result (rows_verdict rules.now design.now rows) }
@@ -64,11 +65,12 @@ fn rows_text(alloc: Global, design: &Design, rules: &Rules, rows: u32) -> Result
         return Err(Refusal::Unbuilt);
     }
     let rows = start(alloc, design, rows)?;
-    let fed = insert_feeds(alloc, design, &rows)?;
+    let placement = place(alloc, design, &rows)?;
+    let fed = insert_feeds(alloc, design, &rows, &placement)?;
     if let Some(refusal) = size_refusal(bound_of(design, &fed, rules)) {
         return Err(refusal);
     }
-    let text = routed_text(alloc, design, &fed, rules)?;
+    let text = routed_text(alloc, design, &fed, &placement, rules)?;
     Ok(text)
 }
 

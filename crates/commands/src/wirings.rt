@@ -1,26 +1,22 @@
 //! The wirings of channels.
 
-ghost use Rattle.commands.specs.Wirings.{ArePlain, IsPlain};
-ghost use Rattle.std.specs.Prelude.{◌≡◌, IfOk};
+ghost use Rattle.channel_model.specs.Pins.{Pins};
+ghost use Rattle.channel_model.specs.Wired.{Wired};
+ghost use Rattle.plain_router.specs.Plain.{plain_of};
+ghost use Rattle.std.specs.Prelude.{◌≡◌, ℕ, map, Some, IfOk, slice_get};
 
 use channel_model::{Channel, Wiring};
 use plain_router::plain;
 use std::alloc::{AllocError, Global};
 
-// The plain wiring of a channel.
-fn route_channel(alloc: Global, channel: &Channel) -> Result<Wiring, AllocError>
-    ensures { IfOk result (λ wiring. IsPlain channel.now wiring) }
-{
-    plain(alloc, channel)
-}
-
-/// The wirings of all channels, in their order, by the plain router. The one error is want of memory.
+/// The wirings of all channels, in their order, by the plain router: each connects its channel. The one error is want of memory.
 pub fn route_channels(alloc: Global, channels: &[Channel]) -> Result<Vec<Wiring>, AllocError>
-    ensures { IfOk result (λ wirings. ArePlain channels.now wirings.items) }
+    ensures stated { IfOk result (λ wirings. wirings.items ≡ map plain_of channels.now) }
+    ensures wired { IfOk result (λ _. (k : ℕ) (pins : Pins) → slice_get channels.now k ≡ Some pins → Wired pins (plain_of pins)) }
 {
     let mut wirings = Vec::new(alloc);
     for channel in channels {
-        wirings.push(route_channel(alloc, channel)?)?;
+        wirings.push(plain(alloc, channel)?)?;
     }
     Ok(wirings)
 }

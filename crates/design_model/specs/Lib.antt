@@ -7,6 +7,8 @@ pub mod PinOrder
 pub mod SameNet
 -- the drawing of a cell kind
 pub mod Drawing
+-- the room that cells have for their pins
+pub mod Room
 -- the cells of a layout as the instances of a design
 pub mod CellsMatch
 -- shapes and pins that touching shapes join

@@ -1,6 +1,7 @@
 ghost use Rattle.design_model.specs.Drawing.{drawing_of, extent_of, middle_of, outline_shape, pin_high, pin_low, position_shape};
 ghost use Rattle.design_model.specs.Netlist.{IsKind};
 ghost use Rattle.design_model.specs.declared.design.CellKind.{CellKind as Kind};
+ghost use Rattle.design_model.specs.Room.{least_height};
 ghost use Rattle.std.specs.Prelude.{◌≡◌, ◌<◌, ◌≤◌, ◌+◌, ◌*◌, length, slice_get, IfOk};
 
 use crate::design::{CellKind, Design, Position};
@@ -18,7 +19,7 @@ pub fn drawing(
     kind: u32,
 ) -> Result<Vec<Shape>, AllocError>
     requires kind { kind < length design.now.kinds }
-    requires high { 2 * rules.now.grid_pin + rules.now.vertical_space ≤ design.now.height }
+    requires high { least_height rules.now ≤ design.now.height }
     ensures { IfOk result (λ shapes. (k : Kind) → slice_get design.now.kinds kind ≡ Some k → shapes.items ≡ drawing_of rules.now design.now.height k) }
 {
     shapes_of(
@@ -37,7 +38,7 @@ fn shapes_of(
     kind: &CellKind,
 ) -> Result<Vec<Shape>, AllocError>
     requires kind { IsKind kind.now }
-    requires high { 2 * rules.now.grid_pin + rules.now.vertical_space ≤ height }
+    requires high { least_height rules.now ≤ height }
     requires low { height ≤ 200000000 }
     ensures { IfOk result (λ shapes. shapes.items ≡ drawing_of rules.now height kind.now) }
 {
@@ -53,7 +54,7 @@ fn shapes_of(
 fn outline_shape(rules: &Rules, height: u32, kind: &CellKind) -> Shape
     requires some { 0 < kind.now.columns }
     requires few { kind.now.columns ≤ 100000000 }
-    requires high { 2 * rules.now.grid_pin + rules.now.vertical_space ≤ height }
+    requires high { least_height rules.now ≤ height }
     requires low { height ≤ 200000000 }
     ensures { result ≡ outline_shape rules.now height kind.now }
 {
@@ -73,7 +74,7 @@ fn outline_shape(rules: &Rules, height: u32, kind: &CellKind) -> Shape
 #[tactic(auto, unfolding(crate::specs::Drawing::position_shape))]
 fn position_shape(rules: &Rules, height: u32, position: Position) -> Shape
     requires column { position.column < 100000000 }
-    requires high { 2 * rules.now.grid_pin + rules.now.vertical_space ≤ height }
+    requires high { least_height rules.now ≤ height }
     requires low { height ≤ 200000000 }
     ensures { result ≡ position_shape rules.now height position }
 {

@@ -12,6 +12,7 @@ use Rattle.layout_laws.proofs.BareLaws.{IsBare, strip-lowered}
 use Rattle.layout_laws.proofs.RowLaws.{row-strip}
 use Rattle.layout_laws.proofs.SeatLaws.{SpotAt-none, LowerNet-one, UpperNet-one}
 use Rattle.layout_laws.proofs.StripLaws.{channel-strip, strip-on}
+use Rattle.design_model.specs.Room.{least_height}
 
 -- a channel is at least as high as one track, which holds the vertical space
 pub channel-tall : (r : RuleValues) → ValidRules r → (base : ℕ) (wiring : Wiring) → IsTall r (2 * base) (2 * (base + channel_height r wiring))
@@ -31,7 +32,7 @@ module _ (r : RuleValues) (valid : ValidRules r) (plan : Plan) (is : IsPlan r pl
   top_of_row k within = ap (λ (n : ℕ). 2 * n) (sym (is.next k within))
 
   -- a row that is high enough for its wires, as a strip
-  row_of : (k : ℕ) → k < plan.rows → 2 * r.grid_pin + r.vertical_space ≤ plan.height → Strip r (floor_of k) (ceiling_of k) (LowerNet (plan.seats k)) (UpperNet (plan.seats k)) (plan.row k)
+  row_of : (k : ℕ) → k < plan.rows → least_height r ≤ plan.height → Strip r (floor_of k) (ceiling_of k) (LowerNet (plan.seats k)) (UpperNet (plan.seats k)) (plan.row k)
   row_of k within tall =
       subst (λ (n : ℕ). Strip r (floor_of k) n (LowerNet (plan.seats k)) (UpperNet (plan.seats k)) (plan.row k)) (top_of_row k within)
       (row-strip r valid (row_base r plan k) plan.height tall (plan.seats k) (is.seated k within) (plan.row k) (is.spotted k within))
@@ -41,7 +42,7 @@ module _ (r : RuleValues) (valid : ValidRules r) (plan : Plan) (is : IsPlan r pl
   channel_of k within = channel-strip r valid (plan.pins k) (plan.wiring k) (is.wired k within) (plan.base k)
 
   -- and it is high enough for wires beyond its two edges
-  tall_row : (k : ℕ) → k < plan.rows → 2 * r.grid_pin + r.vertical_space ≤ plan.height → IsTall r (floor_of k) (ceiling_of k)
+  tall_row : (k : ℕ) → k < plan.rows → least_height r ≤ plan.height → IsTall r (floor_of k) (ceiling_of k)
   tall_row k within tall = omega (arith, is.next k within, tall)
 
   -- a row without seats has no wires, and no entries on its upper edge

@@ -14,6 +14,7 @@ use Rattle.layout_laws.specs.Strips.{Stays, Stay, Strip}
 use Rattle.layout_laws.specs.Uprights.{post_low, post_high, post_rect, IsSpotted, AreSpotted}
 use Rattle.layout_laws.proofs.SeatLaws.{feet-one, heads-one}
 use Rattle.layout_laws.proofs.StripLaws.{columns-apart}
+use Rattle.design_model.specs.Room.{least_height}
 
 -- the drawing of a spot stands in its column
 pub spotted-stands : (r : RuleValues) (base height : ℕ) (seats : List Seat) (a : Drawn) → (it : IsSpotted r base height seats a) → StandsIn r it.column a
@@ -23,7 +24,7 @@ spotted-stands r base height seats a it = record {
   right = ap (λ (e : Extent). e.x1) it.rect;
 }
 
-module _ (r : RuleValues) (valid : ValidRules r) (base height : ℕ) (tall : 2 * r.grid_pin + r.vertical_space ≤ height) where
+module _ (r : RuleValues) (valid : ValidRules r) (base height : ℕ) (tall : least_height r ≤ height) where
   -- a wire of a row is as wide and as long as its layer's rule says
   post_long : (post : Post) → post_low r base height post + 2 * r.vertical_width ≤ post_high r base height post
   post_long foot = omega (arith, valid.pin_vertical)

@@ -8,6 +8,7 @@ use Rattle.wire_geom.specs.Edges.{bottom_entry, top_entry}
 use Rattle.wire_geom.specs.declared.drawn.Drawn.{Drawn}
 use Rattle.layout_laws.specs.Seats.{Seat, IsSeat, LowerNet, UpperNet}
 use Rattle.layout_laws.specs.Uprights.{AreSpotted}
+use Rattle.design_model.specs.Room.{least_height}
 
 -- rows of one height and channels on one another, channel k below row k, and a last channel above: the lower edge of each channel in units, what stands in each row, and
 -- the rectangles of each row
@@ -44,7 +45,7 @@ plan_drawn r plan = drawn_to r plan plan.rows
 -- to that edge there
 pub record IsPlan (r : RuleValues) (plan : Plan) : Type 0 where
   pub wired : (k : ℕ) → k ≤ plan.rows → Wired (plan.pins k) (plan.wiring k)
-  pub tall : (k : ℕ) → k < plan.rows → (seat : Seat) → Contains (plan.seats k) seat → 2 * r.grid_pin + r.vertical_space ≤ plan.height
+  pub tall : (k : ℕ) → k < plan.rows → (seat : Seat) → Contains (plan.seats k) seat → least_height r ≤ plan.height
   pub next : (k : ℕ) → k < plan.rows → plan.base (suc k) ≡ row_base r plan k + plan.height
   pub seated : (k : ℕ) → k < plan.rows → (seat : Seat) → Contains (plan.seats k) seat → IsSeat seat
   pub spotted : (k : ℕ) → k < plan.rows → AreSpotted r (row_base r plan k) plan.height (plan.seats k) (plan.row k)

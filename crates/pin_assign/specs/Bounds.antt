@@ -1,5 +1,6 @@
 use Rattle.std.specs.Prelude.{ℕ, ◌+◌, ◌*◌, List, length, map, sum, fold, max}
 use Rattle.tech_rules.specs.Rules.{RuleValues}
+use Rattle.channel_model.specs.Limits.{most_extra, most_tracks}
 use Rattle.design_model.specs.Netlist.{Netlist}
 use Rattle.feed_cells.specs.Fed.{Fed}
 use Rattle.pin_assign.specs.declared.bound.Bound.{Bound}
@@ -8,15 +9,18 @@ use Rattle.pin_assign.specs.declared.bound.Bound.{Bound}
 abbrev pub most_nets : List ℕ → ℕ
 most_nets nets = fold max 0 nets
 
--- the height in units of channels with two tracks for each of their nets
+-- the height in units of channels with the most tracks that a router may take for their nets
 abbrev pub channels_height : RuleValues → List ℕ → ℕ
-channels_height r nets = sum (map (λ (n : ℕ). (2 * n + 1) * r.grid_track) nets)
+channels_height r nets = sum (map (λ (n : ℕ). (most_tracks n + 1) * r.grid_track) nets)
 
--- the width and the height in centimicrons, and the columns of all channels together, of a layout in which a channel of n nets has at most 2n tracks, and n columns
--- more than the widest row
+-- the columns of the widest row, and the most that a router may take beyond them
+abbrev pub channels_width : Fed → ℕ
+channels_width fed = fed.width + most_extra (most_nets fed.nets)
+
+-- the width and the height in centimicrons, and the columns of all channels together, of a layout whose router takes the most tracks and columns that it may
 unfoldable pub bound_of : RuleValues → Netlist → Fed → Bound
 bound_of r d fed = record {
-  width = (fed.width + most_nets fed.nets) * r.grid_column * r.grid_centi;
+  width = channels_width fed * r.grid_column * r.grid_centi;
   height = (length fed.rows * d.height + channels_height r fed.nets) * r.grid_centi;
-  grid = (length fed.rows + 1) * (fed.width + most_nets fed.nets);
+  grid = (length fed.rows + 1) * channels_width fed;
 }

@@ -9,9 +9,12 @@ use Rattle.feed_cells.specs.declared.fed.Item.{Item}
 use Rattle.list_facts.proofs.Every.{every-from-get}
 use Rattle.design_model.specs.Netlist.{Netlist, IsNetlist}
 use Rattle.tech_rules.specs.Rules.{ValidRules}
-use Rattle.channel_stack.specs.Stack.{stack_top}
+use Rattle.design_model.specs.Good.{Good}
+use Rattle.channel_stack.specs.Layouts.{layout_of}
+use Rattle.channel_stack.specs.Routed.{IsWithin}
+use Rattle.channel_stack.specs.Stack.{Stacked, stack_of, stack_top}
 use Rattle.channel_stack.proofs.GoodStack.{stack-good}
-use Rattle.channel_stack.proofs.Heights.{rows-fit, top-fits}
+use Rattle.channel_stack.proofs.Heights.{rows-fit, stack-within, top-fits}
 use Rattle.channel_stack.proofs.stacking.stack.Goals as goal
 
 pub channel_bases-requires : goal.channel_bases-requires
@@ -55,8 +58,22 @@ drawings-requires c =
     every-from-get (λ (w : Wiring). All (IsOnGrid w.columns w.tracks) (elements w)) c.args.wirings.now
     (λ (k : ℕ) (w : Wiring) (at : slice_get c.args.wirings.now k ≡ Some w). c.requires.routed.on_grid k w at)
 
+pub returns-clause-stacked : goal.returns-clause-stacked
+unfolding stack_of
+returns-clause-stacked c = search all_rules
+
+pub returns-clause-laid : goal.returns-clause-laid
+returns-clause-laid c = record { wirings = c.args.wirings.now; routed = c.requires.routed; is = returns-clause-stacked c }
+
+pub returns-clause-within : goal.returns-clause-within
+returns-clause-within c =
+    subst (IsWithin c.args.rules.now c.args.design.now c.args.fed.now c.args.wirings.now) (sym (returns-clause-stacked c))
+    (stack-within c.args.rules.now c.args.design.now c.args.fed.now c.args.wirings.now c.requires.fed c.requires.routed)
+
 pub returns-clause-good : goal.returns-clause-good
 returns-clause-good c =
     let valid : ValidRules c.args.rules.now = subst ValidRules c.rules.view_is c.rules.invariant in
     let is : IsNetlist c.args.design.now = subst IsNetlist c.design.view_is c.design.invariant.netlist in
-    λ room wired. stack-good c.args.rules.now valid c.args.design.now is room c.args.fed.now c.requires.fed c.args.wirings.now wired
+    λ room wired.
+    subst (λ (p : Stacked). Good c.args.rules.now c.args.design.now (layout_of c.args.rules.now c.args.design.now p)) (sym (returns-clause-stacked c))
+    (stack-good c.args.rules.now valid c.args.design.now is room c.args.fed.now c.requires.fed c.args.wirings.now wired)

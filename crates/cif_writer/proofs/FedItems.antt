@@ -1,0 +1,132 @@
+use Rattle.std.proofs.Common.{◌≡◌, ℕ, ◌<◌, ◌≤◌, ◌++◌, List, [], ◌∷◌, length, map, sum, Bool, true, false, ◌||◌, Some, Contains, ap, subst, ◌∙◌, refl, arith}
+use Rattle.std.proofs.lemmas.Bool.{both_ways}
+use Rattle.std.proofs.lemmas.Bool.Decides.{nat_tests}
+use Rattle.std.proofs.lemmas.List.Elements.{Contains-append_right, recursion_from_All}
+use Rattle.std.proofs.lemmas.List.Sums.{get_or-le-sum_by}
+use Rattle.std.proofs.lemmas.Option.{slice_get-get_or, slice_get_within}
+use Rattle.std.specs.List.{AllByRecursion, list_any}
+use Rattle.std.specs.Prelude.{◌==◌, slice_get, option_map}
+use Rattle.std.specs.Option.{option_and_then}
+use Rattle.list_facts.proofs.Every.{every-from-get, every-get}
+use Rattle.design_model.specs.Netlist.{Netlist, IsNetlist}
+use Rattle.design_model.specs.declared.design.CellKind.{CellKind}
+use Rattle.design_model.specs.declared.design.Inst.{Inst}
+use Rattle.design_model.specs.declared.design.Pin.{Pin}
+use Rattle.row_model.specs.Stands.{Stand, stand_of}
+use Rattle.row_model.specs.Widths.{kind_of, columns_of, width_of}
+use Rattle.row_model.specs.declared.rows.Seat.{Seat}
+use Rattle.row_model.proofs.PinLaws.{pin-within}
+use Rattle.row_model.proofs.PlacedLaws.{IsWithin, rows-within}
+use Rattle.row_model.proofs.StandLaws.{IsStand, stand-is, stand-there}
+use Rattle.row_model.proofs.WidthLaws.{at-place}
+use Rattle.feed_cells.specs.Fed.{Fed, IsFed, cells_in, fed_row, fed_rows, item_width, items_width, seats_in}
+use Rattle.feed_cells.specs.Standing.{Stands, seated, feeding}
+use Rattle.feed_cells.specs.declared.fed.Item.{Item}
+use Rattle.feed_cells.specs.declared.fed.Item.TheVariants.{Cell, Feed}
+use Rattle.feed_cells.proofs.FedLaws.{fed-row, fed-row-some, fed-width, item-stands, seat-stands}
+use Rattle.feed_cells.proofs.Members.{find-member, map-member, member-head}
+use Rattle.cif_writer.specs.Symbols.{is_feed, has_feed}
+
+-- a member of a list stands at a place of it
+place-of : {A : Type 0} (xs : List A) (x : A) → Contains xs x → (k : ℕ) × (slice_get xs k ≡ Some x)
+place-of xs x member = (member.0, slice_get-get_or xs member.0 x member.1 ∙ ap Some member.2)
+
+-- an item is at most as wide as its row
+item-narrow : (d : Netlist) (items : List Item) (item : Item) → Contains items item → item_width d item ≤ items_width d items
+item-narrow d items item member =
+    let widths : List ℕ = map (item_width d) items in
+    let width : Contains widths (item_width d item) = map-member (item_width d) items item member in
+    subst (λ (n : ℕ). n ≤ sum widths) width.2 (get_or-le-sum_by (λ (n : ℕ). n) widths width.0 (item_width d item) width.1)
+
+-- each instance is at most as wide as the widest row
+pub instance-narrow : (d : Netlist) (fed : Fed) → IsFed d fed → (instance : ℕ) → instance < length d.instances → columns_of d instance ≤ fed.width
+instance-narrow d fed is instance inside =
+    let rows : List (List Seat) = cells_in fed.rows in
+    let there : (stand : Stand) × (stand_of d rows instance ≡ Some stand) × (stand.row < length rows) = stand-there d rows instance is.placed inside in
+    let stand : IsStand d rows instance there.0 = stand-is d rows instance there.0 there.1 in
+    let seats : List Seat = stand.front ++ stand.seat ∷ stand.back in
+    let seat : Contains seats stand.seat = Contains-append_right stand.front (stand.seat ∷ stand.back) stand.seat (member-head stand.seat stand.back) in
+    let items : List Item = fed_row d rows there.0.row seats in
+    let row : slice_get (fed_rows d rows).rows there.0.row ≡ Some items =
+    fed-row d rows there.0.row ∙ ap (option_map (fed_row d rows there.0.row)) stand.at in
+    let wide : items_width d items ≤ (fed_rows d rows).width = fed-width d rows there.0.row items row in
+    let own : columns_of d stand.seat.instance ≤ items_width d items =
+    item-narrow d items (Cell stand.seat) (seat-stands d rows there.0.row seats stand.seat seat) in
+    let same : columns_of d stand.seat.instance ≡ columns_of d instance = ap (columns_of d) stand.own in
+    let width : fed.width ≡ (fed_rows d rows).width = ap (λ (f : Fed). f.width) is.is in
+    omega arith
+
+-- so is each kind, since an instance has it
+pub kinds-narrow : (d : Netlist) (fed : Fed) → IsNetlist d → IsFed d fed → AllByRecursion (λ (k : CellKind). k.columns ≤ fed.width) d.kinds
+kinds-narrow d fed good is = every-from-get (λ (k : CellKind). k.columns ≤ fed.width) d.kinds narrow
+  where
+    same-is : (a b : ℕ) → (a == b) ≡ true → a ≡ b
+    same-is a b test = grind (arith, nat_tests)
+
+    narrow : (n : ℕ) (k : CellKind) → slice_get d.kinds n ≡ Some k → k.columns ≤ fed.width
+    narrow n k at =
+        let called = find-member (λ (i : Inst). i.kind == n) d.instances (good.called n (slice_get_within d.kinds n k at)) in
+        let place : (m : ℕ) × (slice_get d.instances m ≡ Some called.0) = place-of d.instances called.0 called.1 in
+        let kind : kind_of d place.0 ≡ Some k =
+        ap (option_and_then (λ (i : Inst). slice_get d.kinds i.kind)) place.1
+        ∙ ap (slice_get d.kinds) (same-is called.0.kind n called.2) ∙ at in
+        let columns : columns_of d place.0 ≡ k.columns = ap width_of kind in
+        let wide : columns_of d place.0 ≤ fed.width = instance-narrow d fed is place.0 (slice_get_within d.instances place.0 called.0 place.1) in
+        omega arith
+
+-- a net has a pin, so that there is an instance and a kind
+net-kind : (d : Netlist) → IsNetlist d → (net : ℕ) → 0 < net → net ≤ length d.nets → 0 < length d.kinds
+net-kind d good net some few =
+    let used = find-member (λ (p : Pin). p.net == net) d.pins (good.used net some few) in
+    let place : (m : ℕ) × (slice_get d.pins m ≡ Some used.0) = place-of d.pins used.0 used.1 in
+    let instance : (i : Inst) × (slice_get d.instances used.0.instance ≡ Some i) =
+    at-place d.instances used.0.instance (pin-within d good place.0 used.0 place.1) in
+    let kind : instance.0.kind < length d.kinds =
+    every-get (λ (i : Inst). i.kind < length d.kinds) d.instances used.0.instance instance.0
+    (recursion_from_All (λ (i : Inst). i.kind < length d.kinds) d.instances good.instances) instance.1 in
+    omega arith
+
+-- where there is a feed there is a kind
+pub feed-kind : (d : Netlist) (fed : Fed) → IsNetlist d → IsFed d fed → has_feed fed.rows ≡ true → 0 < length d.kinds
+feed-kind d fed good is any =
+    let row = find-member (list_any is_feed) fed.rows any in
+    let item = find-member is_feed row.0 row.2 in
+    let place : (m : ℕ) × (slice_get fed.rows m ≡ Some row.0) = place-of fed.rows row.0 row.1 in
+    let seats = fed-row-some d (cells_in fed.rows) place.0 row.0 (subst (λ (f : Fed). slice_get f.rows place.0 ≡ Some row.0) is.is place.1) in
+    of item.0 item.2 place.0 seats.0 (item-stands d (cells_in fed.rows) place.0 seats.0 item.0 (subst (λ (items : List Item). Contains items item.0) seats.2 item.1))
+  where
+    of : (item : Item) → is_feed item ≡ true → (row : ℕ) (seats : List Seat) → Stands d (cells_in fed.rows) row seats item → 0 < length d.kinds
+    of item test row seats (seated s member same) = absurd (both_ways (is_feed item) (ap is_feed same) test)
+    of item test row seats (feeding net feed same) = net-kind d good net feed.some feed.few
+
+-- an item of rows of a design: a cell's instance is one of the design's, and a feed stands where there are feeds
+abbrev pub IsThere : Netlist → Bool → Item → Type 0
+IsThere d feeds (Cell s) = s.instance < length d.instances
+IsThere d feeds (Feed net) = feeds ≡ true
+
+or-first : (a b : Bool) → a ≡ true → (a || b) ≡ true
+or-first true b is = refl
+or-first false b is = absurd (both_ways false refl is)
+
+or-second : (a b : Bool) → b ≡ true → (a || b) ≡ true
+or-second true b is = refl
+or-second false b is = is
+
+row-there : (d : Netlist) (feeds : Bool) (items : List Item) → AllByRecursion (λ (s : Seat). s.instance < length d.instances) (seats_in items)
+    → (list_any is_feed items ≡ true → feeds ≡ true) → AllByRecursion (IsThere d feeds) items
+row-there d feeds [] all any = tt
+row-there d feeds (Cell s ∷ items) all any = (all.0, row-there d feeds items all.1 any)
+row-there d feeds (Feed net ∷ items) all any = (any refl, row-there d feeds items all (λ (more : list_any is_feed items ≡ true). any refl))
+
+rows-there : (d : Netlist) (feeds : Bool) (most : ℕ) (rows : List (List Item)) → AllByRecursion (IsWithin (length d.instances) most) (cells_in rows)
+    → (has_feed rows ≡ true → feeds ≡ true) → AllByRecursion (AllByRecursion (IsThere d feeds)) rows
+rows-there d feeds most [] all any = tt
+rows-there d feeds most (items ∷ rows) all any = (
+  row-there d feeds items all.0.0 (λ (first : list_any is_feed items ≡ true). any (or-first (list_any is_feed items) (has_feed rows) first)),
+  rows-there d feeds most rows all.1 (λ (other : has_feed rows ≡ true). any (or-second (list_any is_feed items) (has_feed rows) other)),
+)
+
+-- the items of rows with feeds are such
+pub items-there : (d : Netlist) (fed : Fed) → IsNetlist d → IsFed d fed → AllByRecursion (AllByRecursion (IsThere d (has_feed fed.rows))) fed.rows
+items-there d fed good is =
+    rows-there d (has_feed fed.rows) 20000 fed.rows (rows-within d (cells_in fed.rows) good is.placed) (λ (any : has_feed fed.rows ≡ true). any)

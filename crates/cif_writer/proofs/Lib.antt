@@ -1,0 +1,26 @@
+-- the text of commands, one part after another
+pub mod Lines
+-- drawings lie within reach
+pub mod Drawings
+-- the text of the symbol of feeds
+pub mod FeedLines
+-- the text of a placed design, channel behind row
+pub mod LayoutLines
+-- a worked text of a placed design, computed
+pub mod LayoutWorked
+-- boxes that are whole in centimicrons
+pub mod WholeBoxes
+-- symbols that can be written
+pub mod WritableSymbols
+-- rectangles of wirings that can be written
+pub mod WritableWires
+-- the items of rows with feeds
+pub mod FedItems
+-- what stands at the main level can be written
+pub mod WritableItems
+-- the layout of a routed design can be written
+pub mod Writable
+-- the symbols of kinds and feeds are found
+pub mod FoundSymbols
+-- what is written is the layout that a stack is
+pub mod WrittenStack

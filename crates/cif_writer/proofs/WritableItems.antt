@@ -1,0 +1,181 @@
+use Rattle.std.proofs.Common.{◌≡◌, ℕ, suc, pos, ◌+◌, ◌*◌, ◌<◌, ◌≤◌, ◌++◌, List, [], ◌∷◌, length, map, All, Bool, true, false, Option, Some, None, sym, ap, subst, ◌∙◌, refl, add-one, arith}
+use Rattle.std.proofs.Math.Nat.{mul-le-mul_right, mul_assoc}
+use Rattle.std.proofs.lemmas.List.{length-map}
+use Rattle.std.proofs.lemmas.List.Elements.{recursion_from_All}
+use Rattle.std.proofs.lemmas.Option.{slice_get-map}
+use Rattle.std.specs.List.{AllByRecursion}
+use Rattle.std.specs.Prelude.{slice_get, option_map}
+use Rattle.list_facts.proofs.Every.{every-append, every-get, every-map, every-weaker}
+use Rattle.tech_rules.specs.Rules.{RuleValues, ValidRules}
+use Rattle.geom_core.specs.Names.{IsName}
+use Rattle.design_model.specs.Netlist.{Netlist, IsNetlist}
+use Rattle.design_model.specs.declared.design.CellKind.{CellKind}
+use Rattle.design_model.specs.declared.design.Inst.{Inst}
+use Rattle.channel_model.specs.Elements.{elements}
+use Rattle.channel_model.specs.Wired.{IsOnGrid}
+use Rattle.channel_model.specs.declared.wiring.Wiring.{Wiring}
+use Rattle.pin_assign.proofs.WidthLaws.{width-more}
+use Rattle.row_model.proofs.WidthLaws.{at-place}
+use Rattle.wire_geom.specs.Drawing.{drawing}
+use Rattle.wire_geom.specs.declared.drawn.Drawn.{Drawn}
+use Rattle.feed_cells.specs.Fed.{item_width, items_width}
+use Rattle.feed_cells.specs.declared.fed.Item as items
+use Rattle.feed_cells.specs.declared.fed.Item.TheVariants.{Cell, Feed}
+use Rattle.geom_core.specs.declared.turn.Place.{Place}
+use Rattle.layout_laws.specs.Plans.{channel_height}
+use Rattle.cif_text.specs.Written as written
+use Rattle.cif_text.specs.WrittenLayout.{IsWhole, IsCopy, IsItem, symbol_at, symbols_from}
+use Rattle.cif_text.specs.Symbols.{symbol_of}
+use Rattle.cif_text.proofs.TextLemmas.{symbol_of-written}
+use Rattle.channel_stack.specs.Layouts.{feed_drawing}
+use Rattle.cif_writer.specs.Symbols.{symbol_for, feed_symbol, name_of, number_of, copy_of, copies_of, wires_of, items_of}
+use Rattle.channel_stack.specs.Stack.{channel_bases, row_bases, stack_top, drawings, placed_rows, placed_from, item_place, place_at, corner_column, is_mirrored}
+use Rattle.cif_writer.proofs.FedItems.{IsThere}
+use Rattle.channel_stack.proofs.ListParts.{get-before, get-behind}
+use Rattle.channel_stack.proofs.StackBounds.{channel-below}
+use Rattle.cif_writer.proofs.WholeBoxes.{near-of}
+use Rattle.cif_writer.proofs.WritableSymbols.{name-is}
+use Rattle.cif_writer.proofs.WritableWires.{IsWire, drawing-is}
+
+-- a wiring on its grid, of at most so many columns
+pub record IsLaid (columns : ℕ) (w : Wiring) : Type 0 where
+  pub narrow : w.columns ≤ columns
+  pub on_grid : All (IsOnGrid w.columns w.tracks) (elements w)
+
+-- a row of at most such a width, of items of the design
+pub record IsRow (d : Netlist) (feeds : Bool) (wide : ℕ) (row : List items.Item) : Type 0 where
+  pub narrow : items_width d row ≤ wide
+  pub there : AllByRecursion (IsThere d feeds) row
+
+-- the corner of an item lies between its edges
+corner-within : (mirror : Bool) (left width : ℕ) → corner_column mirror left width ≤ left + width
+corner-within true left width = omega arith
+corner-within false left width = omega arith
+
+-- a cell that fits with those behind it fits alone, and those fit behind it
+first-fits : (left w ws total wide : ℕ) → total ≡ w + ws → left + total ≤ wide → left + w ≤ wide
+first-fits left w ws total wide parted room = omega arith
+
+others-fit : (left w ws total wide : ℕ) → total ≡ w + ws → left + total ≤ wide → (left + w) + ws ≤ wide
+others-fit left w ws total wide parted room = omega arith
+
+module _ (r : RuleValues) (d : Netlist) (feeds : Bool) (valid : ValidRules r) (good : IsNetlist d) (wide high : ℕ)
+    (across : wide * r.grid_column * r.grid_centi ≤ 1000000000) (up : high * r.grid_centi ≤ 1000000000) where
+  abbrev symbols : List written.Drawn
+  symbols = map (symbol_for r d.height) d.kinds ++ feed_symbol r d.height feeds
+
+  -- the place of an item is whole in centimicrons
+  place-whole : (base : ℕ) (mirror : Bool) (column : ℕ) → base ≤ high → column ≤ wide → IsWhole (place_at r base mirror column)
+  place-whole base mirror column low narrow =
+      let units : column * r.grid_column ≤ wide * r.grid_column = mul-le-mul_right r.grid_column narrow in
+      let long : column * r.grid_column * r.grid_centi ≤ wide * r.grid_column * r.grid_centi = mul-le-mul_right r.grid_centi units in
+      let tall : base * r.grid_centi ≤ high * r.grid_centi = mul-le-mul_right r.grid_centi low in
+      record {
+        across = pos (column * r.grid_column * r.grid_centi);
+        up = pos (base * r.grid_centi);
+        across_is = ap pos (sym (mul_assoc 2 (column * r.grid_column) r.grid_centi));
+        up_is = ap pos (sym (mul_assoc 2 base r.grid_centi));
+        across_near = near-of (column * r.grid_column * r.grid_centi) (omega arith);
+        up_near = near-of (base * r.grid_centi) (omega arith);
+      }
+
+  -- an instance at a whole place is a copy of its kind's symbol
+  copy-is : (i : Inst) (place : Place) → i.kind < length d.kinds → IsName i.name → IsWhole place
+      → IsCopy (symbols_from 1 symbols) (Some i.name) (i.kind + 1) place
+  copy-is i place inside named whole =
+      let found : (k : CellKind) × (slice_get d.kinds i.kind ≡ Some k) = at-place d.kinds i.kind inside in
+      let drawn : slice_get (map (symbol_for r d.height) d.kinds) i.kind ≡ Some (symbol_for r d.height found.0) =
+      slice_get-map (symbol_for r d.height) d.kinds i.kind ∙ ap (option_map (symbol_for r d.height)) found.1 in
+      let among : slice_get symbols i.kind ≡ Some (symbol_for r d.height found.0) =
+      get-before (map (symbol_for r d.height) d.kinds) (feed_symbol r d.height feeds) i.kind (symbol_for r d.height found.0) drawn in
+      let few : length d.kinds < 4294967296 = good.few_kinds in
+      record {
+        number = record { high = omega arith };
+        symbol = symbol_at (suc i.kind) (symbol_for r d.height found.0);
+        found = ap (λ (m : ℕ). symbol_of m (symbols_from 1 symbols)) (add-one i.kind)
+            ∙ symbol_of-written i.kind symbols (symbol_for r d.height found.0) among;
+        named = name-is i.name named;
+        kind = refl;
+        whole = whole;
+      }
+
+  cell-is : (instance : ℕ) (place : Place) → instance < length d.instances → IsWhole place
+      → IsCopy (symbols_from 1 symbols) (name_of (slice_get d.instances instance)) (number_of (slice_get d.instances instance)) place
+  cell-is instance place inside whole =
+      let inst : (i : Inst) × (slice_get d.instances instance ≡ Some i) = at-place d.instances instance inside in
+      let kind : inst.0.kind < length d.kinds =
+      every-get (λ (i : Inst). i.kind < length d.kinds) d.instances instance inst.0
+      (recursion_from_All (λ (i : Inst). i.kind < length d.kinds) d.instances good.instances) inst.1 in
+      let name : IsName inst.0.name =
+      every-get (λ (i : Inst). IsName i.name) d.instances instance inst.0
+      (recursion_from_All (λ (i : Inst). IsName i.name) d.instances good.instance_names) inst.1 in
+      subst (λ (o : Option Inst). IsCopy (symbols_from 1 symbols) (name_of o) (number_of o) place) (sym inst.1) (copy-is inst.0 place kind name whole)
+
+  -- a feed at a whole place is a copy of the feeds' symbol, which is the last
+  feed-is : (place : Place) → feeds ≡ true → IsWhole place → IsCopy (symbols_from 1 symbols) None (length d.kinds + 1) place
+  feed-is place some whole =
+      let kinds : List written.Drawn = map (symbol_for r d.height) d.kinds in
+      let feed : written.Drawn = record { name = None; shapes = feed_drawing r d.height } in
+      let count : length kinds ≡ length d.kinds = length-map d.kinds (symbol_for r d.height) in
+      let last : slice_get symbols (length d.kinds) ≡ Some feed =
+      ap (λ (b : Bool). slice_get (kinds ++ feed_symbol r d.height b) (length d.kinds)) some
+      ∙ get-behind kinds (feed ∷ []) (length d.kinds) 0 (omega arith) in
+      let few : length d.kinds < 4294967296 = good.few_kinds in
+      record {
+        number = record { high = omega arith };
+        symbol = symbol_at (suc (length d.kinds)) feed;
+        found = ap (λ (m : ℕ). symbol_of m (symbols_from 1 symbols)) (add-one (length d.kinds))
+            ∙ symbol_of-written (length d.kinds) symbols feed last;
+        named = tt;
+        kind = tt;
+        whole = whole;
+      }
+
+  item-is : (item : items.Item) (place : Place) → IsThere d feeds item → IsWhole place → IsItem (symbols_from 1 symbols) (copy_of d item place)
+  item-is (Cell s) place there whole = cell-is s.instance place there whole
+  item-is (Feed net) place there whole = feed-is place there whole
+
+  -- the items of a row are copies of symbols
+  copies-are : (base left : ℕ) (row : List items.Item) → base ≤ high → left + items_width d row ≤ wide → AllByRecursion (IsThere d feeds) row
+      → AllByRecursion (IsItem (symbols_from 1 symbols)) (copies_of d (placed_from r d base left row))
+  copies-are base left [] low room there = tt
+  copies-are base left (item ∷ row) low room there =
+      let width : ℕ = item_width d item in
+      let more : items_width d (item ∷ row) ≡ item_width d item + items_width d row = width-more d item row in
+      let first : left + item_width d item ≤ wide = first-fits left (item_width d item) (items_width d row) (items_width d (item ∷ row)) wide more room in
+      let corner : corner_column (is_mirrored item) left (item_width d item) ≤ left + item_width d item = corner-within (is_mirrored item) left (item_width d item) in
+      let column : corner_column (is_mirrored item) left (item_width d item) ≤ wide = omega arith in (
+        item-is item (item_place r d base left item) there.0
+            (place-whole base (is_mirrored item) (corner_column (is_mirrored item) left (item_width d item)) low column),
+        copies-are base (left + item_width d item) row low
+            (others-fit left (item_width d item) (items_width d row) (items_width d (item ∷ row)) wide more room) there.1,
+      )
+
+  module _ (columns : ℕ) (channels : columns * r.grid_column * r.grid_centi ≤ 1000000000) where
+    wires-are : (base : ℕ) (w : Wiring) → base + channel_height r w ≤ high → IsLaid columns w
+        → AllByRecursion (IsItem (symbols_from 1 symbols)) (wires_of (drawing r base w))
+    wires-are base w low laid =
+        every-map (IsItem (symbols_from 1 symbols)) (λ (a : Drawn). written.alone a.shape) (drawing r base w)
+        (every-weaker IsWire (λ (a : Drawn). IsItem (symbols_from 1 symbols) (written.alone a.shape)) (λ (a : Drawn) (wire : IsWire a). wire.written)
+        (drawing r base w) (drawing-is r valid columns high channels up base w laid.narrow low laid.on_grid))
+
+    -- rows and channels on one another are items that can be written
+    pub items-are : (base : ℕ) (ws : List Wiring) (rows : List (List items.Item)) → stack_top r d.height base ws ≤ high
+        → AllByRecursion (IsLaid columns) ws → AllByRecursion (IsRow d feeds wide) rows
+        → AllByRecursion (IsItem (symbols_from 1 symbols))
+        (items_of d (drawings r ws (channel_bases r d.height base ws)) (placed_rows r d rows (row_bases r d.height base ws)))
+    items-are base [] rows low laid fit = tt
+    items-are base (w ∷ []) [] low laid fit = wires-are base w low laid.0
+    items-are base (w ∷ []) (row ∷ rows) low laid fit = wires-are base w low laid.0
+    items-are base (w ∷ (v ∷ ws)) [] low laid fit = wires-are base w (omega (arith, channel-below r d.height base w (v ∷ ws))) laid.0
+    items-are base (w ∷ (v ∷ ws)) (row ∷ rows) low laid fit =
+        let edge : base + channel_height r w ≤ high = omega (arith, channel-below r d.height base w (v ∷ ws)) in
+        let next : ℕ = base + channel_height r w + d.height in
+        every-append (IsItem (symbols_from 1 symbols)) (wires_of (drawing r base w))
+        (copies_of d (placed_from r d (base + channel_height r w) 0 row)
+        ++ items_of d (drawings r (v ∷ ws) (channel_bases r d.height next (v ∷ ws))) (placed_rows r d rows (row_bases r d.height next (v ∷ ws))))
+        (wires-are base w edge laid.0)
+        (every-append (IsItem (symbols_from 1 symbols)) (copies_of d (placed_from r d (base + channel_height r w) 0 row))
+        (items_of d (drawings r (v ∷ ws) (channel_bases r d.height next (v ∷ ws))) (placed_rows r d rows (row_bases r d.height next (v ∷ ws))))
+        (copies-are (base + channel_height r w) 0 row edge (omega (arith, fit.0.narrow)) fit.0.there)
+        (items-are next (v ∷ ws) rows low laid.1 fit.1))

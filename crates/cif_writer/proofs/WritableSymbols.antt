@@ -1,0 +1,186 @@
+use Rattle.std.proofs.Common.{◌≡◌, ℕ, ◌+◌, ◌-◌, ◌*◌, ◌<◌, ◌≤◌, List, [], ◌∷◌, length, map, Bool, true, false, refl, add-mul, arith}
+use Rattle.std.proofs.Math.Nat.{mul-le-mul, mul-le-mul_right}
+use Rattle.std.proofs.lemmas.Bool.Decides.{nat_tests}
+use Rattle.std.proofs.lemmas.Int.{ints}
+use Rattle.std.proofs.lemmas.List.Elements.{recursion_from_All}
+use Rattle.std.specs.List.{AllByRecursion, list_all}
+use Rattle.std.specs.Prelude.{pos, nat_le}
+use Rattle.geom_core.specs.Reach.{IsInReach, IsShapeInReach}
+use Rattle.tech_rules.specs.Rules.{RuleValues, ValidRules, pad}
+use Rattle.geom_core.specs.Names.{IsName, is_name_byte}
+use Rattle.design_model.specs.Drawing.{outline_shape, position_shape, middle_of, pin_low, pin_high}
+use Rattle.design_model.specs.Netlist.{IsKind, IsPosition}
+use Rattle.design_model.specs.declared.design.CellKind.{CellKind}
+use Rattle.design_model.specs.declared.design.Position.{Position}
+use Rattle.design_model.specs.Room.{least_height}
+use Rattle.cif_text.specs.Printable.{IsNameText}
+use Rattle.cif_text.specs.WrittenLayout.{IsShape, IsDrawn}
+use Rattle.cif_text.proofs.SpanLemmas.{and-both}
+use Rattle.cif_text.proofs.TextLemmas.{name-shown}
+use Rattle.channel_stack.specs.Layouts.{feed_outline, feed_wire, feed_drawing}
+use Rattle.cif_writer.specs.Symbols.{symbol_for, feed_symbol}
+use Rattle.cif_writer.proofs.WholeBoxes.{box-whole, halves-near}
+
+-- a word of YAL can be a name
+pub name-is : (text : List ℕ) → IsName text → IsNameText text
+name-is text named =
+    let parts : (nat_le 1 (length text) ≡ true) × (list_all is_name_byte text ≡ true) =
+    and-both (nat_le 1 (length text)) (list_all is_name_byte text) named in
+    let test : nat_le 1 (length text) ≡ true = parts.0 in
+    let some : 1 ≤ length text = grind (arith, nat_tests) in
+    name-shown text some parts.1
+
+-- a column ends within the columns
+column-inside : (column columns pitch : ℕ) → column < columns → column * pitch + 1 * pitch ≤ columns * pitch
+column-inside column columns pitch inside =
+    let next : column + 1 ≤ columns = omega arith in
+    let product : (column + 1) * pitch ≤ columns * pitch = mul-le-mul_right pitch next in
+    let parted : (column + 1) * pitch ≡ column * pitch + 1 * pitch = add-mul column 1 pitch in
+    omega arith
+
+-- a pin in the middle of a column that ends within the columns ends there too
+pin-within : (product columns pitch width wide : ℕ) → product + 1 * pitch ≤ columns → columns ≤ wide → width ≤ pitch → (2 * product + pitch) + width ≤ 2 * wide
+pin-within product columns pitch width wide inside within narrow = omega arith
+
+-- a pin's lower end is below its upper one, and that within the height
+pin-rises : (pin space height : ℕ) (top : Bool) → 1 ≤ pin → 2 * pin + space ≤ height → pin_low pin height top < pin_high pin height top
+pin-rises pin space height true some tall = omega arith
+pin-rises pin space height false some tall = omega arith
+
+pin-low-enough : (pin space height : ℕ) (top : Bool) → 2 * pin + space ≤ height → pin_high pin height top ≤ 2 * height
+pin-low-enough pin space height true tall = omega arith
+pin-low-enough pin space height false tall = omega arith
+
+-- a vertical wire is no wider than a column
+pub wire-narrow : (r : RuleValues) → ValidRules r → r.vertical_width ≤ r.grid_column
+wire-narrow r valid =
+    let first : r.vertical_width ≤ pad r = valid.pad_vertical in
+    let second : pad r + r.vertical_space ≤ r.grid_column = valid.column_vertical in
+    omega arith
+
+module _ (r : RuleValues) (height wide : ℕ) (valid : ValidRules r)
+    (across : wide * r.grid_column * r.grid_centi ≤ 1000000000) (up : height * r.grid_centi ≤ 1000000000) where
+  -- the outline of a kind of a design within the limits is a shape that can be written
+  outline-is : (k : CellKind) → IsKind k → k.columns ≤ wide → least_height r ≤ height → IsShape (outline_shape r height k)
+  unfolding outline_shape
+  outline-is k is within tall =
+      let some : 0 < k.columns = is.some in
+      let pitch : 2 ≤ r.grid_column = valid.ranges.grid_column.0 in
+      let pin : 1 ≤ r.grid_pin = valid.ranges.grid_pin.0 in
+      let positive : 1 * 2 ≤ k.columns * r.grid_column = mul-le-mul some pitch in
+      let inside : k.columns * r.grid_column ≤ wide * r.grid_column = mul-le-mul_right r.grid_column within in
+      record {
+        layer = valid.ranges.outline_layer;
+        box = box-whole r.grid_centi 0 0 (2 * (k.columns * r.grid_column)) (2 * height) valid.whole_centi valid.ranges.grid_centi.0
+            (omega arith) (omega arith)
+            (halves-near (wide * r.grid_column) r.grid_centi (2 * (k.columns * r.grid_column)) across (omega arith))
+            (halves-near height r.grid_centi (2 * height) up (omega arith));
+      }
+
+  -- so is a pin
+  position-is : (k : CellKind) (p : Position) → IsPosition k p → k.columns ≤ wide → least_height r ≤ height
+      → IsShape (position_shape r height p)
+  unfolding position_shape
+  position-is k p at within tall =
+      let narrow : r.vertical_width ≤ r.grid_column = wire-narrow r valid in
+      let some : 1 ≤ r.vertical_width = valid.ranges.vertical_width.0 in
+      let inside : k.columns * r.grid_column ≤ wide * r.grid_column = mul-le-mul_right r.grid_column within in
+      let reach : middle_of r.grid_column p.column + r.vertical_width ≤ 2 * (wide * r.grid_column) =
+      pin-within (p.column * r.grid_column) (k.columns * r.grid_column) r.grid_column r.vertical_width (wide * r.grid_column)
+      (column-inside p.column k.columns r.grid_column at.column) inside narrow in
+      record {
+        layer = valid.ranges.vertical_layer;
+        box = box-whole r.grid_centi
+            (middle_of r.grid_column p.column - r.vertical_width) (pin_low r.grid_pin height p.top)
+            (middle_of r.grid_column p.column + r.vertical_width) (pin_high r.grid_pin height p.top) valid.whole_centi valid.ranges.grid_centi.0
+            (omega arith) (pin-rises r.grid_pin r.vertical_space height p.top valid.ranges.grid_pin.0 tall)
+            (halves-near (wide * r.grid_column) r.grid_centi (middle_of r.grid_column p.column + r.vertical_width) across reach)
+            (halves-near height r.grid_centi (pin_high r.grid_pin height p.top) up (pin-low-enough r.grid_pin r.vertical_space height p.top tall));
+      }
+
+  positions-are : (k : CellKind) → k.columns ≤ wide → least_height r ≤ height
+      → (ps : List Position) → AllByRecursion (IsPosition k) ps → AllByRecursion IsShape (map (position_shape r height) ps)
+  positions-are k within tall [] all = tt
+  positions-are k within tall (p ∷ ps) all = (position-is k p all.0 within tall, positions-are k within tall ps all.1)
+
+  -- so are a kind's symbol, and those of all kinds
+  symbol-is : (k : CellKind) → IsKind k → k.columns ≤ wide → least_height r ≤ height → IsDrawn (symbol_for r height k)
+  symbol-is k is within tall = record {
+    name = name-is k.name is.name;
+    shapes = (outline-is k is within tall, positions-are k within tall k.positions (recursion_from_All (IsPosition k) k.positions is.positions));
+  }
+
+  pub kinds-are : (ks : List CellKind) → AllByRecursion (λ (k : CellKind). k.columns ≤ wide) ks → AllByRecursion IsKind ks
+      → (0 < length ks → least_height r ≤ height) → AllByRecursion IsDrawn (map (symbol_for r height) ks)
+  kinds-are [] within all tall = tt
+  kinds-are (k ∷ ks) within all tall =
+      let high : least_height r ≤ height = tall (omega arith) in
+      (symbol-is k all.0 within.0 high, kinds-are ks within.1 all.1 (λ (some : 0 < length ks). high))
+
+module _ (r : RuleValues) (height : ℕ) (valid : ValidRules r) (up : height * r.grid_centi ≤ 1000000000) where
+  -- one column is narrow
+  column-near : 1 * r.grid_column * r.grid_centi ≤ 1000000000
+  column-near =
+      let pitch : 1 * r.grid_column ≤ 1000 = let most : r.grid_column ≤ 1000 = valid.ranges.grid_column.1 in omega arith in
+      let fine : r.grid_centi ≤ 1000 = valid.ranges.grid_centi.1 in
+      let product : 1 * r.grid_column * r.grid_centi ≤ 1000 * 1000 = mul-le-mul pitch fine in
+      omega arith
+
+  -- the shapes of a feed can be written where rows have a height
+  feed-outline-is : 0 < height → IsShape (feed_outline r height)
+  feed-outline-is tall =
+      let pitch : 2 ≤ r.grid_column = valid.ranges.grid_column.0 in
+      record {
+        layer = valid.ranges.outline_layer;
+        box = box-whole r.grid_centi 0 0 (2 * r.grid_column) (2 * height) valid.whole_centi valid.ranges.grid_centi.0
+            (omega arith) (omega arith)
+            (halves-near (1 * r.grid_column) r.grid_centi (2 * r.grid_column) column-near (omega arith))
+            (halves-near height r.grid_centi (2 * height) up (omega arith));
+      }
+
+  feed-wire-is : 0 < height → IsShape (feed_wire r height)
+  feed-wire-is tall =
+      let narrow : r.vertical_width ≤ r.grid_column = wire-narrow r valid in
+      let some : 1 ≤ r.vertical_width = valid.ranges.vertical_width.0 in
+      record {
+        layer = valid.ranges.vertical_layer;
+        box = box-whole r.grid_centi (middle_of r.grid_column 0 - r.vertical_width) 0 (middle_of r.grid_column 0 + r.vertical_width) (2 * height)
+            valid.whole_centi valid.ranges.grid_centi.0
+            (omega arith) (omega arith)
+            (halves-near (1 * r.grid_column) r.grid_centi (middle_of r.grid_column 0 + r.vertical_width) column-near (omega arith))
+            (halves-near height r.grid_centi (2 * height) up (omega arith));
+      }
+
+  pub feed-are : (feeds : Bool) → (feeds ≡ true → 0 < height) → AllByRecursion IsDrawn (feed_symbol r height feeds)
+  unfolding feed_drawing
+  feed-are false tall = tt
+  feed-are true tall = (record { name = tt; shapes = (feed-outline-is (tall refl), (feed-wire-is (tall refl), tt)) }, tt)
+
+-- the rectangles of a feed are in reach
+pub feed-reach : (r : RuleValues) (height : ℕ) → ValidRules r → height ≤ 200000000 → AllByRecursion IsShapeInReach (feed_drawing r height)
+unfolding feed_drawing
+feed-reach r height valid low = (
+  record {
+    x0 = reach-scaled 0 r.grid_centi (omega arith) fine;
+    y0 = reach-scaled 0 r.grid_centi (omega arith) fine;
+    x1 = reach-scaled (2 * r.grid_column) r.grid_centi (omega (arith, valid.ranges.grid_column.1)) fine;
+    y1 = reach-scaled (2 * height) r.grid_centi (omega arith) fine;
+  },
+  (
+    record {
+      x0 = reach-scaled (middle_of r.grid_column 0 - r.vertical_width) r.grid_centi (omega (arith, valid.ranges.grid_column.1)) fine;
+      y0 = reach-scaled 0 r.grid_centi (omega arith) fine;
+      x1 = reach-scaled (middle_of r.grid_column 0 + r.vertical_width) r.grid_centi (omega (arith, valid.ranges.grid_column.1, valid.ranges.vertical_width.1)) fine;
+      y1 = reach-scaled (2 * height) r.grid_centi (omega arith) fine;
+    },
+    tt,
+  ),
+)
+  where
+    fine : r.grid_centi ≤ 1000
+    fine = valid.ranges.grid_centi.1
+
+    reach-scaled : (x centi : ℕ) → x ≤ 1000000000000 → centi ≤ 1000 → IsInReach (pos (x * centi))
+    reach-scaled x centi small few =
+        let product : x * centi ≤ 1000000000000 * 1000 = mul-le-mul small few in
+        record { low = omega (arith, ints); high = omega (arith, ints) }
