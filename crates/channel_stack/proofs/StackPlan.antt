@@ -17,7 +17,7 @@ use Rattle.feed_cells.specs.Standing.{Stands, seated, feeding}
 use Rattle.feed_cells.specs.declared.fed.Item.{Item}
 use Rattle.feed_cells.proofs.FedLaws.{fed-row-some, item-stands}
 use Rattle.feed_cells.proofs.Members.{find-member, map-cases}
-use Rattle.pin_assign.proofs.ChannelTables.{image-at}
+use Rattle.feed_cells.proofs.NetTableLaws.{image-at}
 use Rattle.pin_assign.specs.Tables.{table_of}
 use Rattle.layout_laws.specs.Plans.{IsPlan, channel_height}
 use Rattle.layout_laws.specs.Seats.{Seat, IsSeat, SpotAt}
