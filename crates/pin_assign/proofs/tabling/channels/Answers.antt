@@ -1,4 +1,4 @@
-use Rattle.std.proofs.Common.{rules, subst, sym}
+use Rattle.std.proofs.Common.{rules, subst}
 use Rattle.design_model.specs.Netlist.{IsNetlist}
 use Rattle.pin_assign.specs.ChannelTables.{AreTablesFor}
 use Rattle.pin_assign.proofs.ChannelTables.{fed-tables}
