@@ -168,16 +168,16 @@ module _ (d : Netlist) (fed : Fed) (placed : ArePlaced d (cells_in fed.rows)) wh
 pub known-drawn : (r : RuleValues) → ValidRules r → (d : Netlist) → HasRoom r d → (s : Seat)
     → (known : KnownCell d s) → (base left : ℕ)
     → map (moved_shape (turn_at (item_place r d base left (Cell s)))) (drawing_of r d.height known.kind)
-    ≡ map (λ (a : Drawn). a.shape) (seat_drawn r base d.height left (seat_of d (Cell s)))
+    ≡ map (λ (a : Drawn). a.shape) (seat_drawn r base d.height left (seat_of r d (Cell s)))
 known-drawn r valid d room s known base left =
     let some : 0 < length d.kinds = (let w = slice_get_within d.kinds known.inst.kind known.kind known.is_kind in omega arith) in
     let high : r.grid_pin ≤ d.height = (let h = room some in omega arith) in
-    cell-drawn r valid d.height high d s known.kind base left known.is_kind_of
+    cell-drawn r valid d high s known.kind base left known.is_kind_of
     (All-weaker (IsPosition known.kind) (λ (p : Position). p.column < known.kind.columns) (λ p is. is.column) known.kind.positions known.good.positions)
 
 -- the shapes of an item are those of its seat
 pub item-drawn : (r : RuleValues) → ValidRules r → (d : Netlist) → HasRoom r d → (item : Item) → IsKnown d item → (base left : ℕ)
-    → item_shapes r d (record { item = item; place = item_place r d base left item }) ≡ map (λ (a : Drawn). a.shape) (seat_drawn r base d.height left (seat_of d item))
+    → item_shapes r d (record { item = item; place = item_place r d base left item }) ≡ map (λ (a : Drawn). a.shape) (seat_drawn r base d.height left (seat_of r d item))
 item-drawn r valid d room (Cell s) known base left =
     ap (λ (o : Option CellKind). map (moved_shape (turn_at (item_place r d base left (Cell s)))) (kind_drawing r d.height o)) known.is_kind_of
     ∙ known-drawn r valid d room s known base left

@@ -74,20 +74,20 @@ module _ (r : RuleValues) (valid : ValidRules r) (d : Netlist) (room : HasRoom r
   cell_in base left s known first = cell_at r d.height known.inst known.kind (item_place r d base left (Cell s)) first
 
   abbrev own_of : ℕ → ℕ → Seat → List Drawn
-  own_of base left s = seat_drawn r base d.height left (seat_of d (Cell s))
+  own_of base left s = seat_drawn r base d.height left (seat_of r d (Cell s))
 
   -- an item is as wide as its seat
-  same_left : (item : Item) (left : ℕ) → left + item_width d item ≡ left + (seat_of d item).width
+  same_left : (item : Item) (left : ℕ) → left + item_width d item ≡ left + (seat_of r d item).width
   same_left (Cell s) left = refl
   same_left (Feed net) left = refl
 
   -- the cell of a row behind these items
   row-stood : (front : List Item) (s : Seat) (back : List Item) → AllByRecursion (IsKnown d) (front ++ Cell s ∷ back) → (known : KnownCell d s)
       → (first base left at : ℕ) → left + items_width d front ≡ at
-      → Stood (row_cells r d first (placed_from r d base left (front ++ Cell s ∷ back))) first (row_drawn r base d.height left (map (seat_of d) (front ++ Cell s ∷ back)))
+      → Stood (row_cells r d first (placed_from r d base left (front ++ Cell s ∷ back))) first (row_drawn r base d.height left (map (seat_of r d) (front ++ Cell s ∷ back)))
       (cell_in base at s known) (own_of base at s)
   row-stood [] s back all known first base left at there =
-      subst (λ (n : ℕ). Stood (row_cells r d first (placed_from r d base left (Cell s ∷ back))) first (row_drawn r base d.height left (map (seat_of d) (Cell s ∷ back)))
+      subst (λ (n : ℕ). Stood (row_cells r d first (placed_from r d base left (Cell s ∷ back))) first (row_drawn r base d.height left (map (seat_of r d) (Cell s ∷ back)))
       (cell_in base n s known) (own_of base n s)) (let e : left ≡ at = omega arith in e)
       (record {
         number = 0;
@@ -96,7 +96,7 @@ module _ (r : RuleValues) (valid : ValidRules r) (d : Netlist) (room : HasRoom r
             ap (λ (l : List layouts.Cell). slice_get (l ++ row_cells r d (first + length (item_shapes r d (record { item = Cell s; place = item_place r d base left (Cell s) })))
             (placed_from r d base (left + item_width d (Cell s)) back)) 0) (one-cell r d first s (item_place r d base left (Cell s)) known)
             ∙ ap (λ (n : ℕ). Some (cell_in base left s known n)) (omega arith);
-        part = record { before = []; after = row_drawn r base d.height (left + item_width d (Cell s)) (map (seat_of d) back); is = refl; at = refl };
+        part = record { before = []; after = row_drawn r base d.height (left + item_width d (Cell s)) (map (seat_of r d) back); is = refl; at = refl };
       })
   row-stood (item ∷ front) s back all known first base left at there =
       let items : List Item = front ++ Cell s ∷ back in
@@ -104,12 +104,12 @@ module _ (r : RuleValues) (valid : ValidRules r) (d : Netlist) (room : HasRoom r
       let wide : items_width d (item ∷ front) ≡ item_width d item + items_width d front =
       sum_by-cons (λ (n : ℕ). n) (item_width d item) (map (item_width d) front) in
       let placed : PlacedItem = record { item = item; place = item_place r d base left item } in
-      let own : List Drawn = seat_drawn r base d.height left (seat_of d item) in
+      let own : List Drawn = seat_drawn r base d.height left (seat_of r d item) in
       let even : length (item_shapes r d placed) ≡ length own = even-of (item_shapes r d placed) own (item-drawn r valid d room item all.0 base left) in
       let behind : ℕ = first + length (item_shapes r d placed) in
       stood-right (row_cells r d behind (placed_from r d base next items)) (item_cells r d first item placed.place) first behind
-      (row_drawn r base d.height (left + (seat_of d item).width) (map (seat_of d) items)) own (cell_in base at s known) (own_of base at s) (omega arith)
-      (subst (λ (n : ℕ). Stood (row_cells r d behind (placed_from r d base next items)) behind (row_drawn r base d.height n (map (seat_of d) items))
+      (row_drawn r base d.height (left + (seat_of r d item).width) (map (seat_of r d) items)) own (cell_in base at s known) (own_of base at s) (omega arith)
+      (subst (λ (n : ℕ). Stood (row_cells r d behind (placed_from r d base next items)) behind (row_drawn r base d.height n (map (seat_of r d) items))
       (cell_in base at s known) (own_of base at s))
       (same_left item left) (row-stood front s back all.1 known behind base next at (omega arith)))
 
@@ -132,17 +132,17 @@ module _ (r : RuleValues) (valid : ValidRules r) (d : Netlist) (room : HasRoom r
       (drawings r (v ∷ ws) (channel_bases r d.height next (v ∷ ws))) (placed_rows r d rows (row_bases r d.height next (v ∷ ws))) in
       let cell : ℕ → layouts.Cell = cell_in floor (items_width d front) s known in
       let own : List Drawn = own_of floor (items_width d front) s in
-      let row : Stood (row_cells r d behind placed) behind (row_drawn r floor d.height 0 (map (seat_of d) items)) cell own =
-      subst (λ (l : List Item). Stood (row_cells r d behind (placed_from r d floor 0 l)) behind (row_drawn r floor d.height 0 (map (seat_of d) l)) cell own) (sym is)
+      let row : Stood (row_cells r d behind placed) behind (row_drawn r floor d.height 0 (map (seat_of r d) items)) cell own =
+      subst (λ (l : List Item). Stood (row_cells r d behind (placed_from r d floor 0 l)) behind (row_drawn r floor d.height 0 (map (seat_of r d) l)) cell own) (sym is)
       (row-stood front s back (subst (AllByRecursion (IsKnown d)) is all.0) known behind floor 0 (items_width d front) (omega arith)) in
-      stood-right (row_cells r d behind placed ++ above) [] first behind (row_drawn r floor d.height 0 (map (seat_of d) items) ++ levels r d next (v ∷ ws) rows) wires cell own refl
-      (stood-left (row_cells r d behind placed) above behind (row_drawn r floor d.height 0 (map (seat_of d) items)) (levels r d next (v ∷ ws) rows) cell own row)
+      stood-right (row_cells r d behind placed ++ above) [] first behind (row_drawn r floor d.height 0 (map (seat_of r d) items) ++ levels r d next (v ∷ ws) rows) wires cell own refl
+      (stood-left (row_cells r d behind placed) above behind (row_drawn r floor d.height 0 (map (seat_of r d) items)) (levels r d next (v ∷ ws) rows) cell own row)
   stack-stood first base (w ∷ (v ∷ ws)) (items ∷ rows) each all (suc k) front s back at known =
       let floor : ℕ = base + channel_height r w in
       let next : ℕ = floor + d.height in
       let wires : List Drawn = drawing r base w in
       let placed : List PlacedItem = placed_from r d floor 0 items in
-      let row : List Drawn = row_drawn r floor d.height 0 (map (seat_of d) items) in
+      let row : List Drawn = row_drawn r floor d.height 0 (map (seat_of r d) items) in
       let even : length (row_shapes r d placed) ≡ length row = even-of (row_shapes r d placed) row (row-shapes r valid d room items all.0 floor 0) in
       let behind : ℕ = first + length wires in
       let last : ℕ = behind + length (row_shapes r d placed) in
@@ -159,7 +159,7 @@ pub record CellStands (r : RuleValues) (d : Netlist) (fed : Fed) (ws : List Wiri
   pub first : ℕ
   pub at : slice_get (stack_layout r d fed ws).cells number
       ≡ Some (cell_at r d.height inst kind (item_place r d (row_base r (plan_of r d fed ws) k) (items_width d front) (Cell s)) first)
-  pub part : Part (plan_drawn r (plan_of r d fed ws)) first (seat_drawn r (row_base r (plan_of r d fed ws) k) d.height (items_width d front) (seat_of d (Cell s)))
+  pub part : Part (plan_drawn r (plan_of r d fed ws)) first (seat_drawn r (row_base r (plan_of r d fed ws) k) d.height (items_width d front) (seat_of r d (Cell s)))
 
 -- each seat of a row has a cell
 pub cell-stands : (r : RuleValues) → ValidRules r → (d : Netlist) → IsNetlist d → HasRoom r d

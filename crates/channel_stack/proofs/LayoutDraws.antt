@@ -17,8 +17,8 @@ use Rattle.feed_cells.specs.declared.fed.Item.TheVariants.{Cell}
 use Rattle.layout_laws.proofs.ListPlaces.{at-contains, map-at}
 use Rattle.layout_laws.specs.Plans.{plan_drawn, row_base}
 use Rattle.channel_stack.specs.Layouts.{cell_at}
-use Rattle.channel_stack.specs.Planned.{plan_of, seat_drawn, seat_of, spot_drawn, spot_of}
-use Rattle.channel_stack.specs.Shown.{DrawsSeat, DrawsSpots}
+use Rattle.channel_stack.specs.Planned.{plan_of, seat_drawn, seat_of, upright_drawn, upright_of}
+use Rattle.channel_stack.specs.Shown.{DrawsSeat, DrawsSeats}
 use Rattle.channel_stack.specs.Stack.{item_place}
 use Rattle.channel_stack.proofs.KnownItems.{KnownCell, item-known}
 use Rattle.channel_stack.proofs.LayoutCells.{CellStands, cell-stands}
@@ -26,17 +26,17 @@ use Rattle.channel_stack.proofs.ListParts.{part-get}
 use Rattle.channel_stack.proofs.LayoutShapes.{stack_layout}
 
 -- a position of a seat stands behind the seat's outline
-pub spot-at : (r : RuleValues) (d : Netlist) (base left : ℕ) (s : Seat) (i : ℕ) (p : Position) → slice_get (positions_of d s.instance) i ≡ Some p
-    → slice_get (seat_drawn r base d.height left (seat_of d (Cell s))) (suc i) ≡ Some (spot_drawn r base d.height left (spot_of d s p))
-spot-at r d base left s i p at =
-    map-at (spot_drawn r base d.height left) (map (spot_of d s) (positions_of d s.instance)) i (spot_of d s p) (map-at (spot_of d s) (positions_of d s.instance) i p at)
+pub upright-at : (r : RuleValues) (d : Netlist) (base left : ℕ) (s : Seat) (i : ℕ) (p : Position) → slice_get (positions_of d s.instance) i ≡ Some p
+    → slice_get (seat_drawn r base d.height left (seat_of r d (Cell s))) (suc i) ≡ Some (upright_drawn r base left (upright_of r d s p))
+upright-at r d base left s i p at =
+    map-at (upright_drawn r base left) (map (upright_of r d s) (positions_of d s.instance)) i (upright_of r d s p) (map-at (upright_of r d s) (positions_of d s.instance) i p at)
 
 -- each position of a seat's cell is drawn where it stands in the plan
 pub seat-draws : (r : RuleValues) (d : Netlist) (fed : Fed) (ws : List Wiring) (k : ℕ) (front : List Item) (s : Seat) (known : KnownCell d s)
     → CellStands r d fed ws k front s known.inst known.kind → DrawsSeat r d fed ws (stack_layout r d fed ws) k front s
 seat-draws r d fed ws k front s known c = record {
   cell = c.number;
-  spots = λ i p at. record {
+  positions = λ i p at. record {
     shape = c.first + 1 + i;
     draws = record {
       copy = cell_at r d.height known.inst known.kind (item_place r d (row_base r (plan_of r d fed ws) k) (items_width d front) (Cell s)) c.first;
@@ -53,9 +53,9 @@ seat-draws r d fed ws k front s known c = record {
       number = refl;
     };
     at =
-        part-get (plan_drawn r (plan_of r d fed ws)) c.first (seat_drawn r (row_base r (plan_of r d fed ws) k) d.height (items_width d front) (seat_of d (Cell s))) c.part
-        (suc i) (c.first + 1 + i) (spot_drawn r (row_base r (plan_of r d fed ws) k) d.height (items_width d front) (spot_of d s p))
-        (spot-at r d (row_base r (plan_of r d fed ws) k) (items_width d front) s i p at) (omega arith);
+        part-get (plan_drawn r (plan_of r d fed ws)) c.first (seat_drawn r (row_base r (plan_of r d fed ws) k) d.height (items_width d front) (seat_of r d (Cell s))) c.part
+        (suc i) (c.first + 1 + i) (upright_drawn r (row_base r (plan_of r d fed ws) k) (items_width d front) (upright_of r d s p))
+        (upright-at r d (row_base r (plan_of r d fed ws) k) (items_width d front) s i p at) (omega arith);
   };
 }
 
@@ -68,7 +68,7 @@ cell-known d is fed placed k front s back at =
 
 -- the positions of all seats are drawn where they stand in the plan
 pub stack-draws : (r : RuleValues) → ValidRules r → (d : Netlist) → IsNetlist d → HasRoom r d
-    → (fed : Fed) → ArePlaced d (cells_in fed.rows) → (ws : List Wiring) → length ws ≡ length fed.rows + 1 → DrawsSpots r d fed ws (stack_layout r d fed ws)
+    → (fed : Fed) → ArePlaced d (cells_in fed.rows) → (ws : List Wiring) → length ws ≡ length fed.rows + 1 → DrawsSeats r d fed ws (stack_layout r d fed ws)
 stack-draws r valid d is room fed placed ws each = record {
   seat = λ k front s back within at.
       let known = cell-known d is fed placed k front s back at in

@@ -22,8 +22,8 @@ use Rattle.feed_cells.specs.Fed.{Fed, cells_in}
 use Rattle.feed_cells.specs.declared.fed.Item.{Item}
 use Rattle.layout_laws.proofs.ListPlaces.{at-contains, at-map}
 use Rattle.layout_laws.specs.Plans.{channel_height, plan_drawn}
-use Rattle.layout_laws.specs.Seats.{Seat, Spot}
-use Rattle.channel_stack.specs.Planned.{outline_drawn, plan_of, row_drawn, seat_drawn, seat_of, spot_drawn}
+use Rattle.layout_laws.specs.Seats.{Seat, Upright}
+use Rattle.channel_stack.specs.Planned.{outline_drawn, plan_of, row_drawn, seat_drawn, seat_of, upright_drawn}
 use Rattle.channel_stack.proofs.LayoutShapes.{levels, plan-levels, stack-shapes, stack_layout}
 use Rattle.channel_stack.proofs.ListParts.{in-either}
 
@@ -87,21 +87,21 @@ module _ (r : RuleValues) (valid : ValidRules r) where
       let piece = Contains-map_cases (drawn_of r) (pieces_of r base w.tracks of.0) a of.2 in
       film-other piece.0.film (ap (λ (x : Drawn). x.shape.layer) piece.2 ∙ out)
 
-  -- spots are no outlines
-  spots-wires : (base height left : ℕ) (spots : List Spot) → AreWires r (map (spot_drawn r base height left) spots)
-  spots-wires base height left spots i a at out =
-      let spot = at-map (spot_drawn r base height left) spots i a at in
-      valid.layers.vertical_outline (ap (λ (x : Drawn). x.shape.layer) spot.2 ∙ out)
+  -- uprights are no outlines
+  uprights-wires : (base left : ℕ) (uprights : List Upright) → AreWires r (map (upright_drawn r base left) uprights)
+  uprights-wires base left uprights i a at out =
+      let upright = at-map (upright_drawn r base left) uprights i a at in
+      valid.layers.vertical_outline (ap (λ (x : Drawn). x.shape.layer) upright.2 ∙ out)
 
   -- the one outline of a seat
   seat-outline : (base height left : ℕ) (seat : Seat) (i : ℕ) (a : Drawn) → slice_get (seat_drawn r base height left seat) i ≡ Some a → IsOutline r a
       → a ≡ outline_drawn r base height left (left + seat.width)
   seat-outline base height left seat zero a at out = sym (same_Some _ a at)
-  seat-outline base height left seat (suc i) a at out = absurd (spots-wires base height left seat.spots i a at out)
+  seat-outline base height left seat (suc i) a at out = absurd (uprights-wires base left seat.uprights i a at out)
 
   seat-order : (base height left : ℕ) (seat : Seat) → InOrder r (seat_drawn r base height left seat)
   seat-order base height left seat i zero a b before at_a at_b out other = absurd (omega arith)
-  seat-order base height left seat i (suc j) a b before at_a at_b out other = absurd (spots-wires base height left seat.spots j b at_b other)
+  seat-order base height left seat i (suc j) a b before at_a at_b out other = absurd (uprights-wires base left seat.uprights j b at_b other)
 
   -- an outline farther to the right is one from here on
   row-nearer : (base height left right : ℕ) (a : Drawn) → left ≤ right → InRow r base height right a → InRow r base height left a
@@ -139,11 +139,11 @@ module _ (r : RuleValues) (valid : ValidRules r) where
     levels-above base (w ∷ ws) (items ∷ rows) i a at out =
         let floor : ℕ = base + channel_height r w in
         let next : ℕ = floor + d.height in
-        let row : List Drawn = row_drawn r floor d.height 0 (map (seat_of d) items) in
+        let row : List Drawn = row_drawn r floor d.height 0 (map (seat_of r d) items) in
         elim (in-either (drawing r base w) (row ++ levels r d next ws rows) i a at) [
           | inl here ↦ absurd (drawing-wires base w i a here out)
           | inr there ↦ elim (in-either row (levels r d next ws rows) there.0 a there.2) [
-            | inl low ↦ (let e = (row-in floor d.height 0 (map (seat_of d) items) there.0 a low out).low in
+            | inl low ↦ (let e = (row-in floor d.height 0 (map (seat_of r d) items) there.0 a low out).low in
                 let up = scaled-up r (2 * base) (2 * floor) (omega arith) in omega (arith, ints))
             | inr high ↦ (let e = levels-above next ws rows high.0 a high.2 out in
                 let up = scaled-up r (2 * base) (2 * next) (omega arith) in omega (arith, ints))
@@ -157,12 +157,12 @@ module _ (r : RuleValues) (valid : ValidRules r) where
     levels-order base (w ∷ ws) (items ∷ rows) =
         let floor : ℕ = base + channel_height r w in
         let next : ℕ = floor + d.height in
-        let row : List Drawn = row_drawn r floor d.height 0 (map (seat_of d) items) in
+        let row : List Drawn = row_drawn r floor d.height 0 (map (seat_of r d) items) in
         order-append r (drawing r base w) (row ++ levels r d next ws rows)
         (λ i j a b before at_a at_b out other. absurd (drawing-wires base w i a at_a out))
-        (order-append r row (levels r d next ws rows) (row-order floor d.height 0 (map (seat_of d) items)) (levels-order next ws rows)
+        (order-append r row (levels r d next ws rows) (row-order floor d.height 0 (map (seat_of r d) items)) (levels-order next ws rows)
         (λ i j a b at_a at_b out other.
-        let e = (row-in floor d.height 0 (map (seat_of d) items) i a at_a out).high in
+        let e = (row-in floor d.height 0 (map (seat_of r d) items) i a at_a out).high in
         let f = levels-above next ws rows j b at_b other in
         over (omega (arith, ints))))
         (λ i j a b at_a at_b out other. absurd (drawing-wires base w i a at_a out))

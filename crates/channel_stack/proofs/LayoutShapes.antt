@@ -29,21 +29,21 @@ abbrev pub levels : RuleValues → Netlist → ℕ → List Wiring → List (Lis
 levels r d base [] rows = []
 levels r d base (w ∷ ws) [] = drawing r base w
 levels r d base (w ∷ ws) (items ∷ rows) =
-    drawing r base w ++ (row_drawn r (base + channel_height r w) d.height 0 (map (seat_of d) items) ++ levels r d (base + channel_height r w + d.height) ws rows)
+    drawing r base w ++ (row_drawn r (base + channel_height r w) d.height 0 (map (seat_of r d) items) ++ levels r d (base + channel_height r w + d.height) ws rows)
 
 module _ (r : RuleValues) (valid : ValidRules r) (d : Netlist) (room : HasRoom r d) where
   -- the shapes of a row's items are those of its seats
   pub row-shapes : (items : List Item) → AllByRecursion (IsKnown d) items → (base left : ℕ)
-      → row_shapes r d (placed_from r d base left items) ≡ channel_shapes (row_drawn r base d.height left (map (seat_of d) items))
+      → row_shapes r d (placed_from r d base left items) ≡ channel_shapes (row_drawn r base d.height left (map (seat_of r d) items))
   row-shapes [] known base left = refl
   row-shapes (item ∷ items) known base left =
-      let rest : List Drawn = row_drawn r base d.height (left + (seat_of d item).width) (map (seat_of d) items) in
+      let rest : List Drawn = row_drawn r base d.height (left + (seat_of r d item).width) (map (seat_of r d) items) in
       ap (λ (l : List Shape). l ++ row_shapes r d (placed_from r d base (left + item_width d item) items)) (item-drawn r valid d room item known.0 base left)
-      ∙ ap (λ (l : List Shape). channel_shapes (seat_drawn r base d.height left (seat_of d item)) ++ l)
-      (row-shapes items known.1 base (left + item_width d item) ∙ ap (λ (n : ℕ). channel_shapes (row_drawn r base d.height n (map (seat_of d) items))) (same_left item left))
-      ∙ sym (map-append (λ (a : Drawn). a.shape) (seat_drawn r base d.height left (seat_of d item)) rest)
+      ∙ ap (λ (l : List Shape). channel_shapes (seat_drawn r base d.height left (seat_of r d item)) ++ l)
+      (row-shapes items known.1 base (left + item_width d item) ∙ ap (λ (n : ℕ). channel_shapes (row_drawn r base d.height n (map (seat_of r d) items))) (same_left item left))
+      ∙ sym (map-append (λ (a : Drawn). a.shape) (seat_drawn r base d.height left (seat_of r d item)) rest)
     where
-      same_left : (one : Item) (from : ℕ) → from + item_width d one ≡ from + (seat_of d one).width
+      same_left : (one : Item) (from : ℕ) → from + item_width d one ≡ from + (seat_of r d one).width
       same_left (Cell s) from = refl
       same_left (Feed net) from = refl
 
@@ -58,7 +58,7 @@ module _ (r : RuleValues) (valid : ValidRules r) (d : Netlist) (room : HasRoom r
   levels-shapes base (w ∷ (v ∷ ws)) (items ∷ rows) each known =
       let floor : ℕ = base + channel_height r w in
       let next : ℕ = floor + d.height in
-      let row : List Drawn = row_drawn r floor d.height 0 (map (seat_of d) items) in
+      let row : List Drawn = row_drawn r floor d.height 0 (map (seat_of r d) items) in
       let above : List Shape = stacked_shapes r d (drawings r (v ∷ ws) (channel_bases r d.height next (v ∷ ws))) (placed_rows r d rows (row_bases r d.height next (v ∷ ws))) in
       ap (λ (l : List Shape). channel_shapes (drawing r base w) ++ l)
       (ap (λ (l : List Shape). l ++ above) (row-shapes items known.0 floor 0)
@@ -96,7 +96,7 @@ module _ (r : RuleValues) (d : Netlist) where
   channel_at base ws k = drawing r (slice_index (channel_bases r d.height base ws) k) (wiring_at ws k)
 
   abbrev row_at : ℕ → List Wiring → List (List Item) → ℕ → List Drawn
-  row_at base ws rows k = row_drawn r (row_floor base ws k) d.height 0 (map (seat_of d) (unwrap_or (slice_get rows k) []))
+  row_at base ws rows k = row_drawn r (row_floor base ws k) d.height 0 (map (seat_of r d) (unwrap_or (slice_get rows k) []))
 
   -- the levels are the channels and rows in turn
   levels-up : (base : ℕ) (ws : List Wiring) (rows : List (List Item)) → length ws ≡ length rows + 1
@@ -105,7 +105,7 @@ module _ (r : RuleValues) (d : Netlist) where
   levels-up base (w ∷ ws) [] each = refl
   levels-up base (w ∷ ws) (items ∷ rows) each =
       let floor : ℕ = base + channel_height r w in
-      ap (λ (l : List Drawn). drawing r base w ++ (row_drawn r floor d.height 0 (map (seat_of d) items) ++ l)) (levels-up (floor + d.height) ws rows (omega arith))
+      ap (λ (l : List Drawn). drawing r base w ++ (row_drawn r floor d.height 0 (map (seat_of r d) items) ++ l)) (levels-up (floor + d.height) ws rows (omega arith))
       ∙ sym (up-from (channel_at base (w ∷ ws)) (row_at base (w ∷ ws) (items ∷ rows)) (length rows))
 
   -- the rectangles of the plan are the levels

@@ -34,13 +34,13 @@ use Rattle.layout_laws.proofs.ListPlaces.{at-contains, contains-at, map-at}
 use Rattle.layout_laws.specs.Labels.{ShowsPins}
 use Rattle.layout_laws.specs.Plans.{plan_drawn, row_base}
 use Rattle.channel_stack.specs.Layouts.{cell_at, channel_shapes}
-use Rattle.channel_stack.specs.Planned.{net_at, net_found, plan_of, seat_drawn, seat_of, spot_drawn, spot_of}
-use Rattle.channel_stack.specs.Shown.{DrawsSpot, DrawsSeat}
+use Rattle.channel_stack.specs.Planned.{net_at, net_found, plan_of, seat_drawn, seat_of, upright_drawn, upright_of}
+use Rattle.channel_stack.specs.Shown.{DrawsPosition, DrawsSeat}
 use Rattle.channel_stack.specs.Stack.{item_place}
 use Rattle.channel_stack.proofs.CellNames.{named-once, stack-names}
 use Rattle.channel_stack.proofs.KnownItems.{KnownCell, SeatedAt, known-drawn, seated}
 use Rattle.channel_stack.proofs.LayoutCells.{CellStands, cell-stands}
-use Rattle.channel_stack.proofs.LayoutDraws.{cell-known, seat-draws, spot-at}
+use Rattle.channel_stack.proofs.LayoutDraws.{cell-known, seat-draws, upright-at}
 use Rattle.channel_stack.proofs.LayoutShapes.{stack-shapes, stack_layout}
 use Rattle.channel_stack.proofs.ListParts.{part-get, part-map, part-taken}
 
@@ -133,9 +133,9 @@ module _ (r : RuleValues) (valid : ValidRules r) (d : Netlist) (is : IsNetlist d
       ap (λ (o : Option CellKind). slice_get (positions_in o) dr.place) (c.known.is_kind_of ∙ ap (λ (k : CellKind). Some k) kind) ∙ dr.is_position in
       let first : dr.copy.first ≡ c.stands.first = ap (λ (x : layouts.Cell). x.first) c.is in
       let number : i ≡ c.stands.first + suc dr.place = (let n = dr.number in omega arith) in (
-        spot_drawn r base d.height left (spot_of d c.seat dr.position),
-        part-get (plan_drawn r (plan_of r d fed ws)) c.stands.first (seat_drawn r base d.height left (seat_of d (Cell c.seat))) c.stands.part
-            (suc dr.place) i (spot_drawn r base d.height left (spot_of d c.seat dr.position)) (spot-at r d base left c.seat dr.place dr.position at) number,
+        upright_drawn r base left (upright_of r d c.seat dr.position),
+        part-get (plan_drawn r (plan_of r d fed ws)) c.stands.first (seat_drawn r base d.height left (seat_of r d (Cell c.seat))) c.stands.part
+            (suc dr.place) i (upright_drawn r base left (upright_of r d c.seat dr.position)) (upright-at r d base left c.seat dr.place dr.position at) number,
         refl,
         ap (λ (n : ℕ). net_at d n dr.position.terminal) c.own ∙ ap (net_at d instance) dr.of_terminal,
       )
@@ -149,13 +149,13 @@ module _ (r : RuleValues) (valid : ValidRules r) (d : Netlist) (is : IsNetlist d
       let draws : DrawsSeat r d fed ws (stack_layout r d fed ws) seat.row seat.front seat.seat = seat-draws r d fed ws seat.row seat.front seat.seat known stands in
       let at : slice_get (positions_of d seat.seat.instance) e.place ≡ Some e.position =
       ap (λ (n : ℕ). slice_get (positions_of d n) e.place) seat.own ∙ ap (λ (o : Option CellKind). slice_get (positions_in o) e.place) e.is_kind ∙ e.at in
-      let spot : DrawsSpot r d fed ws (stack_layout r d fed ws) seat.row seat.front seat.seat draws.cell e.position = draws.spots e.place e.position at in (
-        spot.shape,
+      let drawn : DrawsPosition r d fed ws (stack_layout r d fed ws) seat.row seat.front seat.seat draws.cell e.position = draws.positions e.place e.position at in (
+        drawn.shape,
         record {
           cell = draws.cell;
           draws =
-              subst (λ (n : ℕ). Draws d (stack_layout r d fed ws) draws.cell n p.terminal spot.shape) seat.own
-              (subst (λ (n : ℕ). Draws d (stack_layout r d fed ws) draws.cell seat.seat.instance n spot.shape) e.terminal spot.draws);
+              subst (λ (n : ℕ). Draws d (stack_layout r d fed ws) draws.cell n p.terminal drawn.shape) seat.own
+              (subst (λ (n : ℕ). Draws d (stack_layout r d fed ws) draws.cell seat.seat.instance n drawn.shape) e.terminal drawn.draws);
         },
       )
 
@@ -183,7 +183,7 @@ module _ (r : RuleValues) (valid : ValidRules r) (d : Netlist) (is : IsNetlist d
   cell-shapes k front s known c =
       let base : ℕ = row_base r (plan_of r d fed ws) k in
       let left : ℕ = items_width d front in
-      let own : List Drawn = seat_drawn r base d.height left (seat_of d (Cell s)) in
+      let own : List Drawn = seat_drawn r base d.height left (seat_of r d (Cell s)) in
       let turn : (Shape → Shape) = moved_shape (turn_at (item_place r d base left (Cell s))) in
       let drawn : map turn (drawing_of r d.height known.kind) ≡ channel_shapes own = known-drawn r valid d room s known base left in
       let many : length (drawing_of r d.height known.kind) ≡ length (channel_shapes own) = sym (length-map (drawing_of r d.height known.kind) turn) ∙ ap length drawn in

@@ -17,12 +17,12 @@ use Rattle.row_model.specs.Stands.{turned_column, positions_in}
 use Rattle.row_model.specs.Widths.{kind_of, columns_of, width_of}
 use Rattle.row_model.specs.declared.rows.Seat as seats
 use Rattle.feed_cells.specs.declared.fed.Item.TheVariants.{Cell, Feed}
-use Rattle.layout_laws.specs.Seats.{foot, head, through}
-use Rattle.layout_laws.specs.Uprights.{post_rect}
+use Rattle.layout_laws.specs.Seats.{Upright}
+use Rattle.layout_laws.specs.Uprights.{upright_rect}
 use Rattle.wire_geom.specs.declared.drawn.Drawn.{Drawn}
 use Rattle.channel_stack.specs.Stack.{corner_column, place_at, item_place}
 use Rattle.channel_stack.specs.Layouts.{feed_outline, feed_wire, feed_drawing}
-use Rattle.channel_stack.specs.Planned.{post_of, spot_of, seat_of, outline_drawn, spot_drawn, seat_drawn}
+use Rattle.channel_stack.specs.Planned.{feed_upright, upright_of, seat_of, outline_drawn, upright_drawn, seat_drawn}
 
 -- the sum of scaled numbers
 scaled-sum : (a b n c : ℕ) → a + b ≡ n → pos (a * c) +ℤ pos (b * c) ≡ pos (n * c)
@@ -65,15 +65,19 @@ pin_rect r height column top = extent_of r.grid_centi
     (middle_of r.grid_column column - r.vertical_width) (pin_low r.grid_pin height top)
     (middle_of r.grid_column column + r.vertical_width) (pin_high r.grid_pin height top)
 
-module _ (r : RuleValues) (valid : ValidRules r) (height : ℕ) (high : r.grid_pin ≤ height) where
+module _ (r : RuleValues) (valid : ValidRules r) (d : Netlist) (high : r.grid_pin ≤ d.height) where
+  -- the upright of a pin on an edge
+  abbrev pin_upright : Bool → Upright
+  pin_upright top = record { column = 0; low = if top then d.height - r.grid_pin else 0; high = if top then d.height else r.grid_pin; net = 0 }
+
   -- a vertical wire is not wider than a column
   narrow : r.vertical_width ≤ r.grid_column
   narrow = let a = valid.pad_vertical in let b = valid.column_vertical in omega arith
 
   -- a pin stands in its column of the row
   pin-moved : (base left columns column : ℕ) (mirror top : Bool) → column < columns
-      → moved (turn_at (place_at r base mirror (corner_column mirror left columns))) (pin_rect r height column top)
-      ≡ post_rect r base height (if top then head else foot) (left + turned_column mirror columns column)
+      → moved (turn_at (place_at r base mirror (corner_column mirror left columns))) (pin_rect r d.height column top)
+      ≡ upright_rect r base (pin_upright top) (left + turned_column mirror columns column)
   pin-moved base left columns column false true within =
       let parts : (left + column) * r.grid_column ≡ left * r.grid_column + column * r.grid_column = add-mul left column r.grid_column in
       let room : r.vertical_width ≤ r.grid_column = narrow in
@@ -99,8 +103,8 @@ module _ (r : RuleValues) (valid : ValidRules r) (height : ℕ) (high : r.grid_p
 
   -- a cell's outline lies between the cell's columns of the row
   outline-moved : (base left columns : ℕ) (mirror : Bool)
-      → moved (turn_at (place_at r base mirror (corner_column mirror left columns))) (extent_of r.grid_centi 0 0 (2 * (columns * r.grid_column)) (2 * height))
-      ≡ (outline_drawn r base height left (left + columns)).shape.rect
+      → moved (turn_at (place_at r base mirror (corner_column mirror left columns))) (extent_of r.grid_centi 0 0 (2 * (columns * r.grid_column)) (2 * d.height))
+      ≡ (outline_drawn r base d.height left (left + columns)).shape.rect
   outline-moved base left columns false =
       let parts : (left + columns) * r.grid_column ≡ left * r.grid_column + columns * r.grid_column = add-mul left columns r.grid_column in
       upright-moved r base left _ _ _ _ _ _ _ _ (omega arith) (omega arith) (omega arith) (omega arith)
@@ -108,42 +112,42 @@ module _ (r : RuleValues) (valid : ValidRules r) (height : ℕ) (high : r.grid_p
       let parts : (left + columns) * r.grid_column ≡ left * r.grid_column + columns * r.grid_column = add-mul left columns r.grid_column in
       mirrored-moved r base (left + columns) _ _ _ _ _ _ _ _ (omega arith) (omega arith) (omega arith) (omega arith)
 
-  -- the drawings of a cell's positions are its spots
-  pins-drawn : (d : Netlist) (s : seats.Seat) (base left : ℕ) (ps : List Position) → All (λ (p : Position). p.column < columns_of d s.instance) ps
-      → map (moved_shape (turn_at (place_at r base s.mirror (corner_column s.mirror left (columns_of d s.instance))))) (map (position_shape r height) ps)
-      ≡ map (λ (a : Drawn). a.shape) (map (spot_drawn r base height left) (map (spot_of d s) ps))
+  -- the drawings of a cell's positions are its uprights
+  pins-drawn : (s : seats.Seat) (base left : ℕ) (ps : List Position) → All (λ (p : Position). p.column < columns_of d s.instance) ps
+      → map (moved_shape (turn_at (place_at r base s.mirror (corner_column s.mirror left (columns_of d s.instance))))) (map (position_shape r d.height) ps)
+      ≡ map (λ (a : Drawn). a.shape) (map (upright_drawn r base left) (map (upright_of r d s) ps))
   unfolding position_shape
-  pins-drawn d s base left [] all = refl
-  pins-drawn d s base left (p ∷ ps) all =
+  pins-drawn s base left [] all = refl
+  pins-drawn s base left (p ∷ ps) all =
       let width : ℕ = columns_of d s.instance in
       let here = pin-moved base left width p.column s.mirror p.top (All-head (λ (q : Position). q.column < width) p ps all) in
-      let more = pins-drawn d s base left ps (All-tail (λ (q : Position). q.column < width) p ps all) in
+      let more = pins-drawn s base left ps (All-tail (λ (q : Position). q.column < width) p ps all) in
       ap (λ (e : Extent). record { layer = r.vertical_layer; rect = e }
-      ∷ map (moved_shape (turn_at (place_at r base s.mirror (corner_column s.mirror left width)))) (map (position_shape r height) ps)) here
-      ∙ ap (λ (l : List Shape). record { layer = r.vertical_layer; rect = post_rect r base height (post_of p) (left + turned_column s.mirror width p.column) } ∷ l) more
+      ∷ map (moved_shape (turn_at (place_at r base s.mirror (corner_column s.mirror left width)))) (map (position_shape r d.height) ps)) here
+      ∙ ap (λ (l : List Shape). record { layer = r.vertical_layer; rect = upright_rect r base (pin_upright p.top) (left + turned_column s.mirror width p.column) } ∷ l) more
 
   -- the drawing of a kind, copied to a cell's place, is that of the cell's seat
-  pub cell-drawn : (d : Netlist) (s : seats.Seat) (kind : CellKind) (base left : ℕ) → kind_of d s.instance ≡ Some kind
+  pub cell-drawn : (s : seats.Seat) (kind : CellKind) (base left : ℕ) → kind_of d s.instance ≡ Some kind
       → All (λ (p : Position). p.column < kind.columns) kind.positions
-      → map (moved_shape (turn_at (item_place r d base left (Cell s)))) (drawing_of r height kind)
-      ≡ map (λ (a : Drawn). a.shape) (seat_drawn r base height left (seat_of d (Cell s)))
+      → map (moved_shape (turn_at (item_place r d base left (Cell s)))) (drawing_of r d.height kind)
+      ≡ map (λ (a : Drawn). a.shape) (seat_drawn r base d.height left (seat_of r d (Cell s)))
   unfolding outline_shape
-  cell-drawn d s kind base left is within =
+  cell-drawn s kind base left is within =
       let width : columns_of d s.instance ≡ kind.columns = ap width_of is in
       let outline =
-      ap (λ (n : ℕ). moved (turn_at (place_at r base s.mirror (corner_column s.mirror left (columns_of d s.instance)))) (extent_of r.grid_centi 0 0 (2 * (n * r.grid_column)) (2 * height))) (sym width)
+      ap (λ (n : ℕ). moved (turn_at (place_at r base s.mirror (corner_column s.mirror left (columns_of d s.instance)))) (extent_of r.grid_centi 0 0 (2 * (n * r.grid_column)) (2 * d.height))) (sym width)
       ∙ outline-moved base left (columns_of d s.instance) s.mirror in
-      let pins = pins-drawn d s base left kind.positions (subst (λ (n : ℕ). All (λ (p : Position). p.column < n) kind.positions) (sym width) within) in
+      let pins = pins-drawn s base left kind.positions (subst (λ (n : ℕ). All (λ (p : Position). p.column < n) kind.positions) (sym width) within) in
       let place = turn_at (item_place r d base left (Cell s)) in
-      ap (λ (e : Extent). record { layer = r.outline_layer; rect = e } ∷ map (moved_shape place) (map (position_shape r height) kind.positions)) outline
-      ∙ ap (λ (l : List Shape). (outline_drawn r base height left (left + columns_of d s.instance)).shape ∷ l) pins
-      ∙ ap (λ (ps : List Position). (outline_drawn r base height left (left + columns_of d s.instance)).shape
-      ∷ map (λ (a : Drawn). a.shape) (map (spot_drawn r base height left) (map (spot_of d s) ps))) (sym (ap positions_in is))
+      ap (λ (e : Extent). record { layer = r.outline_layer; rect = e } ∷ map (moved_shape place) (map (position_shape r d.height) kind.positions)) outline
+      ∙ ap (λ (l : List Shape). (outline_drawn r base d.height left (left + columns_of d s.instance)).shape ∷ l) pins
+      ∙ ap (λ (ps : List Position). (outline_drawn r base d.height left (left + columns_of d s.instance)).shape
+      ∷ map (λ (a : Drawn). a.shape) (map (upright_drawn r base left) (map (upright_of r d s) ps))) (sym (ap positions_in is))
 
 -- the drawing of a feed, copied to its place, is that of its seat
 pub feed-drawn : (r : RuleValues) → ValidRules r → (d : Netlist) (net base left : ℕ)
     → map (moved_shape (turn_at (item_place r d base left (Feed net)))) (feed_drawing r d.height)
-    ≡ map (λ (a : Drawn). a.shape) (seat_drawn r base d.height left (seat_of d (Feed net)))
+    ≡ map (λ (a : Drawn). a.shape) (seat_drawn r base d.height left (seat_of r d (Feed net)))
 unfolding feed_drawing
 feed-drawn r valid d net base left =
     let next : (left + 1) * r.grid_column ≡ left * r.grid_column + 1 * r.grid_column = add-mul left 1 r.grid_column in
@@ -152,7 +156,7 @@ feed-drawn r valid d net base left =
     let place = turn_at (item_place r d base left (Feed net)) in
     let outline : moved place (feed_outline r d.height).rect ≡ (outline_drawn r base d.height left (left + 1)).shape.rect =
     upright-moved r base left _ _ _ _ _ _ _ _ (omega arith) (omega arith) (omega arith) (omega arith) in
-    let wire : moved place (feed_wire r d.height).rect ≡ post_rect r base d.height through (left + 0) =
+    let wire : moved place (feed_wire r d.height).rect ≡ upright_rect r base (feed_upright d.height net) (left + 0) =
     upright-moved r base left _ _ _ _ _ _ _ _ (omega arith) (omega arith) (omega arith) (omega arith) in
     ap (λ (e : Extent). record { layer = r.outline_layer; rect = e } ∷ (moved_shape place (feed_wire r d.height) ∷ [])) outline
     ∙ ap (λ (e : Extent). (outline_drawn r base d.height left (left + 1)).shape ∷ (record { layer = r.vertical_layer; rect = e } ∷ [])) wire

@@ -1,6 +1,7 @@
-use Rattle.std.proofs.Common.{◌≡◌, refl, sym, ap, ◌∙◌, subst, ℕ, suc, ◌+◌, ◌<◌, List, [], ◌∷◌, ◌++◌, length, map, Bool, true, false, cond, Option, Some, Contains, arith}
+use Rattle.std.proofs.Common.{◌≡◌, refl, sym, ap, ◌∙◌, subst, ℕ, ◌-◌, suc, ◌+◌, ◌<◌, List, [], ◌∷◌, ◌++◌, length, map, Bool, true, false, cond, Option, Some, Contains, arith}
 use Rattle.std.proofs.lemmas.Bool.{not-true}
 use Rattle.std.specs.Prelude.{slice_get, slice_index}
+use Rattle.tech_rules.specs.Rules.{RuleValues}
 use Rattle.design_model.specs.Netlist.{Netlist, IsNetlist}
 use Rattle.design_model.specs.declared.design.Pin.{Pin}
 use Rattle.design_model.specs.declared.design.Position.{Position}
@@ -18,24 +19,23 @@ use Rattle.pin_assign.proofs.CauseLaws.{entry-cause, entry-from}
 use Rattle.pin_assign.proofs.EdgeLaws.{edge-position, pin-found, position-listed}
 use Rattle.pin_assign.proofs.TableLaws.{bottom-cause, bottom-effect, top-cause, top-effect}
 use Rattle.pin_assign.proofs.WidthLaws.{width-more}
-use Rattle.layout_laws.specs.Seats.{Post, foot, head, IsFoot, foot_is, through_is_foot, IsHead, head_is, through_is_head, Spot, SpotAt, LowerNet, UpperNet}
+use Rattle.layout_laws.specs.Seats.{IsFoot, IsHead, LowerNet, UpperNet, Upright, UprightAt}
 use Rattle.wire_geom.specs.Edges.{bottom_entry, top_entry}
-use Rattle.channel_stack.specs.Planned.{net_at, net_found, post_of, row_seats, seat_of, spot_of}
-use Rattle.channel_stack.proofs.PlanSeats.{feed_spot}
-use Rattle.channel_stack.proofs.RowItems.{row_at, row-there, spot-stands}
+use Rattle.channel_stack.specs.Planned.{feed_upright, net_at, net_found, row_seats, seat_of, upright_of}
+use Rattle.channel_stack.proofs.RowItems.{row_at, row-there, upright-stands}
 
 -- a wire comes to the upper edge where `top` holds, else to the lower one
-abbrev pub Comes : Bool → Post → Type 0
-Comes true post = IsHead post
-Comes false post = IsFoot post
+abbrev pub Comes : ℕ → Bool → Upright → Type 0
+Comes height true u = IsHead height u
+Comes height false u = IsFoot u
 
-pub position-comes : (top : Bool) (p : Position) → is_on top p ≡ true → Comes top (post_of p)
-position-comes true p on = subst (λ (b : Bool). IsHead (cond b head foot)) (sym on) head_is
-position-comes false p on = subst (λ (b : Bool). IsFoot (cond b head foot)) (sym (not-true p.top on)) foot_is
+pub position-comes : (r : RuleValues) (d : Netlist) (s : seats.Seat) (top : Bool) (p : Position) → is_on top p ≡ true → Comes d.height top (upright_of r d s p)
+position-comes r d s true p on = ap (λ (b : Bool). cond b d.height r.grid_pin) on
+position-comes r d s false p on = ap (λ (b : Bool). cond b (d.height - r.grid_pin) 0) (not-true p.top on)
 
-pub through-comes : (top : Bool) (net : ℕ) → Comes top (feed_spot net).post
-through-comes true net = through_is_head
-through-comes false net = through_is_foot
+pub feed-comes : (height : ℕ) (top : Bool) (net : ℕ) → Comes height top (feed_upright height net)
+feed-comes height true net = refl
+feed-comes height false net = refl
 
 -- the net of a pin's terminal is the pin's
 pub net-is : (d : Netlist) → IsNetlist d → (p : Pin) → Contains d.pins p → net_at d p.instance p.terminal ≡ p.net
@@ -43,52 +43,52 @@ unfolding net_at
 net-is d good p listed = ap net_found (pin-found d good p listed)
 
 -- the wire of a pin that stands on an edge: that of its position there
-pub record PinWire (d : Netlist) (top : Bool) (p : Pin) (s : seats.Seat) (left column : ℕ) : Type 0 where
+pub record PinWire (r : RuleValues) (d : Netlist) (top : Bool) (p : Pin) (s : seats.Seat) (left column : ℕ) : Type 0 where
   pub position : Position
   pub listed : Contains (positions_of d s.instance) position
   pub terminal : position.terminal ≡ p.terminal
-  pub comes : Comes top (post_of position)
+  pub comes : Comes d.height top (upright_of r d s position)
   pub at : column ≡ left + turned_column s.mirror (columns_of d s.instance) position.column
   pub of_net : net_at d s.instance position.terminal ≡ p.net
 
-pub pin-wire : (d : Netlist) → IsNetlist d → (top : Bool) (p : Pin) (s : seats.Seat) (left column : ℕ) → IsPinOver d top p s left column → PinWire d top p s left column
-pin-wire d good top p s left column over =
+pub pin-wire : (r : RuleValues) (d : Netlist) → IsNetlist d → (top : Bool) (p : Pin) (s : seats.Seat) (left column : ℕ) → IsPinOver d top p s left column → PinWire r d top p s left column
+pin-wire r d good top p s left column over =
     let a = edge-position d top p over.own over.edge in
     record {
       position = a.position;
       listed = subst (λ (i : ℕ). Contains (positions_of d i) a.position) over.instance (position-listed d top p over.own a);
       terminal = a.terminal;
-      comes = position-comes top a.position a.side;
+      comes = position-comes r d s top a.position a.side;
       at = sym over.place ∙ ap (λ (n : ℕ). left + turned_column s.mirror (columns_of d s.instance) n) (sym a.column);
       of_net = ap (λ (i : ℕ). net_at d i a.position.terminal) (sym over.instance) ∙ ap (λ (t : ℕ). net_at d p.instance t) a.terminal ∙ net-is d good p over.listed;
     }
 
 -- the wire of a cause that stands over an item
-pub record WireOf (d : Netlist) (top : Bool) (cause : Source) (item : Item) (left column : ℕ) : Type 0 where
-  pub spot : Spot
-  pub member : Contains (seat_of d item).spots spot
-  pub comes : Comes top spot.post
-  pub at : column ≡ left + spot.column
-  pub of_net : spot.net ≡ source_net cause
+pub record WireOf (r : RuleValues) (d : Netlist) (top : Bool) (cause : Source) (item : Item) (left column : ℕ) : Type 0 where
+  pub upright : Upright
+  pub member : Contains (seat_of r d item).uprights upright
+  pub comes : Comes d.height top upright
+  pub at : column ≡ left + upright.column
+  pub of_net : upright.net ≡ source_net cause
 
-wire-over : (d : Netlist) → IsNetlist d → (top : Bool) (cause : Source) (item : Item) (left column : ℕ) → IsOver d top cause item left column
-    → WireOf d top cause item left column
-wire-over d good top (of_pin p) (Cell s) left column over =
-    let w = pin-wire d good top p s left column over in
+wire-over : (r : RuleValues) (d : Netlist) → IsNetlist d → (top : Bool) (cause : Source) (item : Item) (left column : ℕ) → IsOver d top cause item left column
+    → WireOf r d top cause item left column
+wire-over r d good top (of_pin p) (Cell s) left column over =
+    let w = pin-wire r d good top p s left column over in
     record {
-      spot = spot_of d s w.position;
-      member = map-member (spot_of d s) (positions_of d s.instance) w.position w.listed;
+      upright = upright_of r d s w.position;
+      member = map-member (upright_of r d s) (positions_of d s.instance) w.position w.listed;
       comes = w.comes;
       at = w.at;
       of_net = w.of_net;
     }
-wire-over d good top (of_pin p) (Feed own) left column over = absurd over
-wire-over d good top (of_feed net) (Cell s) left column over = absurd over
-wire-over d good top (of_feed net) (Feed own) left column over =
+wire-over r d good top (of_pin p) (Feed own) left column over = absurd over
+wire-over r d good top (of_feed net) (Cell s) left column over = absurd over
+wire-over r d good top (of_feed net) (Feed own) left column over =
     record {
-      spot = feed_spot own;
-      member = member-head (feed_spot own) [];
-      comes = through-comes top own;
+      upright = feed_upright d.height own;
+      member = member-head (feed_upright d.height own) [];
+      comes = feed-comes d.height top own;
       at = (let place = over.1 in omega arith);
       of_net = over.0;
     }
@@ -127,42 +127,42 @@ module _ (d : Netlist) (top : Bool) (cause : Source) where
       later_over (over-along front item back (left + item_width d first) from column (omega (arith, begins, width-more d first front)) over)
 
 -- a wire of a row that comes to an edge in a column
-pub record EdgeWire (d : Netlist) (top : Bool) (items : List Item) (column net : ℕ) : Type 0 where
-  pub spot : Spot
-  pub at : SpotAt spot column 0 (map (seat_of d) items)
-  pub comes : Comes top spot.post
-  pub of_net : spot.net ≡ net
+pub record EdgeWire (r : RuleValues) (d : Netlist) (top : Bool) (items : List Item) (column net : ℕ) : Type 0 where
+  pub upright : Upright
+  pub at : UprightAt upright column 0 (map (seat_of r d) items)
+  pub comes : Comes d.height top upright
+  pub of_net : upright.net ≡ net
 
-edge-wire : (d : Netlist) → IsNetlist d → (rows : List (List seats.Seat)) (top : Bool) (channel : ℕ) (items : List Item) (column net : ℕ)
-    → EntryIn d rows top channel (Some items) column net → EdgeWire d top items column net
-edge-wire d good rows top channel items column net entry =
+edge-wire : (r : RuleValues) (d : Netlist) → IsNetlist d → (rows : List (List seats.Seat)) (top : Bool) (channel : ℕ) (items : List Item) (column net : ℕ)
+    → EntryIn d rows top channel (Some items) column net → EdgeWire r d top items column net
+edge-wire r d good rows top channel items column net entry =
     let e = entry-cause d rows top channel items 0 column net entry in
     let o = over-of d top e.cause items 0 column e.stands in
-    let w = wire-over d good top e.cause o.item (0 + items_width d o.front) column o.over in
+    let w = wire-over r d good top e.cause o.item (0 + items_width d o.front) column o.over in
     record {
-      spot = w.spot;
-      at = subst (λ (xs : List Item). SpotAt w.spot column 0 (map (seat_of d) xs)) (sym o.is)
-          (spot-stands d o.front o.item o.back 0 column w.spot w.member w.at);
+      upright = w.upright;
+      at = subst (λ (xs : List Item). UprightAt w.upright column 0 (map (seat_of r d) xs)) (sym o.is)
+          (upright-stands r d o.front o.item o.back 0 column w.upright w.member w.at);
       comes = w.comes;
       of_net = w.of_net ∙ e.of_net;
     }
 
 -- an entry of a channel at a row's edge is a net that comes to the edge there
-pub lower-net : (d : Netlist) → IsNetlist d → (fed : Fed) (k : ℕ) → k < length fed.rows → (column net : ℕ) → top_entry (table_of d fed k) column net
-    → LowerNet (row_seats d fed k) column net
-lower-net d good fed k within column net entry =
+pub lower-net : (r : RuleValues) (d : Netlist) → IsNetlist d → (fed : Fed) (k : ℕ) → k < length fed.rows → (column net : ℕ) → top_entry (table_of d fed k) column net
+    → LowerNet (row_seats r d fed k) column net
+lower-net r d good fed k within column net entry =
     let at = top-cause d fed k column net entry.0 entry.1 in
-    let w = edge-wire d good (cells_in fed.rows) false k (row_at fed k) column net
+    let w = edge-wire r d good (cells_in fed.rows) false k (row_at fed k) column net
     (subst (λ (o : Option (List Item)). EntryIn d (cells_in fed.rows) false k o column net) (row-there fed k within) at) in
-    record { spot = w.spot; at = w.at; post = w.comes; of_net = w.of_net }
+    record { upright = w.upright; at = w.at; comes = w.comes; of_net = w.of_net }
 
-pub upper-net : (d : Netlist) → IsNetlist d → (fed : Fed) (k : ℕ) → k < length fed.rows → (column net : ℕ) → bottom_entry (table_of d fed (suc k)) column net
-    → UpperNet (row_seats d fed k) column net
-upper-net d good fed k within column net entry =
+pub upper-net : (r : RuleValues) (d : Netlist) → IsNetlist d → (fed : Fed) (k : ℕ) → k < length fed.rows → (column net : ℕ) → bottom_entry (table_of d fed (suc k)) column net
+    → UpperNet d.height (row_seats r d fed k) column net
+upper-net r d good fed k within column net entry =
     let at = bottom-cause d fed (suc k) column net entry.0 entry.1 in
-    let w = edge-wire d good (cells_in fed.rows) true (suc k) (row_at fed k) column net
+    let w = edge-wire r d good (cells_in fed.rows) true (suc k) (row_at fed k) column net
     (subst (λ (o : Option (List Item)). EntryIn d (cells_in fed.rows) true (suc k) o column net) (row-there fed k within) at) in
-    record { spot = w.spot; at = w.at; post = w.comes; of_net = w.of_net }
+    record { upright = w.upright; at = w.at; comes = w.comes; of_net = w.of_net }
 
 -- a cause over an item of a row makes an entry of the channel that it enters
 pub lower-entry : (d : Netlist) → IsNetlist d → (fed : Fed) (k : ℕ) (front : List Item) (item : Item) (back : List Item) → slice_get fed.rows k ≡ Some (front ++ item ∷ back)

@@ -1,7 +1,9 @@
-use Rattle.std.proofs.Common.{◌≡◌, inl, inr, refl, sym, ap, ◌∙◌, subst, ℕ, ◌<◌, [], Bool, true, false, cond, Option, Some, None, Contains, arith}
+use Rattle.std.proofs.Common.{◌≡◌, inl, inr, refl, sym, ap, ◌∙◌, subst, ℕ, ◌+◌, ◌-◌, ◌<◌, ◌≤◌, ◌⊎◌, [], Bool, true, false, cond, Option, Some, None, Contains, arith}
 use Rattle.std.proofs.lemmas.List.Elements.{All-contains}
 use Rattle.std.proofs.lemmas.Option.{same_Some}
 use Rattle.std.specs.Prelude.{slice_get}
+use Rattle.tech_rules.specs.Rules.{RuleValues, ValidRules}
+use Rattle.design_model.specs.Room.{least_height}
 use Rattle.design_model.specs.Netlist.{Netlist, IsNetlist, IsPosition}
 use Rattle.design_model.specs.declared.design.CellKind.{CellKind}
 use Rattle.design_model.specs.declared.design.Position.{Position}
@@ -12,28 +14,9 @@ use Rattle.feed_cells.specs.declared.fed.Item.{Item}
 use Rattle.feed_cells.specs.declared.fed.Item.TheVariants.{Cell, Feed}
 use Rattle.feed_cells.proofs.Members.{map-cases, member-cases}
 use Rattle.pin_assign.proofs.EdgeLaws.{kind-good, turned-once, turned-within}
-use Rattle.layout_laws.specs.Seats.{foot, head, through, IsFoot, IsHead, Spot, IsSeat}
+use Rattle.layout_laws.specs.Seats.{AreParted, FitsRow, IsSeat, Upright}
 use Rattle.layout_laws.proofs.ListPlaces.{contains-at}
-use Rattle.channel_stack.specs.Planned.{post_of, seat_of, spot_of}
-
--- which edge a position's wire comes to
-is-foot : (p : Position) → IsFoot (post_of p) → p.top ≡ false
-is-foot p = by p.top
-  where
-    by : (b : Bool) → IsFoot (cond b head foot) → b ≡ false
-    by true h = elim h [ ]
-    by false h = refl
-
-is-head : (p : Position) → IsHead (post_of p) → p.top ≡ true
-is-head p = by p.top
-  where
-    by : (b : Bool) → IsHead (cond b head foot) → b ≡ true
-    by true h = refl
-    by false h = elim h [ ]
-
--- the one spot of a feed
-abbrev pub feed_spot : ℕ → Spot
-feed_spot net = record { column = 0; post = through; net = net }
+use Rattle.channel_stack.specs.Planned.{feed_upright, high_of, low_of, net_at, seat_of, upright_of}
 
 module _ (d : Netlist) (good : IsNetlist d) where
   -- a position lies in its cell's columns
@@ -63,50 +46,85 @@ module _ (d : Netlist) (good : IsNetlist d) where
       positions-once s.instance p q member other side
       (turned-once s.mirror (columns_of d s.instance) p.column q.column (position-within s.instance p member) (position-within s.instance q other) column)
 
-  -- a seated cell as a seat: its wires lie in its columns, and no two of one edge in one
-  cell-seat : (s : seats.Seat) → IsSeat (seat_of d (Cell s))
-  cell-seat s = record {
-    within = λ x member.
-        let found = map-cases (spot_of d s) (positions_of d s.instance) x member in
-        subst (λ (spot : Spot). spot.column < columns_of d s.instance) found.2
-        (turned-within s.mirror (columns_of d s.instance) found.0.column (position-within s.instance found.0 found.1));
-    feet = λ x y in_x in_y column foot_x foot_y.
-        let a = map-cases (spot_of d s) (positions_of d s.instance) x in_x in
-        let b = map-cases (spot_of d s) (positions_of d s.instance) y in_y in
-        let side_a = is-foot a.0 (subst (λ (spot : Spot). IsFoot spot.post) (sym a.2) foot_x) in
-        let side_b = is-foot b.0 (subst (λ (spot : Spot). IsFoot spot.post) (sym b.2) foot_y) in
-        one x y a.0 b.0 a.1 b.1 a.2 b.2 column (side_a ∙ sym side_b);
-    heads = λ x y in_x in_y column head_x head_y.
-        let a = map-cases (spot_of d s) (positions_of d s.instance) x in_x in
-        let b = map-cases (spot_of d s) (positions_of d s.instance) y in_y in
-        let side_a = is-head a.0 (subst (λ (spot : Spot). IsHead spot.post) (sym a.2) head_x) in
-        let side_b = is-head b.0 (subst (λ (spot : Spot). IsHead spot.post) (sym b.2) head_y) in
-        one x y a.0 b.0 a.1 b.1 a.2 b.2 column (side_a ∙ sym side_b);
-  }
-    where
-      one : (x y : Spot) (p q : Position) → Contains (positions_of d s.instance) p → Contains (positions_of d s.instance) q → spot_of d s p ≡ x → spot_of d s q ≡ y
-          → x.column ≡ y.column → p.top ≡ q.top → x.net ≡ y.net
-      one x y p q in_p in_q is_x is_y column side =
-          let same = cell-once s p q in_p in_q side
-          (ap (λ (spot : Spot). spot.column) is_x ∙ column ∙ ap (λ (spot : Spot). spot.column) (sym is_y)) in
-          ap (λ (spot : Spot). spot.net) (sym is_x ∙ ap (spot_of d s) same ∙ is_y)
+-- the upright of a position fits a row that has room for pins
+position-fits : (r : RuleValues) → ValidRules r → (height : ℕ) → least_height r ≤ height → (column net : ℕ) (p : Position)
+    → FitsRow r height (record { column = column; low = low_of r height p; high = high_of r height p; net = net })
+position-fits r valid height room column net p = by p.top
+  where
+    by : (top : Bool) → FitsRow r height (record { column = column; low = cond top (height - r.grid_pin) 0; high = cond top height r.grid_pin; net = net })
+    by true = record {
+      long = omega (arith, valid.pin_vertical, room);
+      within = omega arith;
+      below = inr (omega (arith, room));
+      above = inl refl;
+    }
+    by false = record {
+      long = omega (arith, valid.pin_vertical);
+      within = omega (arith, room);
+      below = inl refl;
+      above = inr (omega (arith, room));
+    }
 
--- a feed as a seat
-pub feed-only : (d : Netlist) (net : ℕ) (x : Spot) → Contains (seat_of d (Feed net)).spots x → feed_spot net ≡ x
-feed-only d net x member =
-    elim (member-cases (record { column = 0; post = through; net = net }) [] x member) [
+-- positions of two edges are parted
+sides-parted : (r : RuleValues) (height : ℕ) → least_height r ≤ height → (p q : Position)
+    → (p.top ≡ q.top) ⊎ (high_of r height p + r.vertical_space ≤ low_of r height q) ⊎ (high_of r height q + r.vertical_space ≤ low_of r height p)
+sides-parted r height room p q = by p.top q.top
+  where
+    by : (a b : Bool) → (a ≡ b) ⊎ (cond a height r.grid_pin + r.vertical_space ≤ cond b (height - r.grid_pin) 0)
+        ⊎ (cond b height r.grid_pin + r.vertical_space ≤ cond a (height - r.grid_pin) 0)
+    by true true = inl refl
+    by false false = inl refl
+    by true false = inr (inr (omega (arith, room)))
+    by false true = inr (inl (omega (arith, room)))
+
+-- the one upright of a feed
+pub feed-only : (r : RuleValues) (d : Netlist) (net : ℕ) (u : Upright) → Contains (seat_of r d (Feed net)).uprights u → feed_upright d.height net ≡ u
+feed-only r d net u member =
+    elim (member-cases (feed_upright d.height net) [] u member) [
       | inl same ↦ same
       | inr none ↦ absurd (omega (arith, none.1))
     ]
 
-feed-seat : (d : Netlist) (net : ℕ) → IsSeat (seat_of d (Feed net))
-feed-seat d net = record {
-  within = λ x member. subst (λ (spot : Spot). spot.column < 1) (feed-only d net x member) (omega arith);
-  feet = λ x y in_x in_y column foot_x foot_y. ap (λ (spot : Spot). spot.net) (sym (feed-only d net x in_x) ∙ feed-only d net y in_y);
-  heads = λ x y in_x in_y column head_x head_y. ap (λ (spot : Spot). spot.net) (sym (feed-only d net x in_x) ∙ feed-only d net y in_y);
-}
+module _ (r : RuleValues) (valid : ValidRules r) (d : Netlist) (good : IsNetlist d) (room : least_height r ≤ d.height) where
+  -- a seated cell as a seat of its row
+  cell-seat : (s : seats.Seat) → IsSeat r d.height (seat_of r d (Cell s))
+  cell-seat s = record {
+    fits = λ u member.
+        let found = map-cases (upright_of r d s) (positions_of d s.instance) u member in
+        subst (FitsRow r d.height) found.2
+        (position-fits r valid d.height room (turned_column s.mirror (columns_of d s.instance) found.0.column) (net_at d s.instance found.0.terminal) found.0);
+    within = λ u member.
+        let found = map-cases (upright_of r d s) (positions_of d s.instance) u member in
+        subst (λ (x : Upright). x.column < columns_of d s.instance) found.2
+        (turned-within s.mirror (columns_of d s.instance) found.0.column (position-within d good s.instance found.0 found.1));
+    parted = λ u v in_u in_v column.
+        let a = map-cases (upright_of r d s) (positions_of d s.instance) u in_u in
+        let b = map-cases (upright_of r d s) (positions_of d s.instance) v in_v in
+        subst (λ (x : Upright). AreParted r x v) a.2
+        (subst (AreParted r (upright_of r d s a.0)) b.2
+        (apart a.0 b.0 a.1 b.1 (ap (λ (x : Upright). x.column) a.2 ∙ column ∙ ap (λ (x : Upright). x.column) (sym b.2))));
+  }
+    where
+      apart : (p q : Position) → Contains (positions_of d s.instance) p → Contains (positions_of d s.instance) q
+          → turned_column s.mirror (columns_of d s.instance) p.column ≡ turned_column s.mirror (columns_of d s.instance) q.column
+          → AreParted r (upright_of r d s p) (upright_of r d s q)
+      apart p q in_p in_q column =
+          elim (sides-parted r d.height room p q) [
+            | inl side ↦ inl (ap (λ (x : Position). net_at d s.instance x.terminal) (cell-once d good s p q in_p in_q side column))
+            | inr parted ↦ inr parted
+          ]
 
--- each item is a seat with one net in each column of an edge
-pub item-seat : (d : Netlist) → IsNetlist d → (item : Item) → IsSeat (seat_of d item)
-item-seat d good (Cell s) = cell-seat d good s
-item-seat d good (Feed net) = feed-seat d net
+  -- a feed as a seat
+  feed-seat : (net : ℕ) → IsSeat r d.height (seat_of r d (Feed net))
+  feed-seat net = record {
+    fits = λ u member.
+        subst (FitsRow r d.height) (feed-only r d net u member)
+        (record { long = omega (arith, valid.pin_vertical, room); within = omega arith; below = inl refl; above = inl refl });
+    within = λ u member. subst (λ (x : Upright). x.column < 1) (feed-only r d net u member) (omega arith);
+    parted = λ u v in_u in_v column. inl (ap (λ (x : Upright). x.net) (sym (feed-only r d net u in_u) ∙ feed-only r d net v in_v));
+  }
+
+  -- each item is a seat of its row
+  pub item-seat : (item : Item) → IsSeat r d.height (seat_of r d item)
+  item-seat (Cell s) = cell-seat s
+  item-seat (Feed net) = feed-seat net

@@ -31,10 +31,9 @@ use Rattle.layout_laws.specs.Chains.{Together, same}
 use Rattle.layout_laws.specs.Plans.{Plan, plan_drawn}
 use Rattle.layout_laws.specs.Threads.{AreThreaded, Crossed, Entering, EntersBelow, into_above, into_below, Lone, Threads}
 use Rattle.wire_geom.specs.declared.drawn.Drawn.{Drawn}
-use Rattle.channel_stack.specs.Planned.{net_at, plan_of, spot_of}
-use Rattle.channel_stack.specs.Shown.{DrawsSpots}
+use Rattle.channel_stack.specs.Planned.{feed_upright, net_at, plan_of, upright_of}
+use Rattle.channel_stack.specs.Shown.{DrawsSeats}
 use Rattle.channel_stack.proofs.PlanEntries.{net-is}
-use Rattle.channel_stack.proofs.PlanSeats.{feed_spot}
 use Rattle.channel_stack.proofs.PositionPins.{position-pin}
 use Rattle.channel_stack.proofs.RowItems.{at-split, split-at}
 use Rattle.channel_stack.proofs.RowPins.{entry-inside, gap-feed, pin-seat}
@@ -63,7 +62,7 @@ position-net d good instance q member =
     }
 
 module _ (r : RuleValues) (d : Netlist) (good : IsNetlist d) (rows : List (List seats.Seat)) (placed : ArePlaced d rows) (ws : List Wiring) (l : Layout)
-    (draws : DrawsSpots r d (fed_rows d rows) ws l) where
+    (draws : DrawsSeats r d (fed_rows d rows) ws l) where
   abbrev fed : Fed
   fed = fed_rows d rows
 
@@ -74,7 +73,7 @@ module _ (r : RuleValues) (d : Netlist) (good : IsNetlist d) (rows : List (List 
   Wire k a = RowWire r d (fed_rows d rows) ws k a
 
   abbrev rectangle : ℕ → List Item → seats.Seat → Position → Drawn
-  rectangle k front s q = wire_at r d (fed_rows d rows) ws k front (spot_of d s q)
+  rectangle k front s q = wire_at r d (fed_rows d rows) ws k front (upright_of r d s q)
 
   -- what enters by the rows enters by the rows with feeds
   fed-enters : (p : Pin) (channel : ℕ) → enters d rows p channel ≡ true → enters d (cells_in (fed_rows d rows).rows) p channel ≡ true
@@ -170,8 +169,8 @@ module _ (r : RuleValues) (d : Netlist) (good : IsNetlist d) (rows : List (List 
       let there : slice_get fed.rows k ≡ Some (split.front ++ Feed net ∷ split.back) =
       at-split fed k (fed_row d rows k row) (Feed net) (fed-row d rows k ∙ ap (option_map (fed_row d rows k)) at) split in
       record {
-        low = wire_at r d fed ws k split.front (feed_spot net);
-        high = wire_at r d fed ws k split.front (feed_spot net);
+        low = wire_at r d fed ws k split.front (feed_upright d.height net);
+        high = wire_at r d fed ws k split.front (feed_upright d.height net);
         together = same;
         below = feed-below r d fed ws good k split.front split.back net there (omega (arith, feed.some));
         above = feed-above r d fed ws good k split.front split.back net there (omega (arith, feed.some));
@@ -201,7 +200,7 @@ module _ (r : RuleValues) (d : Netlist) (good : IsNetlist d) (rows : List (List 
 
     -- the rectangles of a net that stands in no channel are of one terminal
     feed-stray : (net k : ℕ) (a : Drawn) (front back : List Item) (own : ℕ) → crossing_of d rows net ≡ Alone → IsAt r d (fed_rows d rows) ws k front (Feed own) back
-        → a ≡ wire_at r d (fed_rows d rows) ws k front (feed_spot own) → a.net ≡ net → ⊥
+        → a ≡ wire_at r d (fed_rows d rows) ws k front (feed_upright d.height own) → a.net ≡ net → ⊥
     feed-stray net k a front back own alone at drawn of_net =
         let feed = gap-feed d good rows k own front back at in
         let same_net : own ≡ net = ap (λ (x : Drawn). x.net) (sym drawn) ∙ of_net in
@@ -252,5 +251,5 @@ module _ (r : RuleValues) (d : Netlist) (good : IsNetlist d) (rows : List (List 
 
 -- the nets of a wired design thread its rows and channels, where the positions of its seats are drawn in the layout where they stand in the plan
 pub stack-threaded : (r : RuleValues) → ValidRules r → (d : Netlist) → IsNetlist d → (rows : List (List seats.Seat)) → ArePlaced d rows → (ws : List Wiring) (l : Layout)
-    → DrawsSpots r d (fed_rows d rows) ws l → AreThreaded r (plan_of r d (fed_rows d rows) ws) d l
+    → DrawsSeats r d (fed_rows d rows) ws l → AreThreaded r (plan_of r d (fed_rows d rows) ws) d l
 stack-threaded r valid d good rows placed ws l draws = threaded r d good rows placed ws l draws valid

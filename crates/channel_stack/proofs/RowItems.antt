@@ -10,10 +10,10 @@ use Rattle.feed_cells.specs.declared.fed.Item.{Item}
 use Rattle.feed_cells.specs.declared.fed.Item.TheVariants.{Cell, Feed}
 use Rattle.feed_cells.proofs.Members.{map-cases, map-member, member-cases, member-head, member-tail}
 use Rattle.pin_assign.proofs.WidthLaws.{width-more}
-use Rattle.layout_laws.specs.Seats.{Spot, SpotAt, here, further}
+use Rattle.layout_laws.specs.Seats.{Upright, UprightAt, here, further}
 use Rattle.layout_laws.specs.Uprights.{IsWired}
 use Rattle.wire_geom.specs.declared.drawn.Drawn.{Drawn}
-use Rattle.channel_stack.specs.Planned.{outline_drawn, row_drawn, seat_drawn, seat_of, spot_drawn}
+use Rattle.channel_stack.specs.Planned.{outline_drawn, row_drawn, seat_drawn, seat_of, upright_drawn}
 
 -- the items of row k, none where there is no such row
 abbrev pub row_at : Fed → ℕ → List Item
@@ -58,50 +58,50 @@ seat-item (Cell t ∷ items) s member =
       | inr later ↦ member-tail (Cell t) items (Cell s) (seat-item items s later)
     ]
 
-module _ (d : Netlist) where
+module _ (r : RuleValues) (d : Netlist) where
   -- an item is as wide as its seat
-  seat-wide : (item : Item) → (seat_of d item).width ≡ item_width d item
+  seat-wide : (item : Item) → (seat_of r d item).width ≡ item_width d item
   seat-wide (Cell s) = refl
   seat-wide (Feed net) = refl
 
-  further-on : (left : ℕ) (item : Item) (front : List Item) → left + (seat_of d item).width + items_width d front ≡ left + items_width d (item ∷ front)
+  further-on : (left : ℕ) (item : Item) (front : List Item) → left + (seat_of r d item).width + items_width d front ≡ left + items_width d (item ∷ front)
   further-on left item front = omega (arith, width-more d item front, seat-wide item)
 
-  -- a spot of an item stands in its column of the row
-  pub spot-stands : (front : List Item) (item : Item) (back : List Item) (left column : ℕ) (spot : Spot) → Contains (seat_of d item).spots spot
-      → column ≡ left + items_width d front + spot.column → SpotAt spot column left (map (seat_of d) (front ++ item ∷ back))
-  spot-stands [] item back left column spot member at = here (seat_of d item) member (omega (arith, at))
-  spot-stands (first ∷ front) item back left column spot member at =
-      further (spot-stands front item back (left + (seat_of d first).width) column spot member (omega (arith, at, further-on left first front)))
+  -- an upright of an item stands in its column of the row
+  pub upright-stands : (front : List Item) (item : Item) (back : List Item) (left column : ℕ) (upright : Upright) → Contains (seat_of r d item).uprights upright
+      → column ≡ left + items_width d front + upright.column → UprightAt upright column left (map (seat_of r d) (front ++ item ∷ back))
+  upright-stands [] item back left column upright member at = here (seat_of r d item) member (omega (arith, at))
+  upright-stands (first ∷ front) item back left column upright member at =
+      further (upright-stands front item back (left + (seat_of r d first).width) column upright member (omega (arith, at, further-on left first front)))
 
-  module _ (r : RuleValues) (base height : ℕ) where
+  module _ (base height : ℕ) where
     -- and its rectangle is one of the row
-    pub wire-listed : (front : List Item) (item : Item) (back : List Item) (left from : ℕ) (spot : Spot) → Contains (seat_of d item).spots spot
+    pub wire-listed : (front : List Item) (item : Item) (back : List Item) (left from : ℕ) (upright : Upright) → Contains (seat_of r d item).uprights upright
         → from ≡ left + items_width d front
-        → Contains (row_drawn r base height left (map (seat_of d) (front ++ item ∷ back))) (spot_drawn r base height from spot)
-    wire-listed [] item back left from spot member at =
+        → Contains (row_drawn r base height left (map (seat_of r d) (front ++ item ∷ back))) (upright_drawn r base from upright)
+    wire-listed [] item back left from upright member at =
         let same : left ≡ from = omega (arith, at) in
-        subst (λ (n : ℕ). Contains (row_drawn r base height left (map (seat_of d) (item ∷ back))) (spot_drawn r base height n spot)) same
-        (Contains-append_left (seat_drawn r base height left (seat_of d item)) (row_drawn r base height (left + (seat_of d item).width) (map (seat_of d) back))
-        (spot_drawn r base height left spot)
-        (member-tail (outline_drawn r base height left (left + (seat_of d item).width)) (map (spot_drawn r base height left) (seat_of d item).spots)
-        (spot_drawn r base height left spot) (map-member (spot_drawn r base height left) (seat_of d item).spots spot member)))
-    wire-listed (first ∷ front) item back left from spot member at =
-        Contains-append_right (seat_drawn r base height left (seat_of d first))
-        (row_drawn r base height (left + (seat_of d first).width) (map (seat_of d) (front ++ item ∷ back))) (spot_drawn r base height from spot)
-        (wire-listed front item back (left + (seat_of d first).width) from spot member (omega (arith, at, further-on left first front)))
+        subst (λ (n : ℕ). Contains (row_drawn r base height left (map (seat_of r d) (item ∷ back))) (upright_drawn r base n upright)) same
+        (Contains-append_left (seat_drawn r base height left (seat_of r d item)) (row_drawn r base height (left + (seat_of r d item).width) (map (seat_of r d) back))
+        (upright_drawn r base left upright)
+        (member-tail (outline_drawn r base height left (left + (seat_of r d item).width)) (map (upright_drawn r base left) (seat_of r d item).uprights)
+        (upright_drawn r base left upright) (map-member (upright_drawn r base left) (seat_of r d item).uprights upright member)))
+    wire-listed (first ∷ front) item back left from upright member at =
+        Contains-append_right (seat_drawn r base height left (seat_of r d first))
+        (row_drawn r base height (left + (seat_of r d first).width) (map (seat_of r d) (front ++ item ∷ back))) (upright_drawn r base from upright)
+        (wire-listed front item back (left + (seat_of r d first).width) from upright member (omega (arith, at, further-on left first front)))
 
-    -- a rectangle of a row is that of a spot of an item
+    -- a rectangle of a row is that of an upright of an item
     pub record IsWireOf (left : ℕ) (items : List Item) (a : Drawn) : Type 0 where
       pub front : List Item
       pub item : Item
       pub back : List Item
       pub is : items ≡ front ++ item ∷ back
-      pub spot : Spot
-      pub member : Contains (seat_of d item).spots spot
+      pub upright : Upright
+      pub member : Contains (seat_of r d item).uprights upright
       pub from : ℕ
       pub begins : from ≡ left + items_width d front
-      pub drawn : a ≡ spot_drawn r base height from spot
+      pub drawn : a ≡ upright_drawn r base from upright
 
     module _ (valid : ValidRules r) where
       -- outlines are no wires
@@ -110,25 +110,25 @@ module _ (d : Netlist) where
       outline-unwired a on (inl (inr wire)) = valid.layers.vertical_outline (sym wire ∙ on)
       outline-unwired a on (inr cut) = valid.layers.cut_outline (sym cut ∙ on)
 
-      pub wire-of : (items : List Item) (left : ℕ) (a : Drawn) → Contains (row_drawn r base height left (map (seat_of d) items)) a → IsWired r a → IsWireOf left items a
+      pub wire-of : (items : List Item) (left : ℕ) (a : Drawn) → Contains (row_drawn r base height left (map (seat_of r d) items)) a → IsWired r a → IsWireOf left items a
       wire-of [] left a member wired = absurd (omega (arith, member.1))
       wire-of (first ∷ items) left a member wired =
-          elim (Contains-append_cases (seat_drawn r base height left (seat_of d first))
-          (row_drawn r base height (left + (seat_of d first).width) (map (seat_of d) items)) a member) [
-            | inl own ↦ elim (member-cases (outline_drawn r base height left (left + (seat_of d first).width)) (map (spot_drawn r base height left) (seat_of d first).spots) a own) [
+          elim (Contains-append_cases (seat_drawn r base height left (seat_of r d first))
+          (row_drawn r base height (left + (seat_of r d first).width) (map (seat_of r d) items)) a member) [
+            | inl own ↦ elim (member-cases (outline_drawn r base height left (left + (seat_of r d first).width)) (map (upright_drawn r base left) (seat_of r d first).uprights) a own) [
               | inl same ↦ absurd (outline-unwired a (ap (λ (x : Drawn). x.shape.layer) (sym same)) wired)
-              | inr spot ↦
-                  let found = map-cases (spot_drawn r base height left) (seat_of d first).spots a spot in
-                  record { front = []; item = first; back = items; is = refl; spot = found.0; member = found.1; from = left; begins = omega arith; drawn = sym found.2 }
+              | inr upright ↦
+                  let found = map-cases (upright_drawn r base left) (seat_of r d first).uprights a upright in
+                  record { front = []; item = first; back = items; is = refl; upright = found.0; member = found.1; from = left; begins = omega arith; drawn = sym found.2 }
             ]
             | inr later ↦
-                let rest = wire-of items (left + (seat_of d first).width) a later wired in
+                let rest = wire-of items (left + (seat_of r d first).width) a later wired in
                 record {
                   front = first ∷ rest.front;
                   item = rest.item;
                   back = rest.back;
                   is = ap (λ (xs : List Item). first ∷ xs) rest.is;
-                  spot = rest.spot;
+                  upright = rest.upright;
                   member = rest.member;
                   from = rest.from;
                   begins = rest.begins ∙ further-on left first rest.front;

@@ -21,31 +21,29 @@ use Rattle.pin_assign.specs.Tables.{table_of}
 use Rattle.pin_assign.proofs.BesideLaws.{edge-own}
 use Rattle.layout_laws.specs.Chains.{Together, tied}
 use Rattle.layout_laws.specs.Plans.{row_base, plan_drawn}
-use Rattle.layout_laws.specs.Seats.{Post, IsFoot, foot_is, through_is_foot, IsHead, head_is, through_is_head, Spot}
+use Rattle.layout_laws.specs.Seats.{IsFoot, IsHead, Upright}
 use Rattle.layout_laws.specs.Threads.{EntersBelow, EntersAbove}
-use Rattle.layout_laws.specs.Uprights.{IsWired, post_low, post_high}
+use Rattle.layout_laws.specs.Uprights.{IsWired}
 use Rattle.layout_laws.proofs.ListPlaces.{contains-at}
 use Rattle.wire_geom.specs.Grid.{scaled}
 use Rattle.wire_geom.specs.declared.drawn.Drawn.{Drawn}
-use Rattle.channel_stack.specs.Planned.{plan_of, post_of, row_drawn, seat_of, spot_drawn, spot_of}
-use Rattle.channel_stack.specs.Shown.{DrawsSpots}
+use Rattle.channel_stack.specs.Planned.{feed_upright, plan_of, row_drawn, seat_of, upright_drawn, upright_of}
+use Rattle.channel_stack.specs.Shown.{DrawsSeats}
 use Rattle.channel_stack.proofs.PlanEntries.{lower-entry, pin-wire, upper-entry}
-use Rattle.channel_stack.proofs.PlanSeats.{feed_spot, feed-only}
+use Rattle.channel_stack.proofs.PlanSeats.{feed-only}
 use Rattle.channel_stack.proofs.RowItems.{row_at, row-is, row-there, wire-listed, wire-of}
 
 -- what comes to the lower edge begins there, and what comes to the upper edge ends there
-foot-low : (r : RuleValues) (base height : ℕ) (post : Post) → IsFoot post → post_low r base height post ≡ 2 * base
-foot-low r base height post foot_is = refl
-foot-low r base height post through_is_foot = refl
+foot-low : (base : ℕ) (u : Upright) → IsFoot u → 2 * (base + u.low) ≡ 2 * base
+foot-low base u is = omega (arith, is)
 
-head-high : (r : RuleValues) (base height : ℕ) (post : Post) → IsHead post → post_high r base height post ≡ 2 * (base + height)
-head-high r base height post head_is = refl
-head-high r base height post through_is_head = refl
+head-high : (base height : ℕ) (u : Upright) → IsHead height u → 2 * (base + u.high) ≡ 2 * (base + height)
+head-high base height u is = omega (arith, is)
 
 module _ (r : RuleValues) (d : Netlist) (fed : Fed) (ws : List Wiring) where
-  -- the rectangle of a spot of an item of row k that stands behind these items
-  abbrev pub wire_at : ℕ → List Item → Spot → Drawn
-  wire_at k front spot = spot_drawn r (row_base r (plan_of r d fed ws) k) d.height (items_width d front) spot
+  -- the rectangle of an upright of an item of row k that stands behind these items
+  abbrev pub wire_at : ℕ → List Item → Upright → Drawn
+  wire_at k front upright = upright_drawn r (row_base r (plan_of r d fed ws) k) (items_width d front) upright
 
   -- these items stand around an item in row k
   abbrev pub IsAt : ℕ → List Item → Item → List Item → Type 0
@@ -54,40 +52,40 @@ module _ (r : RuleValues) (d : Netlist) (fed : Fed) (ws : List Wiring) where
   -- a rectangle of a row is that of a position of a cell, or of a feed
   pub data RowWire (k : ℕ) (a : Drawn) : Type 0 where
     of_seat : (front back : List Item) (s : seats.Seat) (q : Position) → IsAt k front (Cell s) back → Contains (positions_of d s.instance) q
-        → a ≡ wire_at k front (spot_of d s q) → RowWire k a
-    of_gap : (front back : List Item) (net : ℕ) → IsAt k front (Feed net) back → a ≡ wire_at k front (feed_spot net) → RowWire k a
+        → a ≡ wire_at k front (upright_of r d s q) → RowWire k a
+    of_gap : (front back : List Item) (net : ℕ) → IsAt k front (Feed net) back → a ≡ wire_at k front (feed_upright d.height net) → RowWire k a
 
   pub row-wire : ValidRules r → (k : ℕ) (a : Drawn) → k < length fed.rows → Contains ((plan_of r d fed ws).row k) a → IsWired r a → RowWire k a
   row-wire valid k a within member wired =
-      let w = wire-of d r (row_base r (plan_of r d fed ws) k) d.height valid (row_at fed k) 0 a member wired in
+      let w = wire-of r d (row_base r (plan_of r d fed ws) k) d.height valid (row_at fed k) 0 a member wired in
       let begins : w.from ≡ items_width d w.front = omega (arith, w.begins) in
-      by w.item w.front w.back w.spot (row-there fed k within ∙ ap (λ (items : List Item). Some items) w.is) w.member
-      (w.drawn ∙ ap (λ (n : ℕ). spot_drawn r (row_base r (plan_of r d fed ws) k) d.height n w.spot) begins)
+      by w.item w.front w.back w.upright (row-there fed k within ∙ ap (λ (items : List Item). Some items) w.is) w.member
+      (w.drawn ∙ ap (λ (n : ℕ). upright_drawn r (row_base r (plan_of r d fed ws) k) n w.upright) begins)
     where
-      by : (item : Item) (front back : List Item) (spot : Spot) → IsAt k front item back → Contains (seat_of d item).spots spot → a ≡ wire_at k front spot → RowWire k a
-      by (Cell s) front back spot at there drawn =
-          let found = map-cases (spot_of d s) (positions_of d s.instance) spot there in
+      by : (item : Item) (front back : List Item) (upright : Upright) → IsAt k front item back → Contains (seat_of r d item).uprights upright → a ≡ wire_at k front upright → RowWire k a
+      by (Cell s) front back upright at there drawn =
+          let found = map-cases (upright_of r d s) (positions_of d s.instance) upright there in
           of_seat front back s found.0 at found.1 (drawn ∙ ap (wire_at k front) (sym found.2))
-      by (Feed net) front back spot at there drawn = of_gap front back net at (drawn ∙ ap (wire_at k front) (sym (feed-only d net spot there)))
+      by (Feed net) front back upright at there drawn = of_gap front back net at (drawn ∙ ap (wire_at k front) (sym (feed-only r d net upright there)))
 
-  -- each spot of an item has its rectangle in the row
-  pub wire-in : (k : ℕ) (front back : List Item) (item : Item) (spot : Spot) → IsAt k front item back → Contains (seat_of d item).spots spot
-      → Contains ((plan_of r d fed ws).row k) (wire_at k front spot)
-  wire-in k front back item spot at member =
-      subst (λ (items : List Item). Contains (row_drawn r (row_base r (plan_of r d fed ws) k) d.height 0 (map (seat_of d) items)) (wire_at k front spot))
+  -- each upright of an item has its rectangle in the row
+  pub wire-in : (k : ℕ) (front back : List Item) (item : Item) (upright : Upright) → IsAt k front item back → Contains (seat_of r d item).uprights upright
+      → Contains ((plan_of r d fed ws).row k) (wire_at k front upright)
+  wire-in k front back item upright at member =
+      subst (λ (items : List Item). Contains (row_drawn r (row_base r (plan_of r d fed ws) k) d.height 0 (map (seat_of r d) items)) (wire_at k front upright))
       (sym (row-is fed k (front ++ item ∷ back) at))
-      (wire-listed d r (row_base r (plan_of r d fed ws) k) d.height front item back 0 (items_width d front) spot member (omega arith))
+      (wire-listed r d (row_base r (plan_of r d fed ws) k) d.height front item back 0 (items_width d front) upright member (omega arith))
 
   -- the rectangles of two positions of one terminal of a seated cell draw one terminal
-  pub drawn-together : (l : Layout) → DrawsSpots r d fed ws l → (k : ℕ) (front back : List Item) (s : seats.Seat) → k < length fed.rows → IsAt k front (Cell s) back
+  pub drawn-together : (l : Layout) → DrawsSeats r d fed ws l → (k : ℕ) (front back : List Item) (s : seats.Seat) → k < length fed.rows → IsAt k front (Cell s) back
       → (p q : Position) → Contains (positions_of d s.instance) p → Contains (positions_of d s.instance) q → p.terminal ≡ q.terminal
-      → Together d l (plan_drawn r (plan_of r d fed ws)) (wire_at k front (spot_of d s p)) (wire_at k front (spot_of d s q))
+      → Together d l (plan_drawn r (plan_of r d fed ws)) (wire_at k front (upright_of r d s p)) (wire_at k front (upright_of r d s q))
   drawn-together l draws k front back s within at p q in_p in_q same =
       let seat = draws.seat k front s back within at in
       let place_p = contains-at (positions_of d s.instance) p in_p in
       let place_q = contains-at (positions_of d s.instance) q in_q in
-      let first = seat.spots place_p.0 p place_p.1 in
-      let second = seat.spots place_q.0 q place_q.1 in
+      let first = seat.positions place_p.0 p place_p.1 in
+      let second = seat.positions place_q.0 q place_q.1 in
       tied (record {
         cell = seat.cell;
         instance = s.instance;
@@ -106,15 +104,15 @@ module _ (r : RuleValues) (d : Netlist) (fed : Fed) (ws : List Wiring) where
       pub position : Position
       pub listed : Contains (positions_of d s.instance) position
       pub terminal : position.terminal ≡ p.terminal
-      pub of_net : (spot_of d s position).net ≡ p.net
-      pub enters : Enters (wire_at k front (spot_of d s position))
+      pub of_net : (upright_of r d s position).net ≡ p.net
+      pub enters : Enters (wire_at k front (upright_of r d s position))
 
     pub reach-below : (s : seats.Seat) (p : Pin) → IsAt k front (Cell s) back → Contains d.pins p → 0 < p.net → p.instance ≡ s.instance → has_edge d false p ≡ true
         → enters d (cells_in fed.rows) p k ≡ true → Reaches (EntersBelow r (plan_of r d fed ws) k) s p
     reach-below s p at listed some instance has entry =
         let own = edge-own d false p has in
         let column : ℕ = items_width d front + turned_column s.mirror (columns_of d s.instance) own.0 in
-        let w = pin-wire d good false p s (items_width d front) column (record { listed = listed; instance = instance; own = own.0; edge = own.1; place = refl }) in
+        let w = pin-wire r d good false p s (items_width d front) column (record { listed = listed; instance = instance; own = own.0; edge = own.1; place = refl }) in
         let here : ℕ = items_width d front + turned_column s.mirror (columns_of d s.instance) w.position.column in
         let net = lower-entry d good fed k front (Cell s) back at (of_pin p) column
         (record { listed = listed; instance = instance; own = own.0; edge = own.1; place = refl }) entry in
@@ -125,9 +123,9 @@ module _ (r : RuleValues) (d : Netlist) (fed : Fed) (ws : List Wiring) where
           of_net = w.of_net;
           enters = record {
             column = here;
-            listed = wire-in k front back (Cell s) (spot_of d s w.position) at (map-member (spot_of d s) (positions_of d s.instance) w.position w.listed);
+            listed = wire-in k front back (Cell s) (upright_of r d s w.position) at (map-member (upright_of r d s) (positions_of d s.instance) w.position w.listed);
             stands = record { on_layer = refl; left = refl; right = refl };
-            at_edge = ap (scaled r) (foot-low r (row_base r (plan_of r d fed ws) k) d.height (post_of w.position) w.comes);
+            at_edge = ap (scaled r) (foot-low (row_base r (plan_of r d fed ws) k) (upright_of r d s w.position) w.comes);
             has_entry = (
               subst (λ (n : ℕ). 0 < n) (sym w.of_net) some,
               ap (λ (c : ℕ). slice_index (table_of d fed k).top c) (sym w.at) ∙ net ∙ sym w.of_net,
@@ -140,7 +138,7 @@ module _ (r : RuleValues) (d : Netlist) (fed : Fed) (ws : List Wiring) where
     reach-above s p at listed some instance has entry =
         let own = edge-own d true p has in
         let column : ℕ = items_width d front + turned_column s.mirror (columns_of d s.instance) own.0 in
-        let w = pin-wire d good true p s (items_width d front) column (record { listed = listed; instance = instance; own = own.0; edge = own.1; place = refl }) in
+        let w = pin-wire r d good true p s (items_width d front) column (record { listed = listed; instance = instance; own = own.0; edge = own.1; place = refl }) in
         let here : ℕ = items_width d front + turned_column s.mirror (columns_of d s.instance) w.position.column in
         let net = upper-entry d good fed k front (Cell s) back at (of_pin p) column
         (record { listed = listed; instance = instance; own = own.0; edge = own.1; place = refl }) entry in
@@ -151,9 +149,9 @@ module _ (r : RuleValues) (d : Netlist) (fed : Fed) (ws : List Wiring) where
           of_net = w.of_net;
           enters = record {
             column = here;
-            listed = wire-in k front back (Cell s) (spot_of d s w.position) at (map-member (spot_of d s) (positions_of d s.instance) w.position w.listed);
+            listed = wire-in k front back (Cell s) (upright_of r d s w.position) at (map-member (upright_of r d s) (positions_of d s.instance) w.position w.listed);
             stands = record { on_layer = refl; left = refl; right = refl };
-            at_edge = ap (scaled r) (head-high r (row_base r (plan_of r d fed ws) k) d.height (post_of w.position) w.comes);
+            at_edge = ap (scaled r) (head-high (row_base r (plan_of r d fed ws) k) d.height (upright_of r d s w.position) w.comes);
             has_entry = (
               subst (λ (n : ℕ). 0 < n) (sym w.of_net) some,
               ap (λ (c : ℕ). slice_index (table_of d fed (suc k)).bottom c) (sym w.at) ∙ net ∙ sym w.of_net,
@@ -165,19 +163,19 @@ module _ (r : RuleValues) (d : Netlist) (fed : Fed) (ws : List Wiring) where
     feed-column : items_width d front + 0 ≡ items_width d front
     feed-column = omega arith
 
-    pub feed-below : (net : ℕ) → IsAt k front (Feed net) back → 0 < net → EntersBelow r (plan_of r d fed ws) k (wire_at k front (feed_spot net))
+    pub feed-below : (net : ℕ) → IsAt k front (Feed net) back → 0 < net → EntersBelow r (plan_of r d fed ws) k (wire_at k front (feed_upright d.height net))
     feed-below net at some = record {
       column = items_width d front + 0;
-      listed = wire-in k front back (Feed net) (feed_spot net) at (member-head (feed_spot net) []);
+      listed = wire-in k front back (Feed net) (feed_upright d.height net) at (member-head (feed_upright d.height net) []);
       stands = record { on_layer = refl; left = refl; right = refl };
-      at_edge = refl;
+      at_edge = ap (scaled r) (foot-low (row_base r (plan_of r d fed ws) k) (feed_upright d.height net) refl);
       has_entry = (some, lower-entry d good fed k front (Feed net) back at (of_feed net) (items_width d front + 0) (refl, sym feed-column) tt);
     }
 
-    pub feed-above : (net : ℕ) → IsAt k front (Feed net) back → 0 < net → EntersAbove r (plan_of r d fed ws) k (wire_at k front (feed_spot net))
+    pub feed-above : (net : ℕ) → IsAt k front (Feed net) back → 0 < net → EntersAbove r (plan_of r d fed ws) k (wire_at k front (feed_upright d.height net))
     feed-above net at some = record {
       column = items_width d front + 0;
-      listed = wire-in k front back (Feed net) (feed_spot net) at (member-head (feed_spot net) []);
+      listed = wire-in k front back (Feed net) (feed_upright d.height net) at (member-head (feed_upright d.height net) []);
       stands = record { on_layer = refl; left = refl; right = refl };
       at_edge = refl;
       has_entry = (some, upper-entry d good fed k front (Feed net) back at (of_feed net) (items_width d front + 0) (refl, sym feed-column) tt);

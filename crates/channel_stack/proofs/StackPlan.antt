@@ -20,8 +20,8 @@ use Rattle.feed_cells.proofs.Members.{find-member, map-cases}
 use Rattle.feed_cells.proofs.NetTableLaws.{image-at}
 use Rattle.pin_assign.specs.Tables.{table_of}
 use Rattle.layout_laws.specs.Plans.{IsPlan, channel_height}
-use Rattle.layout_laws.specs.Seats.{Seat, IsSeat, SpotAt}
-use Rattle.layout_laws.specs.Uprights.{AreSpotted}
+use Rattle.layout_laws.specs.Seats.{IsSeat, UprightAt}
+use Rattle.layout_laws.specs.Uprights.{DrawUprights}
 use Rattle.layout_laws.proofs.ListPlaces.{contains-at}
 use Rattle.wire_geom.specs.declared.drawn.Drawn.{Drawn}
 use Rattle.channel_stack.specs.Planned.{base_at, plan_of, row_drawn, seat_of, wiring_at}
@@ -29,7 +29,7 @@ use Rattle.channel_stack.specs.Routed.{AreWired}
 use Rattle.channel_stack.proofs.PlanBases.{bases-next, wiring-there}
 use Rattle.channel_stack.proofs.PlanEntries.{lower-net, upper-net}
 use Rattle.channel_stack.proofs.PlanSeats.{item-seat}
-use Rattle.channel_stack.proofs.RowItems.{row_at, row-there, spot-stands, wire-of}
+use Rattle.channel_stack.proofs.RowItems.{row_at, row-there, upright-stands, wire-of}
 
 -- a design with an instance has a kind
 kinds-some : (d : Netlist) → IsNetlist d → (instance : ℕ) → instance < length d.instances → 0 < length d.kinds
@@ -60,16 +60,16 @@ module _ (d : Netlist) (good : IsNetlist d) (rows : List (List seats.Seat)) (pla
       let instance = instance-of k row.0 item row.1 stands in
       kinds-some d good instance.0 instance.1
 
--- the wires of a row's items are spots of its seats
-row-spotted : (r : RuleValues) → ValidRules r → (d : Netlist) (base height : ℕ) (items : List Item)
-    → AreSpotted r base height (map (seat_of d) items) (row_drawn r base height 0 (map (seat_of d) items))
-row-spotted r valid d base height items a member wired =
-    let w = wire-of d r base height valid items 0 a member wired in
+-- the wires of a row's items are the drawings of uprights of its seats
+row-drawn : (r : RuleValues) → ValidRules r → (d : Netlist) (base height : ℕ) (items : List Item)
+    → DrawUprights r base (map (seat_of r d) items) (row_drawn r base height 0 (map (seat_of r d) items))
+row-drawn r valid d base height items a member wired =
+    let w = wire-of r d base height valid items 0 a member wired in
     record {
-      spot = w.spot;
-      column = w.from + w.spot.column;
-      at = subst (λ (xs : List Item). SpotAt w.spot (w.from + w.spot.column) 0 (map (seat_of d) xs)) (sym w.is)
-          (spot-stands d w.front w.item w.back 0 (w.from + w.spot.column) w.spot w.member (omega (arith, w.begins)));
+      upright = w.upright;
+      column = w.from + w.upright.column;
+      at = subst (λ (xs : List Item). UprightAt w.upright (w.from + w.upright.column) 0 (map (seat_of r d) xs)) (sym w.is)
+          (upright-stands r d w.front w.item w.back 0 (w.from + w.upright.column) w.upright w.member (omega (arith, w.begins)));
       layer = ap (λ (x : Drawn). x.shape.layer) w.drawn;
       rect = ap (λ (x : Drawn). x.shape.rect) w.drawn;
       net = ap (λ (x : Drawn). x.net) w.drawn;
@@ -86,13 +86,14 @@ stack-plan r valid d good tall rows placed ws wired =
           (image-at (table_of d fed) 0 (length fed.rows + 1) k (omega arith) ∙ ap (λ (n : ℕ). Some (table_of d fed n)) (omega arith))
           (wiring-there ws k (omega (arith, within, wired.each)));
       tall = λ k within seat member.
-          let found = map-cases (seat_of d) (row_at fed k) seat member in
-          tall (row-some d good rows placed k within found.0 found.1);
+          let found = map-cases (seat_of r d) (row_at fed k) seat member in
+          let room = tall (row-some d good rows placed k within found.0 found.1) in
+          omega (arith, room);
       next = λ k within. bases-next r d.height 0 ws k (omega (arith, within, wired.each));
       seated = λ k within seat member.
-          let found = map-cases (seat_of d) (row_at fed k) seat member in
-          subst (λ (s : Seat). IsSeat s) found.2 (item-seat d good found.0);
-      spotted = λ k within. row-spotted r valid d (base_at r d ws k + channel_height r (wiring_at ws k)) d.height (row_at fed k);
-      top_entries = λ k within column net entry. lower-net d good fed k within column net entry;
-      bottom_entries = λ k within column net entry. upper-net d good fed k within column net entry;
+          let found = map-cases (seat_of r d) (row_at fed k) seat member in
+          subst (IsSeat r d.height) found.2 (item-seat r valid d good (tall (row-some d good rows placed k within found.0 found.1)) found.0);
+      drawn = λ k within. row-drawn r valid d (base_at r d ws k + channel_height r (wiring_at ws k)) d.height (row_at fed k);
+      top_entries = λ k within column net entry. lower-net r d good fed k within column net entry;
+      bottom_entries = λ k within column net entry. upper-net r d good fed k within column net entry;
     }

@@ -11,21 +11,21 @@ use Rattle.feed_cells.specs.declared.fed.Item.{Item}
 use Rattle.feed_cells.specs.declared.fed.Item.TheVariants.{Cell}
 use Rattle.channel_model.specs.declared.wiring.Wiring.{Wiring}
 use Rattle.layout_laws.specs.Plans.{row_base, plan_drawn}
-use Rattle.channel_stack.specs.Planned.{plan_of, spot_of, spot_drawn}
+use Rattle.channel_stack.specs.Planned.{plan_of, upright_of, upright_drawn}
 
 -- the shape with this number draws a position of a seat of row k that stands behind these items, in this cell
-pub record DrawsSpot (r : RuleValues) (d : Netlist) (fed : Fed) (ws : List Wiring) (l : Layout) (k : ℕ) (front : List Item) (s : Seat) (cell : ℕ) (position : Position) : Type 0 where
+pub record DrawsPosition (r : RuleValues) (d : Netlist) (fed : Fed) (ws : List Wiring) (l : Layout) (k : ℕ) (front : List Item) (s : Seat) (cell : ℕ) (position : Position) : Type 0 where
   pub shape : ℕ
   pub draws : Draws d l cell s.instance position.terminal shape
   pub at : slice_get (plan_drawn r (plan_of r d fed ws)) shape
-      ≡ Some (spot_drawn r (row_base r (plan_of r d fed ws) k) d.height (items_width d front) (spot_of d s position))
+      ≡ Some (upright_drawn r (row_base r (plan_of r d fed ws) k) (items_width d front) (upright_of r d s position))
 
 -- a seat of row k that stands behind these items has one cell, in which each of its positions is drawn
 pub record DrawsSeat (r : RuleValues) (d : Netlist) (fed : Fed) (ws : List Wiring) (l : Layout) (k : ℕ) (front : List Item) (s : Seat) : Type 0 where
   pub cell : ℕ
-  pub spots : (i : ℕ) (position : Position) → slice_get (positions_of d s.instance) i ≡ Some position → DrawsSpot r d fed ws l k front s cell position
+  pub positions : (i : ℕ) (position : Position) → slice_get (positions_of d s.instance) i ≡ Some position → DrawsPosition r d fed ws l k front s cell position
 
 -- the positions of the seats of all rows are drawn in a layout where they stand in its plan
-pub record DrawsSpots (r : RuleValues) (d : Netlist) (fed : Fed) (ws : List Wiring) (l : Layout) : Type 0 where
+pub record DrawsSeats (r : RuleValues) (d : Netlist) (fed : Fed) (ws : List Wiring) (l : Layout) : Type 0 where
   pub seat : (k : ℕ) (front : List Item) (s : Seat) (back : List Item) → k < length fed.rows → slice_get fed.rows k ≡ Some (front ++ Cell s ∷ back)
       → DrawsSeat r d fed ws l k front s

@@ -10,7 +10,7 @@ ghost use Rattle.feed_cells.specs.Fed.{IsFed};
 ghost use Rattle.design_model.specs.Good.{Good};
 ghost use Rattle.design_model.specs.Room.{HasRoom};
 ghost use Rattle.std.specs.List.{All, AllByRecursion};
-ghost use Rattle.std.specs.Prelude.{◌≡◌, ◌<◌, ◌≤◌, ◌+◌, ◌*◌, length, IfOk};
+ghost use Rattle.std.specs.Prelude.{◌≡◌, IfOk};
 
 use crate::bases::{channel_bases, most_columns, row_bases, stack_top};
 use crate::placed::Placed;

@@ -5,7 +5,7 @@ ghost use Rattle.cif_text.specs.Printing as cif;
 ghost use Rattle.design_model.specs.Netlist.{IsNetlist};
 ghost use Rattle.cif_text.specs.Written.{copy_commands, symbols_commands};
 ghost use Rattle.tech_rules.specs.Rules.{ValidRules};
-ghost use Rattle.std.specs.Prelude.{◌≡◌, ◌<◌, ◌≤◌, ◌+◌, ◌*◌, ◌++◌, length, map, Some, OnOk};
+ghost use Rattle.std.specs.Prelude.{◌≡◌, ◌+◌, ◌++◌, map, Some, OnOk};
 ghost use Rattle.design_model.specs.Room.{HasRoom};
 
 use crate::printing::{call_of, put_command, put_instance_name, put_symbol};

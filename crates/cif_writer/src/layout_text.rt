@@ -10,7 +10,7 @@ ghost use Rattle.feed_cells.specs.Fed.{IsFed};
 ghost use Rattle.cif_text.specs.Written.{items_commands, layer_after};
 ghost use Rattle.geom_core.specs.Reach.{IsShapeInReach};
 ghost use Rattle.std.specs.List.{AllByRecursion};
-ghost use Rattle.std.specs.Prelude.{◌≡◌, ◌∷◌, [], ◌<◌, ◌≤◌, ◌+◌, ◌*◌, ◌++◌, List, length, None, IfOk, OnOk};
+ghost use Rattle.std.specs.Prelude.{◌≡◌, ◌∷◌, [], ◌+◌, ◌++◌, List, None, IfOk, OnOk};
 ghost use Rattle.tech_rules.specs.Rules.{ValidRules};
 ghost use Rattle.wire_geom.specs.declared.drawn.Drawn.{Drawn};
 ghost use Rattle.design_model.specs.Room.{HasRoom};

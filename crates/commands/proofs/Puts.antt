@@ -1,5 +1,4 @@
-use Rattle.std.proofs.Common.{◌≡◌, ◌<◌, ◌+◌, ◌++◌, ◌∙◌, ℕ, List, Option, Some, None, Result, Ok, Err, OnOk, OnErr, length, take, min, refl, sym, ap, subst, arith, append_assoc}
-use Rattle.shelf_io.proofs.Appends.{appended-twice}
+use Rattle.std.proofs.Common.{◌≡◌, ◌<◌, ◌+◌, ◌++◌, ◌∙◌, ℕ, List, Option, Some, None, Result, Ok, Err, OnOk, OnErr, length, take, min, refl, sym, ap, arith, append_assoc}
 use Rattle.shelf_io.specs.Count.{Rose}
 use Rattle.shelf_io.specs.Told.{EndsWithin, Refines, appended}
 use Rattle.shelf_io.specs.declared.traits.Failed.{Failed}
@@ -10,8 +9,15 @@ use Rattle.std.proofs.Math.Seq.{take-append-add}
 -- what was put in two parts is the text of both
 pub both-whole : (before mid after : Option (List ℕ)) (x y text : List ℕ) → x ++ y ≡ text
     → Refines mid (appended before x) → Refines after (appended mid y) → Refines after (appended before text)
-both-whole before mid after x y text is one two =
-    subst (λ t. Refines after (appended before t)) is (appended-twice before mid after x y one two)
+both-whole before None after x y text is one two = λ held at.
+    let none : appended None y ≡ Some held = two held at in cc
+both-whole None (Some middle) after x y text is one two = λ held at.
+    let none : appended None x ≡ Some middle = one middle refl in cc
+both-whole (Some start) (Some middle) after x y text is one two = λ held at.
+    let front : start ++ x ≡ middle = cc (one middle refl) in
+    let whole : middle ++ y ≡ held = cc (two held at) in
+    ap (λ (l : List ℕ). Some l)
+    (ap (λ (l : List ℕ). start ++ l) (sym is) ∙ sym (append_assoc start x y) ∙ ap (λ (l : List ℕ). l ++ y) front ∙ whole)
 
 -- a front of the first part is a front of the text
 pub first-front : (before after : Option (List ℕ)) (x y text : List ℕ) → x ++ y ≡ text

@@ -4,8 +4,8 @@ ghost use Rattle.commands.specs.Answers.{Answers};
 ghost use Rattle.commands.specs.Rows.{rows_for};
 ghost use Rattle.commands.specs.Headline.{IsGoodFor, IsGoodOf, IsGoodText};
 ghost use Rattle.commands.specs.Status.{refusal_status};
-ghost use Rattle.commands.specs.Verdict.{design_refusal, file_verdict, rows_verdict, stated_rules, text_for};
-ghost use Rattle.std.specs.Prelude.{◌≡◌, ◌≢◌, ◌<◌, ◌≤◌, ◌+◌, ◌*◌, ◌-◌, ◌^◌, length, IfErr, IfOk};
+ghost use Rattle.commands.specs.Verdict.{file_verdict, rows_verdict, stated_rules, text_for};
+ghost use Rattle.std.specs.Prelude.{◌≡◌, ◌≢◌, ◌≤◌, ◌-◌, ◌^◌, length, IfErr, IfOk};
 ghost use Rattle.yal_reader.specs.Kept.{HasAtMost, IsKept};
 ghost use Rattle.design_model.specs.Room.{HasRoom};
 

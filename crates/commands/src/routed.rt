@@ -6,7 +6,7 @@ ghost use Rattle.feed_cells.specs.Fed.{IsFed, cells_in};
 ghost use Rattle.feed_cells.specs.Placement.{placement_of};
 ghost use Rattle.design_model.specs.Room.{HasRoom};
 ghost use Rattle.pin_assign.specs.Bounds as pins;
-ghost use Rattle.std.specs.Prelude.{◌≡◌, ◌<◌, ◌≤◌, ◌+◌, ◌*◌, length, IfOk};
+ghost use Rattle.std.specs.Prelude.{◌≡◌, ◌≤◌, IfOk};
 ghost use Rattle.tech_rules.specs.Rules.{ValidRules};
 
 use crate::wirings::route_channels;

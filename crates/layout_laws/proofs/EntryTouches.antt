@@ -10,17 +10,10 @@ use Rattle.wire_geom.specs.declared.drawn.Drawn.{Drawn}
 use Rattle.wire_geom.proofs.DrawingLaws.{drawing_wide, drawing_entries}
 use Rattle.wire_geom.proofs.ScaleLaws.{scaled-order}
 use Rattle.layout_laws.specs.Plans.{Plan, row_base, channel_drawn, IsPlan}
-use Rattle.layout_laws.specs.Seats.{Post, foot, head, through}
 use Rattle.layout_laws.specs.Threads.{EntersBelow, EntersAbove}
-use Rattle.layout_laws.specs.Uprights.{post_low, post_high}
+use Rattle.layout_laws.proofs.SeatLaws.{upright-fits}
 
--- the ends of a wire in a row are in order
-post-up : (r : RuleValues) (base height : ℕ) (post : Post) → scaled r (post_low r base height post) ≤ℤ scaled r (post_high r base height post)
-post-up r base height foot = scaled-order r (2 * base) (2 * (base + r.grid_pin)) (omega arith)
-post-up r base height head = scaled-order r (2 * (base + height - r.grid_pin)) (2 * (base + height)) (omega arith)
-post-up r base height through = scaled-order r (2 * base) (2 * (base + height)) (omega arith)
-
--- and so are the sides of a wire in a column
+-- the sides of a wire in a column are in order
 column-wide : (r : RuleValues) (column : ℕ) → scaled r (centre r column - r.vertical_width) ≤ℤ scaled r (centre r column + r.vertical_width)
 column-wide r column = scaled-order r (centre r column - r.vertical_width) (centre r column + r.vertical_width) (omega arith)
 
@@ -53,11 +46,13 @@ module _ (r : RuleValues) (valid : ValidRules r) (plan : Plan) (is : IsPlan r pl
   -- and those of a wire of a row
   row-up : (k : ℕ) → k < plan.rows → (a : Drawn) → Contains (plan.row k) a → a.shape.layer ≡ r.vertical_layer → a.shape.rect.y0 ≤ℤ a.shape.rect.y1
   row-up k within a member on_layer =
-      let it = is.spotted k within a member (inl (inr on_layer)) in
+      let it = is.drawn k within a member (inl (inr on_layer)) in
       let low = ap (λ (e : Extent). e.y0) it.rect in
       let high = ap (λ (e : Extent). e.y1) it.rect in
-      let up = post-up r (row_base r plan k) plan.height it.spot.post in
-      subst (λ (x : ℤ). x ≤ℤ a.shape.rect.y1) (sym low) (subst (λ (x : ℤ). scaled r (post_low r (row_base r plan k) plan.height it.spot.post) ≤ℤ x) (sym high) up)
+      let base : ℕ = row_base r plan k in
+      let fits = upright-fits r valid (plan.height k) (plan.seats k) (is.seated k within) 0 it.column it.upright it.at in
+      let up = scaled-order r (2 * (base + it.upright.low)) (2 * (base + it.upright.high)) (omega (arith, fits.long)) in
+      subst (λ (x : ℤ). x ≤ℤ a.shape.rect.y1) (sym low) (subst (λ (x : ℤ). scaled r (2 * (base + it.upright.low)) ≤ℤ x) (sym high) up)
 
   -- what enters the channel below touches a wire of its net there
   pub touch_below : (k : ℕ) → k < plan.rows → (a : Drawn) → EntersBelow r plan k a
@@ -79,9 +74,9 @@ module _ (r : RuleValues) (valid : ValidRules r) (plan : Plan) (is : IsPlan r pl
   touch_above k within a enters =
       let above : suc k ≤ plan.rows = omega (arith, within) in
       let found = (drawing_entries (plan.pins (suc k)) (plan.wiring (suc k)) (is.wired (suc k) above) r valid (plan.base (suc k))).bottom enters.column a.net enters.has_entry in
-      let edge : ℤ = scaled r (2 * (row_base r plan k + plan.height)) in
+      let edge : ℤ = scaled r (2 * (row_base r plan k + plan.height k)) in
       let next = is.next k within in
-      let floor : line_at r (plan.base (suc k)) 0 ≡ 2 * (row_base r plan k + plan.height) = omega (arith, next) in (
+      let floor : line_at r (plan.base (suc k)) 0 ≡ 2 * (row_base r plan k + plan.height k) = omega (arith, next) in (
         found.0,
         found.1,
         found.2,

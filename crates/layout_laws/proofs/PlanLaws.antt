@@ -6,13 +6,12 @@ use Rattle.wire_geom.specs.Edges.{bottom_entry, top_entry}
 use Rattle.wire_geom.specs.Spaces.{NetsApart}
 use Rattle.wire_geom.specs.Widths.{AreWide}
 use Rattle.layout_laws.specs.Plans.{Plan, channel_height, row_base, channel_drawn, drawn_to, plan_drawn, IsPlan}
-use Rattle.layout_laws.specs.Seats.{Seat, SpotAt, LowerNet, UpperNet}
+use Rattle.layout_laws.specs.Seats.{Seat, UprightAt, LowerNet, UpperNet}
 use Rattle.layout_laws.specs.Strips.{Strip, IsTall}
 use Rattle.layout_laws.proofs.BareLaws.{IsBare, strip-lowered}
 use Rattle.layout_laws.proofs.RowLaws.{row-strip}
-use Rattle.layout_laws.proofs.SeatLaws.{SpotAt-none, LowerNet-one, UpperNet-one}
+use Rattle.layout_laws.proofs.SeatLaws.{UprightAt-none, LowerNet-one, UpperNet-one}
 use Rattle.layout_laws.proofs.StripLaws.{channel-strip, strip-on}
-use Rattle.design_model.specs.Room.{least_height}
 
 -- a channel is at least as high as one track, which holds the vertical space
 pub channel-tall : (r : RuleValues) → ValidRules r → (base : ℕ) (wiring : Wiring) → IsTall r (2 * base) (2 * (base + channel_height r wiring))
@@ -28,33 +27,33 @@ module _ (r : RuleValues) (valid : ValidRules r) (plan : Plan) (is : IsPlan r pl
   abbrev ceiling_of : ℕ → ℕ
   ceiling_of k = 2 * plan.base (suc k)
 
-  top_of_row : (k : ℕ) → k < plan.rows → 2 * (row_base r plan k + plan.height) ≡ ceiling_of k
+  top_of_row : (k : ℕ) → k < plan.rows → 2 * (row_base r plan k + plan.height k) ≡ ceiling_of k
   top_of_row k within = ap (λ (n : ℕ). 2 * n) (sym (is.next k within))
 
-  -- a row that is high enough for its wires, as a strip
-  row_of : (k : ℕ) → k < plan.rows → least_height r ≤ plan.height → Strip r (floor_of k) (ceiling_of k) (LowerNet (plan.seats k)) (UpperNet (plan.seats k)) (plan.row k)
-  row_of k within tall =
-      subst (λ (n : ℕ). Strip r (floor_of k) n (LowerNet (plan.seats k)) (UpperNet (plan.seats k)) (plan.row k)) (top_of_row k within)
-      (row-strip r valid (row_base r plan k) plan.height tall (plan.seats k) (is.seated k within) (plan.row k) (is.spotted k within))
+  -- a row as a strip
+  row_of : (k : ℕ) → k < plan.rows → Strip r (floor_of k) (ceiling_of k) (LowerNet (plan.seats k)) (UpperNet (plan.height k) (plan.seats k)) (plan.row k)
+  row_of k within =
+      subst (λ (n : ℕ). Strip r (floor_of k) n (LowerNet (plan.seats k)) (UpperNet (plan.height k) (plan.seats k)) (plan.row k)) (top_of_row k within)
+      (row-strip r valid (row_base r plan k) (plan.height k) (plan.seats k) (is.seated k within) (plan.row k) (is.drawn k within))
 
   -- a channel as a strip
   channel_of : (k : ℕ) → k ≤ plan.rows → Strip r (2 * plan.base k) (floor_of k) (bottom_entry (plan.pins k)) (top_entry (plan.pins k)) (channel_drawn r plan k)
   channel_of k within = channel-strip r valid (plan.pins k) (plan.wiring k) (is.wired k within) (plan.base k)
 
   -- and it is high enough for wires beyond its two edges
-  tall_row : (k : ℕ) → k < plan.rows → least_height r ≤ plan.height → IsTall r (floor_of k) (ceiling_of k)
+  tall_row : (k : ℕ) → k < plan.rows → r.vertical_space ≤ plan.height k → IsTall r (floor_of k) (ceiling_of k)
   tall_row k within tall = omega (arith, is.next k within, tall)
 
   -- a row without seats has no wires, and no entries on its upper edge
   bare_row : (k : ℕ) → k < plan.rows → plan.seats k ≡ [] → IsBare r (plan.row k)
   bare_row k within none a member wired =
-      let it = is.spotted k within a member wired in
-      SpotAt-none it.spot it.column 0 (subst (λ (seats : List Seat). SpotAt it.spot it.column 0 seats) none it.at)
+      let it = is.drawn k within a member wired in
+      UprightAt-none it.upright it.column 0 (subst (λ (seats : List Seat). UprightAt it.upright it.column 0 seats) none it.at)
 
   bare_edge : (k : ℕ) → k < plan.rows → plan.seats k ≡ [] → (column net : ℕ) → bottom_entry (plan.pins (suc k)) column net → ⊥
   bare_edge k within none column net entry =
       let over = is.bottom_entries k within column net entry in
-      SpotAt-none over.spot column 0 (subst (λ (seats : List Seat). SpotAt over.spot column 0 seats) none over.at)
+      UprightAt-none over.upright column 0 (subst (λ (seats : List Seat). UprightAt over.upright column 0 seats) none over.at)
 
   -- a row and the channel above it as one strip
   pair_of : (k : ℕ) → k < plan.rows
@@ -70,11 +69,11 @@ module _ (r : RuleValues) (valid : ValidRules r) (plan : Plan) (is : IsPlan r pl
       by (seat ∷ rest) some =
           let there : Contains (plan.seats k) seat = subst (λ (seats : List Seat). Contains seats seat) (sym some) (0, omega arith, refl) in
           let tall = is.tall k within seat there in
-          strip-on r valid (floor_of k) (ceiling_of k) (floor_of (suc k)) (LowerNet (plan.seats k)) (UpperNet (plan.seats k))
+          strip-on r valid (floor_of k) (ceiling_of k) (floor_of (suc k)) (LowerNet (plan.seats k)) (UpperNet (plan.height k) (plan.seats k))
           (bottom_entry (plan.pins (suc k))) (top_entry (plan.pins (suc k)))
-          (λ column n m upper entry. UpperNet-one (plan.seats k) (is.seated k within) column n m upper (is.bottom_entries k within column m entry))
+          (λ column n m upper entry. UpperNet-one r valid (plan.height k) (plan.seats k) (is.seated k within) column n m upper (is.bottom_entries k within column m entry))
           (tall_row k within tall) (channel-tall r valid (plan.base (suc k)) (plan.wiring (suc k)))
-          (plan.row k) (channel_drawn r plan (suc k)) (row_of k within tall) (channel_of (suc k) (omega (arith, within)))
+          (plan.row k) (channel_drawn r plan (suc k)) (row_of k within) (channel_of (suc k) (omega (arith, within)))
 
   -- all up to a channel's upper edge: it is high enough, and a strip
   tall_to : (k : ℕ) → k ≤ plan.rows → IsTall r (2 * plan.base 0) (floor_of k)
@@ -86,7 +85,7 @@ module _ (r : RuleValues) (valid : ValidRules r) (plan : Plan) (is : IsPlan r pl
   strip_to (suc k) within =
       strip-on r valid (2 * plan.base 0) (floor_of k) (floor_of (suc k)) (bottom_entry (plan.pins 0)) (top_entry (plan.pins k))
       (LowerNet (plan.seats k)) (top_entry (plan.pins (suc k)))
-      (λ column n m entry lower. LowerNet-one (plan.seats k) (is.seated k within) column n m (is.top_entries k within column n entry) lower)
+      (λ column n m entry lower. LowerNet-one r valid (plan.height k) (plan.seats k) (is.seated k within) column n m (is.top_entries k within column n entry) lower)
       (tall_to k (omega (arith, within)))
       (omega (arith, is.next k within, channel-tall r valid (plan.base (suc k)) (plan.wiring (suc k))))
       (drawn_to r plan k) (plan.row k ++ channel_drawn r plan (suc k)) (strip_to k (omega (arith, within))) (pair_of k within)

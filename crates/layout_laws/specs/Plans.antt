@@ -7,14 +7,13 @@ use Rattle.wire_geom.specs.Drawing.{drawing}
 use Rattle.wire_geom.specs.Edges.{bottom_entry, top_entry}
 use Rattle.wire_geom.specs.declared.drawn.Drawn.{Drawn}
 use Rattle.layout_laws.specs.Seats.{Seat, IsSeat, LowerNet, UpperNet}
-use Rattle.layout_laws.specs.Uprights.{AreSpotted}
-use Rattle.design_model.specs.Room.{least_height}
+use Rattle.layout_laws.specs.Uprights.{DrawUprights}
 
--- rows of one height and channels on one another, channel k below row k, and a last channel above: the lower edge of each channel in units, what stands in each row, and
--- the rectangles of each row
+-- rows and channels on one another, channel k below row k, and a last channel above: the height of each row and the lower edge of each channel in units, what stands in
+-- each row, and the rectangles of each row
 pub record Plan : Type 0 where
   pub rows : ℕ
-  pub height : ℕ
+  pub height : ℕ → ℕ
   pub pins : ℕ → Pins
   pub wiring : ℕ → Wiring
   pub base : ℕ → ℕ
@@ -41,13 +40,13 @@ drawn_to r plan (suc k) = drawn_to r plan k ++ (plan.row k ++ channel_drawn r pl
 abbrev pub plan_drawn : RuleValues → Plan → List Drawn
 plan_drawn r plan = drawn_to r plan plan.rows
 
--- the channels are wired, the rows stand between them, high enough where anything stands in them, and what a channel has as an entry at a row's edge is a net that comes
+-- the channels are wired, the rows stand between them, as high as the vertical space where anything stands in them, and what a channel has as an entry at a row's edge is a net that comes
 -- to that edge there
 pub record IsPlan (r : RuleValues) (plan : Plan) : Type 0 where
   pub wired : (k : ℕ) → k ≤ plan.rows → Wired (plan.pins k) (plan.wiring k)
-  pub tall : (k : ℕ) → k < plan.rows → (seat : Seat) → Contains (plan.seats k) seat → least_height r ≤ plan.height
-  pub next : (k : ℕ) → k < plan.rows → plan.base (suc k) ≡ row_base r plan k + plan.height
-  pub seated : (k : ℕ) → k < plan.rows → (seat : Seat) → Contains (plan.seats k) seat → IsSeat seat
-  pub spotted : (k : ℕ) → k < plan.rows → AreSpotted r (row_base r plan k) plan.height (plan.seats k) (plan.row k)
+  pub tall : (k : ℕ) → k < plan.rows → (seat : Seat) → Contains (plan.seats k) seat → r.vertical_space ≤ plan.height k
+  pub next : (k : ℕ) → k < plan.rows → plan.base (suc k) ≡ row_base r plan k + plan.height k
+  pub seated : (k : ℕ) → k < plan.rows → (seat : Seat) → Contains (plan.seats k) seat → IsSeat r (plan.height k) seat
+  pub drawn : (k : ℕ) → k < plan.rows → DrawUprights r (row_base r plan k) (plan.seats k) (plan.row k)
   pub top_entries : (k : ℕ) → k < plan.rows → (column net : ℕ) → top_entry (plan.pins k) column net → LowerNet (plan.seats k) column net
-  pub bottom_entries : (k : ℕ) → k < plan.rows → (column net : ℕ) → bottom_entry (plan.pins (suc k)) column net → UpperNet (plan.seats k) column net
+  pub bottom_entries : (k : ℕ) → k < plan.rows → (column net : ℕ) → bottom_entry (plan.pins (suc k)) column net → UpperNet (plan.height k) (plan.seats k) column net

@@ -22,7 +22,7 @@ pub record EntersAbove (r : RuleValues) (plan : Plan) (k : ℕ) (a : Drawn) : Ty
   pub column : ℕ
   pub listed : Contains (plan.row k) a
   pub stands : StandsIn r column a
-  pub at_edge : a.shape.rect.y1 ≡ scaled r (2 * (row_base r plan k + plan.height))
+  pub at_edge : a.shape.rect.y1 ≡ scaled r (2 * (row_base r plan k + plan.height k))
   pub has_entry : bottom_entry (plan.pins (suc k)) column a.net
 
 -- a rectangle of a row, or one of the same terminal and net, enters a channel beside the row

@@ -1,7 +1,7 @@
-use Rattle.std.proofs.Common.{rules, ◌≡◌, ◌-◌, ℕ, List, length, take, drop, arith, length-drop, ap}
+use Rattle.std.proofs.Common.{rules, ◌≡◌, ◌-◌, ℕ, List, length, take, drop, arith, length-drop, ap, refl}
 use Rattle.std.proofs.lemmas.List.{take_all}
 use Rattle.std.proofs.Math.Seq.{take-add}
-use Rattle.shelf_io.proofs.Appends.{appended-twice}
+use Rattle.commands.proofs.Puts.{both-whole}
 use Rattle.commands.proofs.line.put_bytes.Goals as goal
 
 -- what the call appends to what has been put is the next front of the bytes
@@ -17,6 +17,6 @@ loop-done-preserved g c =
     let begun = c.loop-done.invariant in
     record {
       within = omega (arith, c.in_ok-done.ensures.fits, size, ap length whole);
-      front = rw take-add (appended-twice _ _ _ _ _ begun.front (rw piece at c.in_ok-done.ensures.appended));
+      front = rw take-add (both-whole _ _ _ _ _ _ refl begun.front (rw piece at c.in_ok-done.ensures.appended));
       faults = search rules;
     }

@@ -1,4 +1,4 @@
-use Rattle.std.proofs.Common.{◌≡◌, ◌≤◌, None, ap, sym, ◌∙◌, arith}
+use Rattle.std.proofs.Common.{◌≡◌, None, ap, sym, ◌∙◌, arith}
 use Rattle.pin_assign.specs.Bounds.{bound_of}
 use Rattle.commands.specs.Limits.{size_refusal}
 use Rattle.commands.proofs.Points.{unrefused-within}
