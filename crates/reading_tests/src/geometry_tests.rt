@@ -14,42 +14,40 @@ fn lists_keep_and_lend_their_items(rt: HostRuntime) -> Result<(), Fail> {
     Ok(())
 }
 
+/// Whether a name is equal to its copy until its bytes are written.
+fn is_lent(name: &mut Name, copy: &Name) -> bool {
+    let equal = *name == *copy;
+    for byte in name.items_mut() {
+        *byte = b'x';
+    }
+    equal && name.items() == b"xx".as_slice() && copy.items() == b"u1".as_slice() && *name != *copy
+}
+
 #[test]
 fn names_keep_and_lend_their_bytes(rt: HostRuntime) -> Result<(), Fail> {
     let mut name = Name::new(b"u1".to_vec(rt.alloc())?);
     let copy = name.copied(rt.alloc())?;
-    assert!(rt; name == copy);
-    for byte in name.items_mut() {
-        *byte = b'x';
-    }
-    assert_eq!(rt; name.items(), b"xx".as_slice());
-    assert_eq!(rt; copy.items(), b"u1".as_slice());
-    assert!(rt; name != copy);
+    assert!(rt; is_lent(&mut name, &copy));
     Ok(())
+}
+
+/// Whether these bytes are the text of a layer name.
+fn is_layer_name(bytes: &[u8]) -> bool {
+    match LayerName::new(bytes) {
+        Some(layer) => layer.text() == bytes,
+        None => false,
+    }
 }
 
 #[test]
 fn layer_names_are_one_to_four_digits_or_capitals(rt: HostRuntime) {
-    let rows: [(&[u8], bool); 9] = [
-        (b"NM", true),
-        (b"N", true),
-        (b"0AZ9", true),
-        (b"", false),
-        (b"NMNPX", false),
-        (b"nm", false),
-        (b"N ", false),
-        (b"N-", false),
-        (b"\xc4", false),
-    ];
-    for (bytes, good) in rows {
-        match LayerName::new(bytes) {
-            Some(layer) => {
-                assert!(rt; good);
-                assert_eq!(rt; layer.text(), bytes);
-            }
-            None => assert!(rt; !good),
-        }
+    for text in "NM|N|0AZ9".split('|') {
+        assert!(rt; is_layer_name(text.as_bytes()), "{text}");
     }
+    for text in "|NMNPX|nm|N |N-".split('|') {
+        assert!(rt; LayerName::new(text.as_bytes()).is_none(), "{text}");
+    }
+    assert!(rt; LayerName::new(b"\xc4").is_none());
 }
 
 #[test]
