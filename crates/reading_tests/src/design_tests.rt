@@ -1,10 +1,10 @@
 //! What checked designs hold, and what is looked up in them.
 
 use crate::odd_cells::design_in;
-use design_model::{Design, Position, drawing};
-use samples::designed;
+use design_model::{Design, Pin, Position, drawing};
+use geom_core::Name;
+use samples::{SampleFault, designed};
 use std::alloc::{AllocError, Global};
-use std::process::Abort;
 use std::test::Fail;
 use tech_rules::Rules;
 
@@ -35,108 +35,130 @@ fn spots_have_positions(rt: HostRuntime) -> Result<(), Fail> {
     Ok(())
 }
 
-/// The instance, the terminal and the net of each pin of a design, and the words of its nets.
-fn connections(alloc: Global, design: &Design) -> Result<Vec<u8>, AllocError> {
-    let mut text = Vec::new(alloc);
-    for pin in design.pins.items() {
-        let shown = format!(in alloc; "{} {} {}, ", pin.instance, pin.terminal, pin.net)?;
-        text.extend_from_slice(shown.as_bytes())?;
+/// Whether pins have these instances, terminals and nets.
+fn are_pins(pins: &[Pin], wanted: &[(u32, u32, u32)]) -> bool {
+    if pins.len() != wanted.len() {
+        return false;
     }
-    for net in design.nets.items() {
-        text.extend_from_slice(net.items())?;
-        text.push(b';')?;
+    for (pin, (instance, terminal, net)) in pins.iter().zip(wanted) {
+        if pin.instance != *instance || pin.terminal != *terminal || pin.net != *net {
+            return false;
+        }
     }
-    Ok(text)
+    true
 }
 
-/// Whether the design of these modules and calls has these connections.
-fn has_connections(alloc: Global, text: &str, want: &str) -> Result<bool, Fail> {
+/// Whether names have these words, each with a semicolon behind it.
+fn are_words(names: &[Name], text: &str) -> bool {
+    let mut words = text.split(';');
+    for name in names {
+        match words.next() {
+            Some(word) => {
+                if name.items() != word.as_bytes() {
+                    return false;
+                }
+            }
+            None => return false,
+        }
+    }
+    words.next() == Some("") && words.next().is_none()
+}
+
+/// Whether the design of these modules and calls has these pins and nets.
+fn is_joined(
+    alloc: Global,
+    text: &str,
+    pins: &[(u32, u32, u32)],
+    nets: &str,
+) -> Result<bool, SampleFault> {
     let design = design_in(alloc, text)?;
-    Ok(connections(alloc, &design)?.as_slice() == want.as_bytes())
+    Ok(are_pins(design.pins.items(), pins) && are_words(design.nets.items(), nets))
 }
 
 #[test]
 fn pins_and_nets_in_order(rt: HostRuntime) -> Result<(), Fail> {
-    assert!(rt; has_connections(rt.alloc(), " | ", "")?);
+    assert!(rt; is_joined(rt.alloc(), " | ", &[], "")?);
     // Names that share a beginning are two nets, and a word at power terminals alone is none.
     let text = "DRV | u DRV x x xx; v DRV VDD xx x;";
-    assert!(rt; has_connections(rt.alloc(), text, "0 1 1, 0 2 2, 1 1 2, 1 2 1, x;xx;")?);
+    let pins = [(0, 1, 1), (0, 2, 2), (1, 1, 2), (1, 2, 1)];
+    assert!(rt; is_joined(rt.alloc(), text, &pins, "x;xx;")?);
     // A terminal with two positions is one pin.
-    assert!(rt; has_connections(rt.alloc(), "THR | u THR n;", "0 0 1, n;")?);
+    assert!(rt; is_joined(rt.alloc(), "THR | u THR n;", &[(0, 0, 1)], "n;")?);
     // A module that is not called may be anything.
     let text = "BARE BUF | u BUF b; v BUF a;";
-    assert!(rt; has_connections(rt.alloc(), text, "0 0 1, 1 0 2, b;a;")?);
+    assert!(rt; is_joined(rt.alloc(), text, &[(0, 0, 1), (1, 0, 2)], "b;a;")?);
     Ok(())
 }
 
-/// The number of the pin at a terminal of an instance.
-fn pin_at(rt: &impl Abort, design: &Design, instance: u32, terminal: u32) -> Option<u32> {
-    assert!(rt; (instance as usize) < design.instances.items().len());
+/// The number of the pin at a terminal of an instance; the greatest number where there is no such terminal.
+fn pin_at(design: &Design, instance: u32, terminal: u32) -> Option<u32> {
+    if instance as usize >= design.instances.items().len() {
+        return Some(u32::MAX);
+    }
     let kind = design.instances.items()[instance as usize].kind as usize;
-    assert!(rt; kind < design.kinds.items().len());
-    assert!(rt; (terminal as usize) < design.kinds.items()[kind].terminals.items().len());
+    if kind >= design.kinds.items().len() {
+        return Some(u32::MAX);
+    }
+    if terminal as usize >= design.kinds.items()[kind].terminals.items().len() {
+        return Some(u32::MAX);
+    }
     design.pin(instance, terminal)
 }
 
-/// The net of a pin.
-fn net_at(rt: &impl Abort, design: &Design, pin: u32) -> u32 {
-    assert!(rt; (pin as usize) < design.pins.items().len());
+/// The net of a pin; 0 where there is no such pin.
+fn net_at(design: &Design, pin: u32) -> u32 {
+    if pin as usize >= design.pins.items().len() {
+        return 0;
+    }
     design.net_of(pin)
 }
 
-/// The word of a net.
-fn word_at<'d>(rt: &impl Abort, design: &'d Design, net: u32) -> &'d [u8] {
-    assert!(rt; net > 0);
-    assert!(rt; (net as usize) <= design.nets.items().len());
-    design.net(net).items()
+/// Whether a net has this word.
+fn is_word(design: &Design, net: u32, word: &[u8]) -> bool {
+    if net == 0 || net as usize > design.nets.items().len() {
+        return false;
+    }
+    design.net(net).items() == word
 }
 
-/// The number of shapes in the drawing of a kind under the sample rules.
-fn count_shapes(
-    rt: &impl Abort,
-    alloc: Global,
-    design: &Design,
-    kind: u32,
-) -> Result<usize, AllocError> {
+/// The number of shapes in the drawing of a kind under the sample rules; 0 where there is no such kind.
+fn count_shapes(alloc: Global, design: &Design, kind: u32) -> Result<usize, AllocError> {
     let rules = Rules::sample(alloc)?;
-    assert!(rt; (kind as usize) < design.kinds.items().len());
-    assert!(rt; 2 * rules.grid_pin + rules.vertical_space <= design.height);
+    if kind as usize >= design.kinds.items().len() {
+        return Ok(0);
+    }
+    if 2 * rules.grid_pin + rules.vertical_space > design.height {
+        return Ok(0);
+    }
     Ok(drawing(alloc, design, &rules, kind)?.len())
 }
 
-/// Instances and terminals have these pins.
-fn find_pins(rt: &impl Abort, design: &Design) {
-    for (instance, terminal, pin) in [
-        (0, 0, None),
-        (0, 1, Some(0)),
-        (0, 2, Some(1)),
-        (1, 0, Some(2)),
-        (2, 0, None),
-        (2, 2, Some(4)),
-    ] {
-        assert_eq!(rt;
-            pin_at(rt, design, instance, terminal),
-            pin,
-            "{instance} {terminal}"
-        );
-    }
+/// Whether the terminals of three instances, of which two have a power terminal, have their pins.
+fn are_pins_found(design: &Design) -> bool {
+    pin_at(design, 0, 0).is_none()
+        && pin_at(design, 0, 1) == Some(0)
+        && pin_at(design, 0, 2) == Some(1)
+        && pin_at(design, 1, 0) == Some(2)
+        && pin_at(design, 2, 0).is_none()
+        && pin_at(design, 2, 2) == Some(4)
 }
 
-/// Pins have these nets.
-fn find_nets(rt: &impl Abort, design: &Design) {
-    for (pin, net) in [(0, 1), (1, 2), (2, 2), (3, 2), (4, 3)] {
-        assert_eq!(rt; net_at(rt, design, pin), net, "{pin}");
-    }
+/// Whether these pins have their nets, and the last net has its word.
+fn are_nets_found(design: &Design) -> bool {
+    net_at(design, 0) == 1
+        && net_at(design, 1) == 2
+        && net_at(design, 2) == 2
+        && net_at(design, 3) == 2
+        && net_at(design, 4) == 3
+        && is_word(design, 3, b"z")
 }
 
-/// Three instances, of which two have a power terminal.
 #[test]
 fn a_design_is_looked_up(rt: HostRuntime) -> Result<(), Fail> {
     let text = "INV DRV BUF | u DRV VDD x y; v INV y; w DRV VDD y z;";
     let design = design_in(rt.alloc(), text)?;
-    find_pins(&rt, &design);
-    find_nets(&rt, &design);
-    assert_eq!(rt; word_at(&rt, &design, 3), b"z".as_slice());
-    assert_eq!(rt; count_shapes(&rt, rt.alloc(), &design, 1)?, 3);
+    assert!(rt; are_pins_found(&design));
+    assert!(rt; are_nets_found(&design));
+    assert!(rt; count_shapes(rt.alloc(), &design, 1)? == 3);
     Ok(())
 }

@@ -47,12 +47,17 @@ fn is_refusal(alloc: Global, line: &str) -> Result<bool, AllocError> {
     is_refused(alloc, &design_in(alloc, design), fault)
 }
 
+/// Whether a whole text is refused so, or not at all where this is nothing.
+fn is_text_refused(alloc: Global, text: &str, want: &str) -> Result<bool, AllocError> {
+    is_refused(alloc, &design_of(alloc, text), want)
+}
+
 #[test]
 fn refuses_with_the_first_fault(rt: HostRuntime) -> Result<(), Fail> {
     for line in REFUSED.split('\n') {
         assert!(rt; is_refusal(rt.alloc(), line)?, "{line}");
     }
-    assert!(rt; is_refused(rt.alloc(), &design_of(rt.alloc(), INVERTER), "NoParent")?);
+    assert!(rt; is_text_refused(rt.alloc(), INVERTER, "NoParent")?);
     Ok(())
 }
 
@@ -87,15 +92,20 @@ fn is_outlined(design: &Result<Design, SampleFault>) -> bool {
     }
 }
 
+/// Whether these corners are refused so, or make such a design where this is nothing.
+fn are_corners(alloc: Global, corners: &str, want: &str) -> Result<bool, AllocError> {
+    let design = cornered(alloc, corners);
+    Ok(is_outlined(&design) == want.is_empty() && is_refused(alloc, &design, want)?)
+}
+
 /// A cell of two columns at x -4 has these corners, and a rectangle is told by its corners in order.
 #[test]
 fn corners_have_an_outline(rt: HostRuntime) -> Result<(), Fail> {
-    assert!(rt; is_outlined(&cornered(rt.alloc(), "-4 0 12 0 12 40 -4 40")));
-    assert!(rt; is_outlined(&cornered(rt.alloc(), "12 40 12 0 -4 0 -4 40")));
-    for corners in ["-4 0 12 40 12 0 -4 40", "-4 0 12 0 12 40"] {
-        let design = cornered(rt.alloc(), corners);
-        assert!(rt; is_refused(rt.alloc(), &design, "NoShape(0)")?, "{corners}");
-    }
+    let alloc = rt.alloc();
+    assert!(rt; are_corners(alloc, "-4 0 12 0 12 40 -4 40", "")?);
+    assert!(rt; are_corners(alloc, "12 40 12 0 -4 0 -4 40", "")?);
+    assert!(rt; are_corners(alloc, "-4 0 12 40 12 0 -4 40", "NoShape(0)")?);
+    assert!(rt; are_corners(alloc, "-4 0 12 0 12 40", "NoShape(0)")?);
     Ok(())
 }
 
@@ -141,7 +151,7 @@ fn is_limited(
     want: &str,
 ) -> Result<bool, AllocError> {
     let text = many(alloc, instances, terminals)?;
-    is_refused(alloc, &design_of(alloc, text.as_str()), want)
+    is_text_refused(alloc, text.as_str(), want)
 }
 
 #[test]

@@ -114,19 +114,6 @@ fn shown_text(alloc: Global) -> Result<String, Fail> {
     Ok(shown(alloc, &read_rules(alloc, RULES.as_bytes())?)?)
 }
 
-#[test]
-fn the_sample_text_reads_as_the_sample(rt: HostRuntime) -> Result<(), Fail> {
-    assert!(rt; shown_text(rt.alloc())? == shown_sample(rt.alloc())?);
-    Ok(())
-}
-
-#[test]
-fn a_key_has_its_text(rt: HostRuntime) -> Result<(), Fail> {
-    assert_eq!(rt; Key::Version.name(), "version");
-    assert_eq!(rt; Key::AnnealRowCost.name(), "anneal.row_cost");
-    Ok(())
-}
-
 /// Whether rules have the pad, the word for the layer and the outline's layer of the sample.
 fn are_sample(rules: &Rules) -> bool {
     rules.pad() == 4
@@ -135,7 +122,14 @@ fn are_sample(rules: &Rules) -> bool {
 }
 
 #[test]
-fn the_sample_has_pads_of_four_units(rt: HostRuntime) -> Result<(), Fail> {
+fn the_sample_text_reads_as_the_sample(rt: HostRuntime) -> Result<(), Fail> {
+    assert!(rt; shown_text(rt.alloc())? == shown_sample(rt.alloc())?);
     assert!(rt; are_sample(&Rules::sample(rt.alloc())?));
     Ok(())
+}
+
+#[test]
+fn a_key_has_its_text(rt: HostRuntime) {
+    assert!(rt; Key::Version.name() == "version");
+    assert!(rt; Key::AnnealRowCost.name() == "anneal.row_cost");
 }

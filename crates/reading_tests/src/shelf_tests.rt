@@ -42,43 +42,42 @@ fn is_loaded<S: Shelf>(alloc: Global, shelf: &mut S, name: &str, text: &[u8]) ->
     }
 }
 
-#[test]
-fn load_gives_a_file_of_several_pieces(rt: HostRuntime) -> Result<(), Fail> {
-    let text = numbered(rt.alloc(), 5000)?;
-    let mut shelf = design_shelf(rt.alloc(), text.as_slice())?;
-    assert!(rt; is_loaded(rt.alloc(), &mut shelf, "design", text.as_slice()));
-    Ok(())
-}
-
-/// Why a file is not loaded under a limit.
-fn fault<S: Shelf>(alloc: Global, shelf: &mut S, name: &str, limit: u32) -> Option<LoadFault> {
-    load(alloc, shelf, name, u64::from(limit)).err()
-}
-
-#[test]
-fn load_refuses_a_long_file_and_one_that_is_not_there(rt: HostRuntime) -> Result<(), Fail> {
-    let mut shelf = long_shelf(rt.alloc(), 9)?;
-    assert!(rt; fault(rt.alloc(), &mut shelf, "design", 4999) == Some(LoadFault::TooLong));
-    assert!(rt; fault(rt.alloc(), &mut shelf, "rules", 5000) == Some(LoadFault::ReadFault));
-    Ok(())
-}
-
-/// Why a file of 5,000 bytes is not loaded where the call of this number fails.
-fn fault_at(alloc: Global, mark: u64) -> Result<Option<LoadFault>, AllocError> {
+/// Whether a file of 5,000 bytes is loaded where the call of this number fails.
+fn is_long_loaded(alloc: Global, mark: u64) -> Result<bool, AllocError> {
+    let text = numbered(alloc, 5000)?;
     let mut shelf = long_shelf(alloc, mark)?;
-    Ok(fault(alloc, &mut shelf, "design", 5000))
+    Ok(is_loaded(alloc, &mut shelf, "design", text.as_slice()))
+}
+
+/// Whether a file can't be read.
+fn is_read_fault<S: Shelf>(alloc: Global, shelf: &mut S, name: &str) -> bool {
+    matches!(load(alloc, shelf, name, 5000), Err(LoadFault::ReadFault))
+}
+
+/// Whether a file of a shelf with one of 5,000 bytes can't be read where the call of this number fails.
+fn is_fault_at(alloc: Global, mark: u64, name: &str) -> Result<bool, AllocError> {
+    let mut shelf = long_shelf(alloc, mark)?;
+    Ok(is_read_fault(alloc, &mut shelf, name))
+}
+
+/// Whether a file of 5,000 bytes is too long by one.
+fn is_too_long(alloc: Global) -> Result<bool, AllocError> {
+    let mut shelf = long_shelf(alloc, 9)?;
+    Ok(matches!(
+        load(alloc, &mut shelf, "design", 4999),
+        Err(LoadFault::TooLong)
+    ))
 }
 
 /// A file of 5,000 bytes is taken in pieces of 4,096, 904 and 0 bytes.
 #[test]
-fn load_fails_where_a_take_is_marked(rt: HostRuntime) -> Result<(), Fail> {
+fn load_gives_a_file_or_says_why_not(rt: HostRuntime) -> Result<(), Fail> {
     for mark in 0..3 {
-        assert!(rt;
-            fault_at(rt.alloc(), mark)? == Some(LoadFault::ReadFault),
-            "at {mark}"
-        );
+        assert!(rt; is_fault_at(rt.alloc(), mark, "design")?, "at {mark}");
     }
-    assert!(rt; fault_at(rt.alloc(), 3)?.is_none());
+    assert!(rt; is_long_loaded(rt.alloc(), 3)?);
+    assert!(rt; is_fault_at(rt.alloc(), 9, "rules")?);
+    assert!(rt; is_too_long(rt.alloc())?);
     Ok(())
 }
 
@@ -101,15 +100,11 @@ fn short_shelf(alloc: Global, mark: u64) -> Result<MemShelf, AllocError> {
     Ok(shelf)
 }
 
-/// `begin` is call 0, and the puts of at most 100 bytes are calls 1 to 3.
-#[test]
-fn put_all_puts_a_front_where_a_put_is_marked(rt: HostRuntime) -> Result<(), Fail> {
-    let text = numbered(rt.alloc(), 250)?;
-    for (mark, put) in [(1, 0), (2, 100), (3, 200), (4, 250)] {
-        let mut shelf = short_shelf(rt.alloc(), mark)?;
-        assert!(rt; is_put(&mut shelf, text.as_slice(), put), "at {mark}");
-    }
-    Ok(())
+/// Whether so many of 250 bytes are put on such a shelf.
+fn is_short_put(alloc: Global, mark: u64, put: usize) -> Result<bool, AllocError> {
+    let text = numbered(alloc, 250)?;
+    let mut shelf = short_shelf(alloc, mark)?;
+    Ok(is_put(&mut shelf, text.as_slice(), put))
 }
 
 /// An empty shelf whose call of this number fails.
@@ -119,13 +114,21 @@ fn empty_shelf(alloc: Global, mark: u64) -> Result<MemShelf, AllocError> {
     Ok(shelf)
 }
 
-/// 5,000 bytes are put in pieces of 4,096 and 904 bytes: `begin` is call 0, and the puts are calls 1 and 2.
+/// Whether so many of 5,000 bytes are put on such a shelf.
+fn is_long_put(alloc: Global, mark: u64, put: usize) -> Result<bool, AllocError> {
+    let text = numbered(alloc, 5000)?;
+    let mut shelf = empty_shelf(alloc, mark)?;
+    Ok(is_put(&mut shelf, text.as_slice(), put))
+}
+
+/// `begin` is call 0. The puts of 250 bytes, at most 100 at once, are calls 1 to 3; 5,000 bytes are put in pieces of 4,096 and 904 bytes, calls 1 and 2.
 #[test]
-fn put_all_puts_pieces_of_at_most_4096_bytes(rt: HostRuntime) -> Result<(), Fail> {
-    let text = numbered(rt.alloc(), 5000)?;
+fn put_all_puts_a_front_where_a_put_is_marked(rt: HostRuntime) -> Result<(), Fail> {
+    for (mark, put) in [(1, 0), (2, 100), (3, 200), (4, 250)] {
+        assert!(rt; is_short_put(rt.alloc(), mark, put)?, "at {mark}");
+    }
     for (mark, put) in [(1, 0), (2, 4096), (3, 5000)] {
-        let mut shelf = empty_shelf(rt.alloc(), mark)?;
-        assert!(rt; is_put(&mut shelf, text.as_slice(), put), "at {mark}");
+        assert!(rt; is_long_put(rt.alloc(), mark, put)?, "at {mark}");
     }
     Ok(())
 }
@@ -139,13 +142,6 @@ fn is_third_failed(shelf: &mut MemShelf) -> bool {
         && shelf.get("a") == Some(b"xyz".as_slice())
 }
 
-#[test]
-fn a_shelf_in_memory_counts_its_calls(rt: HostRuntime) -> Result<(), Fail> {
-    let mut shelf = empty_shelf(rt.alloc(), 2)?;
-    assert!(rt; is_third_failed(&mut shelf));
-    Ok(())
-}
-
 /// Whether pieces of "xyz" are taken from where they are asked for.
 fn gives_pieces(shelf: &mut MemShelf) -> bool {
     let mut into = [0u8; 2];
@@ -156,7 +152,9 @@ fn gives_pieces(shelf: &mut MemShelf) -> bool {
 }
 
 #[test]
-fn a_shelf_in_memory_gives_pieces(rt: HostRuntime) -> Result<(), Fail> {
+fn a_shelf_in_memory_counts_its_calls_and_gives_pieces(rt: HostRuntime) -> Result<(), Fail> {
+    let mut shelf = empty_shelf(rt.alloc(), 2)?;
+    assert!(rt; is_third_failed(&mut shelf));
     let mut shelf = design_shelf(rt.alloc(), b"xyz")?;
     assert!(rt; gives_pieces(&mut shelf));
     Ok(())
@@ -184,21 +182,25 @@ fn never_shelf(alloc: Global) -> Result<NeverShelf, AllocError> {
     Ok(shelf)
 }
 
-#[test]
-fn what_never_fails_gives_a_file_once(rt: HostRuntime) -> Result<(), Fail> {
-    let mut shelf = never_shelf(rt.alloc())?;
-    assert!(rt; is_loaded(rt.alloc(), &mut shelf, "a", b"xyz"));
-    assert!(rt; is_loaded(rt.alloc(), &mut shelf, "b", b""));
-    Ok(())
+/// Whether a shelf gives "xyz" once under its one name, and nothing under another.
+fn gives_once(alloc: Global, shelf: &mut NeverShelf) -> bool {
+    is_loaded(alloc, shelf, "a", b"xyz") && is_loaded(alloc, shelf, "b", b"")
+}
+
+/// Whether a shelf takes what is put under its one name and gives nothing of it.
+fn drops_puts(alloc: Global, shelf: &mut NeverShelf) -> bool {
+    put_all(shelf, "a", b"more") == Ok(())
+        && is_loaded(alloc, shelf, "a", b"")
+        && shelf.begin("b") == Ok(())
 }
 
 #[test]
-fn what_never_fails_drops_what_is_put(rt: HostRuntime) -> Result<(), Fail> {
-    let mut shelf = never_shelf(rt.alloc())?;
-    assert!(rt; put_all(&mut shelf, "a", b"more") == Ok(()));
-    assert!(rt; is_loaded(rt.alloc(), &mut shelf, "a", b""));
-    assert!(rt; shelf.begin("b") == Ok(()));
+fn what_never_fails_gives_a_file_once_and_drops_what_is_put(rt: HostRuntime) -> Result<(), Fail> {
     assert!(rt; NeverSink::new().put(b"line\n") == Ok(5));
+    let mut shelf = never_shelf(rt.alloc())?;
+    assert!(rt; gives_once(rt.alloc(), &mut shelf));
+    let mut shelf = never_shelf(rt.alloc())?;
+    assert!(rt; drops_puts(rt.alloc(), &mut shelf));
     Ok(())
 }
 
@@ -210,8 +212,7 @@ fn own_path(rt: &HostRuntime) -> io::Result<PathBuf> {
 
 /// Whether nothing is loaded from a path or put there.
 fn is_lacking<S: Shelf>(alloc: Global, shelf: &mut S, path: &str) -> bool {
-    fault(alloc, shelf, path, 5000) == Some(LoadFault::ReadFault)
-        && shelf.put(path, b"x") == Err(Failed)
+    is_read_fault(alloc, shelf, path) && shelf.put(path, b"x") == Err(Failed)
 }
 
 /// Whether a path is begun and a text put there.
@@ -220,21 +221,22 @@ fn is_written<S: Shelf>(shelf: &mut S, path: &str, text: &[u8]) -> bool {
 }
 
 /// Whether a path that lacks a file holds the text that was put last.
-fn holds_the_last<S: Shelf>(alloc: Global, shelf: &mut S, path: &str, text: &[u8]) -> bool {
-    is_lacking(alloc, shelf, path)
-        && is_written(shelf, path, b"old")
-        && is_written(shelf, path, text)
-        && is_loaded(alloc, shelf, path, text)
+fn holds_the_last<S: Shelf>(alloc: Global, shelf: &mut S, path: &str) -> Result<bool, AllocError> {
+    let text = numbered(alloc, 5000)?;
+    Ok(
+        is_lacking(alloc, shelf, path)
+            && is_written(shelf, path, b"old")
+            && is_written(shelf, path, text.as_slice())
+            && is_loaded(alloc, shelf, path, text.as_slice()),
+    )
 }
 
 #[test]
 fn real_files_hold_what_is_put(rt: HostRuntime) -> Result<(), Fail> {
-    let path = own_path(&rt)?;
-    let text = numbered(rt.alloc(), 5000)?;
-    let mut shelf = HostShelf::new(&rt);
-    let holds = holds_the_last(rt.alloc(), &mut shelf, path.as_str(), text.as_slice());
-    fs::remove_file(&rt, path.as_path())?;
-    assert!(rt; holds);
     assert!(rt; HostSink::new(&rt).put(b"a line\n") == Ok(7));
+    let path = own_path(&rt)?;
+    let holds = holds_the_last(rt.alloc(), &mut HostShelf::new(&rt), path.as_str());
+    fs::remove_file(&rt, path.as_path())?;
+    assert!(rt; holds?);
     Ok(())
 }

@@ -1,6 +1,7 @@
 //! Texts of YAL.
 
 use std::alloc::{AllocError, Global};
+use std::fmt::Debug;
 use std::test::Fail;
 use yal_reader::{Call, Line, Module, Spot, YalFault, YalFile, read_yal};
 
@@ -80,17 +81,24 @@ fn is_cut(alloc: Global, cut: Cut, length: usize) -> Result<bool, AllocError> {
     is_answer(alloc, text, cut_answer(alloc, cut, length)?.as_str())
 }
 
+/// Whether the design reads so when it is cut after each number of bytes from one to another.
+fn are_cut(alloc: Global, first: usize, last: usize, cut: Cut) -> Result<bool, AllocError> {
+    for length in first..=last {
+        if !is_cut(alloc, cut, length)? {
+            return Ok(false);
+        }
+    }
+    Ok(first <= last)
+}
+
 #[test]
 fn the_design_is_cut_after_each_byte(rt: HostRuntime) -> Result<(), Fail> {
     let mut next = 0;
     for (first, last, cut) in CUTS {
-        assert!(rt; first == next && last < 1000);
-        for length in first..=last {
-            assert!(rt; is_cut(rt.alloc(), cut, length)?, "after {length} bytes");
-        }
+        assert!(rt; first == next && last < 1000 && are_cut(rt.alloc(), first, last, cut)?);
         next = last + 1;
     }
-    assert_eq!(rt; next, DESIGN.len() + 1);
+    assert!(rt; next == DESIGN.len() + 1);
     Ok(())
 }
 
@@ -166,14 +174,6 @@ fn is_fault(alloc: Global, line: &str) -> Result<bool, AllocError> {
     is_answer(alloc, text.as_bytes(), fault)
 }
 
-#[test]
-fn each_fault_has_its_kind_and_place(rt: HostRuntime) -> Result<(), Fail> {
-    for line in FAULTS.split('\n') {
-        assert!(rt; is_fault(rt.alloc(), line)?, "{line}");
-    }
-    Ok(())
-}
-
 /// Whether the design reads so behind these bytes.
 fn is_answer_behind(alloc: Global, bytes: &[u8], want: &str) -> Result<bool, AllocError> {
     let mut text = bytes.to_vec(alloc)?;
@@ -182,7 +182,11 @@ fn is_answer_behind(alloc: Global, bytes: &[u8], want: &str) -> Result<bool, All
 }
 
 #[test]
-fn what_stands_before_the_design_comes_first(rt: HostRuntime) -> Result<(), Fail> {
+fn each_fault_has_its_kind_and_place(rt: HostRuntime) -> Result<(), Fail> {
+    for line in FAULTS.split('\n') {
+        assert!(rt; is_fault(rt.alloc(), line)?, "{line}");
+    }
+    // What stands before a design comes first.
     assert!(rt; is_answer_behind(rt.alloc(), b"/*", "OpenComment 0")?);
     assert!(rt; is_answer_behind(rt.alloc(), b"\xc8", "NotAscii 0")?);
     assert!(rt; is_answer(rt.alloc(), b"MODULE \xc8/*", "NotAscii 7")?);
@@ -196,16 +200,22 @@ fn put(text: &mut Vec<u8>, word: &[u8]) -> Result<(), AllocError> {
     Ok(())
 }
 
+/// Puts a value and a blank at the end of a text.
+fn put_value<D: Debug>(alloc: Global, text: &mut Vec<u8>, value: &D) -> Result<(), AllocError> {
+    put(text, format!(in alloc; "{value:?}")?.as_bytes())
+}
+
 /// Puts the numbers and the layer of a spot at the end of a text.
 fn put_spot(alloc: Global, text: &mut Vec<u8>, spot: &Spot) -> Result<(), AllocError> {
-    put(text, format!(in alloc; "{} {}", spot.x, spot.y)?.as_bytes())?;
+    put_value(alloc, text, &spot.x)?;
+    put_value(alloc, text, &spot.y)?;
     put(text, spot.layer.items())
 }
 
 /// Puts a line of a module at the end of a text, with a comma behind it.
 fn put_line(alloc: Global, text: &mut Vec<u8>, line: &Line) -> Result<(), AllocError> {
     put(text, line.name.items())?;
-    put(text, format!(in alloc; "{:?}", line.flow)?.as_bytes())?;
+    put_value(alloc, text, &line.flow)?;
     if let Some(spot) = &line.spot {
         put_spot(alloc, text, spot)?;
     }
@@ -225,9 +235,9 @@ fn put_call(text: &mut Vec<u8>, call: &Call) -> Result<(), AllocError> {
 /// Puts the name, the kind and the corners of a module at the end of a text.
 fn put_head(alloc: Global, text: &mut Vec<u8>, module: &Module) -> Result<(), AllocError> {
     put(text, module.name.items())?;
-    put(text, format!(in alloc; "{:?}", module.kind)?.as_bytes())?;
+    put_value(alloc, text, &module.kind)?;
     for corner in module.corners.items() {
-        put(text, format!(in alloc; "{corner}")?.as_bytes())?;
+        put_value(alloc, text, corner)?;
     }
     Ok(())
 }
