@@ -26,30 +26,36 @@ pub fn channel_of(
 }
 
 /// Whether these pins make a channel, and it keeps them.
-fn is_kept(alloc: Global, top: &[u32], bottom: &[u32]) -> Result<bool, AllocError> {
-    match channel_of(alloc, top, bottom)? {
-        Some(channel) => Ok(channel.top.items() == top && channel.bottom.items() == bottom),
-        None => Ok(false),
+fn is_kept(alloc: Global, top: &[u32], bottom: &[u32]) -> bool {
+    match channel_of(alloc, top, bottom) {
+        Ok(Some(channel)) => channel.top.items() == top && channel.bottom.items() == bottom,
+        _ => false,
     }
 }
 
 /// Whether these pins make no channel.
-fn is_none(alloc: Global, top: &[u32], bottom: &[u32]) -> Result<bool, AllocError> {
-    Ok(channel_of(alloc, top, bottom)?.is_none())
+fn is_none(alloc: Global, top: &[u32], bottom: &[u32]) -> bool {
+    match channel_of(alloc, top, bottom) {
+        Ok(channel) => channel.is_none(),
+        Err(_) => false,
+    }
+}
+
+/// Whether edges are equal in length, and no pin is alone.
+fn are_channels(alloc: Global) -> bool {
+    is_kept(alloc, &[], &[])
+        && is_kept(alloc, &[0, 0], &[0, 0])
+        && is_kept(alloc, &[2, 1], &[1, 2])
+        && is_kept(alloc, &[7], &[7])
+        && is_kept(alloc, &[0, 0, 3], &[0, 0, 3])
+        && is_none(alloc, &[2, 1], &[1, 2, 0])
+        && is_none(alloc, &[5, 1], &[1, 0])
+        && is_none(alloc, &[0, 0], &[0, 4])
 }
 
 #[test]
-fn a_channel_has_equal_edges_and_no_lone_pin(rt: HostRuntime) -> Result<(), Fail> {
-    let alloc = rt.alloc();
-    assert!(rt; is_kept(alloc, &[], &[])?);
-    assert!(rt; is_kept(alloc, &[0, 0], &[0, 0])?);
-    assert!(rt; is_kept(alloc, &[2, 1], &[1, 2])?);
-    assert!(rt; is_kept(alloc, &[7], &[7])?);
-    assert!(rt; is_kept(alloc, &[0, 0, 3], &[0, 0, 3])?);
-    assert!(rt; is_none(alloc, &[2, 1], &[1, 2, 0])?);
-    assert!(rt; is_none(alloc, &[5, 1], &[1, 0])?);
-    assert!(rt; is_none(alloc, &[0, 0], &[0, 4])?);
-    Ok(())
+fn a_channel_has_equal_edges_and_no_lone_pin(rt: HostRuntime) {
+    assert!(rt; are_channels(rt.alloc()));
 }
 
 /// Whether the channel with these pins has these nets.
@@ -81,29 +87,28 @@ fn nets_stand_in_number_order_and_reach_from_pin_to_pin(rt: HostRuntime) -> Resu
 }
 
 /// Whether the channel with these pins has this density.
-fn is_dense(alloc: Global, top: &[u32], bottom: &[u32], wanted: u32) -> Result<bool, AllocError> {
-    match channel_of(alloc, top, bottom)? {
-        Some(channel) => Ok(density(alloc, &channel)? == wanted),
-        None => Ok(false),
+fn is_dense(alloc: Global, top: &[u32], bottom: &[u32], wanted: u32) -> bool {
+    match channel_of(alloc, top, bottom) {
+        Ok(Some(channel)) => density(alloc, &channel) == Ok(wanted),
+        _ => false,
     }
 }
 
-/// The density of the long channel.
-fn long_density(alloc: Global) -> Result<u32, Fail> {
-    let channel = long_channel(alloc)?;
-    Ok(density(alloc, &channel)?)
+/// Whether channels have their densities.
+fn are_dense(alloc: Global) -> bool {
+    is_dense(alloc, &[], &[], 0)
+        && is_dense(alloc, &[0, 0], &[0, 0], 0)
+        && is_dense(alloc, &[2, 1], &[1, 2], 2)
+        && is_dense(alloc, &[0, 0, 0, 0], &[1, 1, 2, 2], 1)
+        && is_dense(alloc, &[1, 1, 0], &[0, 2, 2], 2)
+        && is_dense(alloc, &[1, 2, 3, 0], &[1, 2, 3, 0], 1)
 }
 
 #[test]
 fn density_counts_the_nets_over_a_column(rt: HostRuntime) -> Result<(), Fail> {
-    let alloc = rt.alloc();
-    assert!(rt; is_dense(alloc, &[], &[], 0)?);
-    assert!(rt; is_dense(alloc, &[0, 0], &[0, 0], 0)?);
-    assert!(rt; is_dense(alloc, &[2, 1], &[1, 2], 2)?);
-    assert!(rt; is_dense(alloc, &[0, 0, 0, 0], &[1, 1, 2, 2], 1)?);
-    assert!(rt; is_dense(alloc, &[1, 1, 0], &[0, 2, 2], 2)?);
-    assert!(rt; is_dense(alloc, &[1, 2, 3, 0], &[1, 2, 3, 0], 1)?);
+    assert!(rt; are_dense(rt.alloc()));
     // That of a long channel comes at once.
-    assert!(rt; long_density(alloc)? == 1500);
+    let channel = long_channel(rt.alloc())?;
+    assert!(rt; density(rt.alloc(), &channel)? == 1500);
     Ok(())
 }

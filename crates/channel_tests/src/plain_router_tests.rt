@@ -49,33 +49,28 @@ fn the_crossed_channel_is_wired_in_four_tracks(rt: HostRuntime) -> Result<(), Fa
 }
 
 // Whether the channel with these pins is wired in so many tracks and columns, by so many segments and vias.
-fn is_wired(
-    alloc: Global,
-    top: &[u32],
-    bottom: &[u32],
-    size: (u32, u32, usize, usize),
-) -> Result<bool, AllocError> {
+fn is_wired(alloc: Global, top: &[u32], bottom: &[u32], size: (u32, u32, usize, usize)) -> bool {
     let (tracks, columns, segments, vias) = size;
-    match wiring_of(alloc, top, bottom)? {
-        Some(wiring) => Ok(has_size(&wiring, tracks, columns, segments, vias)),
-        None => Ok(false),
+    match wiring_of(alloc, top, bottom) {
+        Ok(Some(wiring)) => has_size(&wiring, tracks, columns, segments, vias),
+        _ => false,
     }
 }
 
-// The wiring of the long channel.
-fn long_wiring(alloc: Global) -> Result<Wiring, Fail> {
-    let channel = long_channel(alloc)?;
-    Ok(plain(alloc, &channel)?)
+// Whether small channels have the least wiring.
+fn are_wired(alloc: Global) -> bool {
+    is_wired(alloc, &[], &[], (0, 0, 0, 0))
+        && is_wired(alloc, &[0, 0, 0], &[0, 0, 0], (0, 3, 0, 0))
+        && is_wired(alloc, &[0, 5], &[0, 5], (2, 3, 5, 4))
+        && is_wired(alloc, &[0, 0, 0], &[9, 0, 9], (2, 4, 3, 2))
 }
 
 #[test]
 fn small_channels_have_the_least_wiring(rt: HostRuntime) -> Result<(), Fail> {
-    let alloc = rt.alloc();
-    assert!(rt; is_wired(alloc, &[], &[], (0, 0, 0, 0))?);
-    assert!(rt; is_wired(alloc, &[0, 0, 0], &[0, 0, 0], (0, 3, 0, 0))?);
-    assert!(rt; is_wired(alloc, &[0, 5], &[0, 5], (2, 3, 5, 4))?);
-    assert!(rt; is_wired(alloc, &[0, 0, 0], &[9, 0, 9], (2, 4, 3, 2))?);
+    assert!(rt; are_wired(rt.alloc()));
     // A long one is wired at once.
-    assert!(rt; has_size(&long_wiring(alloc)?, 3000, 5500, 12500, 11000));
+    let channel = long_channel(rt.alloc())?;
+    let wiring = plain(rt.alloc(), &channel)?;
+    assert!(rt; has_size(&wiring, 3000, 5500, 12500, 11000));
     Ok(())
 }
