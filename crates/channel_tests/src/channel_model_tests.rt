@@ -1,7 +1,7 @@
 //! Channels, their nets, and their density.
 
 use channel_model::{Channel, Reach, density, nets_of, place_of, reaches};
-use std::alloc::Global;
+use std::alloc::{AllocError, Global};
 use std::test::Fail;
 
 /// A channel of 4,000 columns and 1,500 nets.
@@ -15,76 +15,100 @@ pub fn long_channel(alloc: Global) -> Result<Channel, Fail> {
     Ok(Channel::new(top, bottom).ok_or("a channel")?)
 }
 
-#[test]
-fn a_channel_has_equal_edges_and_no_lone_pin(rt: HostRuntime) -> Result<(), Fail> {
-    let alloc = rt.alloc();
-    let cases: [(&[u32], &[u32], bool); 8] = [
-        (&[], &[], true),
-        (&[0, 0], &[0, 0], true),
-        (&[2, 1], &[1, 2], true),
-        (&[7], &[7], true),
-        (&[0, 0, 3], &[0, 0, 3], true),
-        (&[2, 1], &[1, 2, 0], false),
-        (&[5, 1], &[1, 0], false),
-        (&[0, 0], &[0, 4], false),
-    ];
-    for (top, bottom, is_channel) in cases {
-        let channel = Channel::new(top.to_vec(alloc)?, bottom.to_vec(alloc)?);
-        assert_eq!(rt; channel.is_some(), is_channel);
-        if let Some(channel) = channel {
-            assert_eq!(rt; channel.top.items(), top);
-            assert_eq!(rt; channel.bottom.items(), bottom);
-        }
+/// A channel with these pins, or None where they make none.
+pub fn channel_of(
+    alloc: Global,
+    top: &[u32],
+    bottom: &[u32],
+) -> Result<Option<Channel>, AllocError> {
+    let top = top.to_vec(alloc)?;
+    Ok(Channel::new(top, bottom.to_vec(alloc)?))
+}
+
+/// Whether these pins make a channel, and it keeps them.
+fn is_kept(alloc: Global, top: &[u32], bottom: &[u32]) -> bool {
+    match channel_of(alloc, top, bottom) {
+        Ok(Some(channel)) => channel.top.items() == top && channel.bottom.items() == bottom,
+        _ => false,
     }
-    Ok(())
+}
+
+/// Whether these pins make no channel.
+fn is_none(alloc: Global, top: &[u32], bottom: &[u32]) -> bool {
+    match channel_of(alloc, top, bottom) {
+        Ok(channel) => channel.is_none(),
+        Err(_) => false,
+    }
+}
+
+/// Whether edges are equal in length, and no pin is alone.
+fn are_channels(alloc: Global) -> bool {
+    is_kept(alloc, &[], &[])
+        && is_kept(alloc, &[0, 0], &[0, 0])
+        && is_kept(alloc, &[2, 1], &[1, 2])
+        && is_kept(alloc, &[7], &[7])
+        && is_kept(alloc, &[0, 0, 3], &[0, 0, 3])
+        && is_none(alloc, &[2, 1], &[1, 2, 0])
+        && is_none(alloc, &[5, 1], &[1, 0])
+        && is_none(alloc, &[0, 0], &[0, 4])
 }
 
 #[test]
-fn nets_stand_once_in_number_order(rt: HostRuntime) -> Result<(), Fail> {
-    let alloc = rt.alloc();
-    let channel = Channel::new(
-        vec![in alloc; 9u32, 0, 3, 5]?,
-        vec![in alloc; 3u32, 5, 9, 0]?,
-    )
-    .ok_or("a channel")?;
-    let nets = nets_of(alloc, &channel)?;
-    assert_eq!(rt; nets.as_slice(), [3u32, 5, 9].as_slice());
-    assert_eq!(rt; place_of(&[3, 5, 9], 5), 1);
-    Ok(())
+fn a_channel_has_equal_edges_and_no_lone_pin(rt: HostRuntime) {
+    assert!(rt; are_channels(rt.alloc()));
 }
 
-#[test]
-fn a_reach_goes_from_the_first_pin_to_the_last(rt: HostRuntime) -> Result<(), Fail> {
-    let alloc = rt.alloc();
+/// Whether the channel with these pins has these nets.
+fn has_nets(alloc: Global, top: &[u32], bottom: &[u32], nets: &[u32]) -> Result<bool, AllocError> {
+    match channel_of(alloc, top, bottom)? {
+        Some(channel) => Ok(nets_of(alloc, &channel)?.as_slice() == nets),
+        None => Ok(false),
+    }
+}
+
+/// Whether the middle one of three nets has no pin, and the others reach from their first pin to their last.
+fn have_reaches(alloc: Global) -> Result<bool, AllocError> {
     let found = reaches(alloc, &[0, 4, 8, 4, 0], &[4, 6, 8])?;
     let (first, last) = (1, 3);
-    assert_eq!(rt; found[0], Some(Reach { first, last }));
-    assert_eq!(rt; found[1], None);
-    assert_eq!(rt; found[2], Some(Reach { first: 2, last: 2 }));
+    Ok(
+        found[0] == Some(Reach { first, last })
+            && found[1].is_none()
+            && found[2] == Some(Reach { first: 2, last: 2 }),
+    )
+}
+
+#[test]
+fn nets_stand_in_number_order_and_reach_from_pin_to_pin(rt: HostRuntime) -> Result<(), Fail> {
+    let alloc = rt.alloc();
+    assert!(rt; has_nets(alloc, &[9, 0, 3, 5], &[3, 5, 9, 0], &[3, 5, 9])?);
+    assert!(rt; place_of(&[3, 5, 9], 5) == 1);
+    assert!(rt; have_reaches(alloc)?);
     Ok(())
+}
+
+/// Whether the channel with these pins has this density.
+fn is_dense(alloc: Global, top: &[u32], bottom: &[u32], wanted: u32) -> bool {
+    match channel_of(alloc, top, bottom) {
+        Ok(Some(channel)) => density(alloc, &channel) == Ok(wanted),
+        _ => false,
+    }
+}
+
+/// Whether channels have their densities.
+fn are_dense(alloc: Global) -> bool {
+    is_dense(alloc, &[], &[], 0)
+        && is_dense(alloc, &[0, 0], &[0, 0], 0)
+        && is_dense(alloc, &[2, 1], &[1, 2], 2)
+        && is_dense(alloc, &[0, 0, 0, 0], &[1, 1, 2, 2], 1)
+        && is_dense(alloc, &[1, 1, 0], &[0, 2, 2], 2)
+        && is_dense(alloc, &[1, 2, 3, 0], &[1, 2, 3, 0], 1)
 }
 
 #[test]
 fn density_counts_the_nets_over_a_column(rt: HostRuntime) -> Result<(), Fail> {
-    let alloc = rt.alloc();
-    let cases: [(&[u32], &[u32], u32); 6] = [
-        (&[], &[], 0),
-        (&[0, 0], &[0, 0], 0),
-        (&[2, 1], &[1, 2], 2),
-        (&[0, 0, 0, 0], &[1, 1, 2, 2], 1),
-        (&[1, 1, 0], &[0, 2, 2], 2),
-        (&[1, 2, 3, 0], &[1, 2, 3, 0], 1),
-    ];
-    for (top, bottom, wanted) in cases {
-        let channel = Channel::new(top.to_vec(alloc)?, bottom.to_vec(alloc)?).ok_or("a channel")?;
-        assert_eq!(rt; density(alloc, &channel)?, wanted);
-    }
-    Ok(())
-}
-
-#[test]
-fn the_density_of_a_long_channel_comes_at_once(rt: HostRuntime) -> Result<(), Fail> {
+    assert!(rt; are_dense(rt.alloc()));
+    // That of a long channel comes at once.
     let channel = long_channel(rt.alloc())?;
-    assert_eq!(rt; density(rt.alloc(), &channel)?, 1500);
+    assert!(rt; density(rt.alloc(), &channel)? == 1500);
     Ok(())
 }

@@ -39,43 +39,42 @@ fn is_printed(command: &Command, wanted: &[u8]) -> bool
     &line[..end] == wanted
 }
 
-// The lines of the text of one inverter, all but those of the two names.
-#[test]
-fn prints_the_text_of_one_inverter(rt: HostRuntime) {
-    let outline = LayerName::new(b"XP").unwrap();
-    let wire = LayerName::new(b"NP").unwrap();
-    assert!(rt; is_printed(&Command::Comment, b"(cellroute 1);\n"));
-    assert!(rt; is_printed(&Command::Start { n: 1, a: 1, b: 1 }, b"DS 1 1 1;\n"));
-    assert!(rt; is_printed(&Command::Layer(outline), b"L XP;\n"));
-    assert!(rt;
-        is_printed(
+fn is_layer(name: &[u8], wanted: &[u8]) -> bool {
+    match LayerName::new(name) {
+        Some(layer) => is_printed(&Command::Layer(layer), wanted),
+        None => false,
+    }
+}
+
+// Whether the lines of the text of one inverter are printed, all but those of the two names.
+fn is_inverter_printed() -> bool {
+    is_printed(&Command::Comment, b"(cellroute 1);\n")
+        && is_printed(&Command::Start { n: 1, a: 1, b: 1 }, b"DS 1 1 1;\n")
+        && is_layer(b"XP", b"L XP;\n")
+        && is_printed(
             &boxed(800, 4000, 400, 2000, false),
-            b"B 800 4000 400 2000;\n"
+            b"B 800 4000 400 2000;\n",
         )
-    );
-    assert!(rt; is_printed(&Command::Layer(wire), b"L NP;\n"));
-    assert!(rt; is_printed(&boxed(300, 400, 400, 200, false), b"B 300 400 400 200;\n"));
-    assert!(rt; is_printed(&Command::Finish, b"DF;\n"));
-    assert!(rt; is_printed(&call(1, false, 0, 0, 800), b"C 1 T 0 800;\n"));
-    assert!(rt; is_printed(&Command::End, b"E\n"));
+        && is_layer(b"NP", b"L NP;\n")
+        && is_printed(&boxed(300, 400, 400, 200, false), b"B 300 400 400 200;\n")
+        && is_printed(&Command::Finish, b"DF;\n")
+        && is_printed(&call(1, false, 0, 0, 800), b"C 1 T 0 800;\n")
+        && is_printed(&Command::End, b"E\n")
+}
+
+// Whether signs, directions and turns are printed, and the longest line: a call with the least offsets that a number of the type can be.
+fn are_turns_printed() -> bool {
+    let longest =
+        b"C 18446744073709551615 M X R -1 0 T -9223372036854775808 -9223372036854775808;\n";
+    is_printed(&boxed(2, 4, -5, 2, true), b"B 2 4 -5 2 0 1;\n")
+        && is_printed(&call(7, true, 1, -12, 0), b"C 7 M X R 0 1 T -12 0;\n")
+        && is_printed(&call(7, false, 2, 0, -1), b"C 7 R -1 0 T 0 -1;\n")
+        && is_printed(&call(7, true, 3, 1, 1), b"C 7 M X R 0 -1 T 1 1;\n")
+        && is_printed(&call(u64::MAX, true, 2, i64::MIN, i64::MIN), longest)
 }
 
 #[test]
-fn prints_signs_directions_and_turns(rt: HostRuntime) {
-    assert!(rt; is_printed(&boxed(2, 4, -5, 2, true), b"B 2 4 -5 2 0 1;\n"));
-    assert!(rt; is_printed(&call(7, true, 1, -12, 0), b"C 7 M X R 0 1 T -12 0;\n"));
-    assert!(rt; is_printed(&call(7, false, 2, 0, -1), b"C 7 R -1 0 T 0 -1;\n"));
-    assert!(rt; is_printed(&call(7, true, 3, 1, 1), b"C 7 M X R 0 -1 T 1 1;\n"));
-}
-
-// The longest line: a call with the least offsets that a number of the type can be.
-#[test]
-fn prints_the_longest_line(rt: HostRuntime) {
-    let least = call(u64::MAX, true, 2, i64::MIN, i64::MIN);
-    assert!(rt;
-        is_printed(
-            &least,
-            b"C 18446744073709551615 M X R -1 0 T -9223372036854775808 -9223372036854775808;\n"
-        )
-    );
+fn prints_each_command(rt: HostRuntime) {
+    assert!(rt; is_inverter_printed());
+    assert!(rt; are_turns_printed());
 }

@@ -96,54 +96,61 @@ fn sides(drawn: &Drawn) -> [i64; 4] {
     [rect.x0, rect.y0, rect.x1, rect.y1]
 }
 
+// Whether a shape is that of a net on a layer, with these sides.
+fn is_drawn(drawn: &Drawn, layer: &[u8], net: u32, expected: [i64; 4]) -> bool {
+    drawn.shape.layer.text() == layer && drawn.net == net && sides(drawn) == expected
+}
+
+// Whether these are the shapes, each with its layer, its net and its sides.
+fn are_drawn(drawn: &[Drawn], boxes: &[(&[u8], u32, [i64; 4])]) -> bool {
+    for (drawn, (layer, net, expected)) in drawn.iter().zip(boxes) {
+        if !is_drawn(drawn, layer, *net, *expected) {
+            return false;
+        }
+    }
+    drawn.len() == boxes.len()
+}
+
 // In CIF these are `B 300 1000 400 5300;` on NP and so on, where the channel lies above a row of 40 units that stands on one of 8.
+const JOINED: [(&[u8], u32, [i64; 4]); 9] = [
+    (b"NP", 1, [500, 9600, 1100, 11600]),
+    (b"NP", 1, [2100, 9600, 2700, 11600]),
+    (b"NM", 1, [400, 10900, 2800, 11500]),
+    (b"NM", 1, [400, 10800, 1200, 11600]),
+    (b"NP", 1, [400, 10800, 1200, 11600]),
+    (b"NC", 1, [600, 11000, 1000, 11400]),
+    (b"NM", 1, [2000, 10800, 2800, 11600]),
+    (b"NP", 1, [2000, 10800, 2800, 11600]),
+    (b"NC", 1, [2200, 11000, 2600, 11400]),
+];
+
 #[test]
 fn two_joined_pins_are_drawn_as_nine_boxes(rt: HostRuntime) -> Result<(), Fail> {
     let alloc = rt.alloc();
     let wiring = joined_pins(alloc)?;
     let drawn = draw(alloc, &wiring, 48, &Rules::sample(alloc)?)?;
-    let boxes: [(&[u8], [i64; 4]); 9] = [
-        (b"NP", [500, 9600, 1100, 11600]),
-        (b"NP", [2100, 9600, 2700, 11600]),
-        (b"NM", [400, 10900, 2800, 11500]),
-        (b"NM", [400, 10800, 1200, 11600]),
-        (b"NP", [400, 10800, 1200, 11600]),
-        (b"NC", [600, 11000, 1000, 11400]),
-        (b"NM", [2000, 10800, 2800, 11600]),
-        (b"NP", [2000, 10800, 2800, 11600]),
-        (b"NC", [2200, 11000, 2600, 11400]),
-    ];
-    assert_eq!(rt; drawn.len(), 9);
-    for (drawn, (layer, expected)) in drawn.iter().zip(boxes) {
-        assert_eq!(rt; drawn.shape.layer.text(), layer);
-        assert_eq!(rt; sides(drawn), expected);
-        assert_eq!(rt; drawn.net, 1);
-    }
+    assert!(rt; are_drawn(drawn.as_slice(), &JOINED));
     Ok(())
 }
 
 // Between pads are 4 units, which are 32 half centimicrons, and between cuts 6.
+const TIGHT: [(&[u8], u32, [i64; 4]); 9] = [
+    (b"NM", 1, [16, 48, 48, 80]),
+    (b"NP", 1, [16, 48, 48, 80]),
+    (b"NC", 1, [24, 56, 40, 72]),
+    (b"NM", 2, [80, 48, 112, 80]),
+    (b"NP", 2, [80, 48, 112, 80]),
+    (b"NC", 2, [88, 56, 104, 72]),
+    (b"NM", 3, [16, 112, 48, 144]),
+    (b"NP", 3, [16, 112, 48, 144]),
+    (b"NC", 3, [24, 120, 40, 136]),
+];
+
 #[test]
 fn tight_rules_leave_just_their_spaces(rt: HostRuntime) -> Result<(), Fail> {
     let alloc = rt.alloc();
     let wiring = near_vias(alloc)?;
     let drawn = draw(alloc, &wiring, 0, &tight_rules(alloc)?)?;
-    let boxes: [(&[u8], u32, [i64; 4]); 9] = [
-        (b"NM", 1, [16, 48, 48, 80]),
-        (b"NP", 1, [16, 48, 48, 80]),
-        (b"NC", 1, [24, 56, 40, 72]),
-        (b"NM", 2, [80, 48, 112, 80]),
-        (b"NP", 2, [80, 48, 112, 80]),
-        (b"NC", 2, [88, 56, 104, 72]),
-        (b"NM", 3, [16, 112, 48, 144]),
-        (b"NP", 3, [16, 112, 48, 144]),
-        (b"NC", 3, [24, 120, 40, 136]),
-    ];
-    assert_eq!(rt; drawn.len(), 9);
-    for (drawn, (layer, net, expected)) in drawn.iter().zip(boxes) {
-        assert_eq!(rt; drawn.shape.layer.text(), layer);
-        assert_eq!(rt; sides(drawn), expected);
-        assert_eq!(rt; drawn.net, net);
-    }
+    assert!(rt; are_drawn(drawn.as_slice(), &TIGHT));
     Ok(())
 }

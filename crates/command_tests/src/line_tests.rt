@@ -1,302 +1,192 @@
 //! What is refused, and the lines that say so.
 
 use crate::support::{
-    ROUTE, ended, is_refused, is_refused_in, rules_with, shelf_with, wide, words,
+    ROUTE, is_ended_in, is_refused, is_refused_in, is_routed, rules_with, shelf_of, shelf_with,
+    wide,
 };
-use commands::run;
 use samples::{INVERTER, RING, RULES, THROUGH, design_text};
 use shelf_io::{MemShelf, MemSink};
 use std::alloc::{AllocError, Global};
 use std::test::Fail;
 
+/// Cases with a stroke between them: the line that is printed behind `rules`, a piece of the sample rules, and what stands in its place.
+const RULES_REFUSED: &str = "\
+Tight 3: column = 8 => column = 6|\
+Range grid.centi: centi = 100 => centi = 3|\
+Tight 10: centi = 100 => centi = 6|\
+Missing yal: yal = \"POLY\"\n => |\
+Missing anneal.row_cost: row_cost = 4\n => |\
+Toml: version = 1 => version 1|\
+Tight 12: \"NM\" => \"NP\"";
+
+/// Whether rules with a piece replaced are refused so.
+fn are_refused(alloc: Global, old: &str, new: &str, fault: &str) -> Result<bool, AllocError> {
+    let rules = rules_with(alloc, old, new)?;
+    let line = format!(in alloc; "rules {fault}\n")?;
+    let mut shelf = shelf_of(alloc, rules.as_str(), INVERTER, "u1 INV n1;\n")?;
+    is_refused_in(alloc, ROUTE, &mut shelf, 4, line.as_str())
+}
+
+/// Whether a case is refused with its line.
+fn is_case(alloc: Global, case: &str) -> Result<bool, AllocError> {
+    let Some((fault, change)) = case.split_once(": ") else {
+        return Ok(false);
+    };
+    let Some((old, new)) = change.split_once(" => ") else {
+        return Ok(false);
+    };
+    are_refused(alloc, old, new, fault)
+}
+
 #[test]
 fn rules_that_are_refused(rt: HostRuntime) -> Result<(), Fail> {
-    let rows = [
-        ("column = 8", "column = 6", "rules Tight 3\n"),
-        ("centi = 100", "centi = 3", "rules Range grid.centi\n"),
-        ("centi = 100", "centi = 6", "rules Tight 10\n"),
-        ("yal = \"POLY\"\n", "", "rules Missing yal\n"),
-        ("row_cost = 4\n", "", "rules Missing anneal.row_cost\n"),
-        ("version = 1", "version 1", "rules Toml\n"),
-        ("\"NM\"", "\"NP\"", "rules Tight 12\n"),
-    ];
-    for (old, new, line) in rows {
-        let rules = rules_with(rt.alloc(), old, new)?;
-        let text = design_text(rt.alloc(), INVERTER, "u1 INV n1;\n")?;
-        assert!(rt;
-            is_refused(rt.alloc(), rules.as_str(), text.as_str(), 4, line)?,
-            "{line}"
-        );
+    for case in RULES_REFUSED.split('|') {
+        assert!(rt; is_case(rt.alloc(), case)?, "{case}");
     }
     assert!(rt; is_refused(rt.alloc(), "", "", 4, "rules Missing version\n")?);
     Ok(())
 }
 
-#[test]
-fn designs_that_are_refused(rt: HostRuntime) -> Result<(), Fail> {
-    let off_grid =
-        "MODULE INV;\nTYPE STANDARD;\nDIMENSIONS 0 0 8 0 8 40 0 40;\nIOLIST;\na I 5 0 3 POLY;\nENDIOLIST;\nENDMODULE;\n";
-    let low =
-        "MODULE LOW;\nTYPE STANDARD;\nDIMENSIONS 0 0 8 0 8 10 0 10;\nIOLIST;\nENDIOLIST;\nENDMODULE;\n";
-    let rows = [
-        (off_grid, "u1 INV n1;\n", "design OffGrid INV\n"),
-        (INVERTER, "u1 INV;\n", "design SignalCount u1\n"),
-        (THROUGH, "u1 THR n n;\n", "design SignalCount u1\n"),
-        (
-            INVERTER,
-            "u1 INV a;\nu2 BUF b;\n",
-            "design UnknownModule u2\n",
-        ),
-        (RING, "u1 ring a;\n", "design NotStandard u1\n"),
-        (low, "u1 LOW;\n", "design TooLow LOW\n"),
-    ];
-    for (modules, calls, line) in rows {
-        let text = design_text(rt.alloc(), modules, calls)?;
-        assert!(rt;
-            is_refused(rt.alloc(), RULES, text.as_str(), 5, line)?,
-            "{line}"
-        );
-    }
-    assert!(rt; is_refused(rt.alloc(), RULES, INVERTER, 5, "design NoParent\n")?);
-    let mut twice = design_text(rt.alloc(), "", "")?;
-    twice.push_str("MODULE two;\nTYPE PARENT;\nENDMODULE;\n")?;
-    assert!(rt; is_refused(rt.alloc(), RULES, twice.as_str(), 5, "design ManyParents\n")?);
-    Ok(())
+/// Whether the design of these modules and calls is refused with this line.
+fn is_no_design(alloc: Global, modules: &str, calls: &str, line: &str) -> Result<bool, AllocError> {
+    let mut shelf = shelf_of(alloc, RULES, modules, calls)?;
+    is_refused_in(alloc, ROUTE, &mut shelf, 5, line)
 }
 
-#[test]
-fn texts_that_are_no_yal(rt: HostRuntime) -> Result<(), Fail> {
-    let text = design_text(rt.alloc(), INVERTER, "")?;
-    let (cut, _) = text
-        .as_str()
-        .split_once("\nENDNETWORK")
-        .ok_or("no network")?;
-    let rows = [
-        (cut, "yal Ends 185\n"),
-        ("MODULE ;", "yal Word 7\n"),
-        ("/*", "yal OpenComment 0\n"),
-        (
-            "MODULE a; TYPE STANDARD; DIMENSIONS 0 x;",
-            "yal Number 38\n",
-        ),
-        ("MODULE a; TYPE PAD; ENDMODULE; MODULE a;", "yal Twice 38\n"),
-        ("\u{e9}", "yal NotAscii 0\n"),
-    ];
-    for (yal, line) in rows {
-        assert!(rt; is_refused(rt.alloc(), RULES, yal, 3, line)?, "{line}");
-    }
-    Ok(())
-}
-
-#[test]
-fn what_is_not_built_yet(rt: HostRuntime) -> Result<(), Fail> {
-    let annealed = rules_with(rt.alloc(), "stages = 0", "stages = 1")?;
-    let text = design_text(rt.alloc(), INVERTER, "u1 INV n1;\n")?;
-    assert!(rt;
-        is_refused(
-            rt.alloc(),
-            annealed.as_str(),
-            text.as_str(),
-            11,
-            "unbuilt\n"
-        )?
-    );
-    // Without instances there is nothing to anneal.
-    let empty = design_text(rt.alloc(), "", "")?;
-    let mut shelf = shelf_with(rt.alloc(), annealed.as_str(), empty.as_str())?;
-    let (status, _) = ended(rt.alloc(), ROUTE, &mut shelf)?;
-    assert_eq!(rt; status, 0);
-    Ok(())
-}
-
-// So many blanks.
-fn blanks(alloc: Global, count: usize) -> Result<String, AllocError> {
-    let mut text = String::new(alloc);
-    let line = "                                                               \n";
-    for _ in 0..count / 64 {
-        text.push_str(line)?;
-    }
-    for _ in 0..count % 64 {
-        text.push_str(" ")?;
-    }
+/// A design with two PARENT modules.
+fn two_parents(alloc: Global) -> Result<String, AllocError> {
+    let mut text = design_text(alloc, "", "")?;
+    text.push_str("MODULE two;\nTYPE PARENT;\nENDMODULE;\n")?;
     Ok(text)
 }
 
 #[test]
-fn limits_of_files(rt: HostRuntime) -> Result<(), Fail> {
-    let most = blanks(rt.alloc(), 16_777_216)?;
-    let above = blanks(rt.alloc(), 16_777_217)?;
-    assert!(rt; is_refused(rt.alloc(), above.as_str(), "", 6, "limit Rules 16777216\n")?);
-    assert!(rt;
-        is_refused(
-            rt.alloc(),
-            RULES,
-            above.as_str(),
-            6,
-            "limit Design 16777216\n"
-        )?
-    );
-    assert!(rt; is_refused(rt.alloc(), RULES, most.as_str(), 5, "design NoParent\n")?);
+fn designs_that_are_refused(rt: HostRuntime) -> Result<(), Fail> {
+    let alloc = rt.alloc();
+    let off_grid =
+        "MODULE INV;\nTYPE STANDARD;\nDIMENSIONS 0 0 8 0 8 40 0 40;\nIOLIST;\na I 5 0 3 POLY;\nENDIOLIST;\nENDMODULE;\n";
+    assert!(rt; is_no_design(alloc, off_grid, "u1 INV n1;\n", "design OffGrid INV\n")?);
+    assert!(rt; is_no_design(alloc, INVERTER, "u1 INV;\n", "design SignalCount u1\n")?);
+    assert!(rt; is_no_design(alloc, THROUGH, "u1 THR n n;\n", "design SignalCount u1\n")?);
+    let calls = "u1 INV a;\nu2 BUF b;\n";
+    assert!(rt; is_no_design(alloc, INVERTER, calls, "design UnknownModule u2\n")?);
+    assert!(rt; is_no_design(alloc, RING, "u1 ring a;\n", "design NotStandard u1\n")?);
+    let low =
+        "MODULE LOW;\nTYPE STANDARD;\nDIMENSIONS 0 0 8 0 8 10 0 10;\nIOLIST;\nENDIOLIST;\nENDMODULE;\n";
+    assert!(rt; is_no_design(alloc, low, "u1 LOW;\n", "design TooLow LOW\n")?);
+    assert!(rt; is_refused(alloc, RULES, INVERTER, 5, "design NoParent\n")?);
+    let twice = two_parents(alloc)?;
+    assert!(rt; is_refused(alloc, RULES, twice.as_str(), 5, "design ManyParents\n")?);
     Ok(())
 }
 
-// A shelf with the design of one cell of this width.
-fn shelf_of_wide(alloc: Global, width: u32) -> Result<MemShelf, AllocError> {
-    let text = wide(alloc, width)?;
-    shelf_with(alloc, RULES, text.as_str())
+/// Whether a text is refused as no YAL, with this line.
+fn is_no_yal(alloc: Global, text: &str, line: &str) -> Result<bool, AllocError> {
+    is_refused(alloc, RULES, text, 3, line)
 }
 
-#[test]
-fn limits_of_widths(rt: HostRuntime) -> Result<(), Fail> {
-    let one_row: &[&str] = &["route", "d", "r", "o", "--rows", "1"];
-    let rows = [
-        (10_000_008, "limit Width 1000000800\n"),
-        (16_000_008, "limit Grid 4000002\n"),
-    ];
-    for (width, line) in rows {
-        let mut shelf = shelf_of_wide(rt.alloc(), width)?;
-        assert!(rt;
-            is_refused_in(rt.alloc(), one_row, &mut shelf, 6, line)?,
-            "{line}"
-        );
+/// Whether a design without the end of its NETWORK is refused so.
+fn is_no_network(alloc: Global, line: &str) -> Result<bool, AllocError> {
+    let text = design_text(alloc, INVERTER, "")?;
+    match text.as_str().split_once("\nENDNETWORK") {
+        Some((cut, _)) => is_no_yal(alloc, cut, line),
+        None => Ok(false),
     }
-    let mut shelf = shelf_of_wide(rt.alloc(), 10_000_000)?;
-    let (status, _) = ended(rt.alloc(), one_row, &mut shelf)?;
-    assert_eq!(rt; status, 0);
-    Ok(())
 }
 
 #[test]
-fn limits_of_grids_and_heights(rt: HostRuntime) -> Result<(), Fail> {
-    // As many rows as make the layout about square have more columns in all.
-    let mut shelf = shelf_of_wide(rt.alloc(), 10_000_008)?;
-    assert!(rt; is_refused_in(rt.alloc(), ROUTE, &mut shelf, 6, "limit Grid 627500502\n")?);
-    let high =
-        "MODULE H;\nTYPE STANDARD;\nDIMENSIONS 0 0 8 0 8 10000000 0 10000000;\nIOLIST;\nENDIOLIST;\nENDMODULE;\n";
-    let text = design_text(rt.alloc(), high, "u1 H;\n")?;
-    assert!(rt;
-        is_refused(
-            rt.alloc(),
-            RULES,
-            text.as_str(),
-            6,
-            "limit Height 1000001600\n"
-        )?
-    );
+fn texts_that_are_no_yal(rt: HostRuntime) -> Result<(), Fail> {
+    let alloc = rt.alloc();
+    assert!(rt; is_no_network(alloc, "yal Ends 185\n")?);
+    assert!(rt; is_no_yal(alloc, "MODULE ;", "yal Word 7\n")?);
+    assert!(rt; is_no_yal(alloc, "/*", "yal OpenComment 0\n")?);
+    let word = "MODULE a; TYPE STANDARD; DIMENSIONS 0 x;";
+    assert!(rt; is_no_yal(alloc, word, "yal Number 38\n")?);
+    let twice = "MODULE a; TYPE PAD; ENDMODULE; MODULE a;";
+    assert!(rt; is_no_yal(alloc, twice, "yal Twice 38\n")?);
+    assert!(rt; is_no_yal(alloc, "\u{e9}", "yal NotAscii 0\n")?);
     Ok(())
 }
 
-// The calls of so many inverters.
-fn inverters(alloc: Global, count: u32) -> Result<String, AllocError> {
-    let mut calls = String::new(alloc);
-    for n in 0..count {
-        let call = format!(in alloc; "u{n} INV;\n")?;
-        calls.push_str(call.as_str())?;
-    }
-    Ok(calls)
+/// Sample rules that ask for annealing.
+fn annealed(alloc: Global) -> Result<String, AllocError> {
+    rules_with(alloc, "stages = 0", "stages = 1")
 }
 
 #[test]
-fn a_limit_of_instances(rt: HostRuntime) -> Result<(), Fail> {
-    let calls = inverters(rt.alloc(), 20_001)?;
-    let text = design_text(rt.alloc(), INVERTER, calls.as_str())?;
-    assert!(rt;
-        is_refused(
-            rt.alloc(),
-            RULES,
-            text.as_str(),
-            6,
-            "limit Instances 20001\n"
-        )?
-    );
+fn what_is_not_built_yet(rt: HostRuntime) -> Result<(), Fail> {
+    let rules = annealed(rt.alloc())?;
+    let mut shelf = shelf_of(rt.alloc(), rules.as_str(), INVERTER, "u1 INV n1;\n")?;
+    assert!(rt; is_refused_in(rt.alloc(), ROUTE, &mut shelf, 11, "unbuilt\n")?);
+    // Without instances there is nothing to anneal.
+    let mut shelf = shelf_of(rt.alloc(), rules.as_str(), "", "")?;
+    assert!(rt; is_routed(rt.alloc(), &mut shelf)?);
     Ok(())
+}
+
+/// Whether `route d r o` over a shelf with this one file is refused so.
+fn is_first(
+    alloc: Global,
+    name: &str,
+    text: &str,
+    status: u8,
+    line: &str,
+) -> Result<bool, AllocError> {
+    let mut shelf = MemShelf::new(alloc)?;
+    shelf.set(name, text.as_bytes())?;
+    is_refused_in(alloc, ROUTE, &mut shelf, status, line)
 }
 
 /// Bad rules go before a design that is not there, and a rules file that is not there before a bad design.
 #[test]
 fn the_first_cause_is_said(rt: HostRuntime) -> Result<(), Fail> {
-    let rows = [
-        ("r", "version = 2", 4, "rules Range version\n"),
-        ("d", "MODULE ;", 8, "read fault\n"),
-        ("r", RULES, 8, "read fault\n"),
-    ];
-    for (name, text, status, line) in rows {
-        let mut shelf = MemShelf::new(rt.alloc())?;
-        shelf.set(name, text.as_bytes())?;
-        assert!(rt;
-            is_refused_in(rt.alloc(), ROUTE, &mut shelf, status, line)?,
-            "{name}"
-        );
-    }
+    assert!(rt; is_first(rt.alloc(), "r", "version = 2", 4, "rules Range version\n")?);
+    assert!(rt; is_first(rt.alloc(), "d", "MODULE ;", 8, "read fault\n")?);
+    assert!(rt; is_first(rt.alloc(), "r", RULES, 8, "read fault\n")?);
     Ok(())
 }
 
 /// What is not built yet goes before the limits of layouts.
 #[test]
 fn annealing_is_said_before_a_limit(rt: HostRuntime) -> Result<(), Fail> {
-    let annealed = rules_with(rt.alloc(), "stages = 0", "stages = 1")?;
+    let rules = annealed(rt.alloc())?;
     let text = wide(rt.alloc(), 10_000_008)?;
-    assert!(rt;
-        is_refused(
-            rt.alloc(),
-            annealed.as_str(),
-            text.as_str(),
-            11,
-            "unbuilt\n"
-        )?
-    );
+    assert!(rt; is_refused(rt.alloc(), rules.as_str(), text.as_str(), 11, "unbuilt\n")?);
     Ok(())
 }
 
-// Whether `route d r o` ends with this status, and this front of its line is what was printed.
-fn ends_at(
-    alloc: Global,
-    shelf: &mut MemShelf,
-    out: &mut MemSink,
-    status: u8,
-    front: &str,
-) -> Result<bool, AllocError> {
-    let words = words(alloc, ROUTE)?;
-    let ends = run(alloc, words.as_slice(), shelf, out).status;
-    Ok(ends == status && out.bytes() == front.as_bytes())
+/// A sink whose call of this number fails.
+fn failing_sink(alloc: Global, call: u64) -> Result<MemSink, AllocError> {
+    let mut out = MemSink::new(alloc)?;
+    out.fail_at(call)?;
+    Ok(out)
+}
+
+/// Whether a refusal whose line is cut off by a failure of the sink's call of this number keeps its status, and leaves this front.
+fn is_cut_off(alloc: Global, call: u64, front: &str) -> Result<bool, AllocError> {
+    let mut shelf = shelf_of(alloc, RULES, INVERTER, "u1 INV;\n")?;
+    let mut out = failing_sink(alloc, call)?;
+    is_ended_in(alloc, ROUTE, &mut shelf, &mut out, 5, front)
 }
 
 #[test]
 fn a_failed_sink_keeps_the_status(rt: HostRuntime) -> Result<(), Fail> {
     // The line is put word by word, each with what stands after it.
-    let fronts = [
-        "",
-        "design",
-        "design ",
-        "design SignalCount",
-        "design SignalCount ",
-    ];
-    let text = design_text(rt.alloc(), INVERTER, "u1 INV;\n")?;
-    for (call, front) in fronts.iter().enumerate() {
-        let mut shelf = shelf_with(rt.alloc(), RULES, text.as_str())?;
-        let mut out = MemSink::new(rt.alloc())?;
-        out.fail_at(call as u64)?;
-        assert!(rt;
-            ends_at(rt.alloc(), &mut shelf, &mut out, 5, front)?,
-            "{front}"
-        );
-    }
+    assert!(rt; is_cut_off(rt.alloc(), 0, "")?);
+    assert!(rt; is_cut_off(rt.alloc(), 1, "design")?);
+    assert!(rt; is_cut_off(rt.alloc(), 2, "design ")?);
+    assert!(rt; is_cut_off(rt.alloc(), 3, "design SignalCount")?);
+    assert!(rt; is_cut_off(rt.alloc(), 4, "design SignalCount ")?);
     Ok(())
 }
 
 #[test]
 fn a_sink_may_take_two_bytes_at_once(rt: HostRuntime) -> Result<(), Fail> {
-    let mut shelf = shelf_with(rt.alloc(), "", "")?;
-    let mut out = MemSink::new(rt.alloc())?;
+    let alloc = rt.alloc();
+    let mut shelf = shelf_with(alloc, "", "")?;
+    let mut out = MemSink::new(alloc)?;
     out.most(2);
-    assert!(rt;
-        ends_at(
-            rt.alloc(),
-            &mut shelf,
-            &mut out,
-            4,
-            "rules Missing version\n"
-        )?
-    );
+    let line = "rules Missing version\n";
+    assert!(rt; is_ended_in(alloc, ROUTE, &mut shelf, &mut out, 4, line)?);
     Ok(())
 }

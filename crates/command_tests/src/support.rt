@@ -1,7 +1,7 @@
 //! Shelves, words and designs for the tests.
 
 use commands::{Word, run};
-use samples::{RULES, design_text};
+use samples::{INVERTER, RULES, design_text};
 use shelf_io::{MemShelf, MemSink};
 use std::alloc::{AllocError, Global};
 
@@ -9,11 +9,17 @@ use std::alloc::{AllocError, Global};
 pub const ONE_INVERTER: &str =
     "(cellroute 1);\nDS 1 1 1;\n9 INV;\nL XP;\nB 800 4000 400 2000;\nL NP;\nB 300 400 400 200;\nDF;\n91 u1;\nC 1 T 0 800;\nE\n";
 
-/// These words.
-pub fn words(alloc: Global, texts: &[&str]) -> Result<Vec<Word>, AllocError> {
+/// The words `route d r o`, with strokes between them.
+pub const ROUTE: &str = "route|d|r|o";
+
+/// The words of a text with strokes between them; no words where it is empty.
+fn words(alloc: Global, text: &str) -> Result<Vec<Word>, AllocError> {
     let mut words = Vec::new(alloc);
-    for text in texts {
-        words.push(Word::new(String::from_str(alloc, text)?))?;
+    if text.is_empty() {
+        return Ok(words);
+    }
+    for word in text.split('|') {
+        words.push(Word::new(String::from_str(alloc, word)?))?;
     }
     Ok(words)
 }
@@ -21,22 +27,7 @@ pub fn words(alloc: Global, texts: &[&str]) -> Result<Vec<Word>, AllocError> {
 /// The sample rules with one piece of their text replaced.
 pub fn rules_with(alloc: Global, old: &str, new: &str) -> Result<String, AllocError> {
     let (before, after) = RULES.split_once(old).unwrap_or((RULES, ""));
-    let mut text = String::from_str(alloc, before)?;
-    text.push_str(new)?;
-    text.push_str(after)?;
-    Ok(text)
-}
-
-/// The status of these words over this shelf, and what was printed.
-pub fn ended(
-    alloc: Global,
-    texts: &[&str],
-    shelf: &mut MemShelf,
-) -> Result<(u8, MemSink), AllocError> {
-    let words = words(alloc, texts)?;
-    let mut out = MemSink::new(alloc)?;
-    let status = run(alloc, words.as_slice(), shelf, &mut out).status;
-    Ok((status, out))
+    format!(in alloc; "{before}{new}{after}")
 }
 
 /// A shelf with the rules under `r` and the design under `d`.
@@ -47,19 +38,65 @@ pub fn shelf_with(alloc: Global, rules: &str, design: &str) -> Result<MemShelf, 
     Ok(shelf)
 }
 
-/// The status of `route d r o` over this shelf; 255 where it is 0 and something was printed.
-pub fn routed(alloc: Global, shelf: &mut MemShelf) -> Result<u8, AllocError> {
-    let (status, out) = ended(alloc, ROUTE, shelf)?;
-    if status == 0 && !out.bytes().is_empty() {
-        return Ok(255);
-    }
-    Ok(status)
+/// A shelf with these rules and the design of these modules and calls.
+pub fn shelf_of(
+    alloc: Global,
+    rules: &str,
+    modules: &str,
+    calls: &str,
+) -> Result<MemShelf, AllocError> {
+    let design = design_text(alloc, modules, calls)?;
+    shelf_with(alloc, rules, design.as_str())
 }
 
-/// The words `route d r o`.
-pub const ROUTE: &[&str] = &["route", "d", "r", "o"];
+/// A shelf with the sample rules and the design of one inverter.
+pub fn inverter_shelf(alloc: Global) -> Result<MemShelf, AllocError> {
+    shelf_of(alloc, RULES, INVERTER, "u1 INV n1;\n")
+}
 
-/// A refusal of `route d r o` over these rules and this design writes nothing and prints this line.
+/// Whether these words end with this status over this shelf, and the sink holds this line then.
+pub fn is_ended_in(
+    alloc: Global,
+    text: &str,
+    shelf: &mut MemShelf,
+    out: &mut MemSink,
+    status: u8,
+    line: &str,
+) -> Result<bool, AllocError> {
+    let words = words(alloc, text)?;
+    let ended = run(alloc, words.as_slice(), shelf, out).status;
+    Ok(ended == status && out.bytes() == line.as_bytes())
+}
+
+/// Whether these words end with this status over this shelf, and print this line.
+pub fn is_ended(
+    alloc: Global,
+    text: &str,
+    shelf: &mut MemShelf,
+    status: u8,
+    line: &str,
+) -> Result<bool, AllocError> {
+    let mut out = MemSink::new(alloc)?;
+    is_ended_in(alloc, text, shelf, &mut out, status, line)
+}
+
+/// Whether `route d r o` ends with status 0 over this shelf and prints nothing.
+pub fn is_routed(alloc: Global, shelf: &mut MemShelf) -> Result<bool, AllocError> {
+    is_ended(alloc, ROUTE, shelf, 0, "")
+}
+
+/// Whether these words end with this status over this shelf, print this line and write no `o`.
+pub fn is_refused_in(
+    alloc: Global,
+    text: &str,
+    shelf: &mut MemShelf,
+    status: u8,
+    line: &str,
+) -> Result<bool, AllocError> {
+    Ok(is_ended(alloc, text, shelf, status, line)? && shelf.get("o").is_none())
+}
+
+/// Whether `route d r o` over these rules and this design is refused so.
 pub fn is_refused(
     alloc: Global,
     rules: &str,
@@ -69,18 +106,6 @@ pub fn is_refused(
 ) -> Result<bool, AllocError> {
     let mut shelf = shelf_with(alloc, rules, design)?;
     is_refused_in(alloc, ROUTE, &mut shelf, status, line)
-}
-
-/// The same of these words over this shelf.
-pub fn is_refused_in(
-    alloc: Global,
-    texts: &[&str],
-    shelf: &mut MemShelf,
-    status: u8,
-    line: &str,
-) -> Result<bool, AllocError> {
-    let (ends, printed) = ended(alloc, texts, shelf)?;
-    Ok(ends == status && printed.bytes() == line.as_bytes() && shelf.get("o").is_none())
 }
 
 /// The design of one cell of this width, in units.

@@ -1,196 +1,168 @@
 //! Words that give a command, and words that give none.
 
-use crate::support::{ended, shelf_with};
-use samples::{INVERTER, RULES, design_text};
+use crate::support::{inverter_shelf, is_ended, is_refused_in, shelf_of};
+use samples::{INVERTER, RULES};
 use shelf_io::MemShelf;
+use std::alloc::{AllocError, Global};
 use std::test::Fail;
+
+/// Whether these words are no command.
+fn is_usage(alloc: Global, text: &str) -> Result<bool, AllocError> {
+    let mut shelf = inverter_shelf(alloc)?;
+    is_refused_in(alloc, text, &mut shelf, 2, "usage\n")
+}
+
+/// Words that are no command, one such in a line.
+const NO_COMMANDS: &str = "\
+route\n\
+route|d\n\
+route|d|r\n\
+route|d|r|o|x\n\
+check|d|r|o\n\
+ROUTE|d|r|o\n\
+rout|d|r|o\n\
+|d|r|o\n\
+d|route|r|o\n\
+--help\n\
+--|route|d|r|o\n\
+route|--help\n\
+route|d|r|o|-h\n\
+route|d|r|o|--version\n\
+route|d|r|o|--seed|1\n\
+route|d|r|-x";
 
 #[test]
 fn other_words_are_no_command(rt: HostRuntime) -> Result<(), Fail> {
-    let rows: [&[&str]; 17] = [
-        &[],
-        &["route"],
-        &["route", "d"],
-        &["route", "d", "r"],
-        &["route", "d", "r", "o", "x"],
-        &["check", "d", "r", "o"],
-        &["ROUTE", "d", "r", "o"],
-        &["rout", "d", "r", "o"],
-        &["", "d", "r", "o"],
-        &["d", "route", "r", "o"],
-        &["--help"],
-        &["--", "route", "d", "r", "o"],
-        &["route", "--help"],
-        &["route", "d", "r", "o", "-h"],
-        &["route", "d", "r", "o", "--version"],
-        &["route", "d", "r", "o", "--seed", "1"],
-        &["route", "d", "r", "-x"],
-    ];
-    for texts in rows {
-        let text = design_text(rt.alloc(), INVERTER, "u1 INV n1;\n")?;
-        let mut shelf = shelf_with(rt.alloc(), RULES, text.as_str())?;
-        let (status, line) = ended(rt.alloc(), texts, &mut shelf)?;
-        assert_eq!(rt; status, 2);
-        assert_eq!(rt; line.bytes(), b"usage\n".as_slice());
-        assert_eq!(rt; shelf.get("o"), None);
+    for text in NO_COMMANDS.split('\n') {
+        assert!(rt; is_usage(rt.alloc(), text)?, "{text}");
     }
+    assert!(rt; is_usage(rt.alloc(), "")?);
     Ok(())
+}
+
+/// Whether these words are a command that writes this file.
+fn is_command(alloc: Global, text: &str, out: &str) -> Result<bool, AllocError> {
+    let mut shelf = inverter_shelf(alloc)?;
+    Ok(is_ended(alloc, text, &mut shelf, 0, "")? && shelf.get(out).is_some())
+}
+
+/// Whether these words read a file that is not there.
+fn is_lacking(alloc: Global, text: &str) -> Result<bool, AllocError> {
+    let mut shelf = MemShelf::new(alloc)?;
+    is_ended(alloc, text, &mut shelf, 8, "read fault\n")
 }
 
 #[test]
 fn words_of_a_command(rt: HostRuntime) -> Result<(), Fail> {
-    let rows: [(&[&str], &str); 5] = [
-        (&["route", "--", "d", "r", "o"], "o"),
-        (&["route", "d", "--", "r", "o"], "o"),
-        (&["route", "d", "r", "--", "--help"], "--help"),
-        (&["route", "d", "r", "-"], "-"),
-        (&["route", "d", "r", ""], ""),
-    ];
-    for (texts, out) in rows {
-        let text = design_text(rt.alloc(), INVERTER, "u1 INV n1;\n")?;
-        let mut shelf = shelf_with(rt.alloc(), RULES, text.as_str())?;
-        let (status, _) = ended(rt.alloc(), texts, &mut shelf)?;
-        assert_eq!(rt; status, 0, "{out}");
-        assert!(rt; shelf.get(out).is_some(), "{out}");
-    }
+    assert!(rt; is_command(rt.alloc(), "route|--|d|r|o", "o")?);
+    assert!(rt; is_command(rt.alloc(), "route|d|--|r|o", "o")?);
+    assert!(rt; is_command(rt.alloc(), "route|d|r|--|--help", "--help")?);
+    assert!(rt; is_command(rt.alloc(), "route|d|r|-", "-")?);
+    assert!(rt; is_command(rt.alloc(), "route|d|r|", "")?);
     // An empty word names a file, which is not there.
-    let mut shelf = MemShelf::new(rt.alloc())?;
-    let (status, line) = ended(rt.alloc(), &["route", "", "r", "o"], &mut shelf)?;
-    assert_eq!(rt; status, 8);
-    assert_eq!(rt; line.bytes(), b"read fault\n".as_slice());
+    assert!(rt; is_lacking(rt.alloc(), "route||r|o")?);
     Ok(())
 }
 
-/// Words, the file that they write, and where the last of seven cells of one column lies in as many rows as they ask for. Without a number there are two rows,
-/// which make the layout about square; the first cell of row k lies at y 800 + 4800 * k.
-const ASKED: &[(&[&str], &str, &str)] = &[
-    (&["route", "d", "r", "o"], "o", "C 1 T 1600 5600;\nE\n"),
-    (
-        &["route", "d", "r", "o", "--rows", "1"],
-        "o",
-        "C 1 T 4800 800;\nE\n",
-    ),
-    (
-        &["route", "d", "r", "o", "--rows", "2"],
-        "o",
-        "C 1 T 1600 5600;\nE\n",
-    ),
-    (
-        &["route", "d", "r", "o", "--rows=3"],
-        "o",
-        "C 1 T 0 10400;\nE\n",
-    ),
-    (
-        &["route", "d", "r", "o", "--rows", "007"],
-        "o",
-        "C 1 T 0 29600;\nE\n",
-    ),
-    (
-        &["route", "d", "r", "o", "--rows", "512"],
-        "o",
-        "C 1 T 0 29600;\nE\n",
-    ),
-    (
-        &["route", "d", "r", "o", "--rows", "00000000000000000001"],
-        "o",
-        "C 1 T 4800 800;\nE\n",
-    ),
-    (
-        &["route", "--rows", "3", "d", "r", "o"],
-        "o",
-        "C 1 T 0 10400;\nE\n",
-    ),
-    (
-        &["route", "d", "--rows=3", "r", "o"],
-        "o",
-        "C 1 T 0 10400;\nE\n",
-    ),
-    (
-        &["route", "d", "r", "--rows", "3", "o"],
-        "o",
-        "C 1 T 0 10400;\nE\n",
-    ),
-    (
-        &["route", "--rows", "3", "--", "d", "r", "o"],
-        "o",
-        "C 1 T 0 10400;\nE\n",
-    ),
-    (
-        &["route", "--rows=3", "d", "r", "--", "o"],
-        "o",
-        "C 1 T 0 10400;\nE\n",
-    ),
-    (
-        &["route", "d", "r", "--", "--rows"],
-        "--rows",
-        "C 1 T 1600 5600;\nE\n",
-    ),
-    (
-        &["route", "d", "r", "--", "--rows=x"],
-        "--rows=x",
-        "C 1 T 1600 5600;\nE\n",
-    ),
-    (
-        &["route", "d", "--rows", "3", "r", "--", "--rows"],
-        "--rows",
-        "C 1 T 0 10400;\nE\n",
-    ),
-];
+/// In each line words, the file that they write, and where the last of seven cells of one column lies in as many rows as they ask for. Without a number there are
+/// two rows, which make the layout about square; the first cell of row k lies at y 800 + 4800 * k.
+const ASKED: &str = "\
+route|d|r|o : o : 1600 5600\n\
+route|d|r|o|--rows|1 : o : 4800 800\n\
+route|d|r|o|--rows|2 : o : 1600 5600\n\
+route|d|r|o|--rows=3 : o : 0 10400\n\
+route|d|r|o|--rows|007 : o : 0 29600\n\
+route|d|r|o|--rows|512 : o : 0 29600\n\
+route|d|r|o|--rows|00000000000000000001 : o : 4800 800\n\
+route|--rows|3|d|r|o : o : 0 10400\n\
+route|d|--rows=3|r|o : o : 0 10400\n\
+route|d|r|--rows|3|o : o : 0 10400\n\
+route|--rows|3|--|d|r|o : o : 0 10400\n\
+route|--rows=3|d|r|--|o : o : 0 10400\n\
+route|d|r|--|--rows : --rows : 1600 5600\n\
+route|d|r|--|--rows=x : --rows=x : 1600 5600\n\
+route|d|--rows|3|r|--|--rows : --rows : 0 10400";
+
+/// A shelf with a design of seven cells.
+fn seven_shelf(alloc: Global) -> Result<MemShelf, AllocError> {
+    let calls =
+        "u1 INV n1;\nu2 INV n2;\nu3 INV n3;\nu4 INV n4;\nu5 INV n5;\nu6 INV n6;\nu7 INV n7;\n";
+    shelf_of(alloc, RULES, INVERTER, calls)
+}
+
+/// Whether the last cell of a file lies here.
+fn is_last_at(alloc: Global, shelf: &MemShelf, out: &str, place: &str) -> Result<bool, AllocError> {
+    let Some(written) = shelf.get(out) else {
+        return Ok(false);
+    };
+    let end = format!(in alloc; "\nC 1 T {place};\nE\n")?;
+    Ok(written.ends_with(end.as_bytes()))
+}
+
+/// Whether words write this file over the seven cells, with the last of them here.
+fn asks_for(alloc: Global, text: &str, out: &str, place: &str) -> Result<bool, AllocError> {
+    let mut shelf = seven_shelf(alloc)?;
+    Ok(is_ended(alloc, text, &mut shelf, 0, "")? && is_last_at(alloc, &shelf, out, place)?)
+}
+
+/// Whether a line tells what its words ask for.
+fn is_asked(alloc: Global, line: &str) -> Result<bool, AllocError> {
+    let Some((text, rest)) = line.split_once(" : ") else {
+        return Ok(false);
+    };
+    let Some((out, place)) = rest.split_once(" : ") else {
+        return Ok(false);
+    };
+    asks_for(alloc, text, out, place)
+}
 
 #[test]
 fn words_that_ask_for_rows(rt: HostRuntime) -> Result<(), Fail> {
-    let calls =
-        "u1 INV n1;\nu2 INV n2;\nu3 INV n3;\nu4 INV n4;\nu5 INV n5;\nu6 INV n6;\nu7 INV n7;\n";
-    let text = design_text(rt.alloc(), INVERTER, calls)?;
-    for &(texts, out, last) in ASKED {
-        let mut shelf = shelf_with(rt.alloc(), RULES, text.as_str())?;
-        let (status, _) = ended(rt.alloc(), texts, &mut shelf)?;
-        assert_eq!(rt; status, 0, "{last}");
-        let written = shelf.get(out).ok_or("not written")?;
-        assert!(rt; written.ends_with(last.as_bytes()), "{last}");
+    for line in ASKED.split('\n') {
+        assert!(rt; is_asked(rt.alloc(), line)?, "{line}");
     }
     Ok(())
+}
+
+/// Words behind `route d r o` that make them no command, one such in a line.
+const NO_ROWS: &str = "\
+--rows|513\n\
+--rows|0\n\
+--rows|000\n\
+--rows\n\
+--rows|x\n\
+--rows|2x\n\
+--rows=\n\
+--rows|\n\
+--rows|-5\n\
+--rows=-5\n\
+--rows|+5\n\
+--rows| 5\n\
+--rows|5 \n\
+--rows|٢\n\
+--rows|000000000000000000001\n\
+--rows|18446744073709551615\n\
+--rows|18446744073709551618\n\
+--rows|1|--rows|2\n\
+--rows|2|--rows|2\n\
+--rows=2|--rows=2\n\
+--rows|--|2\n\
+--rows|--seed|1\n\
+--row|2\n\
+--ROWS|2\n\
+-rows|2\n\
+--rows|2|x";
+
+/// Whether these words behind `route d r o` make them no command.
+fn is_no_number(alloc: Global, more: &str) -> Result<bool, AllocError> {
+    let text = format!(in alloc; "route|d|r|o|{more}")?;
+    is_usage(alloc, text.as_str())
 }
 
 #[test]
 fn words_that_ask_for_no_number_of_rows(rt: HostRuntime) -> Result<(), Fail> {
-    let rows: [&[&str]; 26] = [
-        &["--rows", "513"],
-        &["--rows", "0"],
-        &["--rows", "000"],
-        &["--rows"],
-        &["--rows", "x"],
-        &["--rows", "2x"],
-        &["--rows="],
-        &["--rows", ""],
-        &["--rows", "-5"],
-        &["--rows=-5"],
-        &["--rows", "+5"],
-        &["--rows", " 5"],
-        &["--rows", "5 "],
-        &["--rows", "٢"],
-        &["--rows", "000000000000000000001"],
-        &["--rows", "18446744073709551615"],
-        &["--rows", "18446744073709551618"],
-        &["--rows", "1", "--rows", "2"],
-        &["--rows", "2", "--rows", "2"],
-        &["--rows=2", "--rows=2"],
-        &["--rows", "--", "2"],
-        &["--rows", "--seed", "1"],
-        &["--row", "2"],
-        &["--ROWS", "2"],
-        &["-rows", "2"],
-        &["--rows", "2", "x"],
-    ];
-    for more in rows {
-        let mut texts = vec![in rt.alloc(); "route", "d", "r", "o"]?;
-        texts.extend_from_slice(more)?;
-        let text = design_text(rt.alloc(), INVERTER, "u1 INV n1;\n")?;
-        let mut shelf = shelf_with(rt.alloc(), RULES, text.as_str())?;
-        let (status, line) = ended(rt.alloc(), texts.as_slice(), &mut shelf)?;
-        assert_eq!(rt; status, 2);
-        assert_eq!(rt; line.bytes(), b"usage\n".as_slice());
-        assert_eq!(rt; shelf.get("o"), None);
+    for more in NO_ROWS.split('\n') {
+        assert!(rt; is_no_number(rt.alloc(), more)?, "{more}");
     }
     Ok(())
 }

@@ -9,16 +9,33 @@ use geom_core::Items;
 use row_model::{Rows, start};
 use samples::{CELLS, designed};
 use std::alloc::{AllocError, Global};
-use std::process::Abort;
 use std::test::Fail;
 
-/// The crossing of a net.
-fn crossing(rt: &impl Abort, design: &Design, rows: &Rows, net: u32) -> Crossing
+/// The crossing of a net; None where there is no such net.
+fn crossing(design: &Design, rows: &Rows, net: u32) -> Option<Crossing>
     requires { ArePlaced design.now rows.now }
 {
-    assert!(rt; net > 0);
-    assert!(rt; (net as usize) <= design.nets.items().len());
-    spans_of(design, rows, net)
+    if net == 0 || net as usize > design.nets.items().len() {
+        return None;
+    }
+    Some(spans_of(design, rows, net))
+}
+
+/// The crossing of a net of these calls in four rows.
+fn crossing_of(alloc: Global, calls: &str, net: u32) -> Result<Option<Crossing>, Fail> {
+    let design = designed(alloc, CELLS, calls)?;
+    let rows = start(alloc, &design, 4)?;
+    Ok(crossing(&design, &rows, net))
+}
+
+#[test]
+fn nets_cross_rows(rt: HostRuntime) -> Result<(), Fail> {
+    let many = Some(Crossing::Many { lo: 1, hi: 3 });
+    let calls = "u1 BUF n; u2 INV p; u3 INV q; u4 INV n;";
+    assert!(rt; crossing_of(rt.alloc(), calls, 1)? == many);
+    assert!(rt; crossing_of(rt.alloc(), calls, 2)? == Some(Crossing::Alone));
+    assert!(rt; crossing_of(rt.alloc(), "u1 BUF n; u2 THR n; u3 INV q; u4 INV n;", 1)? == many);
+    Ok(())
 }
 
 /// The number of an instance that stands upright, and of a feed its net behind an f.
@@ -44,32 +61,6 @@ fn rows_text(alloc: Global, rows: &[Items<Item>]) -> Result<String, AllocError> 
     Ok(text)
 }
 
-#[test]
-fn nets_cross_rows(rt: HostRuntime) -> Result<(), Fail> {
-    for (calls, net, want) in [
-        (
-            "u1 BUF n; u2 INV p; u3 INV q; u4 INV n;",
-            1,
-            Crossing::Many { lo: 1, hi: 3 },
-        ),
-        (
-            "u1 BUF n; u2 INV p; u3 INV q; u4 INV n;",
-            2,
-            Crossing::Alone,
-        ),
-        (
-            "u1 BUF n; u2 THR n; u3 INV q; u4 INV n;",
-            1,
-            Crossing::Many { lo: 1, hi: 3 },
-        ),
-    ] {
-        let design = designed(rt.alloc(), CELLS, calls)?;
-        let rows = start(rt.alloc(), &design, 4)?;
-        assert_eq!(rt; crossing(&rt, &design, &rows, net), want, "{calls}");
-    }
-    Ok(())
-}
-
 /// The rows that a design with these calls begins with, with their feeds.
 fn fed_of(alloc: Global, calls: &str, count: u32) -> Result<FedRows, Fail>
     requires some { 0 < count }
@@ -80,52 +71,63 @@ fn fed_of(alloc: Global, calls: &str, count: u32) -> Result<FedRows, Fail>
     Ok(insert_feeds(alloc, &design, &rows)?)
 }
 
-/// Calls, the number of rows, and the rows with their feeds, the width in columns and the number of nets of each channel.
-struct FedCase {
-    calls: &'static str,
-    rows: u32,
-    items: &'static str,
+/// Whether rows have these items, this width in columns and so many nets in each channel.
+fn are_fed(
+    alloc: Global,
+    fed: &FedRows,
+    items: &str,
     width: u64,
-    nets: &'static [u32],
+    nets: &[u32],
+) -> Result<bool, AllocError> {
+    let told = rows_text(alloc, fed.rows.items())?;
+    Ok(told.as_str() == items && fed.width == width && fed.nets.items() == nets)
 }
 
-const FED: &[FedCase] = &[
-    // A net crosses two rows by feeds.
-    FedCase {
-        calls: "u1 BUF n; u2 INV p; u3 INV q; u4 INV n;",
-        rows: 4,
-        items: "0 | f1 1 | f1 2 | 3 | ",
-        width: 2,
-        nets: &[0, 1, 1, 1, 0],
-    },
-    // A pin leads a net through a row.
-    FedCase {
-        calls: "u1 BUF n; u2 THR n; u3 INV q; u4 INV n;",
-        rows: 4,
-        items: "0 | 1 | f1 2 | 3 | ",
-        width: 2,
-        nets: &[0, 1, 1, 1, 0],
-    },
-    // Feeds at one place stand in the order of nets.
-    FedCase {
-        calls: "u1 BUF a; u2 BUF b; u3 INV c; u4 INV d; u5 INV b; u6 INV a;",
-        rows: 3,
-        items: "0 1 | f1 f2 2 3 | 4 5 | ",
-        width: 4,
-        nets: &[0, 2, 2, 0],
-    },
-];
+/// Whether these calls in so many rows have such rows with their feeds.
+fn is_fed(
+    alloc: Global,
+    calls: &str,
+    count: u32,
+    items: &str,
+    width: u64,
+    nets: &[u32],
+) -> Result<bool, Fail>
+    requires some { 0 < count }
+    requires few { count ≤ 512 }
+{
+    let fed = fed_of(alloc, calls, count)?;
+    Ok(are_fed(alloc, &fed, items, width, nets)?)
+}
 
 #[test]
 fn rows_have_their_feeds(rt: HostRuntime) -> Result<(), Fail> {
-    for case in FED {
-        assert!(rt; case.rows > 0);
-        assert!(rt; case.rows <= 512);
-        let fed = fed_of(rt.alloc(), case.calls, case.rows)?;
-        let told = rows_text(rt.alloc(), fed.rows.items())?;
-        assert_eq!(rt; told.as_str(), case.items);
-        assert_eq!(rt; fed.width, case.width, "{}", case.calls);
-        assert_eq!(rt; fed.nets.items(), case.nets, "{}", case.calls);
-    }
+    let alloc = rt.alloc();
+    // A net crosses two rows by feeds.
+    let calls = "u1 BUF n; u2 INV p; u3 INV q; u4 INV n;";
+    assert!(rt;
+        is_fed(
+            alloc,
+            calls,
+            4,
+            "0 | f1 1 | f1 2 | 3 | ",
+            2,
+            &[0, 1, 1, 1, 0]
+        )?
+    );
+    // A pin leads a net through a row.
+    let calls = "u1 BUF n; u2 THR n; u3 INV q; u4 INV n;";
+    assert!(rt; is_fed(alloc, calls, 4, "0 | 1 | f1 2 | 3 | ", 2, &[0, 1, 1, 1, 0])?);
+    // Feeds at one place stand in the order of nets.
+    let calls = "u1 BUF a; u2 BUF b; u3 INV c; u4 INV d; u5 INV b; u6 INV a;";
+    assert!(rt;
+        is_fed(
+            alloc,
+            calls,
+            3,
+            "0 1 | f1 f2 2 3 | 4 5 | ",
+            4,
+            &[0, 2, 2, 0]
+        )?
+    );
     Ok(())
 }

@@ -10,7 +10,6 @@ use pin_assign::{Bound, bound_of, channels};
 use row_model::start;
 use samples::{CELLS, SampleFault, designed};
 use std::alloc::{AllocError, Global};
-use std::process::Abort;
 use std::test::Fail;
 use tech_rules::Rules;
 
@@ -35,39 +34,23 @@ fn fed_in(alloc: Global, design: &Design, count: u32) -> Result<FedRows, AllocEr
     Ok(fed)
 }
 
-/// The channels of a design with these calls in so many rows.
-fn channels_of(
-    rt: &impl Abort,
-    alloc: Global,
-    calls: &str,
-    count: u32,
-) -> Result<Vec<Channel>, Fail>
-    requires some { 0 < count }
-    requires few { count ≤ 512 }
-{
-    let design = designed_with(alloc, calls)?;
-    let fed = fed_in(alloc, &design, count)?;
-    assert!(rt; fed.width <= 4000000);
-    Ok(channels(alloc, &design, &fed)?)
-}
-
-/// The bound of rows of a design with their feeds.
-fn bound_in(design: &Design, fed: &FedRows, rules: &Rules) -> Bound
+/// The bound of rows of a design with their feeds, under the sample rules.
+fn bound_in(alloc: Global, design: &Design, fed: &FedRows) -> Result<Bound, AllocError>
     requires { IsFed design.now fed.now }
 {
+    let rules = Rules::sample(alloc)?;
     let _pins = &design.pins;
-    bound_of(design, fed, rules)
+    Ok(bound_of(design, fed, &rules))
 }
 
-/// The bound of a design with these calls in so many rows, under the sample rules.
+/// The bound of a design with these calls in so many rows.
 fn bound_with(alloc: Global, calls: &str, count: u32) -> Result<Bound, Fail>
     requires some { 0 < count }
     requires few { count ≤ 512 }
 {
-    let rules = Rules::sample(alloc)?;
     let design = designed_with(alloc, calls)?;
     let fed = fed_in(alloc, &design, count)?;
-    Ok(bound_in(&design, &fed, &rules))
+    Ok(bound_in(alloc, &design, &fed)?)
 }
 
 /// Calls, the number of rows, and for each channel the nets at its upper and at its lower edge.
@@ -137,28 +120,49 @@ fn are_channels(channels: &[Channel], wanted: &[(&[u32], &[u32])]) -> bool {
     true
 }
 
+/// Whether the channels of rows with feeds have these nets.
+fn has_channels(
+    alloc: Global,
+    design: &Design,
+    fed: &FedRows,
+    wanted: &[(&[u32], &[u32])],
+) -> Result<bool, AllocError>
+    requires { IsFed design.now fed.now }
+{
+    if fed.width > 4000000 {
+        return Ok(false);
+    }
+    let made = channels(alloc, design, fed)?;
+    Ok(are_channels(made.as_slice(), wanted))
+}
+
+/// Whether the calls of a case have its channels.
+fn is_tabled(alloc: Global, case: &Tabled) -> Result<bool, Fail> {
+    if case.rows == 0 || case.rows > 512 {
+        return Ok(false);
+    }
+    let design = designed_with(alloc, case.calls)?;
+    let fed = fed_in(alloc, &design, case.rows)?;
+    Ok(has_channels(alloc, &design, &fed, case.channels)?)
+}
+
 #[test]
 fn nets_enter_channels(rt: HostRuntime) -> Result<(), Fail> {
-    for (i, case) in TABLED.iter().enumerate() {
-        assert!(rt; case.rows > 0);
-        assert!(rt; case.rows <= 512);
-        let made = channels_of(&rt, rt.alloc(), case.calls, case.rows)?;
-        assert!(rt; are_channels(made.as_slice(), case.channels), "case {i}");
+    for case in &TABLED {
+        assert!(rt; is_tabled(rt.alloc(), case)?, "{}", case.calls);
     }
     Ok(())
 }
 
 #[test]
 fn a_layout_is_within_its_bound(rt: HostRuntime) -> Result<(), Fail> {
-    let bound = bound_with(rt.alloc(), "u1 BUF n; u2 INV p; u3 INV q; u4 INV n;", 4)?;
-    assert_eq!(rt;
-        bound,
-        Bound {
-            width: 2400,
-            height: 24800,
-            grid: 15
-        }
-    );
-    assert_eq!(rt; bound_with(rt.alloc(), "", 1)?.grid, 0);
+    let wanted = Bound {
+        width: 2400,
+        height: 24800,
+        grid: 15,
+    };
+    let calls = "u1 BUF n; u2 INV p; u3 INV q; u4 INV n;";
+    assert!(rt; bound_with(rt.alloc(), calls, 4)? == wanted);
+    assert!(rt; bound_with(rt.alloc(), "", 1)?.grid == 0);
     Ok(())
 }

@@ -84,20 +84,6 @@ const STARTED: [Started; 6] = [
     },
 ];
 
-#[test]
-fn rows_take_instances_in_order(rt: HostRuntime) -> Result<(), Fail> {
-    for (i, case) in STARTED.iter().enumerate() {
-        let design = designed(rt.alloc(), CELLS, case.calls)?;
-        assert!(rt; case.rows.len() <= 512);
-        let count = case.rows.len() as u32;
-        assert!(rt; count > 0);
-        let rows = start(rt.alloc(), &design, count)?;
-        assert!(rt; are_rows(&rows, case.rows), "case {i}");
-        assert!(rt; are_columns(&design, &rows, case.columns), "case {i}");
-    }
-    Ok(())
-}
-
 /// Whether the pins of a design have these columns.
 fn are_columns(design: &Design, rows: &Rows, columns: &[u64]) -> bool
     requires { ArePlaced design.now rows.now }
@@ -111,18 +97,38 @@ fn are_columns(design: &Design, rows: &Rows, columns: &[u64]) -> bool
     count == columns.len()
 }
 
-#[test]
-fn most_of_512_rows_are_empty(rt: HostRuntime) -> Result<(), Fail> {
-    let design = designed(rt.alloc(), CELLS, FOUR)?;
-    let rows = start(rt.alloc(), &design, 512)?;
-    assert_eq!(rt; rows.rows.items().len(), 512);
+/// Whether the calls of a case go into its rows, with its columns.
+fn is_started(alloc: Global, case: &Started) -> Result<bool, Fail> {
+    let count = case.rows.len();
+    if count == 0 || count > 512 {
+        return Ok(false);
+    }
+    let design = designed(alloc, CELLS, case.calls)?;
+    let rows = start(alloc, &design, count as u32)?;
+    Ok(are_rows(&rows, case.rows) && are_columns(&design, &rows, case.columns))
+}
+
+/// Whether four cells are alone in the first of 512 rows.
+fn are_mostly_empty(rows: &Rows) -> bool {
     for (i, seats) in rows.rows.items().iter().enumerate() {
         if i < 4 {
-            assert!(rt; are_seats(seats.items(), &[i as u32]), "row {i}");
-        } else {
-            assert!(rt; seats.items().is_empty(), "row {i}");
+            if !are_seats(seats.items(), &[i as u32]) {
+                return false;
+            }
+        } else if !seats.items().is_empty() {
+            return false;
         }
     }
+    rows.rows.items().len() == 512
+}
+
+#[test]
+fn rows_take_instances_in_order(rt: HostRuntime) -> Result<(), Fail> {
+    for (i, case) in STARTED.iter().enumerate() {
+        assert!(rt; is_started(rt.alloc(), case)?, "case {i}");
+    }
+    let design = designed(rt.alloc(), CELLS, FOUR)?;
+    assert!(rt; are_mostly_empty(&start(rt.alloc(), &design, 512)?));
     Ok(())
 }
 
@@ -135,10 +141,28 @@ fn inverters(alloc: Global, count: u32) -> Result<String, AllocError> {
     Ok(calls)
 }
 
+/// As many rows as make the layout of these modules and calls about square.
+fn rows_of(alloc: Global, modules: &str, calls: &str) -> Result<u32, Fail> {
+    let rules = Rules::sample(alloc)?;
+    let design = designed(alloc, modules, calls)?;
+    Ok(default_rows(&design, &rules))
+}
+
+/// The same of so many INV.
+fn rows_of_inverters(alloc: Global, count: u32) -> Result<u32, Fail> {
+    let calls = inverters(alloc, count)?;
+    rows_of(alloc, CELLS, calls.as_str())
+}
+
+/// The same of these calls, also of WIDE.
+fn rows_of_wide(alloc: Global, calls: &str) -> Result<u32, Fail> {
+    let modules = format!(in alloc; "{CELLS}{WIDE}")?;
+    rows_of(alloc, modules.as_str(), calls)
+}
+
 /// A column is 8 units wide and a cell 40 high, so that K rows do for 5 * K * K columns.
 #[test]
-fn as_many_rows_as_are_square(rt: HostRuntime) -> Result<(), Fail> {
-    let rules = Rules::sample(rt.alloc())?;
+fn as_many_rows_as_are_square_up_to_512(rt: HostRuntime) -> Result<(), Fail> {
     for (columns, rows) in [
         (0, 1),
         (1, 1),
@@ -151,46 +175,40 @@ fn as_many_rows_as_are_square(rt: HostRuntime) -> Result<(), Fail> {
         (500, 10),
         (501, 11),
     ] {
-        let calls = inverters(rt.alloc(), columns)?;
-        let design = designed(rt.alloc(), CELLS, calls.as_str())?;
-        assert_eq!(rt; default_rows(&design, &rules), rows, "{columns} columns");
+        assert!(rt;
+            rows_of_inverters(rt.alloc(), columns)? == rows,
+            "{columns} columns"
+        );
     }
+    assert!(rt; rows_of_wide(rt.alloc(), "u WIDE x;")? == 511);
+    assert!(rt; rows_of_wide(rt.alloc(), "u WIDE x; v INV x;")? == 512);
+    assert!(rt; rows_of_wide(rt.alloc(), "u WIDE x; v WIDE x;")? == 512);
     Ok(())
 }
 
-#[test]
-fn never_more_than_512_rows(rt: HostRuntime) -> Result<(), Fail> {
-    let rules = Rules::sample(rt.alloc())?;
-    for (calls, rows) in [
-        ("u WIDE x;", 511),
-        ("u WIDE x; v INV x;", 512),
-        ("u WIDE x; v WIDE x;", 512),
-    ] {
-        let modules = format!(in rt.alloc(); "{CELLS}{WIDE}")?;
-        let design = designed(rt.alloc(), modules.as_str(), calls)?;
-        assert_eq!(rt; default_rows(&design, &rules), rows, "{calls}");
-    }
-    Ok(())
+/// Whether a design has four instances, of 2, 1, 1 and 2 columns.
+fn have_widths(design: &Design) -> bool {
+    design.instances.items().len() == 4
+        && columns_of(design, 0) == 2
+        && columns_of(design, 1) == 1
+        && columns_of(design, 2) == 1
+        && columns_of(design, 3) == 2
 }
 
-#[test]
-fn widths_of_instances(rt: HostRuntime) -> Result<(), Fail> {
-    let design = designed(rt.alloc(), CELLS, FOUR)?;
-    for (instance, columns) in [(0, 2), (1, 1), (2, 1), (3, 2)] {
-        assert!(rt; (instance as usize) < design.instances.items().len());
-        assert_eq!(rt; columns_of(&design, instance), columns, "{instance}");
-    }
-    Ok(())
-}
-
-#[test]
-fn weights_are_those_that_they_are_made_of(rt: HostRuntime) -> Result<(), Fail> {
+/// Whether weights are those that they are made of.
+fn are_weights() -> bool {
     let weights = Weights {
         row_cost: 1_000,
         length_cost: 0,
     };
-    assert_eq!(rt; weights.row_cost, 1_000);
-    assert_eq!(rt; weights.length_cost, 0);
+    weights.row_cost == 1_000 && weights.length_cost == 0
+}
+
+#[test]
+fn instances_have_widths_and_weights_are_kept(rt: HostRuntime) -> Result<(), Fail> {
+    let design = designed(rt.alloc(), CELLS, FOUR)?;
+    assert!(rt; have_widths(&design));
+    assert!(rt; are_weights());
     Ok(())
 }
 
@@ -198,36 +216,40 @@ fn weights_are_those_that_they_are_made_of(rt: HostRuntime) -> Result<(), Fail> 
 const SIDES: &str =
     "MODULE SIDES; TYPE STANDARD; DIMENSIONS 0 0 24 0 24 40 0 40; IOLIST; a B 12 40 3 POLY; b I 12 0 3 POLY; a B 4 0 3 POLY; a B 20 0 3 POLY; ENDIOLIST; ENDMODULE;";
 
+/// A design of one such cell and an INV.
+fn sided(alloc: Global) -> Result<Design, Fail> {
+    let modules = format!(in alloc; "{SIDES}{CELLS}")?;
+    Ok(designed(alloc, modules.as_str(), "u SIDES n m; v INV n;")?)
+}
+
+/// Whether the pins of a design have these columns, one by one and all at once.
+fn have_columns(alloc: Global, design: &Design, wanted: &[PinColumns]) -> Result<bool, AllocError> {
+    for (pin, want) in design.pins.items().iter().zip(wanted) {
+        if pin_columns(design, *pin) != *want {
+            return Ok(false);
+        }
+    }
+    Ok(all_pin_columns(alloc, design)?.as_slice() == wanted)
+}
+
 #[test]
 fn pins_have_columns_on_each_edge(rt: HostRuntime) -> Result<(), Fail> {
-    let modules = format!(in rt.alloc(); "{SIDES}{CELLS}")?;
-    let design = designed(rt.alloc(), modules.as_str(), "u SIDES n m; v INV n;")?;
-    let wanted = [
-        PinColumns {
-            first: Some(1),
-            bottom: Some(0),
-            top: Some(1),
-        },
-        PinColumns {
-            first: Some(1),
-            bottom: Some(1),
-            top: None,
-        },
-        PinColumns {
-            first: Some(0),
-            bottom: Some(0),
-            top: None,
-        },
-    ];
-    let columns = all_pin_columns(rt.alloc(), &design)?;
-    assert_eq!(rt; columns.as_slice(), wanted.as_slice());
-    for (pin, want) in design.pins.items().iter().zip(wanted) {
-        assert_eq!(rt;
-            pin_columns(&design, *pin),
-            want,
-            "terminal {}",
-            pin.terminal
-        );
-    }
+    let both = PinColumns {
+        first: Some(1),
+        bottom: Some(0),
+        top: Some(1),
+    };
+    let second = PinColumns {
+        first: Some(1),
+        bottom: Some(1),
+        top: None,
+    };
+    let first = PinColumns {
+        first: Some(0),
+        bottom: Some(0),
+        top: None,
+    };
+    let design = sided(rt.alloc())?;
+    assert!(rt; have_columns(rt.alloc(), &design, &[both, second, first])?);
     Ok(())
 }

@@ -3,57 +3,62 @@
 use geom_core::{Items, LayerName, Name, Rect, Turn, gap, inside, moved, touch};
 use std::test::Fail;
 
-#[test]
-fn lists_keep_and_lend_their_items(rt: HostRuntime) -> Result<(), Fail> {
-    let mut items = Items::new([3u32, 1, 2].to_vec(rt.alloc())?);
-    assert_eq!(rt; items.items(), [3u32, 1, 2].as_slice());
+/// Whether a list of 3, 1 and 2 lends each of them to be written.
+fn are_lent(items: &mut Items<u32>) -> bool {
+    let kept = items.items() == [3, 1, 2].as_slice();
     for n in items.items_mut() {
         *n = 7;
     }
-    assert_eq!(rt; items.items(), [7u32, 7, 7].as_slice());
-    Ok(())
+    kept && items.items() == [7, 7, 7].as_slice()
 }
 
-#[test]
-fn names_keep_and_lend_their_bytes(rt: HostRuntime) -> Result<(), Fail> {
-    let mut name = Name::new(b"u1".to_vec(rt.alloc())?);
-    let copy = name.copied(rt.alloc())?;
-    assert!(rt; name == copy);
+/// Whether a name is equal to its copy until its bytes are written.
+fn is_lent(name: &mut Name, copy: &Name) -> bool {
+    let equal = *name == *copy;
     for byte in name.items_mut() {
         *byte = b'x';
     }
-    assert_eq!(rt; name.items(), b"xx".as_slice());
-    assert_eq!(rt; copy.items(), b"u1".as_slice());
-    assert!(rt; name != copy);
+    equal && name.items() == b"xx".as_slice() && copy.items() == b"u1".as_slice() && *name != *copy
+}
+
+#[test]
+fn lists_and_names_keep_and_lend_their_items(rt: HostRuntime) -> Result<(), Fail> {
+    let mut items = Items::new([3u32, 1, 2].to_vec(rt.alloc())?);
+    assert!(rt; are_lent(&mut items));
+    let mut name = Name::new(b"u1".to_vec(rt.alloc())?);
+    let copy = name.copied(rt.alloc())?;
+    assert!(rt; is_lent(&mut name, &copy));
     Ok(())
+}
+
+/// Whether these bytes are the text of a layer name.
+fn is_layer_name(bytes: &[u8]) -> bool {
+    match LayerName::new(bytes) {
+        Some(layer) => layer.text() == bytes,
+        None => false,
+    }
+}
+
+/// Whether layer names are as they should.
+fn are_layer_names() -> bool {
+    is_layer_name(b"NM")
+        && is_layer_name(b"N")
+        && is_layer_name(b"0AZ9")
+        && LayerName::new(b"").is_none()
+        && LayerName::new(b"NMNPX").is_none()
+        && LayerName::new(b"nm").is_none()
+        && LayerName::new(b"N ").is_none()
+        && LayerName::new(b"N-").is_none()
+        && LayerName::new(b"\xc4").is_none()
 }
 
 #[test]
 fn layer_names_are_one_to_four_digits_or_capitals(rt: HostRuntime) {
-    let rows: [(&[u8], bool); 9] = [
-        (b"NM", true),
-        (b"N", true),
-        (b"0AZ9", true),
-        (b"", false),
-        (b"NMNPX", false),
-        (b"nm", false),
-        (b"N ", false),
-        (b"N-", false),
-        (b"\xc4", false),
-    ];
-    for (bytes, good) in rows {
-        match LayerName::new(bytes) {
-            Some(layer) => {
-                assert!(rt; good);
-                assert_eq!(rt; layer.text(), bytes);
-            }
-            None => assert!(rt; !good),
-        }
-    }
+    assert!(rt; are_layer_names());
 }
 
-#[test]
-fn rectangles_touch_and_have_gaps(rt: HostRuntime) {
+/// Whether two rectangles that share a corner touch, and one that is far from the first does not.
+fn have_gaps() -> bool {
     let first = Rect {
         x0: 0,
         y0: 0,
@@ -72,17 +77,21 @@ fn rectangles_touch_and_have_gaps(rt: HostRuntime) {
         x1: 4,
         y1: 6,
     };
-    assert!(rt; touch(&first, &corner));
-    assert!(rt; !touch(&first, &far));
-    assert_eq!(rt; gap(&first, &corner), (0, 0));
-    assert_eq!(rt; gap(&first, &far), (1, 3));
-    assert!(rt; !inside(&first, &corner));
-    assert!(rt; inside(&first, &first));
+    touch(&first, &corner)
+        && !touch(&first, &far)
+        && gap(&first, &corner) == (0, 0)
+        && gap(&first, &far) == (1, 3)
+        && !inside(&first, &corner)
+        && inside(&first, &first)
 }
 
-// The box of `B 2 4 5 2`, under the calls `C 1 M X T 12 0` and `C 1 R 0 1`.
 #[test]
-fn a_rectangle_is_moved(rt: HostRuntime) {
+fn rectangles_touch_and_have_gaps(rt: HostRuntime) {
+    assert!(rt; have_gaps());
+}
+
+/// Whether the box of `B 2 4 5 2` lies where the calls `C 1 M X T 12 0` and `C 1 R 0 1` move it.
+fn is_moved() -> bool {
     let rect = Rect {
         x0: 8,
         y0: 0,
@@ -95,24 +104,28 @@ fn a_rectangle_is_moved(rt: HostRuntime) {
         dx: 24,
         dy: 0,
     };
-    let wanted = Rect {
+    let right = Rect {
         x0: 12,
         y0: 0,
         x1: 16,
         y1: 8,
     };
-    assert_eq!(rt; moved(&rect, &flipped), wanted);
     let turned = Turn {
         flip: false,
         quarters: 1,
         dx: 0,
         dy: 0,
     };
-    let wanted = Rect {
+    let left = Rect {
         x0: -8,
         y0: 8,
         x1: 0,
         y1: 12,
     };
-    assert_eq!(rt; moved(&rect, &turned), wanted);
+    moved(&rect, &flipped) == right && moved(&rect, &turned) == left
+}
+
+#[test]
+fn a_rectangle_is_moved(rt: HostRuntime) {
+    assert!(rt; is_moved());
 }

@@ -8,6 +8,10 @@ mod geometry_tests;
 #[cfg(test)]
 mod name_tests;
 #[cfg(test)]
+mod odd_cells;
+#[cfg(test)]
+mod refusal_tests;
+#[cfg(test)]
 mod rules_tests;
 #[cfg(test)]
 mod shelf_tests;

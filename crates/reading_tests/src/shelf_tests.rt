@@ -6,8 +6,9 @@ use shelf_io::{
     load, put_all,
 };
 use std::alloc::{AllocError, Global};
+use std::path::PathBuf;
 use std::test::Fail;
-use std::{env, fs, process};
+use std::{env, fs, io, process};
 
 /// Bytes that tell their places apart.
 fn numbered(alloc: Global, count: usize) -> Result<Vec<u8>, AllocError> {
@@ -18,26 +19,6 @@ fn numbered(alloc: Global, count: usize) -> Result<Vec<u8>, AllocError> {
     Ok(bytes)
 }
 
-#[test]
-fn load_gives_a_file_of_several_pieces(rt: HostRuntime) -> Result<(), Fail> {
-    let text = numbered(rt.alloc(), 5000)?;
-    let mut shelf = design_shelf(rt.alloc(), text.as_slice())?;
-    let loaded = load(rt.alloc(), &mut shelf, "design", 5000)?;
-    assert_eq!(rt; loaded.as_slice(), text.as_slice());
-    Ok(())
-}
-
-#[test]
-fn load_refuses_a_long_file_and_one_that_is_not_there(rt: HostRuntime) -> Result<(), Fail> {
-    let text = numbered(rt.alloc(), 5000)?;
-    let mut shelf = design_shelf(rt.alloc(), text.as_slice())?;
-    let long = load(rt.alloc(), &mut shelf, "design", 4999).err();
-    assert_eq!(rt; long, Some(LoadFault::TooLong));
-    let lacking = load(rt.alloc(), &mut shelf, "rules", 5000).err();
-    assert_eq!(rt; lacking, Some(LoadFault::ReadFault));
-    Ok(())
-}
-
 /// A shelf with this file.
 fn design_shelf(alloc: Global, text: &[u8]) -> Result<MemShelf, AllocError> {
     let mut shelf = MemShelf::new(alloc)?;
@@ -45,21 +26,58 @@ fn design_shelf(alloc: Global, text: &[u8]) -> Result<MemShelf, AllocError> {
     Ok(shelf)
 }
 
+/// A shelf with a file of 5,000 bytes, whose call of this number fails.
+fn long_shelf(alloc: Global, mark: u64) -> Result<MemShelf, AllocError> {
+    let text = numbered(alloc, 5000)?;
+    let mut shelf = design_shelf(alloc, text.as_slice())?;
+    shelf.fail_at(mark)?;
+    Ok(shelf)
+}
+
+/// Whether this text is loaded.
+fn is_loaded<S: Shelf>(alloc: Global, shelf: &mut S, name: &str, text: &[u8]) -> bool {
+    match load(alloc, shelf, name, 5000) {
+        Ok(loaded) => loaded.as_slice() == text,
+        Err(_) => false,
+    }
+}
+
+/// Whether a file of 5,000 bytes is loaded where the call of this number fails.
+fn is_long_loaded(alloc: Global, mark: u64) -> Result<bool, AllocError> {
+    let text = numbered(alloc, 5000)?;
+    let mut shelf = long_shelf(alloc, mark)?;
+    Ok(is_loaded(alloc, &mut shelf, "design", text.as_slice()))
+}
+
+/// Whether a file can't be read.
+fn is_read_fault<S: Shelf>(alloc: Global, shelf: &mut S, name: &str) -> bool {
+    matches!(load(alloc, shelf, name, 5000), Err(LoadFault::ReadFault))
+}
+
+/// Whether a file of a shelf with one of 5,000 bytes can't be read where the call of this number fails.
+fn is_fault_at(alloc: Global, mark: u64, name: &str) -> Result<bool, AllocError> {
+    let mut shelf = long_shelf(alloc, mark)?;
+    Ok(is_read_fault(alloc, &mut shelf, name))
+}
+
+/// Whether a file of 5,000 bytes is too long by one.
+fn is_too_long(alloc: Global) -> Result<bool, AllocError> {
+    let mut shelf = long_shelf(alloc, 9)?;
+    Ok(matches!(
+        load(alloc, &mut shelf, "design", 4999),
+        Err(LoadFault::TooLong)
+    ))
+}
+
 /// A file of 5,000 bytes is taken in pieces of 4,096, 904 and 0 bytes.
 #[test]
-fn load_fails_where_a_take_is_marked(rt: HostRuntime) -> Result<(), Fail> {
-    let text = numbered(rt.alloc(), 5000)?;
-    for (mark, fault) in [
-        (0, Some(LoadFault::ReadFault)),
-        (1, Some(LoadFault::ReadFault)),
-        (2, Some(LoadFault::ReadFault)),
-        (3, None),
-    ] {
-        let mut shelf = design_shelf(rt.alloc(), text.as_slice())?;
-        shelf.fail_at(mark)?;
-        let told = load(rt.alloc(), &mut shelf, "design", 5000).err();
-        assert_eq!(rt; told, fault, "marked at {mark}");
+fn load_gives_a_file_or_says_why_not(rt: HostRuntime) -> Result<(), Fail> {
+    for mark in 0..3 {
+        assert!(rt; is_fault_at(rt.alloc(), mark, "design")?, "at {mark}");
     }
+    assert!(rt; is_long_loaded(rt.alloc(), 3)?);
+    assert!(rt; is_fault_at(rt.alloc(), 9, "rules")?);
+    assert!(rt; is_too_long(rt.alloc())?);
     Ok(())
 }
 
@@ -72,112 +90,153 @@ fn is_put(shelf: &mut MemShelf, text: &[u8], put: usize) -> bool {
     whole == (put == text.len()) && shelf.get("out") == text.get(..put)
 }
 
-/// `begin` is call 0, and the puts of at most 100 bytes are calls 1 to 3.
+/// A shelf with an old "out" that takes at most 100 bytes at once, and whose calls of this number and of number 9 fail.
+fn short_shelf(alloc: Global, mark: u64) -> Result<MemShelf, AllocError> {
+    let mut shelf = MemShelf::new(alloc)?;
+    shelf.set("out", b"old")?;
+    shelf.most(100);
+    shelf.fail_at(mark)?;
+    shelf.fail_at(9)?;
+    Ok(shelf)
+}
+
+/// Whether so many of 250 bytes are put on such a shelf.
+fn is_short_put(alloc: Global, mark: u64, put: usize) -> Result<bool, AllocError> {
+    let text = numbered(alloc, 250)?;
+    let mut shelf = short_shelf(alloc, mark)?;
+    Ok(is_put(&mut shelf, text.as_slice(), put))
+}
+
+/// An empty shelf whose call of this number fails.
+fn empty_shelf(alloc: Global, mark: u64) -> Result<MemShelf, AllocError> {
+    let mut shelf = MemShelf::new(alloc)?;
+    shelf.fail_at(mark)?;
+    Ok(shelf)
+}
+
+/// Whether so many of 5,000 bytes are put on such a shelf.
+fn is_long_put(alloc: Global, mark: u64, put: usize) -> Result<bool, AllocError> {
+    let text = numbered(alloc, 5000)?;
+    let mut shelf = empty_shelf(alloc, mark)?;
+    Ok(is_put(&mut shelf, text.as_slice(), put))
+}
+
+/// `begin` is call 0. The puts of 250 bytes, at most 100 at once, are calls 1 to 3; 5,000 bytes are put in pieces of 4,096 and 904 bytes, calls 1 and 2.
 #[test]
 fn put_all_puts_a_front_where_a_put_is_marked(rt: HostRuntime) -> Result<(), Fail> {
-    let text = numbered(rt.alloc(), 250)?;
     for (mark, put) in [(1, 0), (2, 100), (3, 200), (4, 250)] {
-        let mut shelf = MemShelf::new(rt.alloc())?;
-        shelf.set("out", b"old")?;
-        shelf.most(100);
-        shelf.fail_at(mark)?;
-        shelf.fail_at(9)?;
-        assert!(rt;
-            is_put(&mut shelf, text.as_slice(), put),
-            "marked at {mark}"
-        );
+        assert!(rt; is_short_put(rt.alloc(), mark, put)?, "at {mark}");
     }
-    Ok(())
-}
-
-/// 5,000 bytes are put in pieces of 4,096 and 904 bytes: `begin` is call 0, and the puts are calls 1 and 2.
-#[test]
-fn put_all_puts_pieces_of_at_most_4096_bytes(rt: HostRuntime) -> Result<(), Fail> {
-    let text = numbered(rt.alloc(), 5000)?;
     for (mark, put) in [(1, 0), (2, 4096), (3, 5000)] {
-        let mut shelf = MemShelf::new(rt.alloc())?;
-        shelf.fail_at(mark)?;
-        assert!(rt;
-            is_put(&mut shelf, text.as_slice(), put),
-            "marked at {mark}"
-        );
+        assert!(rt; is_long_put(rt.alloc(), mark, put)?, "at {mark}");
     }
     Ok(())
 }
 
-#[test]
-fn a_shelf_in_memory_counts_its_calls(rt: HostRuntime) -> Result<(), Fail> {
-    let mut shelf = MemShelf::new(rt.alloc())?;
-    shelf.fail_at(2)?;
-    assert_eq!(rt; shelf.put("a", b"xyz"), Err(Failed));
-    assert_eq!(rt; shelf.begin("a"), Ok(()));
-    assert_eq!(rt; shelf.begin("a"), Err(Failed));
-    assert_eq!(rt; shelf.put("a", b"xyz"), Ok(3));
-    assert_eq!(rt; shelf.get("a"), Some(b"xyz".as_slice()));
-    Ok(())
+/// Whether the third call fails, where a put before `begin` is one.
+fn is_third_failed(shelf: &mut MemShelf) -> bool {
+    shelf.put("a", b"xyz") == Err(Failed)
+        && shelf.begin("a") == Ok(())
+        && shelf.begin("a") == Err(Failed)
+        && shelf.put("a", b"xyz") == Ok(3)
+        && shelf.get("a") == Some(b"xyz".as_slice())
+}
+
+/// Whether pieces of "xyz" are taken from where they are asked for.
+fn gives_pieces(shelf: &mut MemShelf) -> bool {
+    let mut into = [0u8; 2];
+    shelf.take("design", 1, &mut into) == Ok(2)
+        && into == *b"yz"
+        && shelf.take("design", 3, &mut into) == Ok(0)
+        && shelf.get("a").is_none()
 }
 
 #[test]
-fn a_shelf_in_memory_gives_pieces(rt: HostRuntime) -> Result<(), Fail> {
+fn a_shelf_in_memory_counts_its_calls_and_gives_pieces(rt: HostRuntime) -> Result<(), Fail> {
+    let mut shelf = empty_shelf(rt.alloc(), 2)?;
+    assert!(rt; is_third_failed(&mut shelf));
     let mut shelf = design_shelf(rt.alloc(), b"xyz")?;
-    let mut into = [0u8; 2];
-    assert_eq!(rt; shelf.take("design", 1, &mut into), Ok(2));
-    assert_eq!(rt; &into, b"yz");
-    assert_eq!(rt; shelf.take("design", 3, &mut into), Ok(0));
-    assert_eq!(rt; shelf.get("a"), None);
+    assert!(rt; gives_pieces(&mut shelf));
     Ok(())
+}
+
+/// Whether a sink whose second call fails keeps the first line, and three bytes of the last.
+fn keeps_lines(sink: &mut MemSink) -> bool {
+    let first = sink.put(b"one\n") == Ok(4) && sink.put(b"two\n") == Err(Failed);
+    sink.most(3);
+    first && sink.put(b"three\n") == Ok(3) && sink.bytes() == b"one\nthr".as_slice()
 }
 
 #[test]
 fn a_sink_in_memory_keeps_what_is_put(rt: HostRuntime) -> Result<(), Fail> {
     let mut sink = MemSink::new(rt.alloc())?;
     sink.fail_at(1)?;
-    assert_eq!(rt; sink.put(b"one\n"), Ok(4));
-    assert_eq!(rt; sink.put(b"two\n"), Err(Failed));
-    sink.most(3);
-    assert_eq!(rt; sink.put(b"three\n"), Ok(3));
-    assert_eq!(rt; sink.bytes(), b"one\nthr".as_slice());
+    assert!(rt; keeps_lines(&mut sink));
     Ok(())
 }
 
-#[test]
-fn what_never_fails_gives_a_file_once(rt: HostRuntime) -> Result<(), Fail> {
-    let mut shelf = NeverShelf::new(rt.alloc())?;
+/// A shelf that never fails, with a file "a".
+fn never_shelf(alloc: Global) -> Result<NeverShelf, AllocError> {
+    let mut shelf = NeverShelf::new(alloc)?;
     shelf.set("a", b"xyz")?;
-    let loaded = load(rt.alloc(), &mut shelf, "a", 3)?;
-    assert_eq!(rt; loaded.as_slice(), b"xyz".as_slice());
-    assert_eq!(rt; load(rt.alloc(), &mut shelf, "b", 3)?.len(), 0);
-    Ok(())
+    Ok(shelf)
+}
+
+/// Whether a shelf gives "xyz" once under its one name, and nothing under another.
+fn gives_once(alloc: Global, shelf: &mut NeverShelf) -> bool {
+    is_loaded(alloc, shelf, "a", b"xyz") && is_loaded(alloc, shelf, "b", b"")
+}
+
+/// Whether a shelf takes what is put under its one name and gives nothing of it.
+fn drops_puts(alloc: Global, shelf: &mut NeverShelf) -> bool {
+    put_all(shelf, "a", b"more") == Ok(())
+        && is_loaded(alloc, shelf, "a", b"")
+        && shelf.begin("b") == Ok(())
 }
 
 #[test]
-fn what_never_fails_drops_what_is_put(rt: HostRuntime) -> Result<(), Fail> {
-    let mut shelf = NeverShelf::new(rt.alloc())?;
-    shelf.set("a", b"xyz")?;
-    assert_eq!(rt; put_all(&mut shelf, "a", b"more"), Ok(()));
-    assert_eq!(rt; load(rt.alloc(), &mut shelf, "a", 3)?.len(), 0);
-    assert_eq!(rt; shelf.begin("b"), Ok(()));
-    assert_eq!(rt; NeverSink::new().put(b"line\n"), Ok(5));
+fn what_never_fails_gives_a_file_once_and_drops_what_is_put(rt: HostRuntime) -> Result<(), Fail> {
+    assert!(rt; NeverSink::new().put(b"line\n") == Ok(5));
+    let mut shelf = never_shelf(rt.alloc())?;
+    assert!(rt; gives_once(rt.alloc(), &mut shelf));
+    let mut shelf = never_shelf(rt.alloc())?;
+    assert!(rt; drops_puts(rt.alloc(), &mut shelf));
     Ok(())
+}
+
+/// A path for this process alone.
+fn own_path(rt: &HostRuntime) -> io::Result<PathBuf> {
+    let name = format!(in rt.alloc(); "shelf_io-test-{}", process::id(rt.process()))?;
+    Ok(env::temp_dir(rt)?.join(rt.alloc(), name.as_str())?)
+}
+
+/// Whether nothing is loaded from a path or put there.
+fn is_lacking<S: Shelf>(alloc: Global, shelf: &mut S, path: &str) -> bool {
+    is_read_fault(alloc, shelf, path) && shelf.put(path, b"x") == Err(Failed)
+}
+
+/// Whether a path is begun and a text put there.
+fn is_written<S: Shelf>(shelf: &mut S, path: &str, text: &[u8]) -> bool {
+    shelf.begin(path) == Ok(()) && put_all(shelf, path, text) == Ok(())
+}
+
+/// Whether a path that lacks a file holds the text that was put last.
+fn holds_the_last<S: Shelf>(alloc: Global, shelf: &mut S, path: &str) -> Result<bool, AllocError> {
+    let text = numbered(alloc, 5000)?;
+    Ok(
+        is_lacking(alloc, shelf, path)
+            && is_written(shelf, path, b"old")
+            && is_written(shelf, path, text.as_slice())
+            && is_loaded(alloc, shelf, path, text.as_slice()),
+    )
 }
 
 #[test]
 fn real_files_hold_what_is_put(rt: HostRuntime) -> Result<(), Fail> {
-    let name = format!(in rt.alloc(); "shelf_io-test-{}", process::id(rt.process()))?;
-    let path = env::temp_dir(&rt)?.join(rt.alloc(), name.as_str())?;
-    let text = numbered(rt.alloc(), 5000)?;
-    let mut shelf = HostShelf::new(&rt);
-    let lacking = load(rt.alloc(), &mut shelf, path.as_str(), 5000);
-    assert_eq!(rt; lacking.err(), Some(LoadFault::ReadFault));
-    assert_eq!(rt; shelf.put(path.as_str(), b"x"), Err(Failed));
-    assert_eq!(rt; shelf.begin(path.as_str()), Ok(()));
-    assert_eq!(rt; put_all(&mut shelf, path.as_str(), b"old"), Ok(()));
-    assert_eq!(rt; shelf.begin(path.as_str()), Ok(()));
-    assert_eq!(rt; put_all(&mut shelf, path.as_str(), text.as_slice()), Ok(()));
-    let loaded = load(rt.alloc(), &mut shelf, path.as_str(), 5000);
+    assert!(rt; HostSink::new(&rt).put(b"a line\n") == Ok(7));
+    let path = own_path(&rt)?;
+    let holds = holds_the_last(rt.alloc(), &mut HostShelf::new(&rt), path.as_str());
     fs::remove_file(&rt, path.as_path())?;
-    assert_eq!(rt; loaded?.as_slice(), text.as_slice());
-    let mut sink = HostSink::new(&rt);
-    assert_eq!(rt; sink.put(b"a line\n"), Ok(7));
+    assert!(rt; holds?);
     Ok(())
 }
