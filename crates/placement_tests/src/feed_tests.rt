@@ -4,7 +4,7 @@ ghost use Rattle.row_model.specs.Rows.{ArePlaced};
 ghost use Rattle.std.specs.Prelude.{◌<◌, ◌≤◌};
 
 use design_model::Design;
-use feed_cells::{Crossing, FedRows, Item, insert_feeds, spans_of};
+use feed_cells::{Crossing, FedRows, Item, insert_feeds, place, spans_of};
 use geom_core::Items;
 use row_model::{Rows, start};
 use samples::{CELLS, designed};
@@ -68,7 +68,8 @@ fn fed_of(alloc: Global, calls: &str, count: u32) -> Result<FedRows, Fail>
 {
     let design = designed(alloc, CELLS, calls)?;
     let rows = start(alloc, &design, count)?;
-    Ok(insert_feeds(alloc, &design, &rows)?)
+    let placement = place(alloc, &design, &rows)?;
+    Ok(insert_feeds(alloc, &design, &rows, &placement)?)
 }
 
 /// Whether rows have these items, this width in columns and so many nets in each channel.

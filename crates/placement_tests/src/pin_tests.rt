@@ -1,11 +1,12 @@
 //! The tables of channels, and the bound of a layout.
 
-ghost use Rattle.feed_cells.specs.Fed.{IsFed};
-ghost use Rattle.std.specs.Prelude.{◌<◌, ◌≤◌, IfOk};
+ghost use Rattle.feed_cells.specs.Fed.{IsFed, cells_in};
+ghost use Rattle.feed_cells.specs.Placement.{placement_of};
+ghost use Rattle.std.specs.Prelude.{◌≡◌, ◌<◌, ◌≤◌};
 
 use channel_model::Channel;
 use design_model::Design;
-use feed_cells::{FedRows, insert_feeds};
+use feed_cells::{FedRows, Placement, insert_feeds, place};
 use pin_assign::{Bound, bound_of, channels};
 use row_model::start;
 use samples::{CELLS, SampleFault, designed};
@@ -23,17 +24,6 @@ fn designed_with(alloc: Global, calls: &str) -> Result<Design, SampleFault> {
     designed(alloc, modules.as_str(), calls)
 }
 
-/// The rows that a design begins with, with their feeds.
-fn fed_in(alloc: Global, design: &Design, count: u32) -> Result<FedRows, AllocError>
-    requires some { 0 < count }
-    requires few { count ≤ 512 }
-    ensures { IfOk result (λ fed. IsFed design.now fed) }
-{
-    let rows = start(alloc, design, count)?;
-    let fed = insert_feeds(alloc, design, &rows)?;
-    Ok(fed)
-}
-
 /// The bound of rows of a design with their feeds, under the sample rules.
 fn bound_in(alloc: Global, design: &Design, fed: &FedRows) -> Result<Bound, AllocError>
     requires { IsFed design.now fed.now }
@@ -49,7 +39,9 @@ fn bound_with(alloc: Global, calls: &str, count: u32) -> Result<Bound, Fail>
     requires few { count ≤ 512 }
 {
     let design = designed_with(alloc, calls)?;
-    let fed = fed_in(alloc, &design, count)?;
+    let rows = start(alloc, &design, count)?;
+    let placement = place(alloc, &design, &rows)?;
+    let fed = insert_feeds(alloc, &design, &rows, &placement)?;
     Ok(bound_in(alloc, &design, &fed)?)
 }
 
@@ -125,14 +117,16 @@ fn has_channels(
     alloc: Global,
     design: &Design,
     fed: &FedRows,
+    placement: &Placement,
     wanted: &[(&[u32], &[u32])],
 ) -> Result<bool, AllocError>
-    requires { IsFed design.now fed.now }
+    requires fed { IsFed design.now fed.now }
+    requires placement { placement.now ≡ placement_of design.now (cells_in fed.now.rows) }
 {
     if fed.width > 4000000 {
         return Ok(false);
     }
-    let made = channels(alloc, design, fed)?;
+    let made = channels(alloc, design, fed, placement)?;
     Ok(are_channels(made.as_slice(), wanted))
 }
 
@@ -142,8 +136,10 @@ fn is_tabled(alloc: Global, case: &Tabled) -> Result<bool, Fail> {
         return Ok(false);
     }
     let design = designed_with(alloc, case.calls)?;
-    let fed = fed_in(alloc, &design, case.rows)?;
-    Ok(has_channels(alloc, &design, &fed, case.channels)?)
+    let rows = start(alloc, &design, case.rows)?;
+    let placement = place(alloc, &design, &rows)?;
+    let fed = insert_feeds(alloc, &design, &rows, &placement)?;
+    Ok(has_channels(alloc, &design, &fed, &placement, case.channels)?)
 }
 
 #[test]

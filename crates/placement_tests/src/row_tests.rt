@@ -4,8 +4,8 @@ ghost use Rattle.row_model.specs.Rows.{ArePlaced};
 
 use design_model::Design;
 use row_model::{
-    PinColumns, Rows, Seat, Weights, all_pin_columns, column_of, columns_of, default_rows,
-    pin_columns, start,
+    PinPlace, Rows, Seat, Weights, column_of, columns_of, default_rows, pin_place, pin_places,
+    start,
 };
 use samples::{CELLS, designed};
 use std::alloc::{AllocError, Global};
@@ -222,34 +222,50 @@ fn sided(alloc: Global) -> Result<Design, Fail> {
     Ok(designed(alloc, modules.as_str(), "u SIDES n m; v INV n;")?)
 }
 
-/// Whether the pins of a design have these columns, one by one and all at once.
-fn have_columns(alloc: Global, design: &Design, wanted: &[PinColumns]) -> Result<bool, AllocError> {
+/// The row, the columns on the lower and the upper edge, and the column of a pin.
+type Place = (u16, Option<u32>, Option<u32>, u64);
+
+/// Whether a pin stands there.
+fn is_at(place: PinPlace, wanted: Place) -> bool {
+    place.row == wanted.0
+        && place.bottom == wanted.1
+        && place.top == wanted.2
+        && place.column == wanted.3
+}
+
+/// Whether the pins of a design in rows stand there, one by one and all at once.
+fn are_at(alloc: Global, design: &Design, rows: &Rows, wanted: &[Place]) -> Result<bool, AllocError>
+    requires { ArePlaced design.now rows.now }
+{
     for (pin, want) in design.pins.items().iter().zip(wanted) {
-        if pin_columns(design, *pin) != *want {
+        if !is_at(pin_place(design, rows, *pin), *want) {
             return Ok(false);
         }
     }
-    Ok(all_pin_columns(alloc, design)?.as_slice() == wanted)
+    let places = pin_places(alloc, design, rows)?;
+    for (place, want) in places.iter().zip(wanted) {
+        if !is_at(*place, *want) {
+            return Ok(false);
+        }
+    }
+    Ok(places.len() == wanted.len())
+}
+
+/// Whether the pins of that design stand there in so many rows.
+fn are_sided(alloc: Global, count: u32, wanted: &[Place]) -> Result<bool, Fail> {
+    if count == 0 || count > 512 {
+        return Ok(false);
+    }
+    let design = sided(alloc)?;
+    let rows = start(alloc, &design, count)?;
+    Ok(are_at(alloc, &design, &rows, wanted)?)
 }
 
 #[test]
-fn pins_have_columns_on_each_edge(rt: HostRuntime) -> Result<(), Fail> {
-    let both = PinColumns {
-        first: Some(1),
-        bottom: Some(0),
-        top: Some(1),
-    };
-    let second = PinColumns {
-        first: Some(1),
-        bottom: Some(1),
-        top: None,
-    };
-    let first = PinColumns {
-        first: Some(0),
-        bottom: Some(0),
-        top: None,
-    };
-    let design = sided(rt.alloc())?;
-    assert!(rt; have_columns(rt.alloc(), &design, &[both, second, first])?);
+fn pins_stand_in_rows_on_each_edge(rt: HostRuntime) -> Result<(), Fail> {
+    let both = (0, Some(0), Some(1), 1);
+    let second = (0, Some(1), None, 1);
+    assert!(rt; are_sided(rt.alloc(), 1, &[both, second, (0, Some(0), None, 3)])?);
+    assert!(rt; are_sided(rt.alloc(), 2, &[both, second, (1, Some(0), None, 0)])?);
     Ok(())
 }
