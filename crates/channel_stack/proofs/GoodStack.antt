@@ -9,7 +9,7 @@ use Rattle.row_model.specs.Rows.{ArePlaced}
 use Rattle.row_model.specs.declared.rows.Seat.{Seat}
 use Rattle.feed_cells.specs.Fed.{Fed, IsFed, fed_rows, cells_in}
 use Rattle.feed_cells.proofs.FedLaws.{cells-fed}
-use Rattle.layout_laws.specs.Labels.{Labelled}
+use Rattle.layout_laws.specs.Labels.{IsLabelled}
 use Rattle.layout_laws.specs.Plans.{plan_drawn}
 use Rattle.layout_laws.proofs.LabelLaws.{labelled-nets, labelled-spaced, labelled-wide}
 use Rattle.layout_laws.proofs.PlanLaws.{plan-apart, plan-wide}
@@ -33,7 +33,7 @@ rows-good r valid d is room rows placed seated ws wired =
     let plan = plan_of r d fed ws in
     let planned = stack-plan r valid d is room rows placed ws wired in
     let threaded = stack-threaded r valid d is rows placed ws l (stack-draws r valid d is room fed seated ws wired.each) in
-    let labelled : Labelled r d l (plan_drawn r plan) (net_at d) = record {
+    let labelled : IsLabelled r d l (plan_drawn r plan) (net_at d) = record {
       pins = stack-shows r valid d is room fed seated ws wired.each;
       wide = plan-wide r valid plan planned;
       apart = plan-apart r valid plan planned;

@@ -27,9 +27,9 @@ use Rattle.feed_cells.proofs.NetLaws.{across-stands, across-within, alone-same, 
 use Rattle.pin_assign.specs.Causes.{Leads}
 use Rattle.pin_assign.specs.Entering.{enters}
 use Rattle.pin_assign.proofs.EnteringLaws.{crossed-by, enters-lowest}
-use Rattle.layout_laws.specs.Chains.{Together, same}
+use Rattle.layout_laws.specs.Chains.{AreTogether, same}
 use Rattle.layout_laws.specs.Plans.{Plan, plan_drawn}
-use Rattle.layout_laws.specs.Threads.{AreThreaded, Crossed, Entering, EntersBelow, into_above, into_below, Lone, Threads}
+use Rattle.layout_laws.specs.Threads.{AreThreaded, IsCrossed, Entering, EntersBelow, into_above, into_below, IsLone, Threads}
 use Rattle.wire_geom.specs.declared.drawn.Drawn.{Drawn}
 use Rattle.channel_stack.specs.Planned.{feed_upright, net_at, plan_of, upright_of}
 use Rattle.channel_stack.specs.Shown.{DrawsSeats}
@@ -98,9 +98,9 @@ module _ (r : RuleValues) (d : Netlist) (good : IsNetlist d) (rows : List (List 
       row : row_of d rows p.instance ≡ k
       row = ap (row_of d rows) instance ∙ seat-row d rows placed k front back s at
 
-      to : (b : Position) → Contains (positions_of d s.instance) b → b.terminal ≡ p.terminal → Together d l (plan_drawn r plan) a (rectangle k front s b)
+      to : (b : Position) → Contains (positions_of d s.instance) b → b.terminal ≡ p.terminal → AreTogether d l (plan_drawn r plan) a (rectangle k front s b)
       to b in_b same_b =
-          subst (λ (x : Drawn). Together d l (plan_drawn r plan) x (rectangle k front s b)) (sym drawn)
+          subst (λ (x : Drawn). AreTogether d l (plan_drawn r plan) x (rectangle k front s b)) (sym drawn)
           (drawn-together r d fed ws l draws k front back s within at q b member in_b (sym terminal ∙ sym same_b))
 
       by : Touches d rows false p channel ⊎ Touches d rows true p channel → Entering r plan d l k a
@@ -130,7 +130,7 @@ module _ (r : RuleValues) (d : Netlist) (good : IsNetlist d) (rows : List (List 
       (subst (λ (x : Drawn). EntersBelow r plan k x) (sym drawn) (feed-below r d fed ws good k front back own at (omega (arith, feed.some))))
 
   -- a net crosses a row by a pin
-  crossed-pin : (net k : ℕ) → k < length (fed_rows d rows).rows → (p : Pin) → Leads d rows net k p → Crossed r plan d l k net
+  crossed-pin : (net k : ℕ) → k < length (fed_rows d rows).rows → (p : Pin) → Leads d rows net k p → IsCrossed r plan d l k net
   crossed-pin net k within p leads =
       let under = leads.under in
       let over = leads.over in
@@ -144,7 +144,7 @@ module _ (r : RuleValues) (d : Netlist) (good : IsNetlist d) (rows : List (List 
       upper : k + 1 ≡ suc k
       upper = omega arith
 
-      by : (front back : List Item) (s : seats.Seat) → IsAt r d (fed_rows d rows) ws k front (Cell s) back → p.instance ≡ s.instance → Crossed r plan d l k net
+      by : (front back : List Item) (s : seats.Seat) → IsAt r d (fed_rows d rows) ws k front (Cell s) back → p.instance ≡ s.instance → IsCrossed r plan d l k net
       by front back s at instance =
           let low = reach-below r d fed ws good k front back s p at leads.under.listed some instance leads.under.touches.edge (fed-enters p k leads.under.entry) in
           let high = reach-above r d fed ws good k front back s p at leads.under.listed some instance leads.over.touches.edge
@@ -160,7 +160,7 @@ module _ (r : RuleValues) (d : Netlist) (good : IsNetlist d) (rows : List (List 
           }
 
   -- or by a feed
-  crossed-feed : (net k : ℕ) → k < length (fed_rows d rows).rows → is_fed d rows k net ≡ true → Crossed r plan d l k net
+  crossed-feed : (net k : ℕ) → k < length (fed_rows d rows).rows → is_fed d rows k net ≡ true → IsCrossed r plan d l k net
   crossed-feed net k within is =
       let feed = fed-net d rows good k net is in
       let row : List seats.Seat = get_or rows k [] in
@@ -178,7 +178,7 @@ module _ (r : RuleValues) (d : Netlist) (good : IsNetlist d) (rows : List (List 
         high_net = refl;
       }
 
-  crossed-row : (net k : ℕ) → is_across (crossing_of d rows net) k ≡ true → Crossed r plan d l k net
+  crossed-row : (net k : ℕ) → is_across (crossing_of d rows net) k ≡ true → IsCrossed r plan d l k net
   crossed-row net k across =
       let within : k < length fed.rows = omega (arith, across-within d rows good placed net k across, fed-long d rows) in
       elim (crossed-by d rows net k across) [
@@ -207,7 +207,7 @@ module _ (r : RuleValues) (d : Netlist) (good : IsNetlist d) (rows : List (List 
         across-stands (crossing_of d rows own) k (fed-across d rows k own feed.fed) (ap (crossing_of d rows) same_net ∙ alone)
 
     lone-together : (net j k : ℕ) (a b : Drawn) → crossing_of d rows net ≡ Alone → j < length (fed_rows d rows).rows → Wire j a → Wire k b → a.net ≡ net → b.net ≡ net
-        → Together d l (plan_drawn r plan) a b
+        → AreTogether d l (plan_drawn r plan) a b
     lone-together net j k a b alone within (of_gap front back own at drawn) other net_a net_b = absurd (feed-stray net j a front back own alone at drawn net_a)
     lone-together net j k a b alone within (of_seat front back s q at member drawn) (of_gap front_b back_b own at_b drawn_b) net_a net_b =
         absurd (feed-stray net k b front_b back_b own alone at_b drawn_b net_b)
@@ -225,12 +225,12 @@ module _ (r : RuleValues) (d : Netlist) (good : IsNetlist d) (rows : List (List 
         let second : b ≡ rectangle j front s u =
         drawn_b ∙ ap (λ (n : ℕ). rectangle n front_b t u) row ∙ ap (λ (f : List Item). rectangle j f t u) (sym place.fronts)
         ∙ ap (λ (x : seats.Seat). rectangle j front x u) (sym place.seats) in
-        subst (λ (x : Drawn). Together d l (plan_drawn r plan) x b) (sym drawn)
-        (subst (λ (x : Drawn). Together d l (plan_drawn r plan) (rectangle j front s q) x) (sym second)
+        subst (λ (x : Drawn). AreTogether d l (plan_drawn r plan) x b) (sym drawn)
+        (subst (λ (x : Drawn). AreTogether d l (plan_drawn r plan) (rectangle j front s q) x) (sym second)
         (drawn-together r d fed ws l draws j front back s within at q u member
         (subst (λ (i : ℕ). Contains (positions_of d i) u) (sym instance) member_b) terminal))
 
-    net-lone : (net : ℕ) → crossing_of d rows net ≡ Alone → Lone r plan d l net
+    net-lone : (net : ℕ) → crossing_of d rows net ≡ Alone → IsLone r plan d l net
     net-lone net alone = record {
       none = λ k column within entry. inside-stands (crossing_of d rows net) k (entry-inside d good rows k column net entry) alone;
       together = λ j k a b within_j within_k in_a in_b wired_a wired_b net_a net_b.
@@ -244,7 +244,7 @@ module _ (r : RuleValues) (d : Netlist) (good : IsNetlist d) (rows : List (List 
       positive = λ k a within member wired. wire-positive k a (row-wire r d fed ws valid k a within member wired);
     }
       where
-        by : (net : ℕ) (c : Crossing) → crossing_of d rows net ≡ c → Lone r plan d l net ⊎ ((low : ℕ) × (high : ℕ) × Threads r plan d l net low high)
+        by : (net : ℕ) (c : Crossing) → crossing_of d rows net ≡ c → IsLone r plan d l net ⊎ ((low : ℕ) × (high : ℕ) × Threads r plan d l net low high)
         by net Alone is = inl (net-lone net is)
         by net (One b) is = inr (first_channel (crossing_of d rows net), last_channel (crossing_of d rows net), net-threads net (λ (e : crossing_of d rows net ≡ Alone). cc))
         by net (Many lo hi) is = inr (first_channel (crossing_of d rows net), last_channel (crossing_of d rows net), net-threads net (λ (e : crossing_of d rows net ≡ Alone). cc))

@@ -18,7 +18,7 @@ use Rattle.feed_cells.proofs.FedLaws.{cells-fed, fed-row-some, item-stands}
 use Rattle.feed_cells.proofs.Members.{member-head}
 use Rattle.feed_cells.proofs.NetLaws.{across-over, across-under}
 use Rattle.pin_assign.specs.Entering.{enters}
-use Rattle.pin_assign.specs.Places.{Place, StandsAt, channel_beside, entry_at}
+use Rattle.pin_assign.specs.Places.{TablePlace, StandsAt, channel_facing, entry_at}
 use Rattle.pin_assign.specs.Sources.{Source, of_feed, of_pin, source_net, IsOver}
 use Rattle.pin_assign.specs.Tables.{table_of}
 use Rattle.pin_assign.proofs.BesideLaws.{cells-row, feed-item, row-of_stand}
@@ -84,12 +84,12 @@ module _ (d : Netlist) (good : IsNetlist d) (rows : List (List Seat)) where
       by (feeding n feed is) = subst (λ (m : ℕ). IsFeed d rows k m) (same-feed n is) feed
 
   -- a net stands in each channel in which it has an entry
-  beside-inside : (net row channel : ℕ) (upper : Bool) → channel ≡ channel_beside row upper → is_across (crossing_of d rows net) row ≡ true
+  beside-inside : (net row channel : ℕ) (upper : Bool) → channel ≡ channel_facing row upper → is_across (crossing_of d rows net) row ≡ true
       → is_in (crossing_of d rows net) channel ≡ true
   beside-inside net row channel true at across = subst (λ (n : ℕ). is_in (crossing_of d rows net) n ≡ true) (sym at) (across-under (crossing_of d rows net) row across)
   beside-inside net row channel false at across = subst (λ (n : ℕ). is_in (crossing_of d rows net) n ≡ true) (sym at) (across-over (crossing_of d rows net) row across)
 
-  source-inside : (channel : ℕ) (place : Place) (cause : Source) → StandsAt d (fed_rows d rows) channel cause place → is_in (crossing_of d rows (source_net cause)) channel ≡ true
+  source-inside : (channel : ℕ) (place : TablePlace) (cause : Source) → StandsAt d (fed_rows d rows) channel cause place → is_in (crossing_of d rows (source_net cause)) channel ≡ true
   source-inside channel place (of_pin p) h =
       let row = row-of_stand d fed channel (of_pin p) place h in
       let over = over-of d (not place.upper) (of_pin p) row.items 0 place.column row.over in
@@ -101,7 +101,7 @@ module _ (d : Netlist) (good : IsNetlist d) (rows : List (List Seat)) where
       let feed = gap-feed row.row net split.front split.back (at-split fed row.row row.items (Feed net) row.is_row split) in
       beside-inside net row.row channel place.upper row.beside (fed-across d rows row.row net feed.fed)
 
-  place-inside : (channel net : ℕ) (place : Place) → 0 < net → entry_at (table_of d (fed_rows d rows) channel) place ≡ net → is_in (crossing_of d rows net) channel ≡ true
+  place-inside : (channel net : ℕ) (place : TablePlace) → 0 < net → entry_at (table_of d (fed_rows d rows) channel) place ≡ net → is_in (crossing_of d rows net) channel ≡ true
   place-inside channel net place some is =
       let c = place-cause d fed channel place net some is in
       subst (λ (n : ℕ). is_in (crossing_of d rows n) channel ≡ true) c.of_net (source-inside channel place c.cause c.stands)

@@ -19,7 +19,7 @@ use Rattle.pin_assign.specs.Entering.{enters}
 use Rattle.pin_assign.specs.Sources.{of_feed, of_pin}
 use Rattle.pin_assign.specs.Tables.{table_of}
 use Rattle.pin_assign.proofs.BesideLaws.{edge-own}
-use Rattle.layout_laws.specs.Chains.{Together, tied}
+use Rattle.layout_laws.specs.Chains.{AreTogether, tied}
 use Rattle.layout_laws.specs.Plans.{row_base, plan_drawn}
 use Rattle.layout_laws.specs.Seats.{IsFoot, IsHead, Upright}
 use Rattle.layout_laws.specs.Threads.{EntersBelow, EntersAbove}
@@ -79,7 +79,7 @@ module _ (r : RuleValues) (d : Netlist) (fed : Fed) (ws : List Wiring) where
   -- the rectangles of two positions of one terminal of a seated cell draw one terminal
   pub drawn-together : (l : Layout) → DrawsSeats r d fed ws l → (k : ℕ) (front back : List Item) (s : seats.Seat) → k < length fed.rows → IsAt k front (Cell s) back
       → (p q : Position) → Contains (positions_of d s.instance) p → Contains (positions_of d s.instance) q → p.terminal ≡ q.terminal
-      → Together d l (plan_drawn r (plan_of r d fed ws)) (wire_at k front (upright_of r d s p)) (wire_at k front (upright_of r d s q))
+      → AreTogether d l (plan_drawn r (plan_of r d fed ws)) (wire_at k front (upright_of r d s p)) (wire_at k front (upright_of r d s q))
   drawn-together l draws k front back s within at p q in_p in_q same =
       let seat = draws.seat k front s back within at in
       let place_p = contains-at (positions_of d s.instance) p in_p in

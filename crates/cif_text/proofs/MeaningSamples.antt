@@ -4,7 +4,7 @@ use Rattle.geom_core.specs.declared.layout.Cell.{Cell}
 use Rattle.geom_core.specs.declared.layout.Layout.{Layout}
 use Rattle.cif_text.specs.declared.command.Command.{Command}
 use Rattle.cif_text.specs.declared.fault.CifKind.{CifKind}
-use Rattle.cif_text.specs.Written.{Drawn, Item, alone, copy, layout_commands}
+use Rattle.cif_text.specs.Written.{WrittenSymbol, MainItem, alone, copy, layout_commands}
 use Rattle.cif_text.specs.WrittenLayout.{written_layout}
 use Rattle.cif_text.proofs.Samples.{inverter}
 use Rattle.cif_text.specs.Numbers.{natural, positive, number}
@@ -121,14 +121,14 @@ unfolding cif_reads commands_at after_comment box_end box_form layer_form start_
 second_definition = refl
 
 -- one inverter as it is written: the commands of its text, and what they mean
-abbrev inverter_drawn : List Drawn
+abbrev inverter_drawn : List WrittenSymbol
 inverter_drawn =
     record {
       name = Some (codes "INV");
       shapes = shape (codes "XP") (pos 0) (pos 0) (pos 1600) (pos 8000) ∷ shape (codes "NP") (pos 500) (pos 0) (pos 1100) (pos 800) ∷ [];
     } ∷ []
 
-abbrev inverter_items : List Item
+abbrev inverter_items : List MainItem
 inverter_items = copy (Some (codes "u1")) 1 (record { dx = pos 0; dy = pos 1600; mirror = false }) ∷ []
 
 inverter_written : layout_commands inverter_drawn inverter_items ≡ inverter
@@ -140,14 +140,14 @@ inverter_layout : layout (cell (codes "u1") (codes "INV") false 0 (pos 0) (pos 1
 inverter_layout = refl
 
 -- two buffers and the wires that join them, as they are written, and the text that is to be written
-abbrev buffers_drawn : List Drawn
+abbrev buffers_drawn : List WrittenSymbol
 buffers_drawn =
     record {
       name = Some (codes "BUF");
       shapes = shape (codes "XP") (pos 0) (pos 0) (pos 1600) (pos 8000) ∷ shape (codes "NP") (pos 500) (pos 7200) (pos 1100) (pos 8000) ∷ [];
     } ∷ []
 
-abbrev buffers_items : List Item
+abbrev buffers_items : List MainItem
 buffers_items =
     copy (Some (codes "u1")) 1 (record { dx = pos 0; dy = pos 1600; mirror = false })
     ∷ copy (Some (codes "u2")) 1 (record { dx = pos 1600; dy = pos 1600; mirror = false })

@@ -7,7 +7,7 @@ use Rattle.cif_text.specs.Bytes.{is_white, begins, without_tail}
 use Rattle.cif_text.specs.Printing.{line, text_of}
 use Rattle.cif_text.specs.Printable.{is_plain_byte, IsNameText}
 use Rattle.cif_text.specs.Symbols.{symbol_of}
-use Rattle.cif_text.specs.Written.{Drawn, Item, alone, copy, shape_commands, copy_commands, items_commands, layer_after}
+use Rattle.cif_text.specs.Written.{WrittenSymbol, MainItem, alone, copy, shape_commands, copy_commands, items_commands, layer_after}
 use Rattle.cif_text.specs.WrittenLayout.{symbol_at, symbols_from}
 use Rattle.cif_text.proofs.SpanLemmas.{and-both, skip-stop, list_all-weaker}
 
@@ -45,7 +45,7 @@ name-shown text some shown = record {
 }
 
 -- the symbol of a number is the one that was written with it
-symbol_of-from : (first k m : ℕ) (ds : List Drawn) (d : Drawn) → m ≡ first + k → slice_get ds k ≡ Some d
+symbol_of-from : (first k m : ℕ) (ds : List WrittenSymbol) (d : WrittenSymbol) → m ≡ first + k → slice_get ds k ≡ Some d
     → symbol_of m (symbols_from first ds) ≡ Some (symbol_at m d)
 symbol_of-from first zero m [] d at there = cc
 symbol_of-from first (suc k) m [] d at there = cc
@@ -58,11 +58,11 @@ symbol_of-from first (suc k) m (e ∷ ds) d at there =
     let test : (first == m) ≡ false = grind (arith, nat_tests) in
     rw test (symbol_of-from (suc first) k m ds d (omega arith) there)
 
-pub symbol_of-written : (k : ℕ) (ds : List Drawn) (d : Drawn) → slice_get ds k ≡ Some d → symbol_of (suc k) (symbols_from 1 ds) ≡ Some (symbol_at (suc k) d)
+pub symbol_of-written : (k : ℕ) (ds : List WrittenSymbol) (d : WrittenSymbol) → slice_get ds k ≡ Some d → symbol_of (suc k) (symbols_from 1 ds) ≡ Some (symbol_at (suc k) d)
 symbol_of-written k ds d there = symbol_of-from 1 k (suc k) ds d (omega arith) there
 
 -- the main level in two parts
-pub items-append : (layer : Option (List ℕ)) (xs ys : List Item)
+pub items-append : (layer : Option (List ℕ)) (xs ys : List MainItem)
     → items_commands layer (xs ++ ys) ≡ items_commands layer xs ++ items_commands (layer_after layer xs) ys
 items-append layer [] ys = refl
 items-append layer (alone s ∷ xs) ys =

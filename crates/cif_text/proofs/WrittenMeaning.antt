@@ -16,7 +16,7 @@ use Rattle.cif_text.specs.InOrder.{◌>>=◌}
 use Rattle.cif_text.specs.Scales.{scaled_natural, scaled, scaled_extent, scaled_turning, doubled, around}
 use Rattle.cif_text.specs.Symbols.{Symbol, State, symbol_of}
 use Rattle.cif_text.specs.Meaning.{Unmeant, no_symbol_name, found, box_shape, called, layout_of, step, run, meaning}
-use Rattle.cif_text.specs.Written.{Drawn, Item, alone, copy, box_of, call_to, change, shape_commands, shapes_commands, symbol_commands, symbols_commands, copy_commands, items_commands, layout_commands}
+use Rattle.cif_text.specs.Written.{WrittenSymbol, MainItem, alone, copy, box_of, call_to, change, shape_commands, shapes_commands, symbol_commands, symbols_commands, copy_commands, items_commands, layout_commands}
 use Rattle.geom_core.specs.Moving.{turn_at}
 use Rattle.cif_text.specs.WrittenLayout.{symbol_at, symbols_from, copied_shapes, cell_of, item_shapes, item_cells, items_shapes, items_cells, written_layout, IsBox, IsShape, IsWhole, IsDrawn, IsCopy, IsItem, IsWritable}
 use Rattle.cif_text.proofs.WrittenText.{box-drawn, call-whole}
@@ -172,11 +172,11 @@ symbol_of-other m (s ∷ ss) x fresh other = passed (s.number == m) (λ h. symbo
 abbrev Fresh : ℕ → List Symbol → Type 0
 Fresh n symbols = (m : ℕ) → n ≤ m → symbol_of m symbols ≡ None
 
-fresh-more : (n : ℕ) (symbols : List Symbol) (d : Drawn) → Fresh n symbols → Fresh (suc n) (symbols ++ (symbol_at n d ∷ []))
+fresh-more : (n : ℕ) (symbols : List Symbol) (d : WrittenSymbol) → Fresh n symbols → Fresh (suc n) (symbols ++ (symbol_at n d ∷ []))
 fresh-more n symbols d fresh = λ (m : ℕ) (above : suc n ≤ m).
     symbol_of-other m symbols (symbol_at n d) (fresh m (omega arith)) (grind (arith, nat_tests))
 
-symbols-lead : (symbols : List Symbol) (n : ℕ) (ds : List Drawn) → AllByRecursion IsDrawn ds → Fresh n symbols
+symbols-lead : (symbols : List Symbol) (n : ℕ) (ds : List WrittenSymbol) → AllByRecursion IsDrawn ds → Fresh n symbols
     → Leads (before_items symbols) (symbols_commands n ds) (before_items (symbols ++ symbols_from n ds))
 symbols-lead symbols n [] h fresh =
     subst (λ (found : List Symbol). Leads (before_items symbols) [] (before_items found)) (sym (append-nil symbols)) (leads-none (before_items symbols))
@@ -256,7 +256,7 @@ onward symbols cells more_cells all_cells shapes more_shapes all_shapes layer be
     ∙ ap (λ (x : List Cell). Ok (record { cells = x; shapes = (shapes ++ more_shapes) ++ all_shapes })) (append_assoc cells more_cells all_cells)
     ∙ ap (λ (x : List Shape). Ok (record { cells = cells ++ (more_cells ++ all_cells); shapes = x })) (append_assoc shapes more_shapes all_shapes)
 
-items-mean : (symbols : List Symbol) (cells : List Cell) (shapes : List Shape) (layer : Option (List ℕ)) (is : List Item) (i : ℕ) → AllByRecursion (IsItem symbols) is
+items-mean : (symbols : List Symbol) (cells : List Cell) (shapes : List Shape) (layer : Option (List ℕ)) (is : List MainItem) (i : ℕ) → AllByRecursion (IsItem symbols) is
     → Means i (main symbols cells shapes layer None) (items_commands layer is ++ (commands.End ∷ []))
     (cells ++ items_cells symbols (length shapes) is) (shapes ++ items_shapes symbols is)
 unfolding run step
@@ -282,7 +282,7 @@ items-mean symbols cells shapes layer (copy name n place ∷ is) i h =
     (λ (j : ℕ). items-mean symbols (cells ++ its_cells) (shapes ++ its_shapes) layer is j h.1))
 
 -- what is written means the layout that was written
-pub written-means : (ds : List Drawn) (is : List Item) → IsWritable ds is → meaning (layout_commands ds is) ≡ Ok (written_layout ds is)
+pub written-means : (ds : List WrittenSymbol) (is : List MainItem) → IsWritable ds is → meaning (layout_commands ds is) ≡ Ok (written_layout ds is)
 unfolding meaning run step
 written-means ds is h =
     let led = symbols-lead [] 1 ds h.symbols (λ (m : ℕ) (above : 1 ≤ m). refl) 1 (items_commands None is ++ (commands.End ∷ [])) in

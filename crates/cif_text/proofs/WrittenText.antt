@@ -16,7 +16,7 @@ use Rattle.cif_text.specs.Printable.{IsText, IsNatural, IsPart, IsNameText}
 use Rattle.cif_text.specs.CifReads.{cif_reads}
 use Rattle.cif_text.specs.Scales.{doubled, around}
 use Rattle.cif_text.specs.Symbols.{Symbol}
-use Rattle.cif_text.specs.Written.{Drawn, Item, alone, copy, box_of, call_to, change, name_commands, shape_commands, shapes_commands, symbol_commands, symbols_commands, copy_commands, items_commands, layout_commands}
+use Rattle.cif_text.specs.Written.{WrittenSymbol, MainItem, alone, copy, box_of, call_to, change, name_commands, shape_commands, shapes_commands, symbol_commands, symbols_commands, copy_commands, items_commands, layout_commands}
 use Rattle.cif_text.specs.WrittenLayout.{IsBox, IsShape, IsWhole, IsDrawn, IsItem, IsWritable, symbols_from}
 use Rattle.cif_text.proofs.ReadBack.{reads-text}
 
@@ -97,7 +97,7 @@ copy-name-before : (inside : Bool) (name : Option (List ℕ)) → IfSome name Is
 copy-name-before inside None h = λ (rest : List Command) (text : IsText inside rest). text
 copy-name-before inside (Some name) h = λ (rest : List Command) (text : IsText inside rest). (h, text)
 
-symbol-before : (n : ℕ) (d : Drawn) → n ≤ greatest → IsDrawn d → Before false (symbol_commands n d) false
+symbol-before : (n : ℕ) (d : WrittenSymbol) → n ≤ greatest → IsDrawn d → Before false (symbol_commands n d) false
 symbol-before n d small h = λ (rest : List Command) (text : IsText false rest).
     let one : IsPart 1 = record { low = omega arith; high = omega arith } in
     let inner : IsText true ((name_commands users.SymbolName d.name ++ (shapes_commands None d.shapes ++ (commands.Finish ∷ []))) ++ rest) =
@@ -109,7 +109,7 @@ symbol-before n d small h = λ (rest : List Command) (text : IsText false rest).
     rest text in
     (refl, (record { high = small }, one, one), inner)
 
-symbols-before : (n : ℕ) (ds : List Drawn) → n + length ds ≤ suc greatest → AllByRecursion IsDrawn ds → Before false (symbols_commands n ds) false
+symbols-before : (n : ℕ) (ds : List WrittenSymbol) → n + length ds ≤ suc greatest → AllByRecursion IsDrawn ds → Before false (symbols_commands n ds) false
 symbols-before n [] few h = λ (rest : List Command) (text : IsText false rest). text
 symbols-before n (d ∷ ds) few h =
     before-both false false false (symbol_commands n d) (symbols_commands (suc n) ds)
@@ -119,7 +119,7 @@ call-before : (n : ℕ) (place : Place) → IsNatural n → IsWhole place → Be
 call-before n place near whole = λ (rest : List Command) (text : IsText false rest).
     subst (λ (c : Command). IsText false (c ∷ rest)) (sym (call-whole n place whole)) ((near, omega arith, whole.across_near, whole.up_near), text)
 
-items-before : (symbols : List Symbol) (layer : Option (List ℕ)) (is : List Item) → AllByRecursion (IsItem symbols) is
+items-before : (symbols : List Symbol) (layer : Option (List ℕ)) (is : List MainItem) → AllByRecursion (IsItem symbols) is
     → Before false (items_commands layer is) false
 items-before symbols layer [] h = λ (rest : List Command) (text : IsText false rest). text
 items-before symbols layer (alone s ∷ is) h =
@@ -130,7 +130,7 @@ items-before symbols layer (copy name n place ∷ is) h =
     (items-before symbols layer is h.1)
 
 -- the commands of a written layout are a text
-pub written-text : (ds : List Drawn) (is : List Item) → IsWritable ds is → IsText false (layout_commands ds is)
+pub written-text : (ds : List WrittenSymbol) (is : List MainItem) → IsWritable ds is → IsText false (layout_commands ds is)
 written-text ds is h = (
   tt,
   symbols-before 1 ds (omega arith) h.symbols (items_commands None is ++ (commands.End ∷ []))
@@ -138,5 +138,5 @@ written-text ds is h = (
 )
 
 -- what is written reads as the commands that were written
-pub written-reads : (ds : List Drawn) (is : List Item) → IsWritable ds is → cif_reads (text_of (layout_commands ds is)) ≡ Ok (layout_commands ds is)
+pub written-reads : (ds : List WrittenSymbol) (is : List MainItem) → IsWritable ds is → cif_reads (text_of (layout_commands ds is)) ≡ Ok (layout_commands ds is)
 written-reads ds is h = reads-text (layout_commands ds is) (written-text ds is h)

@@ -9,14 +9,14 @@ use Rattle.cif_text.specs.declared.command.UserKind.{UserKind}
 use Rattle.cif_text.specs.declared.command.UserKind.TheVariants as users
 
 -- a symbol that is written: its name, if it has one, and its shapes
-pub record Drawn : Type 0 where
+pub record WrittenSymbol : Type 0 where
   pub name : Option (List ℕ)
   pub shapes : List Shape
 
 -- what is written at the main level: a shape alone, or a copy of the symbol of a number, with its own name if it has one
-pub data Item : Type 0 where
-  alone : Shape → Item
-  copy : Option (List ℕ) → ℕ → Place → Item
+pub data MainItem : Type 0 where
+  alone : Shape → MainItem
+  copy : Option (List ℕ) → ℕ → Place → MainItem
 
 -- the box of a rectangle, with its length along x; a rectangle counts in half centimicrons, and a box in centimicrons
 abbrev pub box_of : Extent → Command
@@ -46,12 +46,12 @@ shapes_commands layer [] = []
 shapes_commands layer (s ∷ ss) = shape_commands layer s ++ shapes_commands (Some s.layer) ss
 
 -- the definition of a symbol, which begins without a layer
-abbrev pub symbol_commands : ℕ → Drawn → List Command
+abbrev pub symbol_commands : ℕ → WrittenSymbol → List Command
 symbol_commands n d =
     commands.Start n 1 1 ∷ (name_commands users.SymbolName d.name ++ (shapes_commands None d.shapes ++ (commands.Finish ∷ [])))
 
 -- symbols, of which the first has this number
-abbrev pub symbols_commands : ℕ → List Drawn → List Command
+abbrev pub symbols_commands : ℕ → List WrittenSymbol → List Command
 symbols_commands n [] = []
 symbols_commands n (d ∷ ds) = symbol_commands n d ++ symbols_commands (suc n) ds
 
@@ -60,17 +60,17 @@ abbrev pub copy_commands : Option (List ℕ) → ℕ → Place → List Command
 copy_commands name n place = name_commands users.InstanceName name ++ (call_to n place ∷ [])
 
 -- the main level, behind this layer; copies leave the layer as it is
-abbrev pub items_commands : Option (List ℕ) → List Item → List Command
+abbrev pub items_commands : Option (List ℕ) → List MainItem → List Command
 items_commands layer [] = []
 items_commands layer (alone s ∷ is) = shape_commands layer s ++ items_commands (Some s.layer) is
 items_commands layer (copy name n place ∷ is) = copy_commands name n place ++ items_commands layer is
 
 -- the layer that was written last behind items that stand behind this layer
-abbrev pub layer_after : Option (List ℕ) → List Item → Option (List ℕ)
+abbrev pub layer_after : Option (List ℕ) → List MainItem → Option (List ℕ)
 layer_after layer [] = layer
 layer_after layer (alone s ∷ is) = layer_after (Some s.layer) is
 layer_after layer (copy name n place ∷ is) = layer_after layer is
 
 -- the whole text: a comment, the symbols, numbered from 1, the main level and the end
-abbrev pub layout_commands : List Drawn → List Item → List Command
+abbrev pub layout_commands : List WrittenSymbol → List MainItem → List Command
 layout_commands ds is = commands.Comment ∷ (symbols_commands 1 ds ++ (items_commands None is ++ (commands.End ∷ [])))

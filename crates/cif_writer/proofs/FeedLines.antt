@@ -4,7 +4,7 @@ use Rattle.channel_stack.specs.Layouts.{feed_drawing, feed_outline, feed_wire}
 use Rattle.cif_writer.specs.Symbols.{feed_symbol}
 use Rattle.cif_text.proofs.TextLemmas.{text_of-append}
 use Rattle.cif_text.specs.Printing.{line, text_of}
-use Rattle.cif_text.specs.Written.{Drawn, box_of, change, shapes_commands, symbol_commands, symbols_commands}
+use Rattle.cif_text.specs.Written.{WrittenSymbol, box_of, change, shapes_commands, symbol_commands, symbols_commands}
 use Rattle.cif_text.specs.declared.command.Command.{Command}
 use Rattle.cif_text.specs.declared.command.Command.TheVariants as commands
 use Rattle.tech_rules.specs.Rules.{RuleValues}
@@ -59,7 +59,7 @@ pub feeds-put : (r : RuleValues) (high height n m : ℕ) (some : Bool) (t0 t1 : 
     → t1 ≡ t0 ++ text_of (symbol_commands n (record { name = None; shapes = feed_drawing r high }))
     → t1 ≡ t0 ++ text_of (symbols_commands m (feed_symbol r height some))
 feeds-put r high height n m some t0 t1 there level same put =
-    let symbol : Drawn = record { name = None; shapes = feed_drawing r height } in
+    let symbol : WrittenSymbol = record { name = None; shapes = feed_drawing r height } in
     put
     ∙ ap (λ (h : ℕ). t0 ++ text_of (symbol_commands n (record { name = None; shapes = feed_drawing r h }))) level
     ∙ ap (λ (k : ℕ). t0 ++ text_of (symbol_commands k symbol)) same

@@ -19,12 +19,12 @@ abbrev pub symbols_in : RuleValues → Netlist → Fed → List Symbol
 symbols_in r d fed = symbols_from 1 (symbols_of r d fed)
 
 -- the symbol of feeds
-abbrev pub feeds_symbol : RuleValues → Netlist → written.Drawn
+abbrev pub feeds_symbol : RuleValues → Netlist → written.WrittenSymbol
 feeds_symbol r d = record { name = None; shapes = feed_drawing r d.height }
 
 module _ (r : RuleValues) (d : Netlist) (fed : Fed) where
   -- the symbol that stands at a place has the number behind it
-  numbered : (k : ℕ) (drawn : written.Drawn) → slice_get (symbols_of r d fed) k ≡ Some drawn → symbol_of (k + 1) (symbols_in r d fed) ≡ Some (symbol_at (k + 1) drawn)
+  numbered : (k : ℕ) (drawn : written.WrittenSymbol) → slice_get (symbols_of r d fed) k ≡ Some drawn → symbol_of (k + 1) (symbols_in r d fed) ≡ Some (symbol_at (k + 1) drawn)
   numbered k drawn at =
       subst (λ (n : ℕ). symbol_of n (symbols_in r d fed) ≡ Some (symbol_at n drawn)) (sym (add-one k)) (symbol_of-written k (symbols_of r d fed) drawn at)
 

@@ -6,7 +6,7 @@ use Rattle.std.specs.Prelude.{nat_lt}
 use Rattle.std.specs.List.{slice_get}
 use Rattle.cif_text.proofs.TextLemmas.{text_of-append, items-append}
 use Rattle.cif_text.specs.Printing.{line, text_of}
-use Rattle.cif_text.specs.Written.{Drawn, Item, call_to, copy, copy_commands, items_commands, layer_after, symbol_commands, symbols_commands}
+use Rattle.cif_text.specs.Written.{WrittenSymbol, MainItem, call_to, copy, copy_commands, items_commands, layer_after, symbol_commands, symbols_commands}
 use Rattle.cif_text.specs.declared.command.Command.{Command}
 use Rattle.cif_text.specs.declared.command.Command.TheVariants as commands
 use Rattle.cif_writer.specs.Symbols.{copies_of, copy_of, items_of, name_of, number_of, wires_of}
@@ -21,14 +21,14 @@ use Rattle.wire_geom.specs.declared.drawn.Drawn as wires
 use Rattle.cif_writer.proofs.Lines.{whole-text}
 
 -- symbols in two parts
-pub symbols-append : (n m : ℕ) (ds es : List Drawn) → m ≡ length ds + n → symbols_commands n (ds ++ es) ≡ symbols_commands n ds ++ symbols_commands m es
+pub symbols-append : (n m : ℕ) (ds es : List WrittenSymbol) → m ≡ length ds + n → symbols_commands n (ds ++ es) ≡ symbols_commands n ds ++ symbols_commands m es
 symbols-append n m [] es at = let same : n ≡ m = omega arith in ap (λ (k : ℕ). symbols_commands k es) same
 symbols-append n m (d ∷ ds) es at =
     ap (λ (cs : List Command). symbol_commands n d ++ cs) (symbols-append (suc n) m ds es (omega arith))
     ∙ sym (append_assoc (symbol_commands n d) (symbols_commands (suc n) ds) (symbols_commands m es))
 
 -- symbols, and others behind them
-pub symbols-both : (t kinds new : List ℕ) (n m : ℕ) (ds es : List Drawn) → m ≡ length ds + n
+pub symbols-both : (t kinds new : List ℕ) (n m : ℕ) (ds es : List WrittenSymbol) → m ≡ length ds + n
     → kinds ≡ t ++ text_of (symbols_commands n ds) → new ≡ kinds ++ text_of (symbols_commands m es) → new ≡ t ++ text_of (symbols_commands n (ds ++ es))
 symbols-both t kinds new n m ds es at first second =
     second
@@ -38,7 +38,7 @@ symbols-both t kinds new n m ds es at first second =
     ∙ ap (λ (cs : List Command). t ++ text_of cs) (sym (symbols-append n m ds es at))
 
 -- the whole text, put in five pieces
-pub layout-text : (t0 t1 t2 t3 t4 t5 : List ℕ) (kinds feeds : List Drawn) (m : ℕ) (main : List Command) → t0 ≡ [] → m ≡ length kinds + 1
+pub layout-text : (t0 t1 t2 t3 t4 t5 : List ℕ) (kinds feeds : List WrittenSymbol) (m : ℕ) (main : List Command) → t0 ≡ [] → m ≡ length kinds + 1
     → t1 ≡ t0 ++ line commands.Comment → t2 ≡ t1 ++ text_of (symbols_commands 1 kinds) → t3 ≡ t2 ++ text_of (symbols_commands m feeds)
     → t4 ≡ t3 ++ text_of main → t5 ≡ t4 ++ line commands.End
     → t5 ≡ text_of (commands.Comment ∷ (symbols_commands 1 (kinds ++ feeds) ++ (main ++ commands.End ∷ [])))
@@ -76,7 +76,7 @@ missing-put d item s place t new call is at call_is put =
     ∙ ap (λ (cs : List Command). t ++ text_of cs) (sym (cell-missing d item s place is at))
 
 -- an item of a row, and what stands behind it
-item-more : (d : Netlist) (layer : Option (List ℕ)) (item : fed_items.Item) (place : Place) (is : List Item)
+item-more : (d : Netlist) (layer : Option (List ℕ)) (item : fed_items.Item) (place : Place) (is : List MainItem)
     → items_commands layer (copy_of d item place ∷ is) ≡ items_commands None (copy_of d item place ∷ []) ++ items_commands layer is
 item-more d layer (Cell s) place is =
     ap (λ (cs : List Command). cs ++ items_commands layer is)

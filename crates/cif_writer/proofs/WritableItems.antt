@@ -61,7 +61,7 @@ others-fit left w ws total wide parted room = omega arith
 
 module _ (r : RuleValues) (d : Netlist) (feeds : Bool) (valid : ValidRules r) (good : IsNetlist d) (wide high : ℕ)
     (across : wide * r.grid_column * r.grid_centi ≤ 1000000000) (up : high * r.grid_centi ≤ 1000000000) where
-  abbrev symbols : List written.Drawn
+  abbrev symbols : List written.WrittenSymbol
   symbols = map (symbol_for r d.height) d.kinds ++ feed_symbol r d.height feeds
 
   -- the place of an item is whole in centimicrons
@@ -114,8 +114,8 @@ module _ (r : RuleValues) (d : Netlist) (feeds : Bool) (valid : ValidRules r) (g
   -- a feed at a whole place is a copy of the feeds' symbol, which is the last
   feed-is : (place : Place) → feeds ≡ true → IsWhole place → IsCopy (symbols_from 1 symbols) None (length d.kinds + 1) place
   feed-is place some whole =
-      let kinds : List written.Drawn = map (symbol_for r d.height) d.kinds in
-      let feed : written.Drawn = record { name = None; shapes = feed_drawing r d.height } in
+      let kinds : List written.WrittenSymbol = map (symbol_for r d.height) d.kinds in
+      let feed : written.WrittenSymbol = record { name = None; shapes = feed_drawing r d.height } in
       let count : length kinds ≡ length d.kinds = length-map d.kinds (symbol_for r d.height) in
       let last : slice_get symbols (length d.kinds) ≡ Some feed =
       ap (λ (b : Bool). slice_get (kinds ++ feed_symbol r d.height b) (length d.kinds)) some

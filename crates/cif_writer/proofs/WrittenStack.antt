@@ -36,14 +36,14 @@ use Rattle.cif_writer.proofs.FoundSymbols.{symbols_in, kind-found, feed-found}
 use Rattle.cif_writer.proofs.Writable.{stack-writable}
 
 -- the shapes and the cells of the main level in two parts
-shapes-append : (symbols : List Symbol) (xs ys : List written.Item)
+shapes-append : (symbols : List Symbol) (xs ys : List written.MainItem)
     → layout.items_shapes symbols (xs ++ ys) ≡ layout.items_shapes symbols xs ++ layout.items_shapes symbols ys
 shapes-append symbols [] ys = refl
 shapes-append symbols (x ∷ xs) ys =
     ap (λ (l : List Shape). layout.item_shapes symbols x ++ l) (shapes-append symbols xs ys)
     ∙ sym (append_assoc (layout.item_shapes symbols x) (layout.items_shapes symbols xs) (layout.items_shapes symbols ys))
 
-cells-append : (symbols : List Symbol) (first : ℕ) (xs ys : List written.Item)
+cells-append : (symbols : List Symbol) (first : ℕ) (xs ys : List written.MainItem)
     → layout.items_cells symbols first (xs ++ ys) ≡ layout.items_cells symbols first xs ++ layout.items_cells symbols (first + length (layout.items_shapes symbols xs)) ys
 cells-append symbols first [] ys = ap (λ (n : ℕ). layout.items_cells symbols n ys) (omega arith)
 cells-append symbols first (x ∷ xs) ys =
@@ -115,7 +115,7 @@ module _ (r : RuleValues) (d : Netlist) (is : IsNetlist d) (fed : Fed) where
   main-shapes [] rows there = refl
   main-shapes (drawn ∷ channels) [] there = wires-shapes symbols drawn
   main-shapes (drawn ∷ channels) (row ∷ rows) there =
-      let above : List written.Item = items_of d channels rows in
+      let above : List written.MainItem = items_of d channels rows in
       shapes-append symbols (wires_of drawn) (copies_of d row ++ above)
       ∙ ap (λ (l : List Shape). l ++ layout.items_shapes symbols (copies_of d row ++ above)) (wires-shapes symbols drawn)
       ∙ ap (λ (l : List Shape). channel_shapes drawn ++ l)
@@ -128,7 +128,7 @@ module _ (r : RuleValues) (d : Netlist) (is : IsNetlist d) (fed : Fed) where
   main-cells first [] rows there = refl
   main-cells first (drawn ∷ channels) [] there = wires-cells symbols first drawn
   main-cells first (drawn ∷ channels) (row ∷ rows) there =
-      let above : List written.Item = items_of d channels rows in
+      let above : List written.MainItem = items_of d channels rows in
       let behind : ℕ = first + length drawn in
       let wires : length (layout.items_shapes symbols (wires_of drawn)) ≡ length drawn =
       ap length (wires-shapes symbols drawn) ∙ length-map drawn (λ (a : Drawn). a.shape) in
@@ -169,8 +169,8 @@ pub stack-reads : (r : RuleValues) → ValidRules r → (d : Netlist) → IsNetl
     → (placed : Stacked) → IsStacked r d fed placed → (text : List ℕ) → text ≡ placed_text r d fed placed → ReadsAs text (layout_of r d placed)
 unfolding placed_text
 stack-reads r valid d is room fed from placed stacked text made =
-    let ds : List written.Drawn = symbols_of r d fed in
-    let items : List written.Item = main_items d placed in
+    let ds : List written.WrittenSymbol = symbols_of r d fed in
+    let items : List written.MainItem = main_items d placed in
     let writable : layout.IsWritable ds items =
     subst (λ (p : Stacked). layout.IsWritable ds (main_items d p)) (sym stacked.is) (stack-writable r d fed stacked.wirings valid is from room stacked.routed) in
     record {

@@ -16,7 +16,7 @@ use Rattle.channel_stack.specs.Stack.{Stacked}
 use Rattle.channel_stack.specs.declared.placed.PlacedItem.{PlacedItem}
 
 -- a kind as a symbol: its name and its drawing
-abbrev pub symbol_for : RuleValues → ℕ → CellKind → written.Drawn
+abbrev pub symbol_for : RuleValues → ℕ → CellKind → written.WrittenSymbol
 symbol_for r height kind = record { name = Some kind.name; shapes = drawing_of r height kind }
 
 -- whether an item is a feed, and whether there is one in these rows
@@ -28,12 +28,12 @@ abbrev pub has_feed : List (List Item) → Bool
 has_feed rows = list_any (list_any is_feed) rows
 
 -- the symbol of feeds, which has no name, where there are feeds
-abbrev pub feed_symbol : RuleValues → ℕ → Bool → List written.Drawn
+abbrev pub feed_symbol : RuleValues → ℕ → Bool → List written.WrittenSymbol
 feed_symbol r height false = []
 feed_symbol r height true = record { name = None; shapes = feed_drawing r height } ∷ []
 
 -- the symbols of a layout: the kinds in their order, numbered from 1, and behind them that of feeds
-abbrev pub symbols_of : RuleValues → Netlist → Fed → List written.Drawn
+abbrev pub symbols_of : RuleValues → Netlist → Fed → List written.WrittenSymbol
 symbols_of r d fed = map (symbol_for r d.height) d.kinds ++ feed_symbol r d.height (has_feed fed.rows)
 
 -- an instance's name and the number of its symbol
@@ -46,23 +46,23 @@ number_of None = 0
 number_of (Some inst) = inst.kind + 1
 
 -- a cell is a copy of its kind's symbol with its instance's name, and a feed one of the feeds' symbol without a name
-abbrev pub copy_of : Netlist → Item → Place → written.Item
+abbrev pub copy_of : Netlist → Item → Place → written.MainItem
 copy_of d (Cell s) place = written.copy (name_of (slice_get d.instances s.instance)) (number_of (slice_get d.instances s.instance)) place
 copy_of d (Feed net) place = written.copy None (length d.kinds + 1) place
 
-abbrev pub copies_of : Netlist → List PlacedItem → List written.Item
+abbrev pub copies_of : Netlist → List PlacedItem → List written.MainItem
 copies_of d items = map (λ (p : PlacedItem). copy_of d p.item p.place) items
 
 -- rectangles of wires stand alone
-abbrev pub wires_of : List Drawn → List written.Item
+abbrev pub wires_of : List Drawn → List written.MainItem
 wires_of drawn = map (λ (a : Drawn). written.alone a.shape) drawn
 
 -- from the bottom up: channel 0, row 0, channel 1, and so on
-abbrev pub items_of : Netlist → List (List Drawn) → List (List PlacedItem) → List written.Item
+abbrev pub items_of : Netlist → List (List Drawn) → List (List PlacedItem) → List written.MainItem
 items_of d [] rows = []
 items_of d (drawn ∷ channels) [] = wires_of drawn
 items_of d (drawn ∷ channels) (row ∷ rows) = wires_of drawn ++ (copies_of d row ++ items_of d channels rows)
 
 -- the main level of a layout
-abbrev pub main_items : Netlist → Stacked → List written.Item
+abbrev pub main_items : Netlist → Stacked → List written.MainItem
 main_items d placed = items_of d placed.shapes placed.cells

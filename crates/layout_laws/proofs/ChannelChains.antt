@@ -14,8 +14,8 @@ use Rattle.wire_geom.specs.Contact.{layer_name, KeepContact}
 use Rattle.wire_geom.specs.Drawing.{on_horizontal, on_vertical, on_cut, segment_piece, via_piece, drawn_of, drawn_by, drawing}
 use Rattle.wire_geom.specs.declared.drawn.Drawn.{Drawn}
 use Rattle.wire_geom.proofs.DrawingLaws.{drawing_contact}
-use Rattle.layout_laws.specs.Chains.{Chained, itself}
-use Rattle.layout_laws.proofs.ChainLaws.{Chained-trans, Chained-sym, touch-chained}
+use Rattle.layout_laws.specs.Chains.{AreChained, itself}
+use Rattle.layout_laws.proofs.ChainLaws.{AreChained-trans, AreChained-sym, touch-chained}
 
 -- the layers that wirings have are layers of wires
 wire-named : (r : RuleValues) (layer : Layer) → IsWire r (layer_name r layer)
@@ -37,7 +37,7 @@ module _ (pins : Pins) (wiring : Wiring) (wired : Wired pins wiring) (r : RuleVa
     (among : (a : Drawn) → Contains (drawing r base wiring) a → Contains ds a) where
   -- a chain from the first to the second
   abbrev To : Drawn → Drawn → Type 0
-  To a b = Chained r d l ds b a
+  To a b = AreChained r d l ds b a
 
   contact : KeepContact r base wiring (drawing r base wiring)
   contact = drawing_contact pins wiring wired r valid base
@@ -77,7 +77,7 @@ module _ (pins : Pins) (wiring : Wiring) (wired : Wired pins wiring) (r : RuleVa
       let x : Drawn = drawn_of r (segment_piece r base wiring.tracks s) in
       subst (λ (y : Drawn). To a y) (sym (only-one x a in_a) ∙ only-one x b in_b) itself
   element_chained (via v) listed a b in_a in_b =
-      Chained-trans (to_cut v listed a in_a) (Chained-sym (is_among (via v) b listed in_b) (to_cut v listed b in_b))
+      AreChained-trans (to_cut v listed a in_a) (AreChained-sym (is_among (via v) b listed in_b) (to_cut v listed b in_b))
 
   -- elements that meet have rectangles that touch
   linked_chained : {e f : Element} → Linked wiring e f → Contains (elements wiring) e → (a b : Drawn) → Of e a → Of f b → To a b
@@ -85,14 +85,14 @@ module _ (pins : Pins) (wiring : Wiring) (wired : Wired pins wiring) (r : RuleVa
   linked_chained {e} (onward {f = h} there meets chain) listed a b in_a in_b =
       let x = contact.shown e meets.layer meets.column meets.line listed meets.first in
       let y = contact.shown h meets.layer meets.column meets.line there meets.second in
-      Chained-trans (element_chained e listed a x.0 in_a x.1)
-      (Chained-trans (touch-chained (is_among h y.0 there y.1) (record {
+      AreChained-trans (element_chained e listed a x.0 in_a x.1)
+      (AreChained-trans (touch-chained (is_among h y.0 there y.1) (record {
         layers = on_one (subst (λ (k : List ℕ). IsWire r k) (sym x.2) (wire-named r meets.layer)) (x.2 ∙ sym y.2);
         meet = contact.contact e h x.0 y.0 listed there meets x.1 y.1;
       })) (linked_chained chain there y.0 b y.1 in_b))
 
   -- rectangles of one net in a channel are chained
-  pub channel_chained : (a b : Drawn) → Contains (drawing r base wiring) a → Contains (drawing r base wiring) b → a.net ≡ b.net → Chained r d l ds b a
+  pub channel_chained : (a b : Drawn) → Contains (drawing r base wiring) a → Contains (drawing r base wiring) b → a.net ≡ b.net → AreChained r d l ds b a
   channel_chained a b in_a in_b one_net =
       let of_a = contact.alone a in_a in
       let of_b = contact.alone b in_b in

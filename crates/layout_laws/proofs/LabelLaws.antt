@@ -15,13 +15,13 @@ use Rattle.wire_geom.specs.Spaces.{NetsKeep}
 use Rattle.wire_geom.specs.Widths.{IsCovered as IsDrawnCovered}
 use Rattle.wire_geom.specs.declared.drawn.Drawn.{Drawn}
 use Rattle.wire_geom.proofs.ListLaws.{Contains-map, Contains-map_cases}
-use Rattle.layout_laws.specs.Chains.{Chained, itself, by_touch, by_tie}
-use Rattle.layout_laws.specs.Labels.{Labelled}
+use Rattle.layout_laws.specs.Chains.{AreChained, itself, by_touch, by_tie}
+use Rattle.layout_laws.specs.Labels.{IsLabelled}
 use Rattle.layout_laws.specs.Uprights.{IsWired}
 use Rattle.layout_laws.proofs.ListPlaces.{contains-at, at-contains, map-at, at-map}
 use Rattle.layout_laws.proofs.TouchLaws.{wire-touches, cut-touches, touch-net, touch-turned}
 
-module _ (r : RuleValues) (d : Netlist) (l : Layout) (ds : List Drawn) (net_at : ℕ → ℕ → ℕ) (labelled : Labelled r d l ds net_at) where
+module _ (r : RuleValues) (d : Netlist) (l : Layout) (ds : List Drawn) (net_at : ℕ → ℕ → ℕ) (labelled : IsLabelled r d l ds net_at) where
   -- where a rectangle stands, its shape does
   shape-at : (i : ℕ) (a : Drawn) → slice_get ds i ≡ Some a → slice_get l.shapes i ≡ Some a.shape
   shape-at i a at = ap (λ (shapes : List Shape). slice_get shapes i) labelled.pins.shapes ∙ map-at (λ (x : Drawn). x.shape) ds i a at
@@ -91,7 +91,7 @@ module _ (r : RuleValues) (d : Netlist) (l : Layout) (ds : List Drawn) (net_at :
       ap (λ (x : Drawn). x.net) (same_Some a b.0 (sym at ∙ b.1)) ∙ b.3
 
   -- rectangles that are chained stand at numbers that are joined
-  chained-joined : (b a : Drawn) → Chained r d l ds b a → (i j : ℕ) → slice_get ds i ≡ Some a → slice_get ds j ≡ Some b → IsWired r b → Joined r d l j i
+  chained-joined : (b a : Drawn) → AreChained r d l ds b a → (i j : ℕ) → slice_get ds i ≡ Some a → slice_get ds j ≡ Some b → IsWired r b → Joined r d l j i
   chained-joined b a itself i j at_i at_j wired = same-joined i j a at_i at_j wired
   chained-joined b a (by_touch c has touch more) i j at_i at_j wired =
       let k = contains-at ds c has in
@@ -174,15 +174,15 @@ module _ (r : RuleValues) (d : Netlist) (l : Layout) (ds : List Drawn) (net_at :
         sym a.3 ∙ joined-net pins.to pins.from pins.joined a.0 b.0 a.1 b.1 ∙ b.3
 
 -- a layout whose shapes have nets is wide
-pub labelled-wide : (r : RuleValues) (d : Netlist) (l : Layout) (ds : List Drawn) (net_at : ℕ → ℕ → ℕ) → Labelled r d l ds net_at → Wide r l
+pub labelled-wide : (r : RuleValues) (d : Netlist) (l : Layout) (ds : List Drawn) (net_at : ℕ → ℕ → ℕ) → IsLabelled r d l ds net_at → Wide r l
 labelled-wide r d l ds net_at labelled = is-wide r d l ds net_at labelled
 
 -- it keeps its spaces
-pub labelled-spaced : (r : RuleValues) (d : Netlist) (l : Layout) (ds : List Drawn) (net_at : ℕ → ℕ → ℕ) → ValidRules r → Labelled r d l ds net_at → Spaced r d l
+pub labelled-spaced : (r : RuleValues) (d : Netlist) (l : Layout) (ds : List Drawn) (net_at : ℕ → ℕ → ℕ) → ValidRules r → IsLabelled r d l ds net_at → Spaced r d l
 labelled-spaced r d l ds net_at valid labelled = is-spaced r d l ds net_at labelled
 
 -- and it joins exactly the pins of one net
-pub labelled-nets : (r : RuleValues) (d : Netlist) (l : Layout) (ds : List Drawn) (net_at : ℕ → ℕ → ℕ) → ValidRules r → Labelled r d l ds net_at
+pub labelled-nets : (r : RuleValues) (d : Netlist) (l : Layout) (ds : List Drawn) (net_at : ℕ → ℕ → ℕ) → ValidRules r → IsLabelled r d l ds net_at
     → (p q : Pin) → Contains d.pins p → Contains d.pins q → PinsJoined r d l p q ↔ (p.net ≡ q.net)
 labelled-nets r d l ds net_at valid labelled p q has_p has_q =
     (pins-net r d l ds net_at labelled valid p q has_p has_q, pins-joined r d l ds net_at labelled p q has_p has_q)

@@ -7,11 +7,11 @@ use Rattle.design_model.specs.Netlist.{Netlist}
 use Rattle.wire_geom.specs.Edges.{bottom_entry, top_entry}
 use Rattle.wire_geom.specs.declared.drawn.Drawn.{Drawn}
 use Rattle.wire_geom.proofs.DrawingLaws.{drawing_contact}
-use Rattle.layout_laws.specs.Chains.{Chained, itself}
+use Rattle.layout_laws.specs.Chains.{AreChained, itself}
 use Rattle.layout_laws.specs.Plans.{Plan, channel_drawn, plan_drawn, IsPlan}
-use Rattle.layout_laws.specs.Threads.{Entering, into_below, into_above, Threads, Lone, AreThreaded}
+use Rattle.layout_laws.specs.Threads.{Entering, into_below, into_above, Threads, IsLone, AreThreaded}
 use Rattle.layout_laws.specs.Uprights.{IsWired}
-use Rattle.layout_laws.proofs.ChainLaws.{Touch-sym, Chained-trans, Chained-sym, touch-chained, Together-chained}
+use Rattle.layout_laws.proofs.ChainLaws.{Touch-sym, AreChained-trans, AreChained-sym, touch-chained, AreTogether-chained}
 use Rattle.layout_laws.proofs.ChannelChains.{channel_chained}
 use Rattle.layout_laws.proofs.EntryTouches.{touch_below, touch_above}
 use Rattle.layout_laws.proofs.PlanPlaces.{Place, in_channel, in_row, place_of, channel_among, row_among}
@@ -24,12 +24,12 @@ record Hangs (r : RuleValues) (plan : Plan) (d : Netlist) (l : Layout) (net low 
   to : channel ≤ high
   listed : Contains (channel_drawn r plan channel) wire
   of_net : wire.net ≡ net
-  chain : Chained r d l (plan_drawn r plan) wire a
+  chain : AreChained r d l (plan_drawn r plan) wire a
 
 module _ (r : RuleValues) (valid : ValidRules r) (d : Netlist) (l : Layout) (plan : Plan) (is : IsPlan r plan) where
   -- a chain from the first to the second
   abbrev To : Drawn → Drawn → Type 0
-  To a b = Chained r d l (plan_drawn r plan) b a
+  To a b = AreChained r d l (plan_drawn r plan) b a
 
   abbrev InChannel : ℕ → Drawn → Type 0
   InChannel k a = Contains (channel_drawn r plan k) a
@@ -79,10 +79,10 @@ module _ (r : RuleValues) (valid : ValidRules r) (d : Netlist) (l : Layout) (pla
       let upper : j + suc n ≡ suc (j + n) = omega arith in
       let low_among = row_among r plan plan.rows (j + n) within crossed.low crossed.below.listed in
       let above_among = channel_among r plan plan.rows (suc (j + n)) (omega (arith, within)) above.0 above.1 in
-      Chained-trans (climb net low high threads n j from (omega (arith, to)) a below.0 in_a below.1 net_a (below.2 ∙ crossed.low_net))
-      (Chained-trans (touch-chained low_among below.3)
-      (Chained-trans (Together-chained crossed.together)
-      (Chained-trans (touch-chained above_among above.3)
+      AreChained-trans (climb net low high threads n j from (omega (arith, to)) a below.0 in_a below.1 net_a (below.2 ∙ crossed.low_net))
+      (AreChained-trans (touch-chained low_among below.3)
+      (AreChained-trans (AreTogether-chained crossed.together)
+      (AreChained-trans (touch-chained above_among above.3)
       (channel_net_chained (suc (j + n)) (omega (arith, within)) above.0 b above.1 (subst (λ (k : ℕ). InChannel k b) upper in_b)
       (above.2 ∙ crossed.high_net ∙ sym net_b)))))
 
@@ -101,7 +101,7 @@ module _ (r : RuleValues) (valid : ValidRules r) (d : Netlist) (l : Layout) (pla
         to = between.1;
         listed = touch.1;
         of_net = touch.2 ∙ net_b;
-        chain = Chained-trans (Together-chained together) (touch-chained (channel_among r plan plan.rows k below touch.0 touch.1) (Touch-sym touch.3));
+        chain = AreChained-trans (AreTogether-chained together) (touch-chained (channel_among r plan plan.rows k below touch.0 touch.1) (Touch-sym touch.3));
       }
   entered net low high threads k within a net_a (into_above b together one_net enters) =
       let touch = touch_above r valid plan is k within b enters in
@@ -115,7 +115,7 @@ module _ (r : RuleValues) (valid : ValidRules r) (d : Netlist) (l : Layout) (pla
         to = between.1;
         listed = touch.1;
         of_net = touch.2 ∙ net_b;
-        chain = Chained-trans (Together-chained together) (touch-chained (channel_among r plan plan.rows (suc k) above touch.0 touch.1) touch.3);
+        chain = AreChained-trans (AreTogether-chained together) (touch-chained (channel_among r plan plan.rows (suc k) above touch.0 touch.1) touch.3);
       }
 
   -- each rectangle of the net hangs on one of its channels
@@ -138,7 +138,7 @@ module _ (r : RuleValues) (valid : ValidRules r) (d : Netlist) (l : Layout) (pla
   hung_chained : (net low high : ℕ) → Threads r plan d l net low high → (a b : Drawn) → Contains (plan_drawn r plan) b
       → Hangs r plan d l net low high a → Hangs r plan d l net low high b → To a b
   hung_chained net low high threads a b among_b at_a at_b =
-      Chained-trans at_a.chain (Chained-trans (between (cases_lt at_b.channel at_a.channel)) (Chained-sym among_b at_b.chain))
+      AreChained-trans at_a.chain (AreChained-trans (between (cases_lt at_b.channel at_a.channel)) (AreChained-sym among_b at_b.chain))
     where
       between : (at_b.channel < at_a.channel) ⊎ (at_a.channel ≤ at_b.channel) → To at_a.wire at_b.wire
       between (inr up) = upward net low high threads at_a.channel at_b.channel up at_a.from at_b.to at_a.wire at_b.wire at_a.listed at_b.listed at_a.of_net at_b.of_net
@@ -146,22 +146,22 @@ module _ (r : RuleValues) (valid : ValidRules r) (d : Netlist) (l : Layout) (pla
           let last = threads.last in
           let bound = at_b.to in
           let among = channel_among r plan plan.rows at_b.channel (omega (arith, last, bound)) at_b.wire at_b.listed in
-          Chained-sym among
+          AreChained-sym among
           (upward net low high threads at_b.channel at_a.channel (omega (arith, down)) at_b.from at_a.to at_b.wire at_a.wire at_b.listed at_a.listed at_b.of_net at_a.of_net)
 
   -- no rectangle of a net that is alone stands in a channel
-  stray : (net : ℕ) → Lone r plan d l net → (k : ℕ) → k ≤ plan.rows → (a : Drawn) → InChannel k a → a.net ≡ net → ⊥
+  stray : (net : ℕ) → IsLone r plan d l net → (k : ℕ) → k ≤ plan.rows → (a : Drawn) → InChannel k a → a.net ≡ net → ⊥
   stray net lone k within a member net_a =
       let its_entry = net_entry k within a member in
       lone.none k its_entry.1.0 within (subst (λ (n : ℕ). EntryAt k its_entry.1.0 n) net_a its_entry.1.1)
 
   -- the rectangles of a net that is alone
-  lone_chained : (net : ℕ) → Lone r plan d l net → (a b : Drawn) → Place r plan plan.rows a → Place r plan plan.rows b → IsWired r a → IsWired r b
+  lone_chained : (net : ℕ) → IsLone r plan d l net → (a b : Drawn) → Place r plan plan.rows a → Place r plan plan.rows b → IsWired r a → IsWired r b
       → a.net ≡ net → b.net ≡ net → To a b
   lone_chained net lone a b (in_channel k within member) place_b wired_a wired_b net_a net_b = absurd (stray net lone k within a member net_a)
   lone_chained net lone a b (in_row j within member) (in_channel k within_b member_b) wired_a wired_b net_a net_b = absurd (stray net lone k within_b b member_b net_b)
   lone_chained net lone a b (in_row j within member) (in_row k within_b member_b) wired_a wired_b net_a net_b =
-      Together-chained (lone.together j k a b within within_b member member_b wired_a wired_b net_a net_b)
+      AreTogether-chained (lone.together j k a b within within_b member member_b wired_a wired_b net_a net_b)
 
   -- wires and cuts of a plan have nets
   positive : AreThreaded r plan d l → (a : Drawn) → Place r plan plan.rows a → IsWired r a → 0 < a.net
@@ -171,7 +171,7 @@ module _ (r : RuleValues) (valid : ValidRules r) (d : Netlist) (l : Layout) (pla
 -- the rectangles of one net of a plan are chained
 pub plan-chained : (r : RuleValues) → ValidRules r → (d : Netlist) (l : Layout) (plan : Plan) → IsPlan r plan → AreThreaded r plan d l
     → (a b : Drawn) → Contains (plan_drawn r plan) a → Contains (plan_drawn r plan) b → IsWired r a → IsWired r b → a.net ≡ b.net
-    → Chained r d l (plan_drawn r plan) b a
+    → AreChained r d l (plan_drawn r plan) b a
 plan-chained r valid d l plan is threaded a b among_a among_b wired_a wired_b one_net =
     let place_a = place_of r plan plan.rows a among_a in
     let place_b = place_of r plan plan.rows b among_b in

@@ -6,7 +6,7 @@ use Rattle.design_model.specs.Netlist.{Netlist}
 use Rattle.wire_geom.specs.declared.drawn.Drawn.{Drawn}
 
 -- two rectangles draw positions of one terminal in one cell
-pub record Tied (d : Netlist) (l : Layout) (ds : List Drawn) (a b : Drawn) : Type 0 where
+pub record AreTied (d : Netlist) (l : Layout) (ds : List Drawn) (a b : Drawn) : Type 0 where
   pub cell : ℕ
   pub instance : ℕ
   pub terminal : ℕ
@@ -18,12 +18,12 @@ pub record Tied (d : Netlist) (l : Layout) (ds : List Drawn) (a b : Drawn) : Typ
   pub at_to : slice_get ds to ≡ Some b
 
 -- a chain from one rectangle to another, in which each touches the next, or is tied to it
-pub data Chained (r : RuleValues) (d : Netlist) (l : Layout) (ds : List Drawn) (b : Drawn) : Drawn → Type 0 where
-  itself : Chained r d l ds b b
-  by_touch : {a : Drawn} (c : Drawn) → Contains ds c → Touch r a.shape c.shape → Chained r d l ds b c → Chained r d l ds b a
-  by_tie : {a : Drawn} (c : Drawn) → Tied d l ds a c → Chained r d l ds b c → Chained r d l ds b a
+pub data AreChained (r : RuleValues) (d : Netlist) (l : Layout) (ds : List Drawn) (b : Drawn) : Drawn → Type 0 where
+  itself : AreChained r d l ds b b
+  by_touch : {a : Drawn} (c : Drawn) → Contains ds c → Touch r a.shape c.shape → AreChained r d l ds b c → AreChained r d l ds b a
+  by_tie : {a : Drawn} (c : Drawn) → AreTied d l ds a c → AreChained r d l ds b c → AreChained r d l ds b a
 
 -- the same, or tied
-pub data Together (d : Netlist) (l : Layout) (ds : List Drawn) (a : Drawn) : Drawn → Type 0 where
-  same : Together d l ds a a
-  tied : {b : Drawn} → Tied d l ds a b → Together d l ds a b
+pub data AreTogether (d : Netlist) (l : Layout) (ds : List Drawn) (a : Drawn) : Drawn → Type 0 where
+  same : AreTogether d l ds a a
+  tied : {b : Drawn} → AreTied d l ds a b → AreTogether d l ds a b

@@ -7,7 +7,7 @@ use Rattle.design_model.specs.declared.design.Pin.{Pin}
 use Rattle.wire_geom.specs.Spaces.{NetsApart}
 use Rattle.wire_geom.specs.Widths.{AreWide}
 use Rattle.wire_geom.specs.declared.drawn.Drawn.{Drawn}
-use Rattle.layout_laws.specs.Chains.{Chained}
+use Rattle.layout_laws.specs.Chains.{AreChained}
 use Rattle.layout_laws.specs.Uprights.{IsWired}
 
 -- the shape with a pin's drawing is a vertical wire of the pin's net; `net_at` gives the net of a terminal of an instance
@@ -19,8 +19,8 @@ pub record ShowsPins (r : RuleValues) (d : Netlist) (l : Layout) (ds : List Draw
   pub nets : (p : Pin) → Contains d.pins p → net_at p.instance p.terminal ≡ p.net
 
 -- the shapes of a layout have nets: those of different nets are apart, and those of one net are chained
-pub record Labelled (r : RuleValues) (d : Netlist) (l : Layout) (ds : List Drawn) (net_at : ℕ → ℕ → ℕ) : Type 0 where
+pub record IsLabelled (r : RuleValues) (d : Netlist) (l : Layout) (ds : List Drawn) (net_at : ℕ → ℕ → ℕ) : Type 0 where
   pub pins : ShowsPins r d l ds net_at
   pub wide : AreWide r ds
   pub apart : NetsApart r ds
-  pub chained : (a b : Drawn) → Contains ds a → Contains ds b → IsWired r a → IsWired r b → a.net ≡ b.net → Chained r d l ds b a
+  pub chained : (a b : Drawn) → Contains ds a → Contains ds b → IsWired r a → IsWired r b → a.net ≡ b.net → AreChained r d l ds b a

@@ -12,19 +12,19 @@ use Rattle.feed_cells.specs.declared.fed.Item.{Item}
 use Rattle.feed_cells.specs.declared.fed.Item.TheVariants.{Feed}
 use Rattle.pin_assign.specs.Sources.{Source, SourceEnters, StandsOver, of_feed, of_pin}
 use Rattle.pin_assign.specs.Entering.{enters}
-use Rattle.pin_assign.specs.Places.{HasOver, Place, StandsAt, channel_beside, row_beside}
+use Rattle.pin_assign.specs.Places.{HasOver, TablePlace, StandsAt, channel_facing, row_beside}
 use Rattle.pin_assign.specs.Tables.{row_below}
 use Rattle.pin_assign.proofs.RowCauses.{SeatOf, feed-listed, feed-stands, pin-stands, seat-of}
 
 -- the row beside a channel is the one that the channel is beside
-pub beside-is : (rows : List (List Item)) (channel row : ℕ) (upper : Bool) → channel ≡ channel_beside row upper → row_beside rows channel upper ≡ slice_get rows row
+pub beside-is : (rows : List (List Item)) (channel row : ℕ) (upper : Bool) → channel ≡ channel_facing row upper → row_beside rows channel upper ≡ slice_get rows row
 beside-is rows channel row true e = ap (slice_get rows) e
 beside-is rows channel row false e = let next : channel ≡ suc row = omega arith in ap (row_below rows) next
 
 -- a row beside a channel
 pub record IsRowBeside (rows : List (List Item)) (channel : ℕ) (upper : Bool) (items : List Item) : Type 0 where
   pub row : ℕ
-  pub beside : channel ≡ channel_beside row upper
+  pub beside : channel ≡ channel_facing row upper
   pub is_row : slice_get rows row ≡ Some items
 
 pub row-beside : (rows : List (List Item)) (channel : ℕ) (upper : Bool) (items : List Item) → row_beside rows channel upper ≡ Some items → IsRowBeside rows channel upper items
@@ -59,11 +59,11 @@ edge-own d top p has = by (edge_column d top p) refl has
 
 -- a cause that stands on one side of a channel
 pub record StandsBeside (d : Netlist) (fed : Fed) (channel : ℕ) (upper : Bool) (cause : Source) : Type 0 where
-  pub place : Place
+  pub place : TablePlace
   pub side : place.upper ≡ upper
   pub stands : StandsAt d fed channel cause place
 
-module _ (d : Netlist) (fed : Fed) (channel row : ℕ) (upper : Bool) (items : List Item) (beside : channel ≡ channel_beside row upper) (is_row : slice_get fed.rows row ≡ Some items) where
+module _ (d : Netlist) (fed : Fed) (channel row : ℕ) (upper : Bool) (items : List Item) (beside : channel ≡ channel_facing row upper) (is_row : slice_get fed.rows row ≡ Some items) where
   stands-beside : (cause : Source) (column : ℕ) → StandsOver d (not upper) cause items 0 column → SourceEnters d (cells_in fed.rows) channel cause → StandsBeside d fed channel upper cause
   stands-beside cause column over entering =
       record {
@@ -90,14 +90,14 @@ module _ (d : Netlist) (fed : Fed) (channel row : ℕ) (upper : Bool) (items : L
       stands-beside (of_feed net) h.column (h.stands (not upper)) tt
 
 -- the row whose edge a cause at a place of a table stands on
-pub record RowOf (d : Netlist) (fed : Fed) (channel : ℕ) (cause : Source) (place : Place) : Type 0 where
+pub record RowOf (d : Netlist) (fed : Fed) (channel : ℕ) (cause : Source) (place : TablePlace) : Type 0 where
   pub row : ℕ
   pub items : List Item
-  pub beside : channel ≡ channel_beside row place.upper
+  pub beside : channel ≡ channel_facing row place.upper
   pub is_row : slice_get fed.rows row ≡ Some items
   pub over : StandsOver d (not place.upper) cause items 0 place.column
 
-pub row-of_stand : (d : Netlist) (fed : Fed) (channel : ℕ) (cause : Source) (place : Place) → StandsAt d fed channel cause place → RowOf d fed channel cause place
+pub row-of_stand : (d : Netlist) (fed : Fed) (channel : ℕ) (cause : Source) (place : TablePlace) → StandsAt d fed channel cause place → RowOf d fed channel cause place
 row-of_stand d fed channel cause place h = by (row_beside fed.rows channel place.upper) refl h.over
   where
     by : (o : Option (List Item)) → row_beside fed.rows channel place.upper ≡ o → HasOver d (not place.upper) cause o place.column → RowOf d fed channel cause place
@@ -107,9 +107,9 @@ row-of_stand d fed channel cause place h = by (row_beside fed.rows channel place
         record { row = r.row; items = items; beside = r.beside; is_row = r.is_row; over = over }
 
 -- a pin at a place of a table is of a cell of the row there
-pub pin-seat : (d : Netlist) (fed : Fed) (channel : ℕ) (p : Pin) (place : Place) (r : RowOf d fed channel (of_pin p) place) → SeatOf r.items p
+pub pin-seat : (d : Netlist) (fed : Fed) (channel : ℕ) (p : Pin) (place : TablePlace) (r : RowOf d fed channel (of_pin p) place) → SeatOf r.items p
 pin-seat d fed channel p place r = seat-of d (not place.upper) p r.items 0 place.column r.over
 
 -- a feed at a place of a table is one of the row there
-pub feed-item : (d : Netlist) (fed : Fed) (channel net : ℕ) (place : Place) (r : RowOf d fed channel (of_feed net) place) → Contains r.items (Feed net)
+pub feed-item : (d : Netlist) (fed : Fed) (channel net : ℕ) (place : TablePlace) (r : RowOf d fed channel (of_feed net) place) → Contains r.items (Feed net)
 feed-item d fed channel net place r = feed-listed d (not place.upper) net r.items 0 place.column r.over

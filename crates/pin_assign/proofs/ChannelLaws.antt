@@ -6,7 +6,7 @@ use Rattle.design_model.specs.Netlist.{Netlist, IsNetlist}
 use Rattle.row_model.specs.declared.rows.Seat.{Seat}
 use Rattle.feed_cells.specs.Fed.{Fed, fed_rows, nets_in}
 use Rattle.pin_assign.specs.Sources.{Source, source_net}
-use Rattle.pin_assign.specs.Places.{Place, StandsAt, entry_at}
+use Rattle.pin_assign.specs.Places.{TablePlace, StandsAt, entry_at}
 use Rattle.pin_assign.specs.Tables.{table_of}
 use Rattle.pin_assign.proofs.BesideLaws.{StandsBeside}
 use Rattle.pin_assign.proofs.NetLaws.{IsNetIn, nets-are, nets-from, nets-increasing}
@@ -16,8 +16,8 @@ use Rattle.pin_assign.proofs.WidthLaws.{table-bottom_length, table-top_length}
 
 -- two causes of a net that stand at different places of a channel's table
 pub record TwoCauses (d : Netlist) (fed : Fed) (channel net : ℕ) : Type 0 where
-  pub first : Place
-  pub second : Place
+  pub first : TablePlace
+  pub second : TablePlace
   pub one : Source
   pub other : Source
   pub stands_one : StandsAt d fed channel one first
@@ -44,12 +44,12 @@ two-causes d good fed channel net u v a b here there of_a of_b differ =
   where
     apart : here.place ≢ there.place
     apart same =
-        differ (sym here.side ∙ ap (λ (p : Place). p.upper) same ∙ there.side)
-        (place-once d good fed channel here.place a b here.stands (subst (λ (p : Place). StandsAt d fed channel b p) (sym same) there.stands))
+        differ (sym here.side ∙ ap (λ (p : TablePlace). p.upper) same ∙ there.side)
+        (place-once d good fed channel here.place a b here.stands (subst (λ (p : TablePlace). StandsAt d fed channel b p) (sym same) there.stands))
 
 -- the causes beside a channel are of the nets that stand in it, and each of these has two
 pub record AreEntered (d : Netlist) (rows : List (List Seat)) (channel : ℕ) : Type 0 where
-  pub inside : (place : Place) (cause : Source) → StandsAt d (fed_rows d rows) channel cause place → IsNetIn d rows channel (source_net cause)
+  pub inside : (place : TablePlace) (cause : Source) → StandsAt d (fed_rows d rows) channel cause place → IsNetIn d rows channel (source_net cause)
   pub two : (net : ℕ) → IsNetIn d rows channel net → TwoCauses d (fed_rows d rows) channel net
 
 module _ (d : Netlist) (good : IsNetlist d) (rows : List (List Seat)) (channel : ℕ) (entered : AreEntered d rows channel) where
@@ -65,7 +65,7 @@ module _ (d : Netlist) (good : IsNetlist d) (rows : List (List Seat)) (channel :
       }
 
   -- a net of the table stands in the channel
-  pub place-net : (net : ℕ) (place : Place) → 0 < net → entry_at (table_of d (fed_rows d rows) channel) place ≡ net → IsNetIn d rows channel net
+  pub place-net : (net : ℕ) (place : TablePlace) → 0 < net → entry_at (table_of d (fed_rows d rows) channel) place ≡ net → IsNetIn d rows channel net
   place-net net place some is =
       let c = place-cause d (fed_rows d rows) channel place net some is in
       subst (λ (n : ℕ). IsNetIn d rows channel n) c.of_net (entered.inside place c.cause c.stands)
@@ -82,7 +82,7 @@ module _ (d : Netlist) (good : IsNetlist d) (rows : List (List Seat)) (channel :
       record { matched = top ∙ sym bottom; within = omega arith; paired = table-paired }
 
   -- a net at a place of the table has a pin in the channel
-  stands-in : (net : ℕ) (place : Place) → 0 < net → entry_at (table_of d (fed_rows d rows) channel) place ≡ net → StandsIn (table_of d (fed_rows d rows) channel) net
+  stands-in : (net : ℕ) (place : TablePlace) → 0 < net → entry_at (table_of d (fed_rows d rows) channel) place ≡ net → StandsIn (table_of d (fed_rows d rows) channel) net
   stands-in net place some is = (some, (place.column, by place.upper refl))
     where
       at : (u : Bool) → place.upper ≡ u → entry_at (table_of d (fed_rows d rows) channel) (record { upper = u; column = place.column }) ≡ net
@@ -93,7 +93,7 @@ module _ (d : Netlist) (good : IsNetlist d) (rows : List (List Seat)) (channel :
       by true e = inl (at true e)
       by false e = inr (at false e)
 
-  listed-at : (net : ℕ) (place : Place) → 0 < net → entry_at (table_of d (fed_rows d rows) channel) place ≡ net → Contains (nets_in d rows channel) net
+  listed-at : (net : ℕ) (place : TablePlace) → 0 < net → entry_at (table_of d (fed_rows d rows) channel) place ≡ net → Contains (nets_in d rows channel) net
   listed-at net place some is = let h = place-net net place some is in nets-from d rows channel net h.some h.few h.stands
 
   -- the nets of the channel are those of its table, in the order of their numbers

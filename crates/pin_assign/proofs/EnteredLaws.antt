@@ -17,7 +17,7 @@ use Rattle.feed_cells.specs.Crossings.{crossing_of, has_edge, is_in}
 use Rattle.feed_cells.specs.Fed.{fed_row, fed_rows, item_width, nets_in}
 use Rattle.feed_cells.specs.Feeds.{is_fed}
 use Rattle.feed_cells.specs.Standing.{Stands, feeding, seated}
-use Rattle.feed_cells.specs.Touching.{channel_beside as touching_channel}
+use Rattle.feed_cells.specs.Touching.{channel_beside}
 use Rattle.feed_cells.specs.declared.fed.Item.{Item}
 use Rattle.feed_cells.specs.declared.fed.Item.TheVariants.{Cell, Feed}
 use Rattle.feed_cells.proofs.FedLaws.{cells-fed, fed-long, fed-row, fed-row-some, item-stands}
@@ -25,7 +25,7 @@ use Rattle.feed_cells.proofs.Members.{member-head}
 use Rattle.feed_cells.proofs.NetLaws.{fed-stands, inside-stands, net-range}
 use Rattle.pin_assign.specs.Causes.{AreDifferent, Cause, EntersBy, EntersTwice, FeedsBy, by_both, by_feed, by_pin, by_pins, over_both}
 use Rattle.pin_assign.specs.Entering.{enters}
-use Rattle.pin_assign.specs.Places.{Place, StandsAt, channel_beside}
+use Rattle.pin_assign.specs.Places.{TablePlace, StandsAt, channel_facing}
 use Rattle.pin_assign.specs.Sources.{IsOver, Source, StandsOver, first_over, later_over, of_feed, of_pin, source_net}
 use Rattle.pin_assign.specs.Tables.{table_of}
 use Rattle.pin_assign.proofs.BesideLaws.{StandsBeside, cells-row, feed-beside, feed-item, pin-beside, row-of_stand}
@@ -45,7 +45,7 @@ listed-along d top p items left column (first_over {item = item} h) = listed-ove
 listed-along d top p items left column (later_over {item = item} {items = rest} h) = listed-along d top p rest (left + item_width d item) column h
 
 -- the channel beside a row, by the edge of the row and by the list of the table
-beside-same : (row : ℕ) (upper : Bool) → channel_beside row upper ≡ touching_channel (not upper) row
+beside-same : (row : ℕ) (upper : Bool) → channel_facing row upper ≡ channel_beside (not upper) row
 beside-same row true = refl
 beside-same row false = refl
 
@@ -64,7 +64,7 @@ module _ (d : Netlist) (good : IsNetlist d) (rows : List (List Seat)) (channel :
       record { some = omega (arith, range.0); few = range.1; stands = inside }
 
   -- a cause at a place of the channel's table is of a net that stands in the channel
-  pub cause-net : (place : Place) (cause : Source) → StandsAt d (fed_rows d rows) channel cause place → IsNetIn d rows channel (source_net cause)
+  pub cause-net : (place : TablePlace) (cause : Source) → StandsAt d (fed_rows d rows) channel cause place → IsNetIn d rows channel (source_net cause)
   cause-net place (of_pin p) h =
       let r = row-of_stand d (fed_rows d rows) channel (of_pin p) place h in
       let listed = listed-along d (not place.upper) p r.items 0 place.column r.over in
@@ -96,8 +96,8 @@ module _ (d : Netlist) (good : IsNetlist d) (rows : List (List Seat)) (channel :
         let fed = cells-row (fed_rows d rows).rows there.0.row (is.front ++ is.seat ∷ is.back)
         (ap (λ (cells : List (List Seat)). slice_get cells there.0.row) (cells-fed d rows) ∙ is.at) in
         let seated = subst (λ (seats : List Seat). Contains seats is.seat) (sym fed.cells) (among is.front is.back is.seat) in
-        let beside : channel ≡ channel_beside there.0.row upper =
-        h.touches.beside ∙ ap (λ (t : Bool). touching_channel t (row_of d rows p.instance)) (sym side) ∙ ap (touching_channel (not upper)) row ∙ sym (beside-same there.0.row upper) in
+        let beside : channel ≡ channel_facing there.0.row upper =
+        h.touches.beside ∙ ap (λ (t : Bool). channel_beside t (row_of d rows p.instance)) (sym side) ∙ ap (channel_beside (not upper)) row ∙ sym (beside-same there.0.row upper) in
         pin-beside d (fed_rows d rows) channel there.0.row upper fed.items beside fed.is_row p is.seat h.listed seated (sym is.own)
         (ap (λ (t : Bool). has_edge d t p) side ∙ h.touches.edge)
         (subst (λ (cells : List (List Seat)). enters d cells p channel ≡ true) (sym (cells-fed d rows)) h.entry)
@@ -109,7 +109,7 @@ module _ (d : Netlist) (good : IsNetlist d) (rows : List (List Seat)) (channel :
     feed-at : (net row : ℕ) (top upper : Bool) → not upper ≡ top → FeedsBy d rows net channel top row → StandsBeside d (fed_rows d rows) channel upper (of_feed net)
     feed-at net row top upper side h =
         let seats = at-place rows row h.within in
-        let beside : channel ≡ channel_beside row upper = h.beside ∙ ap (λ (t : Bool). touching_channel t row) (sym side) ∙ sym (beside-same row upper) in
+        let beside : channel ≡ channel_facing row upper = h.beside ∙ ap (λ (t : Bool). channel_beside t row) (sym side) ∙ sym (beside-same row upper) in
         feed-beside d (fed_rows d rows) channel row upper (fed_row d rows row seats.0) beside
         (fed-row d rows row ∙ ap (option_map (fed_row d rows row)) seats.1)
         net (fed-stands d rows good row net seats.0 h.fed)

@@ -2,7 +2,7 @@ use Rattle.std.proofs.Common.{◌≡◌, ◌≢◌, ◌<◌, ◌≤◌, ℕ, zer
 use Rattle.std.proofs.lemmas.Bool.{cases_eq, cases_order, cond-false, cond-true, eq-eqb, ne_eqb}
 use Rattle.std.proofs.lemmas.List.Sums.{sum_by-cons}
 use Rattle.channel_model.specs.Pins.{ArePaired, Pins, pin_count}
-use Rattle.pin_assign.specs.Places.{Place, entry_at}
+use Rattle.pin_assign.specs.Places.{TablePlace, entry_at}
 
 -- how often a net stands in a list
 abbrev times : ℕ → List ℕ → ℕ
@@ -55,11 +55,11 @@ times-place net (x ∷ xs) h =
           (suc more.0, more.1)
     ]
 
-abbrev place_at : Bool → ℕ → Place
+abbrev place_at : Bool → ℕ → TablePlace
 place_at upper column = record { upper = upper; column = column }
 
 -- places in one list and one column are one
-pub same-place : (a b : Place) → a.upper ≡ b.upper → a.column ≡ b.column → a ≡ b
+pub same-place : (a b : TablePlace) → a.upper ≡ b.upper → a.column ≡ b.column → a ≡ b
 same-place a b upper column = ap (λ (u : Bool). place_at u a.column) upper ∙ ap (place_at b.upper) column
 
 -- a net at two different places of one list counts twice
@@ -74,10 +74,10 @@ twice-in net xs i j some differ first second =
     ]
 
 -- a net that stands at two different places of a table has two pins or more
-pub two-places : (pins : Pins) (net : ℕ) → 0 < net → (a b : Place) → a ≢ b → entry_at pins a ≡ net → entry_at pins b ≡ net → 2 ≤ pin_count pins net
+pub two-places : (pins : Pins) (net : ℕ) → 0 < net → (a b : TablePlace) → a ≢ b → entry_at pins a ≡ net → entry_at pins b ≡ net → 2 ≤ pin_count pins net
 two-places pins net some a b differ first second = by a.upper b.upper refl refl
   where
-    at : (place : Place) (upper : Bool) → place.upper ≡ upper → entry_at pins place ≡ net → get_or (cond upper pins.top pins.bottom) place.column 0 ≡ net
+    at : (place : TablePlace) (upper : Bool) → place.upper ≡ upper → entry_at pins place ≡ net → get_or (cond upper pins.top pins.bottom) place.column 0 ≡ net
     at place upper is there = ap (λ (u : Bool). get_or (cond u pins.top pins.bottom) place.column 0) (sym is) ∙ there
 
     by : (u v : Bool) → a.upper ≡ u → b.upper ≡ v → 2 ≤ pin_count pins net
@@ -97,7 +97,7 @@ two-places pins net some a b differ first second = by a.upper b.upper refl refl
         omega arith
 
 -- a net that stands at two different places of a table does not have one pin
-pub paired-from-two : (top bottom : List ℕ) (net : ℕ) → 0 < net → (a b : Place) → a ≢ b
+pub paired-from-two : (top bottom : List ℕ) (net : ℕ) → 0 < net → (a b : TablePlace) → a ≢ b
     → entry_at (record { top = top; bottom = bottom }) a ≡ net → entry_at (record { top = top; bottom = bottom }) b ≡ net
     → pin_count (record { top = top; bottom = bottom }) net ≢ 1
 paired-from-two top bottom net some a b differ first second one =
@@ -105,7 +105,7 @@ paired-from-two top bottom net some a b differ first second one =
     omega arith
 
 -- a net with a pin stands at a place
-pub place-of_count : (pins : Pins) (net : ℕ) → 1 ≤ pin_count pins net → (a : Place) × (entry_at pins a ≡ net)
+pub place-of_count : (pins : Pins) (net : ℕ) → 1 ≤ pin_count pins net → (a : TablePlace) × (entry_at pins a ≡ net)
 place-of_count pins net one =
     elim (cases_eq (times net pins.top) 0) [
       | inl none ↦ let at = times-place net pins.bottom (omega arith) in (record { upper = false; column = at.0 }, at.1)
@@ -114,14 +114,14 @@ place-of_count pins net one =
 
 -- two different places of a net
 pub record TwoPlaces (pins : Pins) (net : ℕ) : Type 0 where
-  pub first : Place
-  pub second : Place
+  pub first : TablePlace
+  pub second : TablePlace
   pub at_first : entry_at pins first ≡ net
   pub at_second : entry_at pins second ≡ net
   pub differ : first ≢ second
 
 -- where each net with a place has two, no net has one pin
-pub paired-from-places : (pins : Pins) → ((net : ℕ) (place : Place) → 0 < net → entry_at pins place ≡ net → TwoPlaces pins net) → ArePaired pins
+pub paired-from-places : (pins : Pins) → ((net : ℕ) (place : TablePlace) → 0 < net → entry_at pins place ≡ net → TwoPlaces pins net) → ArePaired pins
 paired-from-places pins pairs net some one =
     let place = place-of_count pins net (omega arith) in
     let t = pairs net place.0 some place.1 in

@@ -5,7 +5,7 @@ use Rattle.feed_cells.specs.Fed.{Fed, cells_in}
 use Rattle.feed_cells.specs.declared.fed.Item.{Item}
 use Rattle.pin_assign.specs.Sources.{Source, source_net, SourceEnters}
 use Rattle.pin_assign.specs.Entries.{EntryIn}
-use Rattle.pin_assign.specs.Places.{HasOver, Place, StandsAt, entry_at, row_beside}
+use Rattle.pin_assign.specs.Places.{HasOver, TablePlace, StandsAt, entry_at, row_beside}
 use Rattle.pin_assign.specs.Tables.{table_of}
 use Rattle.pin_assign.proofs.CauseLaws.{cause-once, entry-cause, entry-from}
 use Rattle.pin_assign.proofs.TableLaws.{bottom-cause, bottom-effect, top-cause, top-effect}
@@ -34,13 +34,13 @@ one-over d good top None column a b first second = absurd first
 one-over d good top (Some items) column a b first second = cause-once d good top a b items 0 column first second
 
 -- what stands at a place of a table with a net
-pub record PlaceCause (d : Netlist) (fed : Fed) (channel : ℕ) (place : Place) (net : ℕ) : Type 0 where
+pub record PlaceCause (d : Netlist) (fed : Fed) (channel : ℕ) (place : TablePlace) (net : ℕ) : Type 0 where
   pub cause : Source
   pub stands : StandsAt d fed channel cause place
   pub of_net : source_net cause ≡ net
 
 -- where a table has a net, a cause of the net stands
-pub place-cause : (d : Netlist) (fed : Fed) (channel : ℕ) (place : Place) (net : ℕ) → 0 < net → entry_at (table_of d fed channel) place ≡ net
+pub place-cause : (d : Netlist) (fed : Fed) (channel : ℕ) (place : TablePlace) (net : ℕ) → 0 < net → entry_at (table_of d fed channel) place ≡ net
     → PlaceCause d fed channel place net
 place-cause d fed channel place net some is = by place.upper refl
   where
@@ -65,7 +65,7 @@ place-cause d fed channel place net some is = by place.upper refl
         (bottom-cause d fed channel place.column net some (ap (λ (u : Bool). entry_at (table_of d fed channel) (record { upper = u; column = place.column })) (sym side) ∙ is)))
 
 -- where a cause stands, a table has its net
-pub place-effect : (d : Netlist) → IsNetlist d → (fed : Fed) (channel : ℕ) (place : Place) (cause : Source) → StandsAt d fed channel cause place
+pub place-effect : (d : Netlist) → IsNetlist d → (fed : Fed) (channel : ℕ) (place : TablePlace) (cause : Source) → StandsAt d fed channel cause place
     → entry_at (table_of d fed channel) place ≡ source_net cause
 place-effect d good fed channel place cause h = by place.upper refl
   where
@@ -83,12 +83,12 @@ place-effect d good fed channel place cause h = by place.upper refl
         (entry-in d (cells_in fed.rows) true channel (row_beside fed.rows channel false) place.column cause (over false side) h.entering)
 
 -- at one place of a table one cause stands
-pub place-once : (d : Netlist) → IsNetlist d → (fed : Fed) (channel : ℕ) (place : Place) (a b : Source) → StandsAt d fed channel a place → StandsAt d fed channel b place → a ≡ b
+pub place-once : (d : Netlist) → IsNetlist d → (fed : Fed) (channel : ℕ) (place : TablePlace) (a b : Source) → StandsAt d fed channel a place → StandsAt d fed channel b place → a ≡ b
 place-once d good fed channel place a b first second =
     one-over d good (not place.upper) (row_beside fed.rows channel place.upper) place.column a b first.over second.over
 
 -- different causes stand at different places
-pub places-differ : (d : Netlist) → IsNetlist d → (fed : Fed) (channel : ℕ) (first second : Place) (a b : Source) → StandsAt d fed channel a first
+pub places-differ : (d : Netlist) → IsNetlist d → (fed : Fed) (channel : ℕ) (first second : TablePlace) (a b : Source) → StandsAt d fed channel a first
     → StandsAt d fed channel b second → a ≢ b → first ≢ second
 places-differ d good fed channel first second a b here there differ same =
-    differ (place-once d good fed channel first a b here (subst (λ (p : Place). StandsAt d fed channel b p) (sym same) there))
+    differ (place-once d good fed channel first a b here (subst (λ (p : TablePlace). StandsAt d fed channel b p) (sym same) there))

@@ -7,12 +7,12 @@ use Rattle.pin_assign.specs.Sources.{Source, SourceEnters, StandsOver}
 use Rattle.pin_assign.specs.Tables.{row_below}
 
 -- a place of a table: a column of its `top` list where `upper` holds, and else of its `bottom` list
-pub record Place : Type 0 where
+pub record TablePlace : Type 0 where
   pub upper : Bool
   pub column : ℕ
 
 -- the entry of a table at a place, 0 past its end
-abbrev pub entry_at : Pins → Place → ℕ
+abbrev pub entry_at : Pins → TablePlace → ℕ
 entry_at pins place = slice_index (if place.upper then pins.top else pins.bottom) place.column
 
 -- the row beside a channel, if there is one: above it for its `top` list, below it for its `bottom` list
@@ -20,8 +20,8 @@ abbrev pub row_beside : List (List Item) → ℕ → Bool → Option (List Item)
 row_beside rows channel upper = if upper then slice_get rows channel else row_below rows channel
 
 -- the channel beside a row for which the row's pins stand in its `top` list, or in its `bottom` list: channel r lies below row r
-abbrev pub channel_beside : ℕ → Bool → ℕ
-channel_beside row upper = if upper then row else row + 1
+abbrev pub channel_facing : ℕ → Bool → ℕ
+channel_facing row upper = if upper then row else row + 1
 
 -- a row, if there is one, has this cause on its edge in this column
 abbrev pub HasOver : Netlist → Bool → Source → Option (List Item) → ℕ → Type 0
@@ -29,6 +29,6 @@ HasOver d top cause None column = ⊥
 HasOver d top cause (Some items) column = StandsOver d top cause items 0 column
 
 -- a cause stands at a place of a channel's table: it enters the channel from the lower edge of the row above it, or from the upper edge of the row below it
-pub record StandsAt (d : Netlist) (fed : Fed) (channel : ℕ) (cause : Source) (place : Place) : Type 0 where
+pub record StandsAt (d : Netlist) (fed : Fed) (channel : ℕ) (cause : Source) (place : TablePlace) : Type 0 where
   pub over : HasOver d (not place.upper) cause (row_beside fed.rows channel place.upper) place.column
   pub entering : SourceEnters d (cells_in fed.rows) channel cause
