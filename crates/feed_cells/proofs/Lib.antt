@@ -23,5 +23,7 @@ pub mod FedWidths
 pub mod FewNets
 -- the feeds of a row by tables are those of the definition
 pub mod RowFeedLaws
+-- how many nets stand in each channel, counted net by net
+pub mod CountLaws
 -- how many elements pass a test that the first ones pass
 pub mod Counting

@@ -1,4 +1,4 @@
-use Rattle.std.specs.Prelude.{ℕ, ◌<◌, ◌^◌, List, length, map, filter}
+use Rattle.std.specs.Prelude.{◌≡◌, ℕ, ◌<◌, ◌≤◌, ◌+◌, ◌^◌, List, Bool, true, false, Some, length, map, filter, slice_get}
 use Rattle.std.specs.List.{AllByRecursion, range_with_len}
 use Rattle.design_model.specs.Netlist.{Netlist}
 use Rattle.feed_cells.specs.Crossings.{is_in}
@@ -17,3 +17,12 @@ count_in nets channel = length (filter (λ (n : NetPlace). is_in n.crossing chan
 -- how many nets stand in each of so many channels from one on
 abbrev pub counts_in : List NetPlace → ℕ → ℕ → List ℕ
 counts_in nets channel n = map (count_in nets) (range_with_len channel n)
+
+-- numbers that stay within 200,000 when so many are added to each
+abbrev pub HaveRoom : ℕ → List ℕ → Type 0
+HaveRoom more counts = (k n : ℕ) → slice_get counts k ≡ Some n → n + more ≤ 200000
+
+-- a number, and one more if this is so
+abbrev pub counted : Bool → ℕ → ℕ
+counted true n = n + 1
+counted false n = n

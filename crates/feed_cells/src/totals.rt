@@ -1,7 +1,10 @@
 ghost use Rattle.feed_cells.specs.Fed.{items_width};
-ghost use Rattle.feed_cells.specs.Sizes.{AreNarrow, count_in, counts_in};
-ghost use Rattle.std.specs.Prelude.{◌≡◌, ◌≤◌, ◌<◌, ◌+◌, ◌^◌, length, fold, map, max, IfOk};
+ghost use Rattle.feed_cells.specs.Crossings.{is_in};
+ghost use Rattle.feed_cells.specs.Sizes.{AreNarrow, HaveRoom, count_in, counted, counts_in};
+ghost use Rattle.std.specs.Option.{option_map};
+ghost use Rattle.std.specs.Prelude.{◌≡◌, ◌==◌, ◌&&◌, ◌≤◌, ◌<◌, ◌+◌, ◌^◌, ℕ, Some, length, fold, map, max, nat_le, nat_lt, slice_get, IfOk};
 
+use crate::crossing::Crossing;
 use crate::fed::Item;
 use crate::placement::NetPlace;
 use design_model::Design;
@@ -37,7 +40,8 @@ fn items_width(design: &Design, items: &[Item]) -> u64
     width
 }
 
-/// How many nets stand in each channel of so many rows, from channel 0 on. The one error is want of memory.
+/// How many nets stand in each channel of so many rows, from channel 0 on. The one error is want of memory. Takes steps as the number of rows and of
+/// nets, and for each net as the number of its channels.
 pub fn counts_in(
     alloc: Global,
     rows: &[Items<Seat>],
@@ -47,30 +51,51 @@ pub fn counts_in(
     requires nets { length nets.now ≤ 200000 }
     ensures { IfOk result (λ v. v.items ≡ counts_in nets.now 0 (length rows.now + 1)) }
 {
-    let mut counts = Vec::new(alloc);
-    counts.push(count_in(nets, 0))?;
-    let mut channel = 1;
-    let mut rest = rows;
-    while let Some((_, after)) = rest.split_first() {
-        counts.push(count_in(nets, channel))?;
-        channel += 1;
-        rest = after;
-    }
+    let mut counts = vec![in alloc; 0; rows.len() + 1]?;
+    count_all(counts.as_mut_slice(), nets);
     Ok(counts)
 }
 
-// How many nets stand in a channel.
-fn count_in(nets: &[NetPlace], channel: u32) -> u32
-    requires nets { length nets.now ≤ 200000 }
-    ensures { result ≡ count_in nets.now channel }
+// Counts nets in their channels.
+fn count_all(counts: &mut [u32], nets: &[NetPlace])
+    requires { HaveRoom (length nets.now) counts.old }
+    ensures { (k : ℕ) → slice_get counts.new k ≡ option_map (λ (n : ℕ). n + count_in nets.now k) (slice_get counts.old k) }
 {
-    let mut count = 0;
     let mut rest = nets;
     while let Some((net, after)) = rest.split_first() {
-        if net.crossing.is_in(channel) {
-            count += 1;
-        }
+        count_net(counts, net.crossing);
         rest = after;
     }
-    count
+}
+
+// Counts a net in its channels.
+fn count_net(counts: &mut [u32], crossing: Crossing)
+    requires { HaveRoom 1 counts.old }
+    ensures { (k : ℕ) → slice_get counts.new k ≡ option_map (counted (is_in crossing k)) (slice_get counts.old k) }
+{
+    match crossing {
+        Crossing::Alone => {}
+        Crossing::One(only) => count_one(counts, only as usize),
+        Crossing::Many { lo, hi } => count_between(counts, lo as usize, hi as usize + 1),
+    }
+}
+
+// Counts a net in the channels from the first on and before the end.
+fn count_between(counts: &mut [u32], first: usize, end: usize)
+    requires { HaveRoom 1 counts.old }
+    ensures { (k : ℕ) → slice_get counts.new k ≡ option_map (counted (nat_le first k && nat_lt k end)) (slice_get counts.old k) }
+{
+    for channel in first..end {
+        count_one(counts, channel);
+    }
+}
+
+// Counts a net in a channel, if there is this channel.
+fn count_one(counts: &mut [u32], channel: usize)
+    requires { (n : ℕ) → slice_get counts.old channel ≡ Some n → n < 200000 }
+    ensures { (k : ℕ) → slice_get counts.new k ≡ option_map (counted (channel == k)) (slice_get counts.old k) }
+{
+    if channel < counts.len() {
+        counts[channel] += 1;
+    }
 }
