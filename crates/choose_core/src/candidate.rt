@@ -1,0 +1,37 @@
+/// What is asked of a chooser.
+#[derive(Clone, Copy, Debug, PartialEq, Eq)]
+pub enum Ask {
+    /// Which track a pin enters.
+    Enter,
+    /// Which two neighbouring tracks of a net are joined.
+    Join,
+    /// Which of some joined tracks is kept.
+    Keep,
+    /// Where a kept track goes on: as it is, or on a free track.
+    Move,
+}
+
+/// Where a net has its next pins, in the first later column in which it has any.
+#[derive(Clone, Copy, Debug, PartialEq, Eq)]
+pub enum Next {
+    /// It has none.
+    Ends,
+    /// At the upper edge alone.
+    Top,
+    /// At the lower edge alone.
+    Bottom,
+    /// At both edges.
+    Both,
+}
+
+/// One of the things that a chooser may choose.
+#[derive(Clone, Copy, Debug, PartialEq, Eq)]
+pub struct Candidate {
+    pub ask: Ask,
+    /// The track's place from the bottom, from 1 on; on `Join` that of the lower track.
+    pub track: u32,
+    /// How far the track lies from what it is wanted for, in tracks.
+    pub gap: u32,
+    /// Where the net has its next pins.
+    pub next: Next,
+}

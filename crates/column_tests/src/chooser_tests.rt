@@ -1,0 +1,80 @@
+//! Choosers for the tests, and what a stored choice is.
+
+ghost use Rattle.std.specs.Prelude.{◌<◌, length};
+
+use choose_core::{Ask, Candidate, Choice, Chooser, Next};
+use geom_core::Name;
+use std::alloc::Global;
+use std::cell::Cell;
+use std::rc::Rc;
+use std::test::Fail;
+
+// The first candidate with the least gap.
+fn nearest(list: &[Candidate]) -> usize
+    requires { 0 < length list.now }
+    ensures { result < length list.now }
+{
+    let mut best = 0;
+    for place in 0..list.len() {
+        if list[place].gap < list[best].gap {
+            best = place;
+        }
+    }
+    best
+}
+
+/// A chooser of the first candidate with the least gap.
+pub fn nearest_chooser(alloc: Global) -> Result<Chooser, Fail> {
+    let choice: Choice = Box::new(
+        alloc,
+        |list: &[Candidate]| -> usize
+            requires { 0 < length list.now }
+            ensures { result < length list.entry.now }
+        { nearest(list) },
+    )?;
+    Ok(Chooser::new(Name::new(b"nearest".to_vec(alloc)?), choice))
+}
+
+/// A chooser of the last candidate.
+pub fn last_chooser(alloc: Global) -> Result<Chooser, Fail> {
+    let choice: Choice = Box::new(
+        alloc,
+        |list: &[Candidate]| -> usize
+            requires { 0 < length list.now }
+            ensures { result < length list.entry.now }
+        { list.len() - 1 },
+    )?;
+    Ok(Chooser::new(Name::new(b"last".to_vec(alloc)?), choice))
+}
+
+/// A chooser of the first candidate, which counts in a cell how often it is asked.
+pub fn counting_chooser(alloc: Global, calls: Rc<Cell<u32>>) -> Result<Chooser, Fail> {
+    let choice: Choice = Box::new(
+        alloc,
+        move |list: &[Candidate]| -> usize
+            requires { 0 < length list.now }
+            ensures { result < length list.entry.now }
+        {
+            calls.set(calls.get().saturating_add(1));
+            0
+        },
+    )?;
+    Ok(Chooser::new(Name::new(b"counting".to_vec(alloc)?), choice))
+}
+
+#[test]
+fn a_chooser_keeps_its_name_and_its_choice(rt: HostRuntime) -> Result<(), Fail> {
+    let alloc = rt.alloc();
+    let near = Candidate {
+        ask: Ask::Join,
+        track: 4,
+        gap: 1,
+        next: Next::Both,
+    };
+    let far = Candidate { gap: 3, ..near };
+    let chooser = nearest_chooser(alloc)?;
+    assert_eq!(rt; chooser.name().items(), b"nearest".as_slice());
+    assert_eq!(rt; chooser.pick(&[far, near, near]), 1);
+    assert_eq!(rt; last_chooser(alloc)?.pick(&[far, near, near]), 2);
+    Ok(())
+}

@@ -1,0 +1,74 @@
+//! A table of records for the columns of a channel, and the test whether `step` makes them.
+
+ghost use Rattle.greedy_column.specs.Ahead.{IsAhead};
+
+use channel_model::Channel;
+use choose_core::Chooser;
+use greedy_column::{Ahead, Column, ColumnState, step};
+use std::alloc::Global;
+use std::test::Fail;
+
+/// What a column's record is to be.
+#[derive(Clone, Copy)]
+pub struct Wanted<'a> {
+    pub made: &'a [(u32, u32)],
+    pub top: u32,
+    pub bottom: u32,
+    pub straight: bool,
+    pub joins: &'a [(u32, u32)],
+    pub ended: &'a [u32],
+    pub moves: &'a [(u32, u32)],
+}
+
+fn is_wanted(done: &Column, wanted: &Wanted) -> bool {
+    are_made(done, wanted.made)
+        && (done.top, done.bottom, done.straight) == (wanted.top, wanted.bottom, wanted.straight)
+        && done.joins.items() == wanted.joins
+        && done.ended.items() == wanted.ended
+        && done.moves.items() == wanted.moves
+}
+
+fn are_made(done: &Column, wanted: &[(u32, u32)]) -> bool {
+    let made = done.made.items();
+    made.len() == wanted.len()
+        && made
+            .iter()
+            .zip(wanted)
+            .all(|(one, pair)| (one.id, one.below) == *pair)
+}
+
+/// The number of the first column whose record is another one than is wanted, or how many are wanted.
+pub fn first_other(
+    alloc: Global,
+    top: &[u32],
+    bottom: &[u32],
+    chooser: &Chooser,
+    wanted: &[Wanted],
+) -> Result<usize, Fail> {
+    let channel = Channel::new(top.to_vec(alloc)?, bottom.to_vec(alloc)?).ok_or("a channel")?;
+    let ahead = Ahead::new(alloc, &channel)?;
+    first_other_in(alloc, &channel, &ahead, chooser, wanted)
+}
+
+// The same, of a channel.
+fn first_other_in(
+    alloc: Global,
+    channel: &Channel,
+    ahead: &Ahead,
+    chooser: &Chooser,
+    wanted: &[Wanted],
+) -> Result<usize, Fail>
+    requires { IsAhead channel.now ahead.now }
+{
+    let mut state = ColumnState::new(alloc)?;
+    for (column, one) in wanted.iter().enumerate() {
+        if state.fresh > 1000 || column > 1000 {
+            return Ok(column);
+        }
+        let done = step(alloc, &mut state, channel, ahead, column as u32, chooser)?;
+        if !is_wanted(&done, one) {
+            return Ok(column);
+        }
+    }
+    Ok(wanted.len())
+}

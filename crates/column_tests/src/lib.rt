@@ -1,0 +1,9 @@
+//! Tests of the crates of the greedy column: stored choices, and the records of columns under several choosers.
+#![tactic(auto)]
+
+#[cfg(test)]
+mod chooser_tests;
+#[cfg(test)]
+mod column_tables;
+#[cfg(test)]
+mod worked_tests;

@@ -1,0 +1,83 @@
+use Rattle.std.proofs.Common.{◌≡◌, ◌⊎◌, inl, inr, ◌<◌, ◌≤◌, ◌+◌, ◌-◌, ◌++◌, ℕ, suc, List, [], ◌∷◌, Bool, true, false, cond, ltb, length, filter, refl, sym, subst, ap, ◌∙◌, arith, Contains, length-append}
+use Rattle.std.proofs.lemmas.List.{append-nil}
+use Rattle.std.proofs.lemmas.List.Elements.{Contains-append_right, Contains-append_left, Contains-append_cases}
+use Rattle.greedy_column.specs.declared.column.Track.{Track}
+use Rattle.greedy_column.specs.Lines.{lines_from, LieWithin, above_lowest, below_line, place_of_new}
+use Rattle.greedy_column.proofs.Members.{in_none, in_first, in_later, in_cases, in_one, in_filter_back, filter-few}
+
+-- a track that passes a test stands on a line
+pub record StandsOn (passes : Track → Bool) (tracks : List Track) (first line : ℕ) : Type 0 where
+  pub above : first ≤ line
+  pub below : line < first + length tracks
+  pub track : Track
+  pub there : Contains tracks track
+  pub passing : passes track ≡ true
+
+one_line : (b : Bool) (line other : ℕ) → Contains (cond b (line ∷ []) []) other → (line ≡ other) × (b ≡ true)
+one_line true line other member = (in_one line other member, refl)
+one_line false line other member = absurd (in_none other member)
+
+pub lines_from-each : (passes : Track → Bool) (first line : ℕ) (tracks : List Track) → Contains (lines_from passes first tracks) line
+    → StandsOn passes tracks first line
+lines_from-each passes first line [] member = absurd (in_none line member)
+lines_from-each passes first line (t ∷ tracks) member =
+    elim (Contains-append_cases (cond (passes t) (first ∷ []) []) (lines_from passes (suc first) tracks) line member) [
+      | inl here ↦ let one = one_line (passes t) first line here in
+          record { above = omega (arith, one.0); below = omega (arith, one.0); track = t; there = in_first t tracks; passing = one.1 }
+      | inr later ↦ let found = lines_from-each passes (suc first) line tracks later in
+          record {
+            above = omega (arith, found.above);
+            below = omega (arith, found.below);
+            track = found.track;
+            there = in_later t found.track tracks found.there;
+            passing = found.passing;
+          }
+    ]
+
+one_long : (b : Bool) (line : ℕ) → length (cond b (line ∷ []) []) ≤ 1
+one_long true line = omega arith
+one_long false line = omega arith
+
+pub lines_from-few : (passes : Track → Bool) (first : ℕ) (tracks : List Track) → length (lines_from passes first tracks) ≤ length tracks
+lines_from-few passes first [] = omega arith
+lines_from-few passes first (t ∷ tracks) =
+    omega (
+      arith,
+      length-append (cond (passes t) (first ∷ []) []) (lines_from passes (suc first) tracks),
+      one_long (passes t) first,
+      lines_from-few passes (suc first) tracks,
+    )
+
+pub LieWithin-lines : (passes : Track → Bool) (tracks : List Track) → LieWithin (length tracks) (lines_from passes 1 tracks)
+LieWithin-lines passes tracks = record {
+  each = λ line member. let found = lines_from-each passes 1 line tracks member in (omega (arith, found.above), omega (arith, found.below));
+  few = lines_from-few passes 1 tracks;
+}
+
+pub LieWithin-filter : (tracks : ℕ) (p : ℕ → Bool) (lines : List ℕ) → LieWithin tracks lines → LieWithin tracks (filter p lines)
+LieWithin-filter tracks p lines within = record {
+  each = λ line member. within.each line (in_filter_back p line lines member).0;
+  few = omega (arith, filter-few p lines, within.few);
+}
+
+pub LieWithin-above : (tracks : ℕ) (others lines : List ℕ) → LieWithin tracks lines → LieWithin tracks (above_lowest others lines)
+LieWithin-above tracks [] lines within = record { each = λ line member. absurd (in_none line member); few = omega arith }
+LieWithin-above tracks (lowest ∷ others) lines within = LieWithin-filter tracks _ lines within
+
+-- lines that a loop has found, once no track is left
+pub LieWithin-found : (passes : Track → Bool) (line : ℕ) (tracks rest : List Track) (lines : List ℕ) → length rest ≡ 0
+    → lines ++ lines_from passes line rest ≡ lines_from passes 1 tracks → LieWithin (length tracks) lines
+LieWithin-found passes line tracks [] lines none found =
+    subst (λ (l : List ℕ). LieWithin (length tracks) l) (sym (sym (append-nil lines) ∙ found)) (LieWithin-lines passes tracks)
+LieWithin-found passes line tracks (t ∷ rest) lines none found = absurd (omega arith)
+
+-- a line above the lowest of others has one of them below it
+pub below_line-some : (others lines : List ℕ) (line : ℕ) → Contains (above_lowest others lines) line → 0 < length (below_line line others)
+below_line-some [] lines line member = absurd (in_none line member)
+below_line-some (lowest ∷ others) lines line member =
+    let above = (in_filter_back (λ l. ltb lowest l) line lines member).1 in
+    subst (λ b. 0 < length (cond b (lowest ∷ filter (λ l. ltb l line) others) (filter (λ l. ltb l line) others))) (sym above) (omega arith)
+
+-- at most as many tracks lie below a new one as it is to have at most
+pub place_of_new-most : (tracks least most : ℕ) → least ≤ most → place_of_new tracks least most ≤ most
+place_of_new-most tracks least most order = omega arith

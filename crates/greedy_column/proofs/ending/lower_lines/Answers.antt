@@ -1,0 +1,10 @@
+use Rattle.std.proofs.Common.{◌≡◌, ◌∙◌, ap, rules, List, ℕ, map, eqb}
+use Rattle.std.specs.List.{list_any}
+use Rattle.greedy_column.specs.declared.span.Span.{Span}
+use Rattle.greedy_column.proofs.SortedLaws.{any_map}
+use Rattle.greedy_column.proofs.ending.lower_lines.Goals as goal
+
+pub returns-clause-lines : goal.returns-clause-lines
+returns-clause-lines c = λ line.
+    let is : c.in_ok-lines.lines.items ≡ map (λ (pair : Span). pair.low) c.args.joined.now = search rules in
+    c.sorted.ensures.same line ∙ ap (λ (l : List ℕ). list_any (λ n. eqb n line) l) is ∙ any_map (λ (pair : Span). pair.low) (λ n. eqb n line) c.args.joined.now

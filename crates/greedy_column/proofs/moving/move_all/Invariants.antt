@@ -1,0 +1,16 @@
+use Rattle.std.proofs.Common.{◌≤◌, ◌++◌, ℕ, List, length}
+use Rattle.greedy_column.specs.Uses.{next_after}
+use Rattle.greedy_column.specs.Moving.{MovesFollow}
+use Rattle.greedy_column.proofs.moving.move_all.Given as goal
+
+abbrev pub invariant-loop-line : goal.invariant-loop-line
+invariant-loop-line g l = record {
+  few : length l.free.items ≤ length l.fn.free.items;
+  so_far : (later : List (ℕ × ℕ))
+      → MovesFollow (g.C.Chooses.answers l.chooser) (next_after l.ahead.uses.items l.column) l.tracks l.rest l.spans.items l.free.items later
+      → MovesFollow (g.C.Chooses.answers l.chooser) (next_after l.ahead.uses.items l.column) l.tracks l.lines l.fn.spans.items l.fn.free.items
+      (l.moves.items ++ later);
+}
+
+abbrev pub decreases-loop-line : goal.decreases-loop-line
+decreases-loop-line g l = length l.rest

@@ -1,0 +1,113 @@
+use Rattle.std.specs.Prelude.{◌≡◌, ◌+◌, ◌-◌, ◌==◌, ◌||◌, if◌then◌else◌, ℕ, List, [], ◌∷◌, length, Some, None, Bool, true, false}
+use Rattle.choose_core.specs.declared.candidate.Candidate.{Candidate}
+use Rattle.choose_core.specs.declared.candidate.Next.{Next}
+use Rattle.choose_core.specs.declared.candidate.Next.TheVariants.{Ends, Top, Bottom, Both}
+use Rattle.greedy_column.specs.declared.column.Track.{Track}
+use Rattle.greedy_column.specs.declared.column.Made.{Made}
+use Rattle.greedy_column.specs.declared.question.Question.{Question}
+use Rattle.greedy_column.specs.declared.entering.Pin.{Pin}
+use Rattle.greedy_column.specs.declared.entering.Entries.{Entries}
+use Rattle.greedy_column.specs.declared.entering.Edge.{Edge}
+use Rattle.greedy_column.specs.declared.entering.Edge.TheVariants.{Upper, Lower}
+use Rattle.greedy_column.specs.declared.entering.PinKind.{PinKind}
+use Rattle.greedy_column.specs.declared.entering.PinKind.TheVariants.{NoPins, BottomAlone, TopAlone, EqualPins, TwoPins}
+use Rattle.greedy_column.specs.declared.entering.Newcomer.{Newcomer}
+use Rattle.greedy_column.specs.declared.entering.Newcomer.TheVariants.{TopPin, BottomPin, BothPins}
+use Rattle.greedy_column.specs.Lines.{id_on, open_lines, holds_track, above_lowest, below_line, place_of_new}
+use Rattle.greedy_column.specs.Offers.{IsPicked, offer, entry_question}
+
+-- a net has no later pin
+abbrev pub is_ending : Next → Bool
+is_ending Ends = true
+is_ending Top = false
+is_ending Bottom = false
+is_ending Both = false
+
+-- a track that a pin at an edge enters, beside the tracks that are made for it
+abbrev pub entry_at : Edge → List Made → ℕ → Entries
+entry_at Upper made id = record { made = made; top = id; bottom = 0 }
+entry_at Lower made id = record { made = made; top = 0; bottom = id }
+
+abbrev pub no_entry : Entries
+no_entry = record { made = []; top = 0; bottom = 0 }
+
+-- a track that is made
+abbrev pub new_track : ℕ → ℕ → Made
+new_track id below = record { id = id; below = below }
+
+-- what is asked of two equal pins, of a pin at the top above some tracks, and of one at the bottom
+abbrev pub straight_question : Pin → Question
+straight_question pin = entry_question None pin.next
+
+abbrev pub top_question : Pin → ℕ → Question
+top_question pin tracks = entry_question (Some (tracks + 1)) pin.next
+
+abbrev pub bottom_question : Pin → Question
+bottom_question pin = entry_question (Some 0) pin.next
+
+-- a pin alone, or two equal ones: its net enters one of these lines, or a new track where there is none
+abbrev pub EntersAlone : (List Candidate → ℕ → Type 0) → Edge → Question → List Track → ℕ → List ℕ → Entries → Type 0
+EntersAlone may edge question before fresh [] entries =
+    entries ≡ entry_at edge (new_track fresh (place_of_new (length before) 0 (length before)) ∷ []) fresh
+EntersAlone may edge question before fresh (line ∷ lines) entries =
+    (picked : ℕ) × IsPicked may (offer question) (line ∷ lines) picked × (entries ≡ entry_at edge [] (id_on before picked))
+
+-- two equal pins: their net enters a track unless it holds one or ends here
+abbrev pub EntersEqual : (List Candidate → ℕ → Type 0) → Pin → List Track → ℕ → Bool → Entries → Type 0
+EntersEqual may pin before fresh true entries = entries ≡ no_entry
+EntersEqual may pin before fresh false entries =
+    EntersAlone may Upper (straight_question pin) before fresh (open_lines pin.net before) entries
+
+-- the pins that get a new track where two pins have no pair of lines, from the lines of the top pin and of the bottom pin
+abbrev pub newcomer_of : List ℕ → List ℕ → Newcomer
+newcomer_of uppers (line ∷ lowers) = TopPin
+newcomer_of (line ∷ uppers) [] = BottomPin
+newcomer_of [] [] = BothPins
+
+-- two pins without a pair of lines: one or both get a new track
+abbrev pub EntersNew : (List Candidate → ℕ → Type 0) → Pin → Pin → List Track → ℕ → List ℕ → List ℕ → Newcomer → Entries → Type 0
+EntersNew may top bottom before fresh uppers lowers TopPin entries =
+    (line : ℕ) × IsPicked may (offer (bottom_question bottom)) lowers line
+    × (entries ≡ record { made = new_track fresh (place_of_new (length before) line (length before)) ∷ []; top = fresh; bottom = id_on before line })
+EntersNew may top bottom before fresh uppers lowers BottomPin entries =
+    (line : ℕ) × IsPicked may (offer (top_question top (length before))) uppers line
+    × (entries ≡ record { made = new_track fresh (place_of_new (length before) 0 (line - 1)) ∷ []; top = id_on before line; bottom = fresh })
+EntersNew may top bottom before fresh uppers lowers BothPins entries =
+    entries ≡ record {
+      made = new_track fresh (place_of_new (length before) 0 (length before))
+          ∷ (new_track (fresh + 1) (place_of_new (length before + 1) (place_of_new (length before) 0 (length before) + 1) (length before + 1)) ∷ []);
+      top = fresh + 1;
+      bottom = fresh;
+    }
+
+-- two pins: the net of the top pin enters one of its lines that have a partner, and that of the bottom pin one below it
+abbrev pub EntersPair : (List Candidate → ℕ → Type 0) → Pin → Pin → List Track → ℕ → List ℕ → List ℕ → List ℕ → Entries → Type 0
+EntersPair may top bottom before fresh uppers lowers [] entries =
+    EntersNew may top bottom before fresh uppers lowers (newcomer_of uppers lowers) entries
+EntersPair may top bottom before fresh uppers lowers (partnered ∷ others) entries =
+    (line : ℕ) × IsPicked may (offer (top_question top (length before))) (partnered ∷ others) line
+    × ((below : ℕ) × IsPicked may (offer (bottom_question bottom)) (below_line line lowers) below
+    × (entries ≡ record { made = []; top = id_on before line; bottom = id_on before below }))
+
+-- a column's kind, by the net of its top pin and that of its bottom pin
+abbrev pub pin_kind : ℕ → ℕ → PinKind
+pin_kind top bottom =
+    if top == bottom then (if top == 0 then NoPins else EqualPins)
+    else (if top == 0 then BottomAlone else (if bottom == 0 then TopAlone else TwoPins))
+
+-- the entries of a column's pins, by its kind
+abbrev pub EntersBy : (List Candidate → ℕ → Type 0) → Pin → Pin → List Track → ℕ → PinKind → Entries → Type 0
+EntersBy may top bottom before fresh NoPins entries = entries ≡ no_entry
+EntersBy may top bottom before fresh BottomAlone entries =
+    EntersAlone may Lower (bottom_question bottom) before fresh (open_lines bottom.net before) entries
+EntersBy may top bottom before fresh TopAlone entries =
+    EntersAlone may Upper (top_question top (length before)) before fresh (open_lines top.net before) entries
+EntersBy may top bottom before fresh EqualPins entries =
+    EntersEqual may top before fresh (holds_track before top.net || is_ending top.next) entries
+EntersBy may top bottom before fresh TwoPins entries =
+    EntersPair may top bottom before fresh (open_lines top.net before) (open_lines bottom.net before)
+    (above_lowest (open_lines bottom.net before) (open_lines top.net before)) entries
+
+-- Step 1: the pins of a column enter tracks, some of which are made for them.
+abbrev pub Enters : (List Candidate → ℕ → Type 0) → Pin → Pin → List Track → ℕ → Entries → Type 0
+Enters may top bottom before fresh entries = EntersBy may top bottom before fresh (pin_kind top.net bottom.net) entries

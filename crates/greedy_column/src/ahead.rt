@@ -1,0 +1,35 @@
+ghost use Rattle.greedy_column.specs.Uses.{AreSorted};
+ghost use Rattle.std.specs.Prelude.{◌≡◌, IfOk};
+
+use crate::uses::{Use, first_behind, next_at, sort_by_net, uses_of};
+use channel_model::Channel;
+use choose_core::Next;
+use std::alloc::{AllocError, Global};
+
+/// For each net of a channel its pin columns.
+#[derive(Debug, Drop)]
+pub struct Ahead {
+    uses: Vec<Use>,
+    ghost sorted: { AreSorted uses.items },
+}
+
+impl Ahead {
+    ghost use Rattle.greedy_column.specs.Ahead.{IsAhead};
+    ghost use Rattle.greedy_column.specs.Uses.{next_after};
+
+    /// The pin columns of the nets of a channel, in O(W log W) time for W columns. The one error is want of memory.
+    pub fn new(alloc: Global, channel: &Channel) -> Result<Ahead, AllocError>
+        ensures { IfOk result (λ ahead. IsAhead channel.now ahead) }
+    {
+        let mut uses = uses_of(alloc, channel.top.items(), channel.bottom.items())?;
+        sort_by_net(&mut uses)?;
+        Ok(Ahead { uses })
+    }
+
+    // Where a net has its next pins after a column.
+    pub fn next(&self, net: u32, column: u32) -> Next
+        ensures { result ≡ next_after self.now.uses.items column net }
+    {
+        next_at(first_behind(&self.uses, net, column), net)
+    }
+}

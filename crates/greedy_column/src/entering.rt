@@ -1,0 +1,249 @@
+ghost use Rattle.greedy_column.specs.Entering.{Enters, EntersAlone, EntersEqual, bottom_question, entry_at, is_ending, pin_kind, straight_question, top_question};
+ghost use Rattle.greedy_column.specs.Lawful.{AreMadeFrom};
+ghost use Rattle.greedy_column.specs.Lines.{LieWithin, holds_track, place_of_new};
+ghost use Rattle.std.specs.Prelude.{◌≡◌, ◌<◌, ◌≤◌, ◌+◌, ◌^◌, ◌||◌, IfOk, length};
+
+use crate::column::{Made, Track};
+use crate::lines::{holds_track, id_on, open_lines};
+use crate::pairing::enter_pair;
+use crate::question::{Question, pick_line};
+use choose_core::{Ask, Chooses, Next};
+use geom_core::Items;
+use std::alloc::{AllocError, Global};
+
+// An edge of the channel.
+#[derive(Clone, Copy, Debug)]
+pub enum Edge {
+    Upper,
+    Lower,
+}
+
+// A pin's net, 0 for no pin, and where the net has its next pins.
+#[derive(Clone, Copy, Debug)]
+pub struct Pin {
+    pub net: u32,
+    pub next: Next,
+}
+
+// The kinds of columns, by their pins; two pins are of different nets.
+#[derive(Clone, Copy, Debug)]
+pub enum PinKind {
+    NoPins,
+    BottomAlone,
+    TopAlone,
+    EqualPins,
+    TwoPins,
+}
+
+// Which pins get a new track, where two pins have no pair of tracks to enter.
+#[derive(Clone, Copy, Debug)]
+pub enum Newcomer {
+    TopPin,
+    BottomPin,
+    BothPins,
+}
+
+// What step 1 does: the tracks that it makes, and those that the top pin and the bottom pin enter, 0 where there is none.
+#[derive(Debug, Drop)]
+pub struct Entries {
+    pub made: Items<Made>,
+    pub top: u32,
+    pub bottom: u32,
+}
+
+impl Pin {
+    // What is asked of two equal pins of this net.
+    fn straight_question(self) -> Question
+        ensures { result ≡ straight_question self }
+    {
+        Question {
+            ask: Ask::Enter,
+            aim: None,
+            next: self.next,
+        }
+    }
+
+    // What is asked of this pin at the top, above some tracks.
+    pub fn top_question(self, tracks: usize) -> Question
+        requires { tracks + 1 < 2 ^ 32 }
+        ensures { result ≡ top_question self tracks }
+    {
+        Question {
+            ask: Ask::Enter,
+            aim: Some(tracks as u32 + 1),
+            next: self.next,
+        }
+    }
+
+    // What is asked of this pin at the bottom.
+    pub fn bottom_question(self) -> Question
+        ensures { result ≡ bottom_question self }
+    {
+        Question {
+            ask: Ask::Enter,
+            aim: Some(0),
+            next: self.next,
+        }
+    }
+}
+
+// The entry of a pin at an edge.
+fn entry_at(edge: Edge, made: Vec<Made>, id: u32) -> Entries
+    ensures { result ≡ entry_at edge made.items id }
+{
+    let made = Items::new(made);
+    match edge {
+        Edge::Upper => Entries {
+            made,
+            top: id,
+            bottom: 0,
+        },
+        Edge::Lower => Entries {
+            made,
+            top: 0,
+            bottom: id,
+        },
+    }
+}
+
+// The kind of a column, by the nets of its pins.
+fn pin_kind(top: u32, bottom: u32) -> PinKind
+    ensures { result ≡ pin_kind top bottom }
+{
+    if top == bottom {
+        if top == 0 {
+            PinKind::NoPins
+        } else {
+            PinKind::EqualPins
+        }
+    } else if top == 0 {
+        PinKind::BottomAlone
+    } else if bottom == 0 {
+        PinKind::TopAlone
+    } else {
+        PinKind::TwoPins
+    }
+}
+
+// How many of some tracks lie below a new one that is to have at least and at most so many of them below it.
+pub fn place_of_new(tracks: u32, least: u32, most: u32) -> u32
+    ensures { result ≡ place_of_new tracks least most }
+{
+    least.max(most.min(tracks / 2))
+}
+
+// Whether a net has no later pin.
+pub fn is_ending(next: Next) -> bool
+    ensures { result ≡ is_ending next }
+{
+    match next {
+        Next::Ends => true,
+        Next::Top | Next::Bottom | Next::Both => false,
+    }
+}
+
+// The entries of a column's pins.
+pub fn enter<C: Chooses>(
+    alloc: Global,
+    chooser: &C,
+    before: &[Track],
+    fresh: u32,
+    top: Pin,
+    bottom: Pin,
+) -> Result<Entries, AllocError>
+    requires few { length before.now + 2 < 2 ^ 32 }
+    requires fresh { fresh + 2 < 2 ^ 32 }
+    ensures enters { IfOk result (λ entries. Enters (C.answers chooser.now) top bottom before.now fresh entries) }
+    ensures made { IfOk result (λ entries. AreMadeFrom fresh (length before.now) entries.made) }
+    ensures few { IfOk result (λ entries. length entries.made ≤ 2) }
+{
+    match pin_kind(top.net, bottom.net) {
+        PinKind::NoPins => Ok(Entries {
+            made: Items::new(Vec::new(alloc)),
+            top: 0,
+            bottom: 0,
+        }),
+        PinKind::BottomAlone => {
+            let lines = open_lines(alloc, before, bottom.net)?;
+            enter_alone(
+                alloc,
+                chooser,
+                Edge::Lower,
+                bottom.bottom_question(),
+                before,
+                fresh,
+                &lines,
+            )
+        }
+        PinKind::TopAlone => {
+            let lines = open_lines(alloc, before, top.net)?;
+            let question = top.top_question(before.len());
+            enter_alone(alloc, chooser, Edge::Upper, question, before, fresh, &lines)
+        }
+        PinKind::EqualPins => enter_equal(alloc, chooser, before, fresh, top),
+        PinKind::TwoPins => {
+            let uppers = open_lines(alloc, before, top.net)?;
+            let lowers = open_lines(alloc, before, bottom.net)?;
+            enter_pair(alloc, chooser, before, fresh, top, bottom, &uppers, &lowers)
+        }
+    }
+}
+
+// The entry of a pin alone, or of two equal ones, onto one of these lines.
+fn enter_alone<C: Chooses>(
+    alloc: Global,
+    chooser: &C,
+    edge: Edge,
+    question: Question,
+    before: &[Track],
+    fresh: u32,
+    lines: &[u32],
+) -> Result<Entries, AllocError>
+    requires few { length before.now + 2 < 2 ^ 32 }
+    requires within { LieWithin (length before.now) lines.now }
+    ensures enters { IfOk result (λ entries. EntersAlone (C.answers chooser.now) edge question before.now fresh lines.now entries) }
+    ensures made { IfOk result (λ entries. AreMadeFrom fresh (length before.now) entries.made) }
+    ensures few { IfOk result (λ entries. length entries.made ≤ 2) }
+{
+    if lines.is_empty() {
+        let tracks = before.len() as u32;
+        let below = place_of_new(tracks, 0, tracks);
+        let made = vec![in alloc; Made { id: fresh, below }]?;
+        return Ok(entry_at(edge, made, fresh));
+    }
+    let line = pick_line(alloc, chooser, question, lines)?;
+    Ok(entry_at(edge, Vec::new(alloc), id_on(before, line)))
+}
+
+// The entry of two equal pins.
+fn enter_equal<C: Chooses>(
+    alloc: Global,
+    chooser: &C,
+    before: &[Track],
+    fresh: u32,
+    pin: Pin,
+) -> Result<Entries, AllocError>
+    requires few { length before.now + 2 < 2 ^ 32 }
+    ensures enters { IfOk result (λ entries.
+        EntersEqual (C.answers chooser.now) pin before.now fresh (holds_track before.now pin.net || is_ending pin.next) entries) }
+    ensures made { IfOk result (λ entries. AreMadeFrom fresh (length before.now) entries.made) }
+    ensures few { IfOk result (λ entries. length entries.made ≤ 2) }
+{
+    if holds_track(before, pin.net) || is_ending(pin.next) {
+        return Ok(Entries {
+            made: Items::new(Vec::new(alloc)),
+            top: 0,
+            bottom: 0,
+        });
+    }
+    let lines = open_lines(alloc, before, pin.net)?;
+    enter_alone(
+        alloc,
+        chooser,
+        Edge::Upper,
+        pin.straight_question(),
+        before,
+        fresh,
+        &lines,
+    )
+}

@@ -1,0 +1,51 @@
+ghost use Rattle.greedy_column.specs.Follows.{AreEnded};
+ghost use Rattle.greedy_column.specs.Replay.{freed, freed_among};
+ghost use Rattle.std.specs.List.Sorted.{IsNonDecreasing};
+ghost use Rattle.std.specs.Prelude.{◌≡◌, IfOk};
+
+use crate::column::Track;
+use crate::lines::id_on;
+use crate::sorted::is_among;
+use std::alloc::{AllocError, Global};
+
+// The ids of these lines, each once, in ascending order.
+pub fn ended_ids(alloc: Global, tracks: &[Track], ending: &[u32]) -> Result<Vec<u32>, AllocError>
+    ensures { IfOk result (λ ended. AreEnded tracks.now ending.now ended.items) }
+{
+    let mut ended: Vec<u32> = ending
+        .iter()
+        .map(|line| id_on(tracks, *line))
+        .collect(alloc)?;
+    ended.sort_unstable();
+    ended.dedup();
+    Ok(ended)
+}
+
+// The tracks, of which those of these ids are freed.
+pub fn freed(alloc: Global, tracks: &[Track], ended: &[u32]) -> Result<Vec<Track>, AllocError>
+    requires { IsNonDecreasing ended.now }
+    ensures { IfOk result (λ kept. kept.items ≡ freed ended.now tracks.now) }
+{
+    let mut kept = Vec::new(alloc);
+    let mut rest = tracks;
+    while let Some((track, above)) = rest.split_first() {
+        kept.push(freed_among(ended, *track))?;
+        rest = above;
+    }
+    Ok(kept)
+}
+
+// The same for one track.
+fn freed_among(ended: &[u32], track: Track) -> Track
+    requires { IsNonDecreasing ended.now }
+    ensures { result ≡ freed_among ended.now track }
+{
+    if is_among(ended, track.id) {
+        Track {
+            id: track.id,
+            net: 0,
+        }
+    } else {
+        track
+    }
+}

@@ -1,0 +1,22 @@
+//! One column of the greedy channel router of Rivest and Fiduccia (1982), in which every choice is a stored function's.
+#![tactic(auto)]
+
+mod ahead;
+mod column;
+mod ending;
+mod entering;
+mod freeing;
+mod going_on;
+mod joining;
+mod lines;
+mod moving;
+mod pairing;
+mod question;
+mod sorted;
+mod span;
+mod stepping;
+mod uses;
+
+pub use ahead::Ahead;
+pub use column::{Column, ColumnState, Made, Track};
+pub use stepping::step;

@@ -1,0 +1,166 @@
+ghost use Rattle.greedy_column.specs.Uses.{next_after};
+ghost use Rattle.greedy_column.specs.Follows.{move_ids};
+ghost use Rattle.greedy_column.specs.Lines.{LieWithin};
+ghost use Rattle.greedy_column.specs.Replay.{moved};
+ghost use Rattle.greedy_column.specs.Tracks.{held_by};
+ghost use Rattle.greedy_column.specs.Moving.{GoesTo, MovesFollow, move_options, order_of_moves, piece_between, without};
+ghost use Rattle.greedy_column.specs.Offers.{move_question};
+ghost use Rattle.std.specs.Prelude.{◌≡◌, ◌<◌, ◌+◌, ◌^◌, IfOk, length, map};
+
+use crate::ahead::Ahead;
+use crate::column::Track;
+use crate::lines::{held_lines, hold, id_on, net_on};
+use crate::question::{Question, pick_line};
+use crate::span::Span;
+use choose_core::{Ask, Chooses, Next};
+use std::alloc::{AllocError, Global};
+
+// The order in which the kept tracks may move.
+pub fn order_of_moves(alloc: Global, kept: &[Track]) -> Result<Vec<u32>, AllocError>
+    requires few { length kept.now + 1 < 2 ^ 32 }
+    ensures lines { IfOk result (λ lines. lines.items ≡ order_of_moves kept.now) }
+    ensures within { IfOk result (λ lines. LieWithin (length kept.now) lines.items) }
+{
+    held_lines(alloc, kept)
+}
+
+// The piece between two lines.
+fn piece_between(net: u32, one: u32, other: u32) -> Span
+    ensures { result ≡ piece_between net one other }
+{
+    Span {
+        net,
+        low: one.min(other),
+        high: one.max(other),
+    }
+}
+
+// The question where a kept track goes on.
+fn move_question(line: u32, next: Next) -> Question
+    ensures { result ≡ move_question line next }
+{
+    Question {
+        ask: Ask::Move,
+        aim: Some(line),
+        next,
+    }
+}
+
+// The free lines to which a track may move.
+fn move_options(
+    alloc: Global,
+    spans: &[Span],
+    net: u32,
+    line: u32,
+    free: &[u32],
+) -> Result<Vec<u32>, AllocError>
+    ensures { IfOk result (λ options. options.items ≡ move_options spans.now net line free.now) }
+{
+    let lines = free.iter().copied();
+    lines
+        .filter(|other| piece_between(net, line, *other).is_clear(spans))
+        .collect(alloc)
+}
+
+// Where a kept track goes on, by an answer where it has options.
+fn target_of<C: Chooses>(
+    alloc: Global,
+    chooser: &C,
+    next: Next,
+    line: u32,
+    options: &[u32],
+) -> Result<u32, AllocError>
+    requires { length options.now + 1 < 2 ^ 32 }
+    ensures { IfOk result (λ target. GoesTo (C.answers chooser.now) next line options.now target) }
+{
+    if options.is_empty() {
+        return Ok(line);
+    }
+    let mut lines = vec![in alloc; line]?;
+    lines.extend_from_slice(options)?;
+    pick_line(alloc, chooser, move_question(line, next), &lines)
+}
+
+// What is left of the free lines once one is taken.
+fn without(alloc: Global, line: u32, free: &[u32]) -> Result<Vec<u32>, AllocError>
+    ensures { IfOk result (λ left. left.items ≡ without line free.now) }
+{
+    free.iter()
+        .copied()
+        .filter(|other| *other != line)
+        .collect(alloc)
+}
+
+// The moves of a column, as lines, in their order.
+pub fn move_all<C: Chooses>(
+    alloc: Global,
+    chooser: &C,
+    ahead: &Ahead,
+    column: u32,
+    tracks: &[Track],
+    lines: &[u32],
+    spans: &mut Vec<Span>,
+    mut free: Vec<u32>,
+) -> Result<Vec<(u32, u32)>, AllocError>
+    requires { length free.items + 1 < 2 ^ 32 }
+    ensures { IfOk result (λ moves.
+        MovesFollow (C.answers chooser.now) (next_after ahead.now.uses.items column) tracks.now lines.now spans.old.items free.items moves.items) }
+{
+    let mut moves = Vec::new(alloc);
+    let mut rest = lines;
+    while let Some((line, later)) = rest.split_first() {
+        rest = later;
+        let net = net_on(tracks, *line);
+        let next = ahead.next(net, column);
+        let options = move_options(alloc, spans, net, *line, &free)?;
+        let target = target_of(alloc, chooser, next, *line, &options)?;
+        if target == *line {
+            continue;
+        }
+        spans.push(piece_between(net, *line, target))?;
+        free = without(alloc, target, &free)?;
+        moves.push((*line, target))?;
+    }
+    Ok(moves)
+}
+
+// The ids of the moves' lines.
+pub fn move_ids(
+    alloc: Global,
+    tracks: &[Track],
+    moves: &[(u32, u32)],
+) -> Result<Vec<(u32, u32)>, AllocError>
+    ensures { IfOk result (λ ids. ids.items ≡ map (move_ids tracks.now) moves.now) }
+{
+    moves
+        .iter()
+        .map(|step| (id_on(tracks, step.0), id_on(tracks, step.1)))
+        .collect(alloc)
+}
+
+// Carries the net of each move from one track to another.
+pub fn carry(tracks: &mut [Track], moves: &[(u32, u32)])
+    ensures { tracks.new ≡ moved moves.now tracks.old }
+{
+    let mut rest = moves;
+    while let Some((step, later)) = rest.split_first() {
+        let net = held_by(tracks, step.0);
+        hold(tracks, step.0, 0);
+        hold(tracks, step.1, net);
+        rest = later;
+    }
+}
+
+// The net that holds the track of an id, 0 where there is none.
+fn held_by(tracks: &[Track], id: u32) -> u32
+    ensures { result ≡ held_by tracks.now id }
+{
+    let mut rest = tracks;
+    while let Some((track, above)) = rest.split_first() {
+        if track.id == id {
+            return track.net;
+        }
+        rest = above;
+    }
+    0
+}

@@ -1,0 +1,91 @@
+ghost use Rattle.greedy_column.specs.Joining.{covers, is_clear, is_joined, passes, span_in};
+ghost use Rattle.greedy_column.specs.Tracks.{ids};
+ghost use Rattle.greedy_column.specs.Verticals.{verticals_of_pins};
+ghost use Rattle.std.specs.Prelude.{◌≡◌, ◌<◌, ◌+◌, ◌^◌, IfOk, length, map};
+
+use crate::column::Track;
+use crate::lines::line_of;
+use std::alloc::{AllocError, Global};
+
+// A piece of wire in a column, from a lower line to a higher one.
+#[derive(Clone, Copy, Debug)]
+pub struct Span {
+    pub net: u32,
+    pub low: u32,
+    pub high: u32,
+}
+
+impl Span {
+    // Whether a vertical joins the ends of this piece.
+    fn is_covered_by(self, vertical: Span) -> bool
+        ensures { result ≡ covers self vertical }
+    {
+        vertical.net == self.net && (vertical.low <= self.low && self.high <= vertical.high)
+    }
+
+    // Whether a vertical is of the same net, or shares no point with this piece.
+    fn is_passed_by(self, vertical: Span) -> bool
+        ensures { result ≡ passes self vertical }
+    {
+        vertical.net == self.net || (vertical.high < self.low || self.high < vertical.low)
+    }
+
+    // Whether one of these verticals joins the ends of this piece.
+    pub fn is_joined(self, verticals: &[Span]) -> bool
+        ensures { result ≡ is_joined verticals.now self }
+    {
+        verticals
+            .iter()
+            .any(|vertical| self.is_covered_by(*vertical))
+    }
+
+    // Whether no vertical of another net shares a point with this piece.
+    pub fn is_clear(self, verticals: &[Span]) -> bool
+        ensures { result ≡ is_clear verticals.now self }
+    {
+        verticals
+            .iter()
+            .all(|vertical| self.is_passed_by(*vertical))
+    }
+}
+
+// The verticals of a column's pins, over the tracks that they have entered.
+pub fn pin_spans(
+    alloc: Global,
+    tracks: &[Track],
+    straight: bool,
+    top_net: u32,
+    bottom_net: u32,
+    top: u32,
+    bottom: u32,
+) -> Result<Vec<Span>, AllocError>
+    requires { length tracks.now + 1 < 2 ^ 32 }
+    ensures { IfOk result (λ spans.
+        spans.items ≡ map (span_in (ids tracks.now)) (verticals_of_pins straight top_net bottom_net top bottom)) }
+{
+    let upper_edge = tracks.len() as u32 + 1;
+    let mut spans = Vec::new(alloc);
+    if straight {
+        spans.push(Span {
+            net: top_net,
+            low: 0,
+            high: upper_edge,
+        })?;
+        return Ok(spans);
+    }
+    if bottom_net != 0 {
+        spans.push(Span {
+            net: bottom_net,
+            low: 0,
+            high: line_of(tracks, bottom),
+        })?;
+    }
+    if top_net != 0 {
+        spans.push(Span {
+            net: top_net,
+            low: line_of(tracks, top),
+            high: upper_edge,
+        })?;
+    }
+    Ok(spans)
+}

@@ -1,0 +1,205 @@
+ghost use Rattle.greedy_column.specs.Ahead.{IsAhead};
+ghost use Rattle.greedy_column.specs.Follows.{Follows, FollowsOn, entries_of, pin_with};
+ghost use Rattle.greedy_column.specs.Entering.{Enters};
+ghost use Rattle.greedy_column.specs.Joining.{span_in};
+ghost use Rattle.greedy_column.specs.Lawful.{AreMadeFrom};
+ghost use Rattle.greedy_column.specs.Replay.{after, freed, moved, with_made, with_nets};
+ghost use Rattle.greedy_column.specs.State.{IsState};
+ghost use Rattle.greedy_column.specs.Tracks.{ids};
+ghost use Rattle.greedy_column.specs.Uses.{next_after};
+ghost use Rattle.greedy_column.specs.Verticals.{verticals_of_pins};
+ghost use Rattle.std.specs.Prelude.{◌≡◌, ◌==◌, ◌&&◌, ◌<◌, ◌≤◌, ◌+◌, ◌^◌, ℕ, IfOk, OnErr, length, map, not, slice_index};
+
+use crate::ahead::Ahead;
+use crate::column::{Column, ColumnState, Made, Track};
+use crate::entering::{Entries, Pin, enter};
+use crate::going_on::{Outcome, go_on};
+use crate::lines::hold;
+use crate::span::pin_spans;
+use channel_model::Channel;
+use choose_core::{Chooser, Chooses};
+use geom_core::Items;
+use std::alloc::{AllocError, Global};
+
+// The net of a pin in a column of an edge, 0 where there is none and past the end.
+fn pin_in(side: &[u32], column: u32) -> u32
+    ensures { result ≡ slice_index side.now column }
+{
+    match side.get(column as usize) {
+        Some(net) => *net,
+        None => 0,
+    }
+}
+
+// A pin of a net.
+fn pin_of(ahead: &Ahead, column: u32, net: u32) -> Pin
+    ensures { result ≡ pin_with (next_after ahead.now.uses.items column) net }
+{
+    Pin {
+        net,
+        next: ahead.next(net, column),
+    }
+}
+
+// The tracks with those that are made.
+fn with_made(alloc: Global, before: &[Track], made: &[Made]) -> Result<Vec<Track>, AllocError>
+    requires { (fresh : ℕ) × AreMadeFrom fresh (length before.now) made.now }
+    ensures tracks { IfOk result (λ tracks. tracks.items ≡ with_made before.now made.now) }
+    ensures long { IfOk result (λ tracks. length tracks.items ≡ length before.now + length made.now) }
+{
+    let mut tracks = before.to_vec(alloc)?;
+    let mut rest = made;
+    while let Some((one, later)) = rest.split_first() {
+        tracks.insert(one.below as usize, Track { id: one.id, net: 0 })?;
+        rest = later;
+    }
+    Ok(tracks)
+}
+
+// The tracks that the pins of these nets have entered.
+fn entered(
+    alloc: Global,
+    before: &[Track],
+    entries: &Entries,
+    top: u32,
+    bottom: u32,
+) -> Result<Vec<Track>, AllocError>
+    requires { (fresh : ℕ) × AreMadeFrom fresh (length before.now) entries.now.made }
+    ensures tracks { IfOk result (λ tracks.
+        tracks.items ≡ with_nets top entries.now.top bottom entries.now.bottom (with_made before.now entries.now.made)) }
+    ensures long { IfOk result (λ tracks. length tracks.items ≡ length before.now + length entries.now.made) }
+{
+    let mut tracks = with_made(alloc, before, entries.made.items())?;
+    hold(&mut tracks, entries.bottom, bottom);
+    hold(&mut tracks, entries.top, top);
+    Ok(tracks)
+}
+
+// Whether a column has two equal pins.
+fn has_equal_pins(top: u32, bottom: u32) -> bool
+    ensures { result ≡ (top == bottom && not (top == 0)) }
+{
+    top == bottom && top != 0
+}
+
+// A column's record, and the tracks after it.
+#[derive(Drop)]
+struct Taken {
+    done: Column,
+    tracks: Items<Track>,
+}
+
+// One column, from the nets of its pins.
+fn column_of<C: Chooses>(
+    alloc: Global,
+    chooser: &C,
+    ahead: &Ahead,
+    column: u32,
+    before: &[Track],
+    fresh: u32,
+    top: u32,
+    bottom: u32,
+) -> Result<Taken, AllocError>
+    requires few { length before.now + 4 < 2 ^ 32 }
+    requires fresh { fresh + 2 < 2 ^ 32 }
+    ensures straight { IfOk result (λ taken. taken.done.straight ≡ (top == bottom && not (top == 0))) }
+    ensures enters { IfOk result (λ taken. Enters (C.answers chooser.now) (pin_with (next_after ahead.now.uses.items column) top)
+        (pin_with (next_after ahead.now.uses.items column) bottom) before.now fresh (entries_of taken.done)) }
+    ensures follows { IfOk result (λ taken.
+        let now = with_nets top taken.done.top bottom taken.done.bottom (with_made before.now taken.done.made) in
+        FollowsOn (C.answers chooser.now) (next_after ahead.now.uses.items column) now
+        (map (span_in (ids now)) (verticals_of_pins taken.done.straight top bottom taken.done.top taken.done.bottom))
+        taken.done.joins taken.done.ended taken.done.moves) }
+    ensures tracks { IfOk result (λ taken. taken.tracks ≡ moved taken.done.moves (freed taken.done.ended
+        (with_nets top taken.done.top bottom taken.done.bottom (with_made before.now taken.done.made)))) }
+    ensures made { IfOk result (λ taken. AreMadeFrom fresh (length before.now) taken.done.made) }
+    ensures few { IfOk result (λ taken. length taken.done.made ≤ 2) }
+{
+    let straight = has_equal_pins(top, bottom);
+    let top_pin = pin_of(ahead, column, top);
+    let bottom_pin = pin_of(ahead, column, bottom);
+    let entries = enter(alloc, chooser, before, fresh, top_pin, bottom_pin)?;
+    let now = entered(alloc, before, &entries, top, bottom)?;
+    let spans = pin_spans(
+        alloc,
+        &now,
+        straight,
+        top,
+        bottom,
+        entries.top,
+        entries.bottom,
+    )?;
+    let outcome = go_on(alloc, chooser, ahead, column, &now, spans)?;
+    Ok(taken_from(entries, straight, outcome))
+}
+
+// A column's record and the tracks after it, from what its steps do.
+fn taken_from(entries: Entries, straight: bool, outcome: Outcome) -> Taken
+    ensures entries { entries_of result.done ≡ entries }
+    ensures straight { result.done.straight ≡ straight }
+    ensures joins { result.done.joins ≡ outcome.joins }
+    ensures ended { result.done.ended ≡ outcome.ended }
+    ensures moves { result.done.moves ≡ outcome.moves }
+    ensures tracks { result.tracks ≡ outcome.tracks }
+{
+    let Entries { made, top, bottom } = entries;
+    let Outcome {
+        joins,
+        ended,
+        moves,
+        tracks,
+    } = outcome;
+    let done = Column {
+        made,
+        top,
+        bottom,
+        straight,
+        joins,
+        ended,
+        moves,
+    };
+    Taken { done, tracks }
+}
+
+/// One column of the greedy sweep, from the state that the columns before it have left. A column at or past the channel's end
+/// has no pins. The column's pins enter tracks, the tracks of one net are joined where that is possible, one track of each group
+/// that is joined is kept, and the kept tracks may move. Each choice is an answer of the chooser, and the record is what these
+/// steps make of it. The one error is want of memory, and the state is then as before.
+///
+/// Source: Rivest and Fiduccia, A Greedy Channel Router (1982).
+pub fn step(
+    alloc: Global,
+    state: &mut ColumnState,
+    channel: &Channel,
+    ahead: &Ahead,
+    column: u32,
+    chooser: &Chooser,
+) -> Result<Column, AllocError>
+    requires state { IsState channel.now state.old }
+    requires few { state.old.fresh ≤ 4000000000 }
+    requires ahead { IsAhead channel.now ahead.now }
+    ensures follows { IfOk result (λ done.
+        Follows (⟦<Chooser as Chooses>⟧.answers chooser.now) channel.now column state.old.fresh state.old.order done) }
+    ensures replay { IfOk result (λ done. state.new.order ≡ after channel.now column done state.old.order) }
+    ensures fresh { IfOk result (λ done. state.new.fresh ≡ state.old.fresh + length done.made) }
+    ensures state { IfOk result (λ _. IsState channel.now state.new) }
+    ensures err { OnErr result (state.new ≡ state.old) }
+{
+    let top = pin_in(channel.top.items(), column);
+    let bottom = pin_in(channel.bottom.items(), column);
+    let taken = column_of(
+        alloc,
+        chooser,
+        ahead,
+        column,
+        state.order.items(),
+        state.fresh,
+        top,
+        bottom,
+    )?;
+    let Taken { done, tracks } = taken;
+    let fresh = state.fresh + done.made.items().len() as u32;
+    state.order = tracks;
+    state.fresh = fresh;
+    Ok(done)
+}
