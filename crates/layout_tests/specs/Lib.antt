@@ -1,0 +1,2 @@
+-- rows whose seats are mirrored
+pub mod Mirrored

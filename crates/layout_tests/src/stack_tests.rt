@@ -1,0 +1,223 @@
+//! Where channels, rows, cells, feeds and wires lie, under the sample rules: columns and tracks of 8 units, cells 40 high, and a unit of 200 half
+//! centimicrons. A channel of n nets has 2n tracks and is 8 * (2n + 1) units high, and n columns wider than the widest row.
+
+use crate::support::{Rowed, layout_for};
+use channel_stack::{Placed, PlacedItem};
+use feed_cells::Item;
+use geom_core::Items;
+use std::alloc::{AllocError, Global};
+use std::test::Fail;
+use wire_geom::Drawn;
+
+/// Calls in rows, the lower edges of channels and rows in units, the width and the height in centimicrons, and the items of each row with their places in half
+/// centimicrons, each row ended by a bar.
+struct Stacked {
+    rowed: Rowed,
+    channels: &'static [u32],
+    rows: &'static [u32],
+    width: u64,
+    height: u64,
+    cells: &'static str,
+}
+
+const STACKED: [Stacked; 5] = [
+    // One net in channel 1 alone: 8, 40 and 24 units. The widest channel has 2 + 1 columns.
+    Stacked {
+        rowed: Rowed {
+            calls: "u1 BUF n; u2 BUF n;",
+            rows: 1,
+            mirrored: false,
+        },
+        channels: &[0, 48],
+        rows: &[8],
+        width: 2400,
+        height: 7200,
+        cells: "0 at 0 1600, 1 at 1600 1600, | ",
+    },
+    // One net across its own row by a feed, in both channels: 24, 40 and 24 units, and 3 + 1 columns.
+    Stacked {
+        rowed: Rowed {
+            calls: "u1 BUF n; u2 INV n;",
+            rows: 1,
+            mirrored: false,
+        },
+        channels: &[0, 64],
+        rows: &[24],
+        width: 3200,
+        height: 8800,
+        cells: "feed 1 at 0 4800, 0 at 1600 4800, 1 at 3200 4800, | ",
+    },
+    // Two crossed nets in channel 1: 8, 40, 40, 40 and 8 units, and 2 + 2 columns.
+    Stacked {
+        rowed: Rowed {
+            calls: "u1 BUF b; u2 BUF a; u3 INV a; u4 INV b;",
+            rows: 2,
+            mirrored: false,
+        },
+        channels: &[0, 48, 128],
+        rows: &[8, 88],
+        width: 3200,
+        height: 13600,
+        cells: "0 at 0 1600, 1 at 1600 1600, | 2 at 0 17600, 3 at 1600 17600, | ",
+    },
+    // One net from row 0 to row 3: channels of 8, 24, 24, 24 and 8 units, and 2 + 1 columns.
+    Stacked {
+        rowed: Rowed {
+            calls: "u1 BUF n; u2 INV p; u3 INV q; u4 INV n;",
+            rows: 4,
+            mirrored: false,
+        },
+        channels: &[0, 48, 112, 176, 240],
+        rows: &[8, 72, 136, 200],
+        width: 2400,
+        height: 24800,
+        cells: "0 at 0 1600, | feed 1 at 0 14400, 1 at 1600 14400, | feed 1 at 0 27200, 2 at 1600 27200, | 3 at 0 40000, | ",
+    },
+    // Mirrored cells of four columns, by their right edges, and a feed for net 2 before the second: columns 0 to 3, 4, 5 to 8 and 9 to 12. Two nets stand in
+    // channel 0 and one in channel 1: 40, 40 and 24 units, and 13 + 2 columns.
+    Stacked {
+        rowed: Rowed {
+            calls: "u LEAN n k p; v LEAN n r s; w LEAN q t k;",
+            rows: 1,
+            mirrored: true,
+        },
+        channels: &[0, 80],
+        rows: &[40],
+        width: 12000,
+        height: 10400,
+        cells: "mirrored 0 at 6400 8000, feed 2 at 6400 8000, mirrored 1 at 14400 8000, mirrored 2 at 20800 8000, | ",
+    },
+];
+
+/// The number of an instance, or of the net of a feed, and its place.
+fn item_text(alloc: Global, placed: &PlacedItem) -> Result<String, AllocError> {
+    let (dx, dy) = (placed.place.dx, placed.place.dy);
+    match placed.item {
+        Item::Cell(seat) => match (seat.mirror, placed.place.mirror) {
+            (false, false) => format!(in alloc; "{} at {dx} {dy}, ", seat.instance),
+            (true, true) => format!(in alloc; "mirrored {} at {dx} {dy}, ", seat.instance),
+            _ => format!(in alloc; "turned {} at {dx} {dy}, ", seat.instance),
+        },
+        Item::Feed(net) => match placed.place.mirror {
+            false => format!(in alloc; "feed {net} at {dx} {dy}, "),
+            true => format!(in alloc; "mirrored feed {net} at {dx} {dy}, "),
+        },
+    }
+}
+
+/// The items of rows, each row ended by a bar.
+fn cells_text(alloc: Global, rows: &[Items<PlacedItem>]) -> Result<String, AllocError> {
+    let mut text = String::new(alloc);
+    for row in rows {
+        for placed in row.items() {
+            text.push_str(&item_text(alloc, placed)?)?;
+        }
+        text.push_str("| ")?;
+    }
+    Ok(text)
+}
+
+/// Whether these are the edges, the sizes and the items of a case.
+fn are_stacked(alloc: Global, placed: &Placed, wanted: &Stacked) -> Result<bool, AllocError> {
+    let told = cells_text(alloc, placed.cells.items())?;
+    Ok(
+        told.as_str() == wanted.cells
+            && placed.channel_base.items() == wanted.channels
+            && placed.row_base.items() == wanted.rows
+            && placed.width == wanted.width
+            && placed.height == wanted.height
+            && placed.shapes.items().len() == wanted.channels.len(),
+    )
+}
+
+/// Whether the calls of a case are stacked so.
+fn is_stacked(alloc: Global, case: &Stacked) -> Result<bool, Fail> {
+    match layout_for(alloc, case.rowed)? {
+        Some(made) => Ok(are_stacked(alloc, &made.placed, case)?),
+        None => Ok(false),
+    }
+}
+
+#[test]
+fn rows_and_channels_lie_on_one_another(rt: HostRuntime) -> Result<(), Fail> {
+    for case in &STACKED {
+        assert!(rt; is_stacked(rt.alloc(), case)?, "{}", case.rowed.calls);
+    }
+    Ok(())
+}
+
+/// The wires of a BUF below an INV of one net, in half centimicrons: the channel lies from 48 to 72 units, its tracks at 56 and 64, its two columns in x 4 and 12.
+/// Wires are 3 wide, pads 4 and cuts 2.
+const JOINED: &[&str] = &[
+    // The wire up from the lower edge to half a pad above track 1, and that from half a pad below track 2 to the upper edge.
+    "NP 500 9600 1100 11600, NP 500 12400 1100 14400, ",
+    // The wire in the added column, from track 1 to track 2.
+    "NP 2100 10800 2700 13200, ",
+    // The two tracks, from column 0 to column 1.
+    "NM 400 10900 2800 11500, NM 400 12500 2800 13100, ",
+    // The vias of the pins: two pads and a cut on track 1, and on track 2.
+    "NM 400 10800 1200 11600, NP 400 10800 1200 11600, NC 600 11000 1000 11400, ",
+    "NM 400 12400 1200 13200, NP 400 12400 1200 13200, NC 600 12600 1000 13000, ",
+    // The same in the added column.
+    "NM 2000 10800 2800 11600, NP 2000 10800 2800 11600, NC 2200 11000 2600 11400, ",
+    "NM 2000 12400 2800 13200, NP 2000 12400 2800 13200, NC 2200 12600 2600 13000, ",
+];
+
+/// The layer and the sides of a rectangle of net 1; else a question mark.
+fn drawn_text(alloc: Global, drawn: &Drawn) -> Result<String, AllocError> {
+    let rect = drawn.shape.rect;
+    match (drawn.net, str::from_utf8(drawn.shape.layer.text())) {
+        (1, Ok(layer)) => format!(in alloc;
+            "{layer} {} {} {} {}, ",
+            rect.x0, rect.y0, rect.x1, rect.y1
+        ),
+        _ => String::from_str(alloc, "?"),
+    }
+}
+
+/// The rectangles of a channel.
+fn wires_text(alloc: Global, drawn: &[Drawn]) -> Result<String, AllocError> {
+    let mut text = String::new(alloc);
+    for wire in drawn {
+        text.push_str(&drawn_text(alloc, wire)?)?;
+    }
+    Ok(text)
+}
+
+/// Whether the middle one of three channels has these wires, and the others have none.
+fn has_wires(alloc: Global, placed: &Placed, pieces: &[&str]) -> Result<bool, AllocError> {
+    let mut wanted = String::new(alloc);
+    for piece in pieces {
+        wanted.push_str(piece)?;
+    }
+    match placed.shapes.items() {
+        [below, middle, above] => {
+            let told = wires_text(alloc, middle.items())?;
+            Ok(
+                told.as_str() == wanted.as_str()
+                    && below.items().is_empty()
+                    && above.items().is_empty(),
+            )
+        }
+        _ => Ok(false),
+    }
+}
+
+/// Whether the middle one of the three channels of these calls has these wires.
+fn is_wired(alloc: Global, rowed: Rowed, pieces: &[&str]) -> Result<bool, Fail> {
+    match layout_for(alloc, rowed)? {
+        Some(made) => Ok(has_wires(alloc, &made.placed, pieces)?),
+        None => Ok(false),
+    }
+}
+
+#[test]
+fn wires_lie_on_the_base_of_their_channel(rt: HostRuntime) -> Result<(), Fail> {
+    let rowed = Rowed {
+        calls: "u1 BUF n; u2 INV n;",
+        rows: 2,
+        mirrored: false,
+    };
+    assert!(rt; is_wired(rt.alloc(), rowed, JOINED)?);
+    Ok(())
+}
