@@ -4,10 +4,10 @@ use Rattle.std.proofs.lemmas.List.FromFn.{length-map-range_with_len}
 use Rattle.design_model.specs.Netlist.{Netlist, IsNetlist}
 use Rattle.row_model.specs.Rows.{ArePlaced}
 use Rattle.row_model.specs.declared.rows.Seat.{Seat}
-use Rattle.feed_cells.specs.Crossings.{all_nets, crossing_of, is_in}
+use Rattle.feed_cells.specs.Crossings.{all_nets, is_in}
 use Rattle.feed_cells.specs.Fed.{Fed, IsFed, cells_in, fed_from, fed_rows, items_width, nets_in}
 use Rattle.feed_cells.specs.Placement.{net_place}
-use Rattle.feed_cells.specs.Sizes.{count_in, counts_in}
+use Rattle.feed_cells.specs.Sizes.{counts_in}
 use Rattle.feed_cells.specs.declared.fed.Item.{Item}
 use Rattle.feed_cells.specs.declared.placement.NetPlace.{NetPlace}
 use Rattle.feed_cells.proofs.FedLaws.{cells-fed}

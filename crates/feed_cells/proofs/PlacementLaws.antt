@@ -14,7 +14,7 @@ use Rattle.feed_cells.specs.Leaders.{leaders_among, leaders_there, leads_among}
 use Rattle.feed_cells.specs.NetTables.{at_net}
 use Rattle.feed_cells.specs.Placement.{crossing_at, crossing_there, net_place, net_place_in, placed_by, placed_pin, placement_of}
 use Rattle.feed_cells.specs.PlacementLists.{PlacementLists}
-use Rattle.feed_cells.specs.Spans.{span_among, span_of}
+use Rattle.feed_cells.specs.Spans.{span_among}
 use Rattle.feed_cells.specs.declared.crossing.Crossing.{Crossing}
 use Rattle.feed_cells.specs.declared.net_spans.NetSpan.{NetSpan}
 use Rattle.feed_cells.specs.declared.placement.NetPlace.{NetPlace}

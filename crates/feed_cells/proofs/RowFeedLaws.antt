@@ -1,4 +1,4 @@
-use Rattle.std.proofs.Common.{◌≡◌, ℕ, ◌+◌, ◌-◌, ◌<◌, ◌≤◌, ◌==◌, ◌&&◌, ◌||◌, not, get_or, zero, suc, List, [], ◌∷◌, ◌++◌, map, filter, fold, length, Bool, true, false, Option, None, Some, slice_get, arith, refl, ap, ap₂, sym, ◌∙◌, cond, Contains}
+use Rattle.std.proofs.Common.{◌≡◌, ℕ, ◌+◌, ◌<◌, ◌≤◌, ◌==◌, ◌&&◌, ◌||◌, not, get_or, zero, suc, List, [], ◌∷◌, ◌++◌, map, filter, fold, length, Bool, true, false, Option, None, Some, slice_get, arith, refl, ap, ap₂, sym, ◌∙◌, cond}
 use Rattle.std.proofs.lemmas.Bool.{and_from, and_parts, both_ways, eq-eqb, eqb-true}
 use Rattle.std.specs.List.{find, list_any, range_with_len}
 use Rattle.std.specs.List.Sorted.{IsNonDecreasingBy}
@@ -10,7 +10,7 @@ use Rattle.row_model.specs.Widths.{columns_of}
 use Rattle.row_model.specs.declared.rows.Seat.{Seat}
 use Rattle.feed_cells.specs.Crossings.{all_nets, crossing_of, has_edge, is_across}
 use Rattle.feed_cells.specs.Fed.{fed_row, items_from}
-use Rattle.feed_cells.specs.Feeds.{feed_place, is_fed, is_leader, is_pin, leader, leads_through, lefts_of, middle_of}
+use Rattle.feed_cells.specs.Feeds.{feed_place, is_fed, is_leader, is_pin, leader, leads_through, lefts_of}
 use Rattle.feed_cells.specs.NetTables.{at_net}
 use Rattle.feed_cells.specs.Placement.{net_place, placed_pin}
 use Rattle.feed_cells.specs.RowFeeds.{feeds_in, has_row, is_at_place, is_fed_by, laid, led_there, middle_at, net_before, nets_across, place_among, with_led_row}

@@ -1,5 +1,5 @@
 -- The tables lay the row as it is defined.
-use Rattle.std.proofs.Common.{◌≡◌, ◌≤◌, ℕ, List, Some, filter, length, slice_get, ap, subst, sym, ◌∙◌, rules}
+use Rattle.std.proofs.Common.{◌≡◌, ◌≤◌, ℕ, List, Some, filter, length, slice_get, ap, subst, sym, ◌∙◌}
 use Rattle.std.specs.List.Sorted.{IsNonDecreasingBy}
 use Rattle.feed_cells.specs.Feeds.{lefts_of}
 use Rattle.feed_cells.specs.RowFeeds.{is_at_place}

@@ -1,5 +1,5 @@
 -- Each row has its nets in the table.
-use Rattle.std.proofs.Common.{◌≡◌, ◌<◌, ◌+◌, ◌++◌, ℕ, List, Some, ◌∷◌, [], filter, length, slice_get, arith, ap, subst, sym, ◌∙◌, append_assoc}
+use Rattle.std.proofs.Common.{◌≡◌, ◌<◌, ◌+◌, ◌++◌, ℕ, List, ◌∷◌, [], filter, length, arith, ap, subst, sym, ◌∙◌, append_assoc}
 use Rattle.std.proofs.lemmas.Option.{same_Some, slice_get_within}
 use Rattle.row_model.specs.NearStands.{AreShort}
 use Rattle.row_model.specs.declared.rows.Seat.{Seat}

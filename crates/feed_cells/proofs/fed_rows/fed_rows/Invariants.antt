@@ -1,4 +1,4 @@
-use Rattle.std.proofs.Common.{◌≡◌, ◌+◌, ◌≤◌, ◌++◌, length}
+use Rattle.std.proofs.Common.{◌≡◌, ◌+◌, ◌++◌, length}
 use Rattle.feed_cells.specs.Fed.{fed_from}
 use Rattle.row_model.specs.NearStands.{AreShort}
 use Rattle.feed_cells.proofs.fed_rows.fed_rows.Given as goal

@@ -1,5 +1,5 @@
 -- The rows of a design are short and its nets are few, so that each part can be counted, and the parts are those of the definition.
-use Rattle.std.proofs.Common.{◌≡◌, ◌≤◌, ◌<◌, ◌+◌, ℕ, List, Some, [], filter, fold, length, map, max, slice_get, rules, ap, subst, sym, ◌∙◌}
+use Rattle.std.proofs.Common.{◌≡◌, ◌<◌, ◌+◌, ℕ, List, Some, [], fold, length, map, max, slice_get, rules, ap, subst, sym, ◌∙◌}
 use Rattle.std.proofs.lemmas.List.FromFn.{length-map-range_with_len}
 use Rattle.design_model.specs.Netlist.{IsNetlist, Netlist}
 use Rattle.row_model.specs.NearStands.{AreShort}
@@ -7,7 +7,6 @@ use Rattle.row_model.specs.declared.rows.Seat.{Seat}
 use Rattle.row_model.proofs.PlacedLaws.{placed-short}
 use Rattle.feed_cells.specs.Crossings.{all_nets}
 use Rattle.feed_cells.specs.Fed.{fed_from, fed_rows, items_width}
-use Rattle.feed_cells.specs.Feeds.{is_fed}
 use Rattle.feed_cells.specs.Placement.{net_place, placed_pin, placement_of}
 use Rattle.feed_cells.specs.PlacementLists.{PlacementLists}
 use Rattle.feed_cells.specs.RowFeeds.{nets_across, with_led_row}

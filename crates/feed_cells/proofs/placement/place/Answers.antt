@@ -1,5 +1,5 @@
 -- The tables are those of the design in its rows.
-use Rattle.std.proofs.Common.{◌≡◌, ◌+◌, ◌<◌, ℕ, List, Option, Some, length, map, slice_get, rules, ap, ap₂, subst, sym, ◌∙◌}
+use Rattle.std.proofs.Common.{◌≡◌, ◌+◌, ◌<◌, ℕ, List, Some, length, map, slice_get, rules, ap, ap₂, subst, sym, ◌∙◌}
 use Rattle.design_model.specs.Netlist.{IsNetlist, Netlist}
 use Rattle.row_model.specs.PinPlaces.{pin_place}
 use Rattle.row_model.specs.declared.places.PinPlace.{PinPlace}
@@ -7,7 +7,6 @@ use Rattle.feed_cells.specs.Crossings.{all_nets}
 use Rattle.feed_cells.specs.Leaders.{leaders_among}
 use Rattle.feed_cells.specs.Placement.{net_place, net_place_in, placed_by, placed_pin}
 use Rattle.feed_cells.specs.Spans.{span_among}
-use Rattle.feed_cells.specs.declared.net_spans.NetSpan.{NetSpan}
 use Rattle.feed_cells.specs.declared.placement.NetPlace.{NetPlace}
 use Rattle.feed_cells.proofs.PlacementLaws.{nets-placed, pins-placed, placement-is}
 use Rattle.feed_cells.proofs.placement.place.Goals as goal

@@ -1,10 +1,9 @@
 -- The pins of a design are of its instances.
-use Rattle.std.proofs.Common.{◌≡◌, List, ◌<◌, length, map, rules, ap, subst, sym, ◌∙◌}
+use Rattle.std.proofs.Common.{◌≡◌, ◌<◌, length, map, rules, ap, subst, ◌∙◌}
 use Rattle.std.specs.List.{AllByRecursion}
 use Rattle.design_model.specs.Netlist.{IsNetlist}
 use Rattle.design_model.specs.declared.design.Pin.{Pin}
 use Rattle.row_model.specs.PinColumns.{pin_columns}
-use Rattle.row_model.specs.PinPlaces.{pin_place}
 use Rattle.row_model.proofs.PinLaws.{pins-within}
 use Rattle.row_model.proofs.places.tabled_places.Goals as goal
 
