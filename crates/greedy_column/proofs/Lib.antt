@@ -28,5 +28,7 @@ pub mod TableLaws
 pub mod NeighbourLaws
 pub mod DrawnLaws
 pub mod JoinedLaws
+-- parts of what is fair: what is made
+pub mod MadeLaws
 -- the records of a worked channel
 pub mod Worked
