@@ -30,5 +30,9 @@ pub mod DrawnLaws
 pub mod JoinedLaws
 -- parts of what is fair: what is made
 pub mod MadeLaws
+pub mod PartLaws
+pub mod LaterLaws
+pub mod EntryLaws
+pub mod EntersLaws
 -- the records of a worked channel
 pub mod Worked
