@@ -34,5 +34,6 @@ pub mod PartLaws
 pub mod LaterLaws
 pub mod EntryLaws
 pub mod EntersLaws
+pub mod LawfulLaws
 -- the records of a worked channel
 pub mod Worked
