@@ -32,21 +32,21 @@ KindSays a b TwoPins = (0 < a) × (0 < b) × (a ≢ b)
 
 pub kind_says : (a b : ℕ) → KindSays a b (pin_kind a b)
 kind_says a b = elim (cases_eq a b) [
-    | inl same ↦ subst (λ c. KindSays a b (cond c (cond (eqb a 0) NoPins EqualPins) (cond (eqb a 0) BottomAlone (cond (eqb b 0) TopAlone TwoPins)))) (sym (eq-eqb a b same))
-        (elim (cases_eq a 0) [
-          | inl none ↦ subst (λ c. KindSays a b (cond c NoPins EqualPins)) (sym (eq-eqb a 0 none)) (none, sym same ∙ none)
-          | inr some ↦ subst (λ c. KindSays a b (cond c NoPins EqualPins)) (sym (ne_eqb a 0 some)) (omega arith, same)
-        ])
-    | inr other ↦ subst (λ c. KindSays a b (cond c (cond (eqb a 0) NoPins EqualPins) (cond (eqb a 0) BottomAlone (cond (eqb b 0) TopAlone TwoPins)))) (sym (ne_eqb a b other))
-        (elim (cases_eq a 0) [
-          | inl none ↦ subst (λ c. KindSays a b (cond c BottomAlone (cond (eqb b 0) TopAlone TwoPins))) (sym (eq-eqb a 0 none)) (none, omega arith)
-          | inr some ↦ subst (λ c. KindSays a b (cond c BottomAlone (cond (eqb b 0) TopAlone TwoPins))) (sym (ne_eqb a 0 some))
-              (elim (cases_eq b 0) [
-                | inl gone ↦ subst (λ c. KindSays a b (cond c TopAlone TwoPins)) (sym (eq-eqb b 0 gone)) (omega arith, gone)
-                | inr there ↦ subst (λ c. KindSays a b (cond c TopAlone TwoPins)) (sym (ne_eqb b 0 there)) (omega arith, omega arith, other)
-              ])
-        ])
-  ]
+  | inl same ↦ subst (λ c. KindSays a b (cond c (cond (eqb a 0) NoPins EqualPins) (cond (eqb a 0) BottomAlone (cond (eqb b 0) TopAlone TwoPins)))) (sym (eq-eqb a b same))
+      (elim (cases_eq a 0) [
+        | inl none ↦ subst (λ c. KindSays a b (cond c NoPins EqualPins)) (sym (eq-eqb a 0 none)) (none, sym same ∙ none)
+        | inr some ↦ subst (λ c. KindSays a b (cond c NoPins EqualPins)) (sym (ne_eqb a 0 some)) (omega arith, same)
+      ])
+  | inr other ↦ subst (λ c. KindSays a b (cond c (cond (eqb a 0) NoPins EqualPins) (cond (eqb a 0) BottomAlone (cond (eqb b 0) TopAlone TwoPins)))) (sym (ne_eqb a b other))
+      (elim (cases_eq a 0) [
+        | inl none ↦ subst (λ c. KindSays a b (cond c BottomAlone (cond (eqb b 0) TopAlone TwoPins))) (sym (eq-eqb a 0 none)) (none, omega arith)
+        | inr some ↦ subst (λ c. KindSays a b (cond c BottomAlone (cond (eqb b 0) TopAlone TwoPins))) (sym (ne_eqb a 0 some))
+            (elim (cases_eq b 0) [
+              | inl gone ↦ subst (λ c. KindSays a b (cond c TopAlone TwoPins)) (sym (eq-eqb b 0 gone)) (omega arith, gone)
+              | inr there ↦ subst (λ c. KindSays a b (cond c TopAlone TwoPins)) (sym (ne_eqb b 0 there)) (omega arith, omega arith, other)
+            ])
+      ])
+]
 
 -- two pins enter different tracks, each open to its net or made
 pub record EnterBoth (before : List Track) (a b : ℕ) (entries : Entries) : Type 0 where

@@ -32,9 +32,9 @@ pub record IsOpenLine (before : List Track) (net line : ℕ) : Type 0 where
 
 either : (n net : ℕ) → (eqb n 0 || eqb n net) ≡ true → (n ≡ 0) ⊎ (n ≡ net)
 either n net test = elim (cases_eq n 0) [
-    | inl none ↦ inl none
-    | inr some ↦ inr (eqb-true n net (sym (ap (λ b. b || eqb n net) (ne_eqb n 0 some)) ∙ test))
-  ]
+  | inl none ↦ inl none
+  | inr some ↦ inr (eqb-true n net (sym (ap (λ b. b || eqb n net) (ne_eqb n 0 some)) ∙ test))
+]
 
 one_of : (b : Bool) (line other : ℕ) → Contains (cond b (line ∷ []) []) other → (line ≡ other) × (b ≡ true)
 one_of true line other member = (in_one line other member, refl)

@@ -19,12 +19,12 @@ stands_where : (top bottom : List ℕ) (net : ℕ) → is_ending (first_in top b
 stands_where [] bottom net goes_on = absurd (cc goes_on)
 stands_where (a ∷ top) [] net goes_on = absurd (cc goes_on)
 stands_where (a ∷ top) (b ∷ bottom) net goes_on = elim (cases_eq a net) [
-    | inl here ↦ (0, inl here)
-    | inr other ↦ elim (cases_eq b net) [
-      | inl below ↦ (0, inr below)
-      | inr gone ↦ let rest = stands_where top bottom net (sym (ap is_ending (passed_over a b net top bottom other gone)) ∙ goes_on) in (suc rest.0, rest.1)
-    ]
+  | inl here ↦ (0, inl here)
+  | inr other ↦ elim (cases_eq b net) [
+    | inl below ↦ (0, inr below)
+    | inr gone ↦ let rest = stands_where top bottom net (sym (ap is_ending (passed_over a b net top bottom other gone)) ∙ goes_on) in (suc rest.0, rest.1)
   ]
+]
 
 -- after the last of some columns no net stands
 nowhere : (k net : ℕ) → 0 < net → get_or [] k 0 ≡ net → ⊥
@@ -48,12 +48,12 @@ goes_on_where [] (b ∷ bottom) net k matched some stands = absurd (omega arith)
 goes_on_where (a ∷ top) [] net k matched some stands = absurd (omega arith)
 goes_on_where (a ∷ top) (b ∷ bottom) net zero matched some stands = ends_at a b net top bottom stands
 goes_on_where (a ∷ top) (b ∷ bottom) net (suc k) matched some stands = elim (cases_eq a net) [
-    | inl here ↦ ends_at a b net top bottom (inl here)
-    | inr other ↦ elim (cases_eq b net) [
-      | inl below ↦ ends_at a b net top bottom (inr below)
-      | inr gone ↦ ap is_ending (passed_over a b net top bottom other gone) ∙ goes_on_where top bottom net k (omega arith) some stands
-    ]
+  | inl here ↦ ends_at a b net top bottom (inl here)
+  | inr other ↦ elim (cases_eq b net) [
+    | inl below ↦ ends_at a b net top bottom (inr below)
+    | inr gone ↦ ap is_ending (passed_over a b net top bottom other gone) ∙ goes_on_where top bottom net k (omega arith) some stands
   ]
+]
 
 -- what stands behind the first of some columns
 behind : (xs : List ℕ) (n k : ℕ) → get_or (drop n xs) k 0 ≡ get_or xs (n + k) 0
@@ -69,11 +69,14 @@ pub HasLaterPin-from : (pins : Pins) (column net : ℕ) → 0 < net → is_endin
 HasLaterPin-from pins column net some goes_on =
     let is : next_of pins column net ≡ first_in (drop (column + 1) pins.top) (drop (column + 1) pins.bottom) net =
     cond-false (eqb net 0) Ends (first_in (drop (column + 1) pins.top) (drop (column + 1) pins.bottom) net) (ne_eqb net 0 (λ none. omega (arith, none, some))) in
-    let found = stands_where (drop (column + 1) pins.top) (drop (column + 1) pins.bottom) net (sym (ap is_ending is) ∙ goes_on) in
-    (column + 1 + found.0, omega arith, elim found.1 [
-      | inl top ↦ inl (sym (behind pins.top (column + 1) found.0) ∙ top)
-      | inr bottom ↦ inr (sym (behind pins.bottom (column + 1) found.0) ∙ bottom)
-    ])
+    let found = stands_where (drop (column + 1) pins.top) (drop (column + 1) pins.bottom) net (sym (ap is_ending is) ∙ goes_on) in (
+      column + 1 + found.0,
+      omega arith,
+      elim found.1 [
+        | inl top ↦ inl (sym (behind pins.top (column + 1) found.0) ∙ top)
+        | inr bottom ↦ inr (sym (behind pins.bottom (column + 1) found.0) ∙ bottom)
+      ],
+    )
 
 -- and a later pin is told
 pub goes_on-from_later : (pins : Pins) (column net : ℕ) → length pins.top ≡ length pins.bottom → 0 < net → HasLaterPin pins column net

@@ -40,21 +40,24 @@ above_lowest-within (lowest ∷ others) lines line member = (in_filter_back _ li
 held_by-member : (tracks : List Track) (t : Track) → Apart (ids tracks) → Contains tracks t → held_by tracks t.id ≡ t.net
 held_by-member [] t apart member = absurd (in_none t member)
 held_by-member (u ∷ tracks) t apart member = elim (in_cases u t tracks member) [
-    | inl same ↦ cond-true (eqb u.id t.id) u.net (held_by tracks t.id) (eq-eqb u.id t.id (ap (λ (v : Track). v.id) same)) ∙ ap (λ (v : Track). v.net) same
-    | inr later ↦
-        cond-false (eqb u.id t.id) u.net (held_by tracks t.id)
-        (ne_eqb u.id t.id (λ same. apart.0 (subst (λ n. Contains (ids tracks) n) (sym same) (in_map (λ (v : Track). v.id) t tracks later))))
-        ∙ held_by-member tracks t apart.1 later
-  ]
+  | inl same ↦ cond-true (eqb u.id t.id) u.net (held_by tracks t.id) (eq-eqb u.id t.id (ap (λ (v : Track). v.id) same)) ∙ ap (λ (v : Track). v.net) same
+  | inr later ↦
+      cond-false (eqb u.id t.id) u.net (held_by tracks t.id)
+      (ne_eqb u.id t.id (λ same. apart.0 (subst (λ n. Contains (ids tracks) n) (sym same) (in_map (λ (v : Track). v.id) t tracks later))))
+      ∙ held_by-member tracks t apart.1 later
+]
 
 held_track : (before : List Track) (net : ℕ) → 0 < net → Apart (ids before) → holds_track before net ≡ true → (id : ℕ) × Holds before net id
 held_track before net some apart held =
     let found = any_at (λ (t : Track). eqb t.net net) before held in
-    let t : Track = found.0 in
-    (t.id, record {
-      net_is = some; there = in_map (λ (v : Track). v.id) t before found.1;
-      held = held_by-member before t apart found.1 ∙ eqb-true t.net net found.2;
-    })
+    let t : Track = found.0 in (
+      t.id,
+      record {
+        net_is = some;
+        there = in_map (λ (v : Track). v.id) t before found.1;
+        held = held_by-member before t apart found.1 ∙ eqb-true t.net net found.2;
+      },
+    )
 
 none_held : (tracks : List Track) (net id : ℕ) → 0 < net → holds_track tracks net ≡ false → held_by tracks id ≡ net → ⊥
 none_held [] net id some none held = omega (arith, some, held)
@@ -86,9 +89,9 @@ module _ (may : List Candidate → ℕ → Type 0) (pins : Pins) (column fresh :
       → (holds_track before (top_pin pins column) || is_ending (next_of pins column (top_pin pins column))) ≡ true → TopEnters pins column before → ⊥
   equal_none some same gone (inl two) = two.1 same
   equal_none some same gone (inr straight) = elim (either_true (holds_track before (top_pin pins column)) (is_ending (next_of pins column (top_pin pins column))) gone) [
-      | inl held ↦ let own = held_track before (top_pin pins column) some (Apart-from (ids before) numbered.distinct) held in straight.holds_none own.0 own.1
-      | inr ends ↦ cc (ends, goes_on-from_later pins column (top_pin pins column) matched some straight.later)
-    ]
+    | inl held ↦ let own = held_track before (top_pin pins column) some (Apart-from (ids before) numbered.distinct) held in straight.holds_none own.0 own.1
+    | inr ends ↦ cc (ends, goes_on-from_later pins column (top_pin pins column) matched some straight.later)
+  ]
 
   equal_entered : (gone : Bool) → gone ≡ (holds_track before (top_pin pins column) || is_ending (next_of pins column (top_pin pins column)))
       → 0 < top_pin pins column → top_pin pins column ≡ bottom_pin pins column

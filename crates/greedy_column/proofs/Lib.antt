@@ -35,5 +35,6 @@ pub mod LaterLaws
 pub mod EntryLaws
 pub mod EntersLaws
 pub mod LawfulLaws
+pub mod FairLaws
 -- the records of a worked channel
 pub mod Worked

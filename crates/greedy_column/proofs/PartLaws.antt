@@ -56,9 +56,9 @@ pub Apart-rising : (xs : List ℕ) → IsStrictlyIncreasing xs → Apart xs
 Apart-rising [] rising = tt
 Apart-rising (x ∷ xs) rising = (
   (λ member.
-    let less = AllPairs-from_increasing (x ∷ xs) rising 0 (suc member.0) x (omega arith) (omega (arith, member.1)) in
-    omega (arith, less, member.2)),
-  Apart-rising xs (rising_rest x xs rising)
+      let less = AllPairs-from_increasing (x ∷ xs) rising 0 (suc member.0) x (omega arith) (omega (arith, member.1)) in
+      omega (arith, less, member.2)),
+  Apart-rising xs (rising_rest x xs rising),
 )
 
 -- lines are apart
@@ -67,19 +67,19 @@ Apart-lines_from passes first [] = tt
 Apart-lines_from passes first (t ∷ tracks) =
     step (passes t) first (lines_from passes (suc first) tracks)
     (λ member. let found = lines_from-each passes (suc first) first tracks member in omega (arith, found.above)) (Apart-lines_from passes (suc first) tracks) where
-  step : (b : Bool) (first : ℕ) (lines : List ℕ) → (Contains lines first → ⊥) → Apart lines → Apart (cond b (first ∷ []) [] ++ lines)
-  step true first lines none apart = (none, apart)
-  step false first lines none apart = apart
+      step : (b : Bool) (first : ℕ) (lines : List ℕ) → (Contains lines first → ⊥) → Apart lines → Apart (cond b (first ∷ []) [] ++ lines)
+      step true first lines none apart = (none, apart)
+      step false first lines none apart = apart
 
 -- what a map gives is apart where it keeps apart what is
 pub Apart-map : {X : Type 0} (f : X → ℕ) (g : X → ℕ) (xs : List X) → ((x y : X) → Contains xs x → Contains xs y → f x ≡ f y → g x ≡ g y) → Apart (map g xs) → Apart (map f xs)
 Apart-map f g [] keeps apart = tt
 Apart-map f g (x ∷ xs) keeps apart = (
   (λ member.
-    let from = in_map_back f (f x) xs member in
-    let same = keeps x from.0 (in_first x xs) (in_later x from.0 xs from.1) (sym from.2) in
-    apart.0 (subst (λ n. Contains (map g xs) n) (sym same) (in_map g from.0 xs from.1))),
-  Apart-map f g xs (λ a b first second same. keeps a b (in_later x a xs first) (in_later x b xs second) same) apart.1
+      let from = in_map_back f (f x) xs member in
+      let same = keeps x from.0 (in_first x xs) (in_later x from.0 xs from.1) (sym from.2) in
+      apart.0 (subst (λ n. Contains (map g xs) n) (sym same) (in_map g from.0 xs from.1))),
+  Apart-map f g xs (λ a b first second same. keeps a b (in_later x a xs first) (in_later x b xs second) same) apart.1,
 )
 
 module _ (may : List Candidate → ℕ → Type 0) (next : ℕ → Next) (tracks : List Track) where
@@ -103,10 +103,11 @@ module _ (may : List Candidate → ℕ → Type 0) (next : ℕ → Next) (tracks
       elim (in_cases (line, target) m rest (subst (λ (l : List (ℕ × ℕ)). Contains l m) is member)) [
         | inl same ↦
             let first : line ≡ m.0 = ap (λ (p : ℕ × ℕ). p.0) same in
-            let second : target ≡ m.1 = ap (λ (p : ℕ × ℕ). p.1) same in
-            (subst (λ l. Contains (line ∷ lines) l) first (in_first line lines),
+            let second : target ≡ m.1 = ap (λ (p : ℕ × ℕ). p.1) same in (
+              subst (λ l. Contains (line ∷ lines) l) first (in_first line lines),
               subst (λ t. Contains free t) second (goes_free (net_on tracks line) line target spans free goes other),
-              λ equal. other (second ∙ equal ∙ sym first))
+              λ equal. other (second ∙ equal ∙ sym first),
+            )
         | inr later ↦
             let found = moves_within lines (spans ++ piece_between (net_on tracks line) line target ∷ []) (without target free) rest follow m later in
             (in_later line m.0 lines found.0, (in_filter_back (λ o. not (eqb o target)) m.1 free found.1).0, found.2)
@@ -123,12 +124,18 @@ module _ (may : List Candidate → ℕ → Type 0) (next : ℕ → Next) (tracks
       let spans_now : List Span = spans ++ piece_between (net_on tracks line) line target ∷ [] in
       let later = moves_apart lines spans_now (without target free) rest apart.1 follow in
       subst (λ (l : List (ℕ × ℕ)). Apart (map (λ (m : ℕ × ℕ). m.0) l) × Apart (map (λ (m : ℕ × ℕ). m.1) l)) (sym is) (
-        ((λ member.
-          let from = in_map_back (λ (m : ℕ × ℕ). m.0) line rest member in
-          let found = moves_within lines spans_now (without target free) rest follow from.0 from.1 in
-          apart.0 (subst (λ l. Contains lines l) from.2 found.0)), later.0),
-        ((λ member.
-          let from = in_map_back (λ (m : ℕ × ℕ). m.1) target rest member in
-          let found = moves_within lines spans_now (without target free) rest follow from.0 from.1 in
-          kept_apart from.0.1 target (in_filter_back (λ o. not (eqb o target)) from.0.1 free found.1).1 from.2), later.1)
+        (
+          (λ member.
+              let from = in_map_back (λ (m : ℕ × ℕ). m.0) line rest member in
+              let found = moves_within lines spans_now (without target free) rest follow from.0 from.1 in
+              apart.0 (subst (λ l. Contains lines l) from.2 found.0)),
+          later.0,
+        ),
+        (
+          (λ member.
+              let from = in_map_back (λ (m : ℕ × ℕ). m.1) target rest member in
+              let found = moves_within lines spans_now (without target free) rest follow from.0 from.1 in
+              kept_apart from.0.1 target (in_filter_back (λ o. not (eqb o target)) from.0.1 free found.1).1 from.2),
+          later.1,
+        ),
       )
