@@ -36,5 +36,6 @@ pub mod EntryLaws
 pub mod EntersLaws
 pub mod LawfulLaws
 pub mod FairLaws
+pub mod SpareLaws
 -- the records of a worked channel
 pub mod Worked
