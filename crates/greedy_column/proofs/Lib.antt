@@ -37,5 +37,6 @@ pub mod EntersLaws
 pub mod LawfulLaws
 pub mod FairLaws
 pub mod SpareLaws
+pub mod SparingLaws
 -- the records of a worked channel
 pub mod Worked

@@ -27,12 +27,12 @@ listed_open net first zero (t ∷ tracks) within at =
     let e : first ≡ first + zero = omega arith in
     subst (λ l. Contains (lines_from (is_open net) first (t ∷ tracks)) l) e
     (Contains-append_left (cond (is_open net t) (first ∷ []) []) (lines_from (is_open net) (suc first) tracks) first
-      (subst (λ b. Contains (cond b (first ∷ []) []) first) (sym (open_test t.net net at)) (in_first first [])))
+    (subst (λ b. Contains (cond b (first ∷ []) []) first) (sym (open_test t.net net at)) (in_first first [])))
 listed_open net first (suc k) (t ∷ tracks) within at =
     let e : suc first + k ≡ first + suc k = omega arith in
     subst (λ l. Contains (lines_from (is_open net) first (t ∷ tracks)) l) e
     (Contains-append_right (cond (is_open net t) (first ∷ []) []) (lines_from (is_open net) (suc first) tracks) (suc first + k)
-      (listed_open net (suc first) k tracks (omega arith) at))
+    (listed_open net (suc first) k tracks (omega arith) at))
 
 -- a track that is open to a net stands on an open line
 pub open_member : (before : List Track) (net id : ℕ) → Apart (ids before) → IsOpen before net id → Contains (open_lines net before) (line_of (ids before) id)
@@ -62,27 +62,27 @@ lowest_first : (passes : Track → Bool) (first line lowest : ℕ) (others : Lis
 lowest_first passes first line lowest others [] is member = absurd (in_none line member)
 lowest_first passes first line lowest others (t ∷ tracks) is member =
     step (passes t) refl is member (λ again inside. lowest_first passes (suc first) line lowest others tracks again inside) where
-  step : (b : Bool) → passes t ≡ b → (cond b (first ∷ []) [] ++ lines_from passes (suc first) tracks) ≡ lowest ∷ others
-      → Contains (cond b (first ∷ []) [] ++ lines_from passes (suc first) tracks) line
-      → (lines_from passes (suc first) tracks ≡ lowest ∷ others → Contains (lines_from passes (suc first) tracks) line → lowest ≤ line) → lowest ≤ line
-  step true is_passing is member later =
-      let same : first ≡ lowest = cc is in
-      elim (in_cases first line (lines_from passes (suc first) tracks) member) [
-        | inl here ↦ omega (arith, same, here)
-        | inr above ↦ let found = lines_from-each passes (suc first) line tracks above in omega (arith, same, found.above)
-      ]
-  step false is_passing is member later = later is member
+      step : (b : Bool) → passes t ≡ b → (cond b (first ∷ []) [] ++ lines_from passes (suc first) tracks) ≡ lowest ∷ others
+          → Contains (cond b (first ∷ []) [] ++ lines_from passes (suc first) tracks) line
+          → (lines_from passes (suc first) tracks ≡ lowest ∷ others → Contains (lines_from passes (suc first) tracks) line → lowest ≤ line) → lowest ≤ line
+      step true is_passing is member later =
+          let same : first ≡ lowest = cc is in
+          elim (in_cases first line (lines_from passes (suc first) tracks) member) [
+            | inl here ↦ omega (arith, same, here)
+            | inr above ↦ let found = lines_from-each passes (suc first) line tracks above in omega (arith, same, found.above)
+          ]
+      step false is_passing is member later = later is member
 
 -- without a line that has a partner there is no pair
 pub HasNoPair-from : (before : List Track) (top bottom : ℕ) → Apart (ids before)
     → above_lowest (open_lines bottom before) (open_lines top before) ≡ [] → HasNoPair before top bottom
 HasNoPair-from before top bottom apart none upper lower above below order =
     step (open_lines bottom before) refl none (open_member before bottom lower apart below) where
-  step : (lowers : List ℕ) → open_lines bottom before ≡ lowers → above_lowest lowers (open_lines top before) ≡ [] → Contains lowers (line_of (ids before) lower) → ⊥
-  step [] is none member = in_none (line_of (ids before) lower) member
-  step (lowest ∷ others) is none member =
-      let least : lowest ≤ line_of (ids before) lower =
-      lowest_first (is_open bottom) 1 (line_of (ids before) lower) lowest others before is (open_member before bottom lower apart below) in
-      in_none (line_of (ids before) upper) (subst (λ l. Contains l (line_of (ids before) upper)) none
-        (in_filter (λ l. ltb lowest l) (line_of (ids before) upper) (open_lines top before) (open_member before top upper apart above)
+      step : (lowers : List ℕ) → open_lines bottom before ≡ lowers → above_lowest lowers (open_lines top before) ≡ [] → Contains lowers (line_of (ids before) lower) → ⊥
+      step [] is none member = in_none (line_of (ids before) lower) member
+      step (lowest ∷ others) is none member =
+          let least : lowest ≤ line_of (ids before) lower =
+          lowest_first (is_open bottom) 1 (line_of (ids before) lower) lowest others before is (open_member before bottom lower apart below) in
+          in_none (line_of (ids before) upper) (subst (λ l. Contains l (line_of (ids before) upper)) none
+          (in_filter (λ l. ltb lowest l) (line_of (ids before) upper) (open_lines top before) (open_member before top upper apart above)
           (lt-ltb lowest (line_of (ids before) upper) (omega (arith, least, order)))))
