@@ -28,5 +28,15 @@ pub mod TableLaws
 pub mod NeighbourLaws
 pub mod DrawnLaws
 pub mod JoinedLaws
+-- parts of what is fair: what is made
+pub mod MadeLaws
+pub mod PartLaws
+pub mod LaterLaws
+pub mod EntryLaws
+pub mod EntersLaws
+pub mod LawfulLaws
+pub mod FairLaws
+pub mod SpareLaws
+pub mod SparingLaws
 -- the records of a worked channel
 pub mod Worked

@@ -1,0 +1,104 @@
+use Rattle.std.proofs.Common.{◌≡◌, ◌⊎◌, inl, inr, ◌<◌, ◌≤◌, ◌+◌, ◌-◌, ◌||◌, ℕ, suc, List, [], ◌∷◌, Bool, true, false, length, refl, sym, subst, ap, ◌∙◌, arith, Contains, Some}
+use Rattle.choose_core.specs.declared.candidate.Candidate.{Candidate}
+use Rattle.greedy_column.specs.declared.column.Track.{Track}
+use Rattle.greedy_column.specs.declared.column.Made.{Made}
+use Rattle.greedy_column.specs.declared.question.Question.{Question}
+use Rattle.greedy_column.specs.declared.entering.Pin.{Pin}
+use Rattle.greedy_column.specs.declared.entering.Entries.{Entries}
+use Rattle.greedy_column.specs.declared.entering.Edge.{Edge}
+use Rattle.greedy_column.specs.declared.entering.Edge.TheVariants.{Upper, Lower}
+use Rattle.greedy_column.specs.declared.entering.PinKind.{PinKind}
+use Rattle.greedy_column.specs.declared.entering.PinKind.TheVariants.{NoPins, BottomAlone, TopAlone, EqualPins, TwoPins}
+use Rattle.greedy_column.specs.declared.entering.Newcomer.{Newcomer}
+use Rattle.greedy_column.specs.declared.entering.Newcomer.TheVariants.{TopPin, BottomPin, BothPins}
+use Rattle.greedy_column.specs.Lines.{LieWithin, is_open, open_lines, above_lowest, place_of_new, holds_track}
+use Rattle.greedy_column.specs.Offers.{IsPicked, offer}
+use Rattle.greedy_column.specs.Lawful.{AreMadeFrom}
+use Rattle.greedy_column.specs.Entering.{Enters, EntersBy, EntersAlone, EntersEqual, EntersPair, EntersNew, newcomer_of, entry_at, no_entry, new_track, pin_kind, is_ending, straight_question, top_question, bottom_question}
+use Rattle.greedy_column.proofs.Members.{in_none, in_one, in_cases}
+use Rattle.greedy_column.proofs.PickLaws.{picked_is_option}
+use Rattle.greedy_column.proofs.LineLaws.{LieWithin-lines, place_of_new-most}
+
+-- the tracks that a column makes: of ids from the first new one upwards, each at a place, and each for a pin that enters it
+pub record AreMadeForPins (before : List Track) (fresh : ℕ) (entries : Entries) : Type 0 where
+  pub placed : AreMadeFrom fresh (length before) entries.made
+  pub entered : (m : Made) → Contains entries.made m → (m.id ≡ entries.top) ⊎ (m.id ≡ entries.bottom)
+
+module _ (may : List Candidate → ℕ → Type 0) (before : List Track) (fresh : ℕ) where
+  none_made : (top bottom : ℕ) → AreMadeForPins before fresh (record { made = []; top = top; bottom = bottom })
+  none_made top bottom = record { placed = tt; entered = λ m member. absurd (in_none m member) }
+
+  made_at : (edge : Edge) → AreMadeForPins before fresh (entry_at edge (new_track fresh (place_of_new (length before) 0 (length before)) ∷ []) fresh)
+  made_at Upper = record {
+    placed = (refl, place_of_new-most (length before) 0 (length before) (omega arith), tt);
+    entered = λ m member. inl (sym (ap (λ (n : Made). n.id) (in_one (new_track fresh (place_of_new (length before) 0 (length before))) m member)));
+  }
+  made_at Lower = record {
+    placed = (refl, place_of_new-most (length before) 0 (length before) (omega arith), tt);
+    entered = λ m member. inr (sym (ap (λ (n : Made). n.id) (in_one (new_track fresh (place_of_new (length before) 0 (length before))) m member)));
+  }
+
+  none_at : (edge : Edge) (id : ℕ) → AreMadeForPins before fresh (entry_at edge [] id)
+  none_at Upper id = none_made id 0
+  none_at Lower id = none_made 0 id
+
+  alone_made : (edge : Edge) (question : Question) (lines : List ℕ) (entries : Entries) → EntersAlone may edge question before fresh lines entries
+      → AreMadeForPins before fresh entries
+  alone_made edge question [] entries is = subst (λ (e : Entries). AreMadeForPins before fresh e) (sym is) (made_at edge)
+  alone_made edge question (line ∷ lines) entries (picked, by, is) = subst (λ (e : Entries). AreMadeForPins before fresh e) (sym is) (none_at edge _)
+
+  equal_made : (pin : Pin) (gone : Bool) (entries : Entries) → EntersEqual may pin before fresh gone entries → AreMadeForPins before fresh entries
+  equal_made pin true entries is = subst (λ (e : Entries). AreMadeForPins before fresh e) (sym is) (none_made 0 0)
+  equal_made pin false entries enters = alone_made Upper (straight_question pin) (open_lines pin.net before) entries enters
+
+  one_made : (top bottom below : ℕ) → below ≤ length before → (fresh ≡ top) ⊎ (fresh ≡ bottom)
+      → AreMadeForPins before fresh (record { made = new_track fresh below ∷ []; top = top; bottom = bottom })
+  one_made top bottom below place enters = record {
+    placed = (refl, place, tt);
+    entered = λ m member.
+        let same : fresh ≡ m.id = ap (λ (n : Made). n.id) (in_one (new_track fresh below) m member) in
+        elim enters [ inl is ↦ inl (sym same ∙ is) | inr is ↦ inr (sym same ∙ is) ];
+  }
+
+  new_made : (top bottom : Pin) (uppers lowers : List ℕ) (new : Newcomer) (entries : Entries) → LieWithin (length before) uppers → LieWithin (length before) lowers
+      → EntersNew may top bottom before fresh uppers lowers new entries → AreMadeForPins before fresh entries
+  new_made top bottom uppers lowers TopPin entries above below (line, by, is) =
+      let inside = below.each line (picked_is_option may (offer (bottom_question bottom)) lowers line by) in
+      subst (λ (e : Entries). AreMadeForPins before fresh e) (sym is)
+      (one_made fresh _ (place_of_new (length before) line (length before)) (place_of_new-most (length before) line (length before) inside.1) (inl refl))
+  new_made top bottom uppers lowers BottomPin entries above below (line, by, is) =
+      let inside = above.each line (picked_is_option may (offer (top_question top (length before))) uppers line by) in
+      let most = place_of_new-most (length before) 0 (line - 1) (omega arith) in
+      subst (λ (e : Entries). AreMadeForPins before fresh e) (sym is)
+      (one_made _ fresh (place_of_new (length before) 0 (line - 1)) (omega (arith, most, inside.1)) (inr refl))
+  new_made top bottom uppers lowers BothPins entries above below is =
+      let lower : ℕ = place_of_new (length before) 0 (length before) in
+      let upper : ℕ = place_of_new (length before + 1) (lower + 1) (length before + 1) in
+      let first = place_of_new-most (length before) 0 (length before) (omega arith) in
+      let second = place_of_new-most (length before + 1) (lower + 1) (length before + 1) (omega (arith, first)) in
+      subst (λ (e : Entries). AreMadeForPins before fresh e) (sym is) (record {
+        placed = (refl, first, (omega arith, omega (arith, second), tt));
+        entered = λ m member. elim (in_cases (new_track fresh lower) m (new_track (fresh + 1) upper ∷ []) member) [
+          | inl here ↦ inr (sym (ap (λ (n : Made). n.id) here))
+          | inr later ↦ inl (sym (ap (λ (n : Made). n.id) (in_one (new_track (fresh + 1) upper) m later)))
+        ];
+      })
+
+  pair_made : (top bottom : Pin) (uppers lowers partnered : List ℕ) (entries : Entries) → LieWithin (length before) uppers → LieWithin (length before) lowers
+      → EntersPair may top bottom before fresh uppers lowers partnered entries → AreMadeForPins before fresh entries
+  pair_made top bottom uppers lowers [] entries above below enters = new_made top bottom uppers lowers (newcomer_of uppers lowers) entries above below enters
+  pair_made top bottom uppers lowers (line ∷ lines) entries above below (upper, by, (lower, too, is)) =
+      subst (λ (e : Entries). AreMadeForPins before fresh e) (sym is) (none_made _ _)
+
+  by_kind_made : (top bottom : Pin) (kind : PinKind) (entries : Entries) → EntersBy may top bottom before fresh kind entries → AreMadeForPins before fresh entries
+  by_kind_made top bottom NoPins entries is = subst (λ (e : Entries). AreMadeForPins before fresh e) (sym is) (none_made 0 0)
+  by_kind_made top bottom BottomAlone entries enters = alone_made Lower (bottom_question bottom) (open_lines bottom.net before) entries enters
+  by_kind_made top bottom TopAlone entries enters = alone_made Upper (top_question top (length before)) (open_lines top.net before) entries enters
+  by_kind_made top bottom EqualPins entries enters = equal_made top (holds_track before top.net || is_ending top.next) entries enters
+  by_kind_made top bottom TwoPins entries enters =
+      pair_made top bottom (open_lines top.net before) (open_lines bottom.net before) (above_lowest (open_lines bottom.net before) (open_lines top.net before)) entries
+      (LieWithin-lines (is_open top.net) before) (LieWithin-lines (is_open bottom.net) before) enters
+
+  -- what step 1 makes is made for its pins
+  pub AreMadeForPins-from : (top bottom : Pin) (entries : Entries) → Enters may top bottom before fresh entries → AreMadeForPins before fresh entries
+  AreMadeForPins-from top bottom entries enters = by_kind_made top bottom (pin_kind top.net bottom.net) entries enters
