@@ -1,11 +1,10 @@
-use Rattle.std.proofs.Common.{◌≡◌, ◌⊎◌, inl, inr, ◌<◌, ◌≤◌, ◌+◌, ◌&&◌, ◌||◌, ◌≢◌, eqb, ltb, leb, ℕ, zero, suc, List, [], ◌∷◌, Bool, true, false, cond, Option, Some, None, length, get_or, slice_get, refl, sym, subst, ap, ◌∙◌, arith}
-use Rattle.std.proofs.lemmas.Bool.{cases_Bool, cases_eq, cond-true, cond-false}
+use Rattle.std.proofs.Common.{◌≡◌, inl, inr, ◌<◌, ◌≤◌, ◌&&◌, ◌||◌, ◌≢◌, eqb, ltb, leb, ℕ, zero, suc, List, [], ◌∷◌, true, false, length, get_or, slice_get, refl, sym, ◌∙◌, arith}
+use Rattle.std.proofs.lemmas.Bool.{cases_eq, cond-true, cond-false}
 use Rattle.std.proofs.lemmas.Bool.Decides.{nat_tests}
 use Rattle.std.specs.List.{AllWithin}
-use Rattle.choose_core.specs.declared.candidate.Next.{Next}
 use Rattle.choose_core.specs.declared.candidate.Next.TheVariants.{Ends}
 use Rattle.greedy_column.specs.declared.uses.Use.{Use}
-use Rattle.greedy_column.specs.Uses.{AreSorted, IsBefore, is_past, next_at}
+use Rattle.greedy_column.specs.Uses.{AreSorted, is_past, next_at}
 use Rattle.greedy_column.specs.Uses.{next_after}
 
 later_test : (n m c k : ℕ) → (ltb n m || (eqb n m && leb c k)) ≡ true → (eqb n m && ltb k c) ≡ false

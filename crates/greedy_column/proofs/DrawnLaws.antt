@@ -1,4 +1,4 @@
-use Rattle.std.proofs.Common.{◌≡◌, ◌≢◌, ◌⊎◌, inl, inr, ◌<◌, ◌≤◌, ◌+◌, ◌-◌, ◌++◌, ◌&&◌, ◌||◌, not, leb, eqb, ltb, ℕ, zero, suc, List, [], ◌∷◌, Bool, true, false, cond, length, map, get_or, refl, sym, subst, ap, ◌∙◌, arith, Contains, append_assoc}
+use Rattle.std.proofs.Common.{◌≡◌, ◌≢◌, inl, inr, ◌<◌, ◌≤◌, ◌+◌, ◌-◌, ◌++◌, ◌&&◌, not, leb, ℕ, List, [], ◌∷◌, true, length, map, get_or, refl, subst, ap, ◌∙◌, arith, Contains, append_assoc}
 use Rattle.std.proofs.lemmas.Bool.{cond-true, le-leb}
 use Rattle.std.proofs.lemmas.List.{map-append, append-nil}
 use Rattle.channel_model.specs.Pins.{Pins}
@@ -10,8 +10,8 @@ use Rattle.greedy_column.specs.declared.span.Span.{Span}
 use Rattle.greedy_column.specs.Tracks.{ids, held_by, line_of}
 use Rattle.greedy_column.specs.Verticals.{Vertical, between, pin_verticals, joined_verticals, on}
 use Rattle.greedy_column.specs.Lines.{id_on, net_on}
-use Rattle.greedy_column.specs.Offers.{IsPicked, join_offer}
-use Rattle.greedy_column.specs.Joining.{JoinsFollow, neighbours, neighbours_from, possible_joins, span_in, ids_of, is_joined, is_clear}
+use Rattle.greedy_column.specs.Offers.{join_offer}
+use Rattle.greedy_column.specs.Joining.{JoinsFollow, neighbours, possible_joins, span_in, ids_of, is_joined, is_clear}
 use Rattle.greedy_column.specs.Follows.{pin_spans}
 use Rattle.greedy_column.proofs.Members.{in_none, in_cases, in_first, in_later, in_filter_back}
 use Rattle.greedy_column.proofs.PickLaws.{picked_is_option}

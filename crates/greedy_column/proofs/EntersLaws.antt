@@ -1,9 +1,7 @@
-use Rattle.std.proofs.Common.{◌≡◌, ◌≢◌, ◌⊎◌, inl, inr, ◌<◌, ◌≤◌, ◌+◌, ◌-◌, ◌||◌, eqb, ltb, ℕ, suc, List, [], ◌∷◌, Bool, true, false, cond, length, map, refl, sym, subst, ap, ◌∙◌, arith, Contains, eq-eqb}
+use Rattle.std.proofs.Common.{◌≡◌, ◌≢◌, inl, inr, ◌<◌, ◌+◌, eqb, ltb, ℕ, List, [], ◌∷◌, cond, length, sym, subst, ap, ◌∙◌, arith, Contains, eq-eqb}
 use Rattle.std.proofs.lemmas.Bool.{ne_eqb, cases_eq, ltb-true}
-use Rattle.std.specs.List.{list_any}
 use Rattle.choose_core.specs.declared.candidate.Candidate.{Candidate}
 use Rattle.greedy_column.specs.declared.column.Track.{Track}
-use Rattle.greedy_column.specs.declared.column.Made.{Made}
 use Rattle.greedy_column.specs.declared.entering.Pin.{Pin}
 use Rattle.greedy_column.specs.declared.entering.Entries.{Entries}
 use Rattle.greedy_column.specs.declared.entering.PinKind.{PinKind}
@@ -11,14 +9,13 @@ use Rattle.greedy_column.specs.declared.entering.PinKind.TheVariants.{NoPins, Bo
 use Rattle.greedy_column.specs.declared.entering.Newcomer.{Newcomer}
 use Rattle.greedy_column.specs.declared.entering.Newcomer.TheVariants.{TopPin, BottomPin, BothPins}
 use Rattle.greedy_column.specs.Tracks.{ids, line_of}
-use Rattle.greedy_column.specs.Lawful.{IsOpen}
-use Rattle.greedy_column.specs.Lines.{open_lines, above_lowest, below_line, id_on, place_of_new}
-use Rattle.greedy_column.specs.Offers.{IsPicked, offer}
+use Rattle.greedy_column.specs.Lines.{below_line, id_on}
+use Rattle.greedy_column.specs.Offers.{offer}
 use Rattle.greedy_column.specs.State.{AreNumbered}
-use Rattle.greedy_column.specs.Entering.{EntersPair, EntersNew, newcomer_of, new_track, pin_kind, top_question, bottom_question}
+use Rattle.greedy_column.specs.Entering.{EntersPair, EntersNew, newcomer_of, pin_kind, top_question, bottom_question}
 use Rattle.greedy_column.proofs.Members.{in_first, in_later, in_filter_back}
 use Rattle.greedy_column.proofs.PickLaws.{picked_is_option}
-use Rattle.greedy_column.proofs.IdLaws.{Apart, Apart-from}
+use Rattle.greedy_column.proofs.IdLaws.{Apart-from}
 use Rattle.greedy_column.proofs.TableLaws.{line_of-line, id_on-member}
 use Rattle.greedy_column.proofs.EntryLaws.{IsOpenLine, IsOpen-from, MayBeEntered}
 

@@ -1,28 +1,22 @@
-use Rattle.std.proofs.Common.{◌≡◌, ◌≢◌, ◌⊎◌, inl, inr, ◌<◌, ◌≤◌, ◌+◌, ◌-◌, ◌++◌, ◌||◌, eqb, ltb, ℕ, zero, suc, List, [], ◌∷◌, Bool, true, false, cond, length, map, get_or, refl, sym, subst, ap, ◌∙◌, arith, Contains, eqb-true, eq-eqb}
-use Rattle.std.proofs.lemmas.Bool.{cond-true, cond-false, ne_eqb, cases_eq}
+use Rattle.std.proofs.Common.{◌≡◌, ◌⊎◌, inl, inr, ◌<◌, ◌≤◌, ◌+◌, ◌-◌, ◌||◌, eqb, ℕ, suc, List, [], ◌∷◌, Bool, true, false, cond, length, map, get_or, refl, sym, subst, ap, ◌∙◌, arith, Contains, eqb-true}
+use Rattle.std.proofs.lemmas.Bool.{ne_eqb, cases_eq}
 use Rattle.std.proofs.lemmas.List.Elements.{Contains-append_cases}
-use Rattle.std.specs.List.{list_any}
-use Rattle.channel_model.specs.Pins.{Pins}
 use Rattle.choose_core.specs.declared.candidate.Candidate.{Candidate}
-use Rattle.choose_core.specs.declared.candidate.Next.{Next}
 use Rattle.greedy_column.specs.declared.column.Track.{Track}
 use Rattle.greedy_column.specs.declared.column.Made.{Made}
-use Rattle.greedy_column.specs.declared.column.Column.{Column}
 use Rattle.greedy_column.specs.declared.question.Question.{Question}
-use Rattle.greedy_column.specs.declared.entering.Pin.{Pin}
 use Rattle.greedy_column.specs.declared.entering.Entries.{Entries}
 use Rattle.greedy_column.specs.declared.entering.Edge.{Edge}
 use Rattle.greedy_column.specs.declared.entering.Edge.TheVariants.{Upper, Lower}
-use Rattle.greedy_column.specs.Tracks.{ids, held_by, line_of}
-use Rattle.greedy_column.specs.Neighbours.{Holds}
-use Rattle.greedy_column.specs.Lawful.{WasFree, IsOpen}
+use Rattle.greedy_column.specs.Tracks.{ids}
+use Rattle.greedy_column.specs.Lawful.{IsOpen}
 use Rattle.greedy_column.specs.Lines.{is_open, lines_from, open_lines, id_on, net_on, place_of_new}
-use Rattle.greedy_column.specs.Offers.{IsPicked, offer}
+use Rattle.greedy_column.specs.Offers.{offer}
 use Rattle.greedy_column.specs.Entering.{EntersAlone, entry_at, new_track}
 use Rattle.greedy_column.proofs.Members.{in_none, in_one, in_first}
 use Rattle.greedy_column.proofs.PickLaws.{picked_is_option}
 use Rattle.greedy_column.proofs.IdLaws.{Apart}
-use Rattle.greedy_column.proofs.TableLaws.{nets, line_of-line, held_by-line, id_on-member}
+use Rattle.greedy_column.proofs.TableLaws.{nets, held_by-line, id_on-member}
 
 -- a line that is open to a net, and what its track is
 pub record IsOpenLine (before : List Track) (net line : ℕ) : Type 0 where

@@ -1,4 +1,4 @@
-use Rattle.std.proofs.Common.{◌≡◌, ◌≢◌, ◌⊎◌, ◌<◌, ◌≤◌, ◌+◌, ◌++◌, ◌↔◌, eqb, ℕ, List, [], ◌∷◌, length, map, refl, sym, subst, ap, ◌∙◌, arith, Contains}
+use Rattle.std.proofs.Common.{◌≡◌, ◌⊎◌, ◌<◌, ◌≤◌, ◌++◌, ◌↔◌, eqb, ℕ, List, [], ◌∷◌, length, map, refl, sym, subst, ap, ◌∙◌, arith, Contains}
 use Rattle.std.proofs.lemmas.List.{length-map}
 use Rattle.std.specs.Bool.{IsTrue}
 use Rattle.std.specs.List.{IsDistinct}
@@ -11,14 +11,13 @@ use Rattle.greedy_column.specs.declared.span.Span.{Span}
 use Rattle.greedy_column.specs.Tracks.{ids, line_of, hold}
 use Rattle.greedy_column.specs.Replay.{top_pin, bottom_pin, with_made, entered, freed, freed_among}
 use Rattle.greedy_column.specs.Ahead.{next_of}
-use Rattle.greedy_column.specs.Verticals.{joined_verticals}
 use Rattle.greedy_column.specs.Neighbours.{AreNeighbours}
 use Rattle.greedy_column.specs.Lawful.{HasEqualPins, AreMadeFrom}
 use Rattle.greedy_column.specs.Keeping.{AreJoined}
-use Rattle.greedy_column.specs.Lines.{LieWithin, is_held, is_open, id_on, held_lines, free_lines}
-use Rattle.greedy_column.specs.Joining.{neighbours, span_in, ids_of}
+use Rattle.greedy_column.specs.Lines.{is_held, is_open, id_on, free_lines}
+use Rattle.greedy_column.specs.Joining.{neighbours, ids_of}
 use Rattle.greedy_column.specs.Moving.{order_of_moves}
-use Rattle.greedy_column.specs.Follows.{Follows, FollowsOn, entries_of, pin_of, pin_spans, move_ids}
+use Rattle.greedy_column.specs.Follows.{Follows, entries_of, pin_of, pin_spans, move_ids}
 use Rattle.greedy_column.specs.State.{AreNumbered}
 use Rattle.greedy_column.proofs.Members.{in_map_back}
 use Rattle.greedy_column.proofs.IdLaws.{Apart, Apart-from, Apart-to, ids-hold, AreNumbered-with_made}
@@ -26,7 +25,7 @@ use Rattle.greedy_column.proofs.TableLaws.{line_of-line}
 use Rattle.greedy_column.proofs.LineLaws.{LieWithin-lines}
 use Rattle.greedy_column.proofs.DrawnLaws.{IsPiece, IsPiece-neighbour, joined-neighbours, none_possible, drawn}
 use Rattle.greedy_column.proofs.JoinedLaws.{AreJoined-from}
-use Rattle.greedy_column.proofs.MadeLaws.{AreMadeForPins, AreMadeForPins-from}
+use Rattle.greedy_column.proofs.MadeLaws.{AreMadeForPins-from}
 use Rattle.greedy_column.proofs.PartLaws.{AreNeighbours-from, Apart-rising, Apart-lines_from, Apart-map, moves_within, moves_apart}
 use Rattle.greedy_column.proofs.LawfulLaws.{AreEntered, AreEntered-from}
 

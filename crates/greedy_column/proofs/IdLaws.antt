@@ -1,4 +1,4 @@
-use Rattle.std.proofs.Common.{◌≡◌, ◌≢◌, ◌⊎◌, inl, inr, ◌<◌, ◌≤◌, ◌+◌, ◌++◌, eqb, ℕ, zero, suc, List, [], ◌∷◌, Bool, true, false, cond, length, map, take, drop, refl, sym, subst, ap, ◌∙◌, arith, Contains, add-zero, eq-eqb}
+use Rattle.std.proofs.Common.{◌≡◌, ◌⊎◌, inl, inr, ◌<◌, ◌+◌, eqb, ℕ, zero, suc, List, [], ◌∷◌, Bool, true, false, cond, length, refl, sym, subst, ap, ◌∙◌, arith, Contains, add-zero, eq-eqb}
 use Rattle.std.proofs.lemmas.Bool.{ne_eqb}
 use Rattle.std.specs.List.{IsDistinct, AllByRecursion, insert, list_any}
 use Rattle.greedy_column.specs.declared.column.Track.{Track}

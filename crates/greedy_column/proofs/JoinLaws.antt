@@ -1,16 +1,14 @@
-use Rattle.std.proofs.Common.{◌≡◌, ◌<◌, ◌≤◌, ◌+◌, ◌++◌, ◌&&◌, ◌||◌, not, eqb, leb, ltb, ℕ, suc, List, [], ◌∷◌, Bool, true, false, cond, length, filter, refl, sym, ap, ◌∙◌, arith, Contains, append_assoc, inl, inr}
+use Rattle.std.proofs.Common.{◌≡◌, ◌<◌, ◌≤◌, ◌++◌, ◌&&◌, ◌||◌, not, eqb, leb, ℕ, List, [], ◌∷◌, Bool, true, false, cond, length, filter, refl, sym, ap, ◌∙◌, arith, Contains, append_assoc, inl, inr}
 use Rattle.std.proofs.lemmas.List.{append-nil}
 use Rattle.std.proofs.lemmas.Bool.{and_parts, and_from}
 use Rattle.std.proofs.lemmas.Bool.Decides.{nat_tests}
 use Rattle.std.proofs.lemmas.List.Folds.{list_any-append, list_all-append}
-use Rattle.std.specs.List.{list_any, list_all}
 use Rattle.choose_core.specs.declared.candidate.Candidate.{Candidate}
 use Rattle.choose_core.specs.declared.candidate.Next.{Next}
 use Rattle.greedy_column.specs.declared.span.Span.{Span}
 use Rattle.greedy_column.specs.Offers.{IsPicked, join_offer}
 use Rattle.greedy_column.specs.Joining.{JoinsFollow, covers, passes, is_joined, is_clear, possible_joins}
 use Rattle.greedy_column.proofs.Members.{in_cases, in_filter_back, filter-few}
-use Rattle.greedy_column.proofs.PickLaws.{picked_is_option}
 
 -- a stricter test keeps fewer, and less where it refuses a member that the other one keeps
 filter-fewer : {X : Type 0} (p q : X → Bool) (xs : List X) → ((x : X) → q x ≡ true → p x ≡ true) → length (filter q xs) ≤ length (filter p xs)

@@ -1,5 +1,5 @@
-use Rattle.std.proofs.Common.{◌≡◌, ◌≢◌, ◌⊎◌, inl, inr, ◌<◌, ◌≤◌, ◌+◌, ◌++◌, ◌&&◌, ◌||◌, not, leb, eqb, ltb, ℕ, suc, List, [], ◌∷◌, Bool, true, false, length, map, get_or, refl, sym, subst, ap, ◌∙◌, arith, Contains, eqb-true}
-use Rattle.std.proofs.lemmas.Bool.{and_parts, and_from, leb-true, eqb-false}
+use Rattle.std.proofs.Common.{◌≡◌, ◌≢◌, ◌<◌, ◌≤◌, ◌+◌, ◌&&◌, ◌||◌, not, leb, eqb, ltb, ℕ, suc, List, [], Bool, true, false, length, map, get_or, refl, sym, subst, ap, ◌∙◌, arith, Contains, eqb-true}
+use Rattle.std.proofs.lemmas.Bool.{and_parts, leb-true}
 use Rattle.std.proofs.lemmas.Bool.Decides.{nat_tests}
 use Rattle.std.proofs.lemmas.List.Elements.{Contains-get_or}
 use Rattle.channel_model.specs.Pins.{Pins}
@@ -7,13 +7,13 @@ use Rattle.greedy_column.specs.declared.column.Track.{Track}
 use Rattle.greedy_column.specs.declared.column.Column.{Column}
 use Rattle.greedy_column.specs.declared.span.Span.{Span}
 use Rattle.greedy_column.specs.Tracks.{ids, held_by, line_of}
-use Rattle.greedy_column.specs.Verticals.{Vertical, joined_verticals, Shares, IsOver, on}
+use Rattle.greedy_column.specs.Verticals.{Vertical, joined_verticals}
 use Rattle.greedy_column.specs.Neighbours.{Holds, AreNeighbours, Grouped, alone, along}
 use Rattle.greedy_column.specs.Keeping.{AreJoined}
 use Rattle.greedy_column.specs.Joining.{neighbours, possible_joins, span_in, is_joined, is_clear, covers, passes}
 use Rattle.greedy_column.proofs.Members.{in_none, in_filter, in_map_back, any_at, not_all}
 use Rattle.greedy_column.proofs.IdLaws.{Apart}
-use Rattle.greedy_column.proofs.TableLaws.{nets, length-ids, line_of-at, held_by-at, place_in}
+use Rattle.greedy_column.proofs.TableLaws.{length-ids, line_of-at, held_by-at, place_in}
 use Rattle.greedy_column.proofs.NeighbourLaws.{AreNext, listed_from}
 
 -- two neighbouring tracks stand on two places of their net with none between

@@ -1,7 +1,6 @@
-use Rattle.std.proofs.Common.{◌≡◌, ◌≢◌, ◌⊎◌, inl, inr, ◌<◌, ◌≤◌, ◌+◌, ◌-◌, eqb, ℕ, zero, suc, List, [], ◌∷◌, Bool, true, false, cond, length, drop, get_or, refl, sym, subst, ap, ◌∙◌, arith, eq-eqb, length-drop}
-use Rattle.std.proofs.lemmas.Bool.{cond-true, cond-false, ne_eqb, cases_eq}
+use Rattle.std.proofs.Common.{◌≡◌, ◌≢◌, ◌⊎◌, inl, inr, ◌<◌, ◌+◌, ◌-◌, eqb, ℕ, zero, suc, List, [], ◌∷◌, Bool, true, false, cond, length, drop, get_or, refl, sym, ap, ◌∙◌, arith, eq-eqb, length-drop}
+use Rattle.std.proofs.lemmas.Bool.{cond-false, ne_eqb, cases_eq}
 use Rattle.channel_model.specs.Pins.{Pins}
-use Rattle.choose_core.specs.declared.candidate.Next.{Next}
 use Rattle.choose_core.specs.declared.candidate.Next.TheVariants.{Ends, Top, Bottom, Both}
 use Rattle.greedy_column.specs.Ahead.{HasLaterPin, first_in, next_of}
 use Rattle.greedy_column.specs.Entering.{is_ending}

@@ -1,4 +1,4 @@
-use Rattle.std.proofs.Common.{◌≡◌, ◌≢◌, ◌⊎◌, inl, inr, ◌<◌, ◌≤◌, ◌+◌, ◌-◌, ◌||◌, ◌↔◌, eqb, ℕ, suc, List, [], ◌∷◌, Bool, true, false, cond, length, map, refl, sym, subst, ap, ◌∙◌, arith, Contains, eqb-true, eq-eqb, Some}
+use Rattle.std.proofs.Common.{◌≡◌, ◌≢◌, ◌⊎◌, inl, inr, ◌<◌, ◌||◌, eqb, ℕ, List, [], ◌∷◌, Bool, true, false, cond, length, refl, sym, subst, ap, ◌∙◌, arith, Contains, eqb-true, eq-eqb}
 use Rattle.std.proofs.lemmas.Bool.{cond-true, cond-false, ne_eqb}
 use Rattle.channel_model.specs.Pins.{Pins}
 use Rattle.choose_core.specs.declared.candidate.Candidate.{Candidate}
@@ -10,9 +10,9 @@ use Rattle.greedy_column.specs.declared.entering.PinKind.{PinKind}
 use Rattle.greedy_column.specs.declared.entering.PinKind.TheVariants.{NoPins, BottomAlone, TopAlone, EqualPins, TwoPins}
 use Rattle.greedy_column.specs.Tracks.{ids, held_by}
 use Rattle.greedy_column.specs.Replay.{top_pin, bottom_pin}
-use Rattle.greedy_column.specs.Ahead.{HasLaterPin, next_of}
+use Rattle.greedy_column.specs.Ahead.{next_of}
 use Rattle.greedy_column.specs.Neighbours.{Holds}
-use Rattle.greedy_column.specs.Lawful.{HasEqualPins, EntersStraight, TopEnters, BottomEnters, MayEnter}
+use Rattle.greedy_column.specs.Lawful.{TopEnters, BottomEnters, MayEnter}
 use Rattle.greedy_column.specs.Lines.{open_lines, above_lowest, holds_track}
 use Rattle.greedy_column.specs.Entering.{EntersBy, EntersEqual, is_ending, straight_question, top_question, bottom_question, pin_kind}
 use Rattle.greedy_column.specs.Follows.{Follows, entries_of, pin_of}

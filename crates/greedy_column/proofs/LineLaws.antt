@@ -1,9 +1,9 @@
-use Rattle.std.proofs.Common.{◌≡◌, ◌⊎◌, inl, inr, ◌<◌, ◌≤◌, ◌+◌, ◌-◌, ◌++◌, ℕ, suc, List, [], ◌∷◌, Bool, true, false, cond, ltb, length, filter, refl, sym, subst, ap, ◌∙◌, arith, Contains, length-append}
+use Rattle.std.proofs.Common.{◌≡◌, inl, inr, ◌<◌, ◌≤◌, ◌+◌, ◌++◌, ℕ, suc, List, [], ◌∷◌, Bool, true, false, cond, ltb, length, filter, refl, sym, subst, ◌∙◌, arith, Contains, length-append}
 use Rattle.std.proofs.lemmas.List.{append-nil}
-use Rattle.std.proofs.lemmas.List.Elements.{Contains-append_right, Contains-append_left, Contains-append_cases}
+use Rattle.std.proofs.lemmas.List.Elements.{Contains-append_cases}
 use Rattle.greedy_column.specs.declared.column.Track.{Track}
 use Rattle.greedy_column.specs.Lines.{lines_from, LieWithin, above_lowest, below_line, place_of_new}
-use Rattle.greedy_column.proofs.Members.{in_none, in_first, in_later, in_cases, in_one, in_filter_back, filter-few}
+use Rattle.greedy_column.proofs.Members.{in_none, in_first, in_later, in_one, in_filter_back, filter-few}
 
 -- a track that passes a test stands on a line
 pub record StandsOn (passes : Track → Bool) (tracks : List Track) (first line : ℕ) : Type 0 where

@@ -1,4 +1,4 @@
-use Rattle.std.proofs.Common.{◌≡◌, ◌⊎◌, inl, inr, ◌<◌, ◌≤◌, ◌+◌, ◌-◌, ◌||◌, ℕ, suc, List, [], ◌∷◌, Bool, true, false, length, refl, sym, subst, ap, ◌∙◌, arith, Contains, Some}
+use Rattle.std.proofs.Common.{◌≡◌, ◌⊎◌, inl, inr, ◌≤◌, ◌+◌, ◌-◌, ◌||◌, ℕ, List, [], ◌∷◌, Bool, true, false, length, refl, sym, subst, ap, ◌∙◌, arith, Contains}
 use Rattle.choose_core.specs.declared.candidate.Candidate.{Candidate}
 use Rattle.greedy_column.specs.declared.column.Track.{Track}
 use Rattle.greedy_column.specs.declared.column.Made.{Made}
@@ -12,9 +12,9 @@ use Rattle.greedy_column.specs.declared.entering.PinKind.TheVariants.{NoPins, Bo
 use Rattle.greedy_column.specs.declared.entering.Newcomer.{Newcomer}
 use Rattle.greedy_column.specs.declared.entering.Newcomer.TheVariants.{TopPin, BottomPin, BothPins}
 use Rattle.greedy_column.specs.Lines.{LieWithin, is_open, open_lines, above_lowest, place_of_new, holds_track}
-use Rattle.greedy_column.specs.Offers.{IsPicked, offer}
+use Rattle.greedy_column.specs.Offers.{offer}
 use Rattle.greedy_column.specs.Lawful.{AreMadeFrom}
-use Rattle.greedy_column.specs.Entering.{Enters, EntersBy, EntersAlone, EntersEqual, EntersPair, EntersNew, newcomer_of, entry_at, no_entry, new_track, pin_kind, is_ending, straight_question, top_question, bottom_question}
+use Rattle.greedy_column.specs.Entering.{Enters, EntersBy, EntersAlone, EntersEqual, EntersPair, EntersNew, newcomer_of, entry_at, new_track, pin_kind, is_ending, straight_question, top_question, bottom_question}
 use Rattle.greedy_column.proofs.Members.{in_none, in_one, in_cases}
 use Rattle.greedy_column.proofs.PickLaws.{picked_is_option}
 use Rattle.greedy_column.proofs.LineLaws.{LieWithin-lines, place_of_new-most}

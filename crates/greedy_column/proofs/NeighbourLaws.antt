@@ -1,9 +1,9 @@
-use Rattle.std.proofs.Common.{◌≡◌, ◌≢◌, ◌⊎◌, inl, inr, ◌<◌, ◌≤◌, ◌+◌, ◌++◌, eqb, ℕ, zero, suc, List, [], ◌∷◌, Bool, true, false, cond, Option, Some, None, length, map, get_or, refl, sym, subst, ap, ◌∙◌, arith, Contains, eqb-true, eq-eqb}
+use Rattle.std.proofs.Common.{◌≡◌, ◌≢◌, inl, inr, ◌<◌, ◌+◌, eqb, ℕ, zero, suc, List, [], ◌∷◌, Bool, true, false, cond, Option, Some, None, length, get_or, refl, sym, subst, ap, ◌∙◌, arith, Contains, eqb-true, eq-eqb}
 use Rattle.std.proofs.lemmas.Bool.{cond-true, cond-false, ne_eqb, eqb-false, cases_eq}
 use Rattle.std.proofs.lemmas.List.Elements.{Contains-append_left, Contains-append_right, Contains-append_cases}
 use Rattle.greedy_column.specs.declared.column.Track.{Track}
 use Rattle.greedy_column.specs.declared.span.Span.{Span}
-use Rattle.greedy_column.specs.Joining.{next_line, pair_of, neighbours_from, neighbours}
+use Rattle.greedy_column.specs.Joining.{next_line, pair_of, neighbours_from}
 use Rattle.greedy_column.proofs.Members.{in_none, in_first, in_one}
 use Rattle.greedy_column.proofs.TableLaws.{nets}
 

@@ -1,4 +1,4 @@
-use Rattle.std.proofs.Common.{◌≡◌, ◌⊎◌, inl, inr, ◌<◌, eqb, ℕ, List, [], ◌∷◌, Bool, true, false, cond, map, refl, sym, subst, ap, ◌∙◌, arith, Contains}
+use Rattle.std.proofs.Common.{◌≡◌, ◌⊎◌, inl, inr, eqb, ℕ, List, [], ◌∷◌, Bool, true, false, cond, map, refl, subst, arith, Contains}
 use Rattle.std.proofs.lemmas.Bool.{cases_eq}
 use Rattle.std.specs.List.{insert, list_any}
 use Rattle.channel_model.specs.Pins.{Pins}
@@ -8,7 +8,7 @@ use Rattle.greedy_column.specs.declared.column.Made.{Made}
 use Rattle.greedy_column.specs.declared.column.Column.{Column}
 use Rattle.greedy_column.specs.Tracks.{held_by, given, hold}
 use Rattle.greedy_column.specs.Replay.{top_pin, bottom_pin, with_made, freed_among, freed, moved, entered, after}
-use Rattle.greedy_column.proofs.Members.{in_none, in_first, in_later, in_cases, in_map_back}
+use Rattle.greedy_column.proofs.Members.{in_first, in_later, in_map_back}
 use Rattle.greedy_column.proofs.IdLaws.{in_insert}
 
 module _ (pins : Pins) where

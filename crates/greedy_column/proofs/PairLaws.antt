@@ -1,4 +1,4 @@
-use Rattle.std.proofs.Common.{◌≡◌, ◌≢◌, ◌<◌, ◌≤◌, ◌+◌, ◌++◌, ◌||◌, eqb, ℕ, suc, List, [], ◌∷◌, Bool, true, false, cond, Option, Some, None, length, filter, get_or, refl, sym, subst, ap, ◌∙◌, arith, eqb-true, length-append}
+use Rattle.std.proofs.Common.{◌≡◌, ◌<◌, ◌≤◌, ◌+◌, ◌++◌, ◌||◌, eqb, ℕ, suc, List, [], ◌∷◌, Bool, true, false, cond, Option, Some, None, length, filter, get_or, refl, arith, eqb-true, length-append}
 use Rattle.std.specs.List.{list_any}
 use Rattle.greedy_column.specs.declared.column.Track.{Track}
 use Rattle.greedy_column.specs.declared.span.Span.{Span}

@@ -1,25 +1,21 @@
-use Rattle.std.proofs.Common.{◌≡◌, ◌≢◌, ◌⊎◌, inl, inr, ◌<◌, ◌≤◌, ◌+◌, ◌-◌, ◌++◌, not, eqb, ℕ, zero, suc, List, [], ◌∷◌, Bool, true, false, cond, length, map, get_or, refl, sym, subst, ap, ◌∙◌, arith, Contains}
-use Rattle.std.proofs.lemmas.Bool.{cases_lt, eqb-false, eq-eqb}
-use Rattle.std.proofs.lemmas.List.{length-map}
-use Rattle.std.proofs.lemmas.List.Elements.{Contains-append_cases}
+use Rattle.std.proofs.Common.{◌≡◌, ◌≢◌, inl, inr, ◌<◌, ◌≤◌, ◌+◌, ◌-◌, ◌++◌, not, eqb, ℕ, suc, List, [], ◌∷◌, Bool, true, false, cond, length, map, get_or, sym, subst, ap, ◌∙◌, arith, Contains}
+use Rattle.std.proofs.lemmas.Bool.{cases_lt, eq-eqb}
 use Rattle.std.proofs.lemmas.List.Kept.{AllPairs-from_increasing}
-use Rattle.std.specs.List.{IsDistinct}
 use Rattle.std.specs.List.Sorted.{IsStrictlyIncreasing}
 use Rattle.choose_core.specs.declared.candidate.Candidate.{Candidate}
 use Rattle.choose_core.specs.declared.candidate.Next.{Next}
 use Rattle.greedy_column.specs.declared.column.Track.{Track}
 use Rattle.greedy_column.specs.declared.span.Span.{Span}
-use Rattle.greedy_column.specs.Tracks.{ids, held_by, line_of}
-use Rattle.greedy_column.specs.Neighbours.{Holds, AreNeighbours}
+use Rattle.greedy_column.specs.Tracks.{ids, held_by}
+use Rattle.greedy_column.specs.Neighbours.{AreNeighbours}
 use Rattle.greedy_column.specs.Lines.{id_on, net_on, lines_from}
-use Rattle.greedy_column.specs.Offers.{IsPicked, offer, move_question}
-use Rattle.greedy_column.specs.Joining.{ids_of, is_clear}
+use Rattle.greedy_column.specs.Offers.{offer, move_question}
+use Rattle.greedy_column.specs.Joining.{is_clear}
 use Rattle.greedy_column.specs.Moving.{MovesFollow, GoesTo, move_options, piece_between, without}
-use Rattle.greedy_column.specs.Follows.{move_ids}
 use Rattle.greedy_column.proofs.Members.{in_none, in_first, in_later, in_cases, in_map, in_map_back, in_filter_back}
 use Rattle.greedy_column.proofs.PickLaws.{picked_is_option}
-use Rattle.greedy_column.proofs.IdLaws.{Apart, Apart-to}
-use Rattle.greedy_column.proofs.LineLaws.{StandsOn, lines_from-each}
+use Rattle.greedy_column.proofs.IdLaws.{Apart}
+use Rattle.greedy_column.proofs.LineLaws.{lines_from-each}
 use Rattle.greedy_column.proofs.TableLaws.{nets, length-ids, line_of-line, held_by-line, held_by-at, id_on-member, place_in}
 use Rattle.greedy_column.proofs.DrawnLaws.{IsPiece}
 

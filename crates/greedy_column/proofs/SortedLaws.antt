@@ -1,4 +1,4 @@
-use Rattle.std.proofs.Common.{◌≡◌, ◌⊎◌, inl, inr, ◌<◌, ◌≤◌, ◌&&◌, ◌||◌, ◌↔◌, not, eqb, ℕ, List, [], ◌∷◌, Bool, true, false, cond, length, map, filter, get_or, refl, sym, subst, ap, ◌∙◌, arith, Contains, MatchResult, Ok, Err, Result, is_ok, eqb-true, eq-eqb}
+use Rattle.std.proofs.Common.{◌≡◌, inl, inr, ◌<◌, ◌≤◌, ◌&&◌, ◌||◌, not, eqb, ℕ, List, [], ◌∷◌, Bool, true, false, cond, length, map, filter, get_or, refl, sym, subst, ap, ◌∙◌, arith, Contains, MatchResult, Ok, Err, Result, is_ok, eqb-true, eq-eqb}
 use Rattle.std.proofs.lemmas.Bool.{cases_lt}
 use Rattle.std.proofs.lemmas.List.{get_or_default}
 use Rattle.std.proofs.lemmas.List.Filters.{dedup_is}

@@ -1,10 +1,9 @@
-use Rattle.std.proofs.Common.{◌≡◌, ◌≢◌, ◌⊎◌, inl, inr, ◌<◌, ◌≤◌, ◌+◌, ◌++◌, ◌||◌, eqb, ltb, ℕ, zero, suc, List, [], ◌∷◌, Bool, true, false, cond, length, map, get_or, refl, sym, subst, ap, ◌∙◌, arith, Contains, eq-eqb}
+use Rattle.std.proofs.Common.{◌≡◌, ◌⊎◌, inl, inr, ◌<◌, ◌≤◌, ◌+◌, ◌++◌, ◌||◌, eqb, ltb, ℕ, zero, suc, List, [], ◌∷◌, Bool, true, false, cond, length, get_or, refl, sym, subst, ap, ◌∙◌, arith, Contains, eq-eqb}
 use Rattle.std.proofs.lemmas.Bool.{lt-ltb}
 use Rattle.std.proofs.lemmas.List.Elements.{Contains-append_left, Contains-append_right}
 use Rattle.greedy_column.specs.declared.column.Track.{Track}
 use Rattle.greedy_column.specs.Tracks.{ids, held_by, line_of}
-use Rattle.greedy_column.specs.Neighbours.{Holds}
-use Rattle.greedy_column.specs.Lawful.{WasFree, IsOpen}
+use Rattle.greedy_column.specs.Lawful.{IsOpen}
 use Rattle.greedy_column.specs.Sparing.{HasNone, HasNoPair}
 use Rattle.greedy_column.specs.Lines.{is_open, lines_from, open_lines, above_lowest}
 use Rattle.greedy_column.proofs.Members.{in_none, in_first, in_cases, in_filter}

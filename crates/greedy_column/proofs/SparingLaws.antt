@@ -1,4 +1,4 @@
-use Rattle.std.proofs.Common.{◌≡◌, ◌≢◌, ◌⊎◌, inl, inr, ◌<◌, ◌||◌, ℕ, List, [], ◌∷◌, Bool, true, false, length, refl, sym, subst, ap, ◌∙◌, arith}
+use Rattle.std.proofs.Common.{◌≡◌, ◌⊎◌, inl, inr, ◌<◌, ◌||◌, ℕ, List, [], ◌∷◌, Bool, true, false, length, refl, ap, arith}
 use Rattle.channel_model.specs.Pins.{Pins}
 use Rattle.choose_core.specs.declared.candidate.Candidate.{Candidate}
 use Rattle.greedy_column.specs.declared.column.Track.{Track}

@@ -1,9 +1,8 @@
-use Rattle.std.proofs.Common.{◌≡◌, ◌<◌, ◌≤◌, ◌+◌, ◌&&◌, ◌↔◌, not, eqb, ℕ, List, [], Bool, true, false, length, map, refl, sym, subst, ap, ◌∙◌, arith, eqb-true, eq-eqb, inl, inr}
+use Rattle.std.proofs.Common.{◌≡◌, ◌<◌, ◌≤◌, ◌+◌, ◌&&◌, ◌↔◌, not, eqb, ℕ, List, [], Bool, false, length, map, sym, subst, ap, ◌∙◌, arith, eqb-true, eq-eqb, inl, inr}
 use Rattle.std.specs.Bool.{IsTrue}
 use Rattle.std.proofs.lemmas.Bool.{and_parts, and_from, cases_eq, ne_eqb}
 use Rattle.std.proofs.lemmas.List.{length-map}
 use Rattle.std.proofs.lemmas.Map.Steps.{length-le_from_distinct_below}
-use Rattle.std.specs.List.{list_any}
 use Rattle.channel_model.specs.Pins.{Pins}
 use Rattle.choose_core.specs.declared.candidate.Candidate.{Candidate}
 use Rattle.choose_core.specs.declared.candidate.Next.{Next}
@@ -12,7 +11,7 @@ use Rattle.greedy_column.specs.declared.column.Column.{Column}
 use Rattle.greedy_column.specs.Tracks.{ids, hold}
 use Rattle.greedy_column.specs.Replay.{top_pin, bottom_pin, with_made, with_nets, freed, moved, entered, after}
 use Rattle.greedy_column.specs.Ahead.{next_of}
-use Rattle.greedy_column.specs.Lawful.{HasEqualPins, AreMadeFrom}
+use Rattle.greedy_column.specs.Lawful.{AreMadeFrom}
 use Rattle.greedy_column.specs.Verticals.{verticals_of_pins}
 use Rattle.greedy_column.specs.Entering.{Enters}
 use Rattle.greedy_column.specs.Joining.{span_in}

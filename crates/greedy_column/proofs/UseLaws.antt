@@ -1,11 +1,11 @@
-use Rattle.std.proofs.Common.{◌≡◌, ◌⊎◌, inl, inr, ◌<◌, ◌≤◌, ◌+◌, ◌-◌, ◌++◌, ◌&&◌, ◌||◌, ◌≢◌, not, eqb, ltb, leb, ℕ, zero, suc, List, [], ◌∷◌, Bool, true, false, cond, length, get_or, filter, drop, refl, sym, subst, ap, ◌∙◌, arith, add-one, add-zero, eqb-true, eq-eqb}
+use Rattle.std.proofs.Common.{◌≡◌, ◌⊎◌, inl, inr, ◌<◌, ◌≤◌, ◌+◌, ◌-◌, ◌++◌, ◌&&◌, ◌≢◌, not, eqb, ltb, ℕ, zero, suc, List, [], ◌∷◌, Bool, true, false, cond, length, get_or, filter, drop, refl, sym, subst, ap, ◌∙◌, arith, add-zero, eqb-true, eq-eqb}
 use Rattle.std.proofs.lemmas.Bool.{cases_eq, cond-true, cond-false, ne_eqb}
 use Rattle.std.proofs.lemmas.Bool.Decides.{nat_tests}
 use Rattle.std.proofs.lemmas.List.{append_assoc}
 use Rattle.std.proofs.lemmas.List.Sorted.{ties_still_rise}
 use Rattle.std.specs.Ordering.{nat_cmp, is_lt}
 use Rattle.std.specs.Cmp.{nat_cmp_is}
-use Rattle.std.specs.declared.cmp.Ordering.TheVariants.{Equal, Less, Greater}
+use Rattle.std.specs.declared.cmp.Ordering.TheVariants.{Equal, Greater}
 use Rattle.std.specs.List.Sorted.{IsSortedByKey, IsStableByKey, IsNonDecreasingBy, ties}
 use Rattle.channel_model.specs.Pins.{Pins}
 use Rattle.choose_core.specs.declared.candidate.Next.{Next}

@@ -1,6 +1,5 @@
-use Rattle.std.proofs.Common.{◌≡◌, ◌≢◌, ◌<◌, ℕ, zero, suc, List, [], ◌∷◌, refl, false, lit<, arith, inl, inr, Contains}
+use Rattle.std.proofs.Common.{◌≡◌, ◌<◌, ℕ, zero, suc, List, [], ◌∷◌, refl, false, lit<, arith, inl}
 use Rattle.std.specs.List.Sorted.{IsStrictlyIncreasing}
-use Rattle.channel_model.specs.Pins.{Pins}
 use Rattle.channel_model.proofs.Worked.{crossed}
 use Rattle.choose_core.specs.declared.candidate.Candidate.{Candidate}
 use Rattle.greedy_column.specs.declared.column.Track.{Track}

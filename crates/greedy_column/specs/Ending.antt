@@ -1,4 +1,4 @@
-use Rattle.std.specs.Prelude.{◌≡◌, ◌==◌, ◌&&◌, ◌++◌, ◌-◌, not, if◌then◌else◌, ℕ, List, [], ◌∷◌, Bool, true, false, filter, map, length, slice_index}
+use Rattle.std.specs.Prelude.{◌≡◌, ◌==◌, ◌&&◌, ◌++◌, not, if◌then◌else◌, ℕ, List, [], ◌∷◌, Bool, true, false, filter, map, length, slice_index}
 use Rattle.std.specs.List.{list_any}
 use Rattle.choose_core.specs.declared.candidate.Candidate.{Candidate}
 use Rattle.choose_core.specs.declared.candidate.Next.{Next}

@@ -1,10 +1,9 @@
-use Rattle.std.specs.Prelude.{◌≡◌, ◌<◌, ◌≤◌, ◌==◌, ◌&&◌, ◌||◌, ◌++◌, ◌+◌, not, nat_le, nat_lt, if◌then◌else◌, ℕ, suc, List, [], ◌∷◌, Bool, filter, map, length, Option, Some, None}
+use Rattle.std.specs.Prelude.{◌≡◌, ◌<◌, ◌≤◌, ◌==◌, ◌&&◌, ◌||◌, ◌++◌, not, nat_le, nat_lt, if◌then◌else◌, ℕ, suc, List, [], ◌∷◌, Bool, filter, Option, Some, None}
 use Rattle.std.specs.List.{list_any, list_all}
 use Rattle.choose_core.specs.declared.candidate.Candidate.{Candidate}
 use Rattle.choose_core.specs.declared.candidate.Next.{Next}
 use Rattle.greedy_column.specs.declared.column.Track.{Track}
 use Rattle.greedy_column.specs.declared.span.Span.{Span}
-use Rattle.greedy_column.specs.Tracks.{ids, line_of}
 use Rattle.greedy_column.specs.Lines.{id_on}
 use Rattle.greedy_column.specs.Offers.{IsPicked, join_offer}
 use Rattle.greedy_column.specs.Verticals.{Vertical, line_at}

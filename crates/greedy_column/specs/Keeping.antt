@@ -2,9 +2,9 @@ use Rattle.std.specs.Prelude.{◌≡◌, ◌≢◌, ◌⊎◌, ℕ, List, Contai
 use Rattle.channel_model.specs.Pins.{Pins}
 use Rattle.greedy_column.specs.declared.column.Track.{Track}
 use Rattle.greedy_column.specs.declared.column.Column.{Column}
-use Rattle.greedy_column.specs.Tracks.{ids, line_of}
+use Rattle.greedy_column.specs.Tracks.{ids}
 use Rattle.greedy_column.specs.Ahead.{HasLaterPin}
-use Rattle.greedy_column.specs.Verticals.{Vertical, joined_verticals, IsOver, Shares, on}
+use Rattle.greedy_column.specs.Verticals.{Vertical, joined_verticals, Shares, on}
 use Rattle.greedy_column.specs.Neighbours.{Holds, AreNeighbours, Grouped}
 
 -- After the pins and joins, two neighbouring tracks of a net that are not linked are parted by a vertical of another net.

@@ -1,4 +1,4 @@
-use Rattle.std.specs.Prelude.{◌==◌, if◌then◌else◌, ℕ, suc, List, [], ◌∷◌, map, Bool, slice_index}
+use Rattle.std.specs.Prelude.{◌==◌, if◌then◌else◌, ℕ, suc, List, [], ◌∷◌, map, slice_index}
 use Rattle.std.specs.List.{list_any, insert}
 use Rattle.channel_model.specs.Pins.{Pins}
 use Rattle.greedy_column.specs.declared.column.Track.{Track}

@@ -2,8 +2,10 @@ ghost use Rattle.greedy_column.specs.Ahead.{IsAhead};
 ghost use Rattle.greedy_column.specs.Follows.{Follows, FollowsOn, entries_of, pin_with};
 ghost use Rattle.greedy_column.specs.Entering.{Enters};
 ghost use Rattle.greedy_column.specs.Joining.{span_in};
+ghost use Rattle.greedy_column.specs.Keeping.{AreJoined};
 ghost use Rattle.greedy_column.specs.Lawful.{AreMadeFrom};
-ghost use Rattle.greedy_column.specs.Replay.{after, freed, moved, with_made, with_nets};
+ghost use Rattle.greedy_column.specs.Replay.{after, entered, freed, moved, with_made, with_nets};
+ghost use Rattle.greedy_column.specs.Sparing.{SparesTracks};
 ghost use Rattle.greedy_column.specs.State.{IsState};
 ghost use Rattle.greedy_column.specs.Tracks.{ids};
 ghost use Rattle.greedy_column.specs.Uses.{next_after};
@@ -180,6 +182,8 @@ pub fn step(
     requires ahead { IsAhead channel.now ahead.now }
     ensures follows { IfOk result (λ done.
         Follows (⟦<Chooser as Chooses>⟧.answers chooser.now) channel.now column state.old.fresh state.old.order done) }
+    ensures spares { IfOk result (λ done. SparesTracks channel.now column state.old.order done) }
+    ensures joined { IfOk result (λ done. AreJoined channel.now column (entered channel.now column done state.old.order) done) }
     ensures replay { IfOk result (λ done. state.new.order ≡ after channel.now column done state.old.order) }
     ensures fresh { IfOk result (λ done. state.new.fresh ≡ state.old.fresh + length done.made) }
     ensures state { IfOk result (λ _. IsState channel.now state.new) }

@@ -1,12 +1,10 @@
-use Rattle.std.proofs.Common.{◌≡◌, ◌∙◌, ap, arith, subst, sym, List, ℕ, length, map}
+use Rattle.std.proofs.Common.{◌∙◌, ap, arith, subst, sym, List, ℕ, length, map}
 use Rattle.std.specs.List.Sorted.{IsNonDecreasing}
-use Rattle.greedy_column.specs.declared.column.Track.{Track}
 use Rattle.greedy_column.specs.declared.span.Span.{Span}
 use Rattle.greedy_column.specs.Uses.{next_after}
 use Rattle.greedy_column.specs.Replay.{freed}
 use Rattle.greedy_column.specs.Joining.{ids_of}
-use Rattle.greedy_column.specs.Moving.{order_of_moves}
-use Rattle.greedy_column.specs.Follows.{AreEnded, FollowsOn, move_ids}
+use Rattle.greedy_column.specs.Follows.{FollowsOn, move_ids}
 use Rattle.greedy_column.proofs.PairLaws.{neighbours_from-few}
 use Rattle.greedy_column.proofs.FollowLaws.{not_falling, FollowsOn-from_steps}
 use Rattle.greedy_column.proofs.going_on.go_on.Goals as goal

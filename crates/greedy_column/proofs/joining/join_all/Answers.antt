@@ -2,8 +2,7 @@ use Rattle.std.proofs.Common.{arith, ap, sym, subst, rules, List, length, ◌≡
 use Rattle.greedy_column.specs.declared.span.Span.{Span}
 use Rattle.greedy_column.specs.Uses.{next_after}
 use Rattle.greedy_column.specs.Offers.{join_offer}
-use Rattle.greedy_column.specs.Joining.{possible_joins, is_joined, is_clear}
-use Rattle.greedy_column.proofs.Members.{filter-few}
+use Rattle.greedy_column.specs.Joining.{possible_joins}
 use Rattle.greedy_column.proofs.PickLaws.{picked_is_option}
 use Rattle.greedy_column.proofs.JoinLaws.{joins_end, possible_joins-less, possible_joins-few}
 use Rattle.greedy_column.proofs.joining.join_all.Goals as goal

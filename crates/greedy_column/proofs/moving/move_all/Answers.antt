@@ -1,9 +1,9 @@
-use Rattle.std.proofs.Common.{◌≡◌, ◌++◌, ◌∷◌, [], ◌∙◌, sym, ap, subst, rules, arith, eqb, not, ℕ, List, length}
+use Rattle.std.proofs.Common.{◌≡◌, ◌++◌, ◌∷◌, [], ◌∙◌, ap, subst, rules, arith, eqb, not, ℕ, List, length}
 use Rattle.greedy_column.specs.declared.span.Span.{Span}
 use Rattle.greedy_column.specs.Uses.{next_after}
 use Rattle.greedy_column.specs.Lines.{net_on}
 use Rattle.greedy_column.specs.Joining.{is_clear}
-use Rattle.greedy_column.specs.Moving.{MovesFollow, GoesTo, move_options, piece_between, without}
+use Rattle.greedy_column.specs.Moving.{GoesTo, move_options, piece_between, without}
 use Rattle.greedy_column.proofs.Members.{filter-few}
 use Rattle.greedy_column.proofs.MoveLaws.{moves_done, moves_go}
 use Rattle.greedy_column.proofs.moving.move_all.Goals as goal

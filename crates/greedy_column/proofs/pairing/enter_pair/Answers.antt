@@ -1,5 +1,4 @@
-use Rattle.std.proofs.Common.{arith, ap, List, length, subst, ◌∙◌, ℕ, Contains, ◌<◌, ltb}
-use Rattle.greedy_column.specs.Lines.{below_line, above_lowest}
+use Rattle.std.proofs.Common.{arith, ap, List, length, subst, ◌∙◌, ℕ, Contains, ltb}
 use Rattle.greedy_column.proofs.LineLaws.{LieWithin-above, LieWithin-filter, below_line-some}
 use Rattle.greedy_column.proofs.pairing.enter_pair.Goals as goal
 

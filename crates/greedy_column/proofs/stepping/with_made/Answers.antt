@@ -1,4 +1,4 @@
-use Rattle.std.proofs.Common.{◌≡◌, ◌≤◌, ◌∷◌, ◌∙◌, ◌+◌, suc, ℕ, List, ap, arith, subst, sym, rules, length}
+use Rattle.std.proofs.Common.{◌≡◌, ◌∷◌, ◌∙◌, suc, List, ap, arith, subst, sym, rules, length}
 use Rattle.std.proofs.lemmas.List.Edits.{length-insert}
 use Rattle.std.specs.List.{insert}
 use Rattle.greedy_column.specs.declared.column.Track.{Track}

@@ -1,6 +1,5 @@
-use Rattle.std.proofs.Common.{rules, ◌≡◌, true, false, length}
+use Rattle.std.proofs.Common.{rules}
 use Rattle.std.proofs.lemmas.List.Sorted.{IsPartitionPoint-from_clause}
-use Rattle.std.specs.List.{AllWithin}
 use Rattle.greedy_column.specs.Uses.{is_past}
 use Rattle.greedy_column.proofs.AheadLaws.{is_past-partitions}
 use Rattle.greedy_column.proofs.uses.place_behind.Goals as goal

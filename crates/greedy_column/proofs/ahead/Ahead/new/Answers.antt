@@ -1,6 +1,6 @@
-use Rattle.std.proofs.Common.{rules, ◌∙◌, ◌≡◌, ap, subst, sym, List}
+use Rattle.std.proofs.Common.{◌∙◌, ap, subst, sym, List}
 use Rattle.greedy_column.specs.declared.uses.Use.{Use}
-use Rattle.greedy_column.specs.Uses.{next_after, uses_from}
+use Rattle.greedy_column.specs.Uses.{next_after}
 use Rattle.greedy_column.proofs.UseLaws.{Rise, AreSorted-from_sort, next_after-stable, uses_from-rise, next_after-pins, next_of-parts}
 use Rattle.greedy_column.proofs.ahead.Ahead.new.Goals as goal
 
