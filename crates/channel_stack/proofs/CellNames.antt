@@ -21,7 +21,7 @@ use Rattle.row_model.specs.Rows.{ArePlaced, all_instances, instances_in}
 use Rattle.feed_cells.specs.Fed.{Fed, cells_in, item_width, seats_in}
 use Rattle.feed_cells.specs.declared.fed.Item.{Item}
 use Rattle.feed_cells.specs.declared.fed.Item.TheVariants.{Cell, Feed}
-use Rattle.layout_laws.proofs.ListPlaces.{map-at}
+use Rattle.wire_geom.proofs.ListLaws.{map-at}
 use Rattle.layout_laws.specs.Plans.{channel_height}
 use Rattle.channel_stack.specs.Layouts.{item_shapes, layout_of, row_cells, row_shapes, stacked_cells}
 use Rattle.channel_stack.specs.declared.placed.PlacedItem.{PlacedItem}

@@ -27,7 +27,8 @@ use Rattle.channel_stack.specs.declared.placed.PlacedItem.{PlacedItem}
 use Rattle.channel_stack.specs.Stack.{channel_bases, drawings, item_place, placed_from, placed_rows, row_bases, stack_of}
 use Rattle.channel_stack.proofs.KnownItems.{IsKnown, KnownCell, item-drawn, rows-known}
 use Rattle.channel_stack.proofs.LayoutShapes.{levels, plan-levels, row-shapes, row_floor, stack_layout}
-use Rattle.channel_stack.proofs.ListParts.{Part, get-before, get-behind, part-before, part-behind}
+use Rattle.channel_stack.proofs.ListParts.{Part, part-before, part-behind}
+use Rattle.wire_geom.proofs.ListLaws.{get-before, get-behind}
 
 -- among cells whose first shape has this number: a cell, and its own rectangles among those that are drawn for all of them
 pub record Stood (cells : List layouts.Cell) (first : ℕ) (drawn : List Drawn) (cell : ℕ → layouts.Cell) (own : List Drawn) : Type 0 where

@@ -14,7 +14,8 @@ use Rattle.feed_cells.proofs.Members.{member-head}
 use Rattle.feed_cells.specs.Fed.{Fed, cells_in, items_width}
 use Rattle.feed_cells.specs.declared.fed.Item.{Item}
 use Rattle.feed_cells.specs.declared.fed.Item.TheVariants.{Cell}
-use Rattle.layout_laws.proofs.ListPlaces.{at-contains, map-at}
+use Rattle.layout_laws.proofs.ListPlaces.{at-contains}
+use Rattle.wire_geom.proofs.ListLaws.{map-at}
 use Rattle.layout_laws.specs.Plans.{plan_drawn, row_base}
 use Rattle.channel_stack.specs.Layouts.{cell_at}
 use Rattle.channel_stack.specs.Planned.{plan_of, seat_drawn, seat_of, upright_drawn, upright_of}

@@ -14,7 +14,7 @@ use Rattle.design_model.specs.Room.{HasRoom}
 use Rattle.channel_model.specs.Elements.{elements}
 use Rattle.channel_model.specs.declared.wiring.Wiring.{Wiring}
 use Rattle.wire_geom.proofs.ListLaws.{Contains-flat_map_cases, Contains-map_cases}
-use Rattle.wire_geom.specs.Drawing.{Film, on_horizontal, on_vertical, on_cut, name_of, drawn_by, drawn_of, drawing, pieces_of}
+use Rattle.wire_geom.specs.Drawing.{Mask, on_horizontal, on_vertical, on_cut, name_of, drawn_by, drawn_of, drawing, pieces_of}
 use Rattle.wire_geom.specs.Grid.{scaled}
 use Rattle.wire_geom.specs.declared.drawn.Drawn.{Drawn}
 use Rattle.row_model.specs.Rows.{ArePlaced}
@@ -76,16 +76,16 @@ scaled-up r a b le = let product : a * r.grid_centi ≤ b * r.grid_centi = mul-l
 
 module _ (r : RuleValues) (valid : ValidRules r) where
   -- wires and cuts are no outlines
-  film-other : (film : Film) → name_of r film ≡ r.outline_layer → ⊥
-  film-other on_horizontal is = valid.layers.horizontal_outline is
-  film-other on_vertical is = valid.layers.vertical_outline is
-  film-other on_cut is = valid.layers.cut_outline is
+  mask-other : (mask : Mask) → name_of r mask ≡ r.outline_layer → ⊥
+  mask-other on_horizontal is = valid.layers.horizontal_outline is
+  mask-other on_vertical is = valid.layers.vertical_outline is
+  mask-other on_cut is = valid.layers.cut_outline is
 
   drawing-wires : (base : ℕ) (w : Wiring) → AreWires r (drawing r base w)
   drawing-wires base w i a at out =
       let of = Contains-flat_map_cases (drawn_by r base w.tracks) (elements w) a (at-contains (drawing r base w) i a at) in
       let piece = Contains-map_cases (drawn_of r) (pieces_of r base w.tracks of.0) a of.2 in
-      film-other piece.0.film (ap (λ (x : Drawn). x.shape.layer) piece.2 ∙ out)
+      mask-other piece.0.mask (ap (λ (x : Drawn). x.shape.layer) piece.2 ∙ out)
 
   -- uprights are no outlines
   uprights-wires : (base left : ℕ) (uprights : List Upright) → AreWires r (map (upright_drawn r base left) uprights)

@@ -30,7 +30,8 @@ use Rattle.feed_cells.specs.Fed.{Fed, cells_in, items_width}
 use Rattle.feed_cells.specs.declared.fed.Item.{Item}
 use Rattle.feed_cells.specs.declared.fed.Item.TheVariants.{Cell}
 use Rattle.pin_assign.proofs.EdgeLaws.{EdgePosition, edge-position, pin-found}
-use Rattle.layout_laws.proofs.ListPlaces.{at-contains, contains-at, map-at}
+use Rattle.layout_laws.proofs.ListPlaces.{at-contains, contains-at}
+use Rattle.wire_geom.proofs.ListLaws.{map-at}
 use Rattle.layout_laws.specs.Labels.{ShowsPins}
 use Rattle.layout_laws.specs.Plans.{plan_drawn, row_base}
 use Rattle.channel_stack.specs.Layouts.{cell_at, channel_shapes}

@@ -3,18 +3,7 @@ use Rattle.std.proofs.Math.Seq.{drop-append_seam, take-append_seam}
 use Rattle.std.proofs.lemmas.List.{length-append, length-map, map-append}
 use Rattle.std.proofs.lemmas.Option.{none-some}
 use Rattle.std.specs.Prelude.{slice_get, ◌⊎◌}
-
--- what stands at a place of a list stands there before other elements
-pub get-before : {X : Type 0} (xs ys : List X) (k : ℕ) (x : X) → slice_get xs k ≡ Some x → slice_get (xs ++ ys) k ≡ Some x
-get-before [] ys k x at = absurd (none-some x at)
-get-before (y ∷ xs) ys zero x at = at
-get-before (y ∷ xs) ys (suc k) x at = get-before xs ys k x at
-
--- what stands behind a list
-pub get-behind : {X : Type 0} (xs ys : List X) (n k : ℕ) → n ≡ length xs + k → slice_get (xs ++ ys) n ≡ slice_get ys k
-get-behind [] ys n k is = ap (slice_get ys) (omega arith)
-get-behind (x ∷ xs) ys zero k is = absurd (omega arith)
-get-behind (x ∷ xs) ys (suc n) k is = get-behind xs ys n k (omega arith)
+use Rattle.wire_geom.proofs.ListLaws.{get-before, get-behind}
 
 -- what stands in one list behind another stands in the first or in the second
 pub in-either : {X : Type 0} (xs ys : List X) (n : ℕ) (x : X) → slice_get (xs ++ ys) n ≡ Some x

@@ -19,15 +19,15 @@ use Rattle.pin_assign.proofs.CauseLaws.{entry-cause, entry-from}
 use Rattle.pin_assign.proofs.EdgeLaws.{edge-position, pin-found, position-listed}
 use Rattle.pin_assign.proofs.TableLaws.{bottom-cause, bottom-effect, top-cause, top-effect}
 use Rattle.pin_assign.proofs.WidthLaws.{width-more}
-use Rattle.layout_laws.specs.Seats.{IsFoot, IsHead, LowerNet, UpperNet, Upright, UprightAt}
+use Rattle.layout_laws.specs.Seats.{ComesToLower, ComesToUpper, LowerNet, UpperNet, Upright, UprightAt}
 use Rattle.wire_geom.specs.Edges.{bottom_entry, top_entry}
 use Rattle.channel_stack.specs.Planned.{feed_upright, net_at, net_found, row_seats, seat_of, upright_of}
 use Rattle.channel_stack.proofs.RowItems.{row_at, row-there, upright-stands}
 
 -- a wire comes to the upper edge where `top` holds, else to the lower one
 abbrev pub Comes : ℕ → Bool → Upright → Type 0
-Comes height true u = IsHead height u
-Comes height false u = IsFoot u
+Comes height true u = ComesToUpper height u
+Comes height false u = ComesToLower u
 
 pub position-comes : (r : RuleValues) (d : Netlist) (s : seats.Seat) (top : Bool) (p : Position) → is_on top p ≡ true → Comes d.height top (upright_of r d s p)
 position-comes r d s true p on = ap (λ (b : Bool). cond b d.height r.grid_pin) on

@@ -21,7 +21,7 @@ use Rattle.pin_assign.specs.Tables.{table_of}
 use Rattle.pin_assign.proofs.BesideLaws.{edge-own}
 use Rattle.layout_laws.specs.Chains.{AreTogether, tied}
 use Rattle.layout_laws.specs.Plans.{row_base, plan_drawn}
-use Rattle.layout_laws.specs.Seats.{IsFoot, IsHead, Upright}
+use Rattle.layout_laws.specs.Seats.{ComesToLower, ComesToUpper, Upright}
 use Rattle.layout_laws.specs.Threads.{EntersBelow, EntersAbove}
 use Rattle.layout_laws.specs.Uprights.{IsWired}
 use Rattle.layout_laws.proofs.ListPlaces.{contains-at}
@@ -34,11 +34,11 @@ use Rattle.channel_stack.proofs.PlanSeats.{feed-only}
 use Rattle.channel_stack.proofs.RowItems.{row_at, row-is, row-there, wire-listed, wire-of}
 
 -- what comes to the lower edge begins there, and what comes to the upper edge ends there
-foot-low : (base : ℕ) (u : Upright) → IsFoot u → 2 * (base + u.low) ≡ 2 * base
-foot-low base u is = omega (arith, is)
+lower-edge : (base : ℕ) (u : Upright) → ComesToLower u → 2 * (base + u.low) ≡ 2 * base
+lower-edge base u is = omega (arith, is)
 
-head-high : (base height : ℕ) (u : Upright) → IsHead height u → 2 * (base + u.high) ≡ 2 * (base + height)
-head-high base height u is = omega (arith, is)
+upper-edge : (base height : ℕ) (u : Upright) → ComesToUpper height u → 2 * (base + u.high) ≡ 2 * (base + height)
+upper-edge base height u is = omega (arith, is)
 
 module _ (r : RuleValues) (d : Netlist) (fed : Fed) (ws : List Wiring) where
   -- the rectangle of an upright of an item of row k that stands behind these items
@@ -125,7 +125,7 @@ module _ (r : RuleValues) (d : Netlist) (fed : Fed) (ws : List Wiring) where
             column = here;
             listed = wire-in k front back (Cell s) (upright_of r d s w.position) at (map-member (upright_of r d s) (positions_of d s.instance) w.position w.listed);
             stands = record { on_layer = refl; left = refl; right = refl };
-            at_edge = ap (scaled r) (foot-low (row_base r (plan_of r d fed ws) k) (upright_of r d s w.position) w.comes);
+            at_edge = ap (scaled r) (lower-edge (row_base r (plan_of r d fed ws) k) (upright_of r d s w.position) w.comes);
             has_entry = (
               subst (λ (n : ℕ). 0 < n) (sym w.of_net) some,
               ap (λ (c : ℕ). slice_index (table_of d fed k).top c) (sym w.at) ∙ net ∙ sym w.of_net,
@@ -151,7 +151,7 @@ module _ (r : RuleValues) (d : Netlist) (fed : Fed) (ws : List Wiring) where
             column = here;
             listed = wire-in k front back (Cell s) (upright_of r d s w.position) at (map-member (upright_of r d s) (positions_of d s.instance) w.position w.listed);
             stands = record { on_layer = refl; left = refl; right = refl };
-            at_edge = ap (scaled r) (head-high (row_base r (plan_of r d fed ws) k) d.height (upright_of r d s w.position) w.comes);
+            at_edge = ap (scaled r) (upper-edge (row_base r (plan_of r d fed ws) k) d.height (upright_of r d s w.position) w.comes);
             has_entry = (
               subst (λ (n : ℕ). 0 < n) (sym w.of_net) some,
               ap (λ (c : ℕ). slice_index (table_of d fed (suc k)).bottom c) (sym w.at) ∙ net ∙ sym w.of_net,
@@ -168,7 +168,7 @@ module _ (r : RuleValues) (d : Netlist) (fed : Fed) (ws : List Wiring) where
       column = items_width d front + 0;
       listed = wire-in k front back (Feed net) (feed_upright d.height net) at (member-head (feed_upright d.height net) []);
       stands = record { on_layer = refl; left = refl; right = refl };
-      at_edge = ap (scaled r) (foot-low (row_base r (plan_of r d fed ws) k) (feed_upright d.height net) refl);
+      at_edge = ap (scaled r) (lower-edge (row_base r (plan_of r d fed ws) k) (feed_upright d.height net) refl);
       has_entry = (some, lower-entry d good fed k front (Feed net) back at (of_feed net) (items_width d front + 0) (refl, sym feed-column) tt);
     }
 

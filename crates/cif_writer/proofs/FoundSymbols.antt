@@ -9,10 +9,10 @@ use Rattle.tech_rules.specs.Rules.{RuleValues}
 use Rattle.design_model.specs.Netlist.{Netlist}
 use Rattle.design_model.specs.declared.design.CellKind.{CellKind}
 use Rattle.feed_cells.specs.Fed.{Fed}
-use Rattle.layout_laws.proofs.ListPlaces.{map-at}
+use Rattle.wire_geom.proofs.ListLaws.{map-at}
 use Rattle.channel_stack.specs.Layouts.{feed_drawing}
 use Rattle.cif_writer.specs.Symbols.{symbol_for, feed_symbol, has_feed, symbols_of}
-use Rattle.channel_stack.proofs.ListParts.{get-before, get-behind}
+use Rattle.wire_geom.proofs.ListLaws.{get-before, get-behind}
 
 -- the symbols of a layout, numbered from 1
 abbrev pub symbols_in : RuleValues → Netlist → Fed → List Symbol

@@ -31,7 +31,7 @@ use Rattle.channel_stack.specs.Layouts.{feed_drawing}
 use Rattle.cif_writer.specs.Symbols.{symbol_for, feed_symbol, name_of, number_of, copy_of, copies_of, wires_of, items_of}
 use Rattle.channel_stack.specs.Stack.{channel_bases, row_bases, stack_top, drawings, placed_rows, placed_from, item_place, place_at, corner_column, is_mirrored}
 use Rattle.cif_writer.proofs.FedItems.{IsThere}
-use Rattle.channel_stack.proofs.ListParts.{get-before, get-behind}
+use Rattle.wire_geom.proofs.ListLaws.{get-before, get-behind}
 use Rattle.channel_stack.proofs.StackBounds.{channel-below}
 use Rattle.cif_writer.proofs.WholeBoxes.{near-of}
 use Rattle.cif_writer.proofs.WritableSymbols.{name-is}

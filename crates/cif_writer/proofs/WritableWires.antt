@@ -14,7 +14,7 @@ use Rattle.channel_model.specs.declared.wiring.Segment.TheVariants.{Across, Alon
 use Rattle.channel_model.specs.declared.wiring.Via.{Via}
 use Rattle.channel_model.specs.declared.wiring.Wiring.{Wiring}
 use Rattle.wire_geom.specs.Boxes.{Box, across_box, along_box, square_box}
-use Rattle.wire_geom.specs.Drawing.{Film, on_horizontal, on_vertical, on_cut, name_of, Piece, pieces_of, drawn_of, drawn_by, drawing}
+use Rattle.wire_geom.specs.Drawing.{Mask, on_horizontal, on_vertical, on_cut, name_of, Piece, pieces_of, drawn_of, drawn_by, drawing}
 use Rattle.wire_geom.specs.Grid.{centre, line_at}
 use Rattle.wire_geom.specs.declared.drawn.Drawn.{Drawn}
 use Rattle.wire_geom.proofs.EndLaws.{LowerFacts, UpperFacts, lower_facts, upper_facts}
@@ -83,10 +83,10 @@ module _ (r : RuleValues) (valid : ValidRules r) (base columns tracks : ℕ) whe
       (whole, (whole, (square-fits v r.cut_size cut (omega arith) grid, tt)))
 
 -- the layer of a rectangle of a wiring is a layer's text
-film-text : (r : RuleValues) → ValidRules r → (film : Film) → is_layer_text (name_of r film) ≡ true
-film-text r valid on_horizontal = valid.ranges.horizontal_layer
-film-text r valid on_vertical = valid.ranges.vertical_layer
-film-text r valid on_cut = valid.ranges.cut_layer
+mask-text : (r : RuleValues) → ValidRules r → (mask : Mask) → is_layer_text (name_of r mask) ≡ true
+mask-text r valid on_horizontal = valid.ranges.horizontal_layer
+mask-text r valid on_vertical = valid.ranges.vertical_layer
+mask-text r valid on_cut = valid.ranges.cut_layer
 
 -- a number of up to 10^12 is in reach
 pub reach-of : (n : ℕ) → n ≤ 1000000000000 → IsInReach (pos n)
@@ -110,7 +110,7 @@ module _ (r : RuleValues) (valid : ValidRules r) (wide high : ℕ)
       let below : p.box.y0 * r.grid_centi ≤ p.box.y1 * r.grid_centi = mul-le-mul_right r.grid_centi (omega (arith, fits.some_up)) in
       record {
         written = record {
-          layer = film-text r valid p.film;
+          layer = mask-text r valid p.mask;
           box = box-whole r.grid_centi p.box.x0 p.box.y0 p.box.x1 p.box.y1 valid.whole_centi valid.ranges.grid_centi.0 fits.some_across fits.some_up right above;
         };
         reach = record {

@@ -18,7 +18,8 @@ use Rattle.wire_geom.proofs.ListLaws.{Contains-map, Contains-map_cases}
 use Rattle.layout_laws.specs.Chains.{AreChained, itself, by_touch, by_tie}
 use Rattle.layout_laws.specs.Labels.{IsLabelled}
 use Rattle.layout_laws.specs.Uprights.{IsWired}
-use Rattle.layout_laws.proofs.ListPlaces.{contains-at, at-contains, map-at, at-map}
+use Rattle.layout_laws.proofs.ListPlaces.{contains-at, at-contains, at-map}
+use Rattle.wire_geom.proofs.ListLaws.{map-at}
 use Rattle.layout_laws.proofs.TouchLaws.{wire-touches, cut-touches, touch-net, touch-turned}
 
 module _ (r : RuleValues) (d : Netlist) (l : Layout) (ds : List Drawn) (net_at : ℕ → ℕ → ℕ) (labelled : IsLabelled r d l ds net_at) where

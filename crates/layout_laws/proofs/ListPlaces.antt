@@ -10,12 +10,6 @@ contains-at xs x there = (there.0, slice_get-get_or xs there.0 x there.1 ∙ ap 
 pub at-contains : {A : Type 0} (xs : List A) (k : ℕ) (x : A) → slice_get xs k ≡ Some x → Contains xs x
 at-contains xs k x at = (k, slice_get_within xs k x at, get_or_from_slice_get xs k x x at)
 
--- the image of an element stands at the element's place
-pub map-at : {A B : Type 0} (f : A → B) (xs : List A) (k : ℕ) (x : A) → slice_get xs k ≡ Some x → slice_get (map f xs) k ≡ Some (f x)
-map-at f [] k x at = absurd (none-some x at)
-map-at f (y ∷ xs) zero x at = ap (λ z. Some (f z)) (same_Some y x at)
-map-at f (y ∷ xs) (suc k) x at = map-at f xs k x at
-
 -- what stands at a place of the images is the image of what stands there
 pub at-map : {A B : Type 0} (f : A → B) (xs : List A) (k : ℕ) (y : B) → slice_get (map f xs) k ≡ Some y → (x : A) × (slice_get xs k ≡ Some x) × (f x ≡ y)
 at-map f [] k y at = absurd (none-some y at)

@@ -71,18 +71,18 @@ module _ (r : RuleValues) (valid : ValidRules r) (base height : ℕ) where
           from = rw low (scaled-order r (2 * base) (2 * (base + u.low)) (omega arith));
           to = rw high (scaled-order r (2 * (base + u.high)) (2 * (base + height)) (omega (arith, fits.within)));
           below = elim fits.below [
-            | inl is_foot ↦ inr (record {
+            | inl at_lower ↦ inr (record {
               column = it.column;
               stands = drawn-stands r base seats a it;
-              has_entry = record { upright = u; at = it.at; comes = is_foot; of_net = sym it.net };
+              has_entry = record { upright = u; at = it.at; comes = at_lower; of_net = sym it.net };
             })
             | inr far ↦ inl (rw low (scaled-gap r (2 * base) r.vertical_space (2 * (base + u.low)) (omega (arith, far))))
           ];
           above = elim fits.above [
-            | inl is_head ↦ inr (record {
+            | inl at_upper ↦ inr (record {
               column = it.column;
               stands = drawn-stands r base seats a it;
-              has_entry = record { upright = u; at = it.at; comes = is_head; of_net = sym it.net };
+              has_entry = record { upright = u; at = it.at; comes = at_upper; of_net = sym it.net };
             })
             | inr far ↦ inl (rw high (scaled-gap r (2 * (base + u.high)) r.vertical_space (2 * (base + height)) (omega (arith, far))))
           ];

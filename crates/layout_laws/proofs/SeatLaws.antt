@@ -1,6 +1,6 @@
 use Rattle.std.proofs.Common.{◌≡◌, ◌⊎◌, inl, inr, refl, sym, ◌∙◌, ℕ, ◌+◌, ◌≤◌, List, [], ◌∷◌, Contains, arith}
 use Rattle.std.proofs.lemmas.List.Elements.{Contains-append_right}
-use Rattle.layout_laws.specs.Seats.{AreParted, FitsRow, IsFoot, IsHead, IsSeat, LowerNet, Seat, UpperNet, Upright, UprightAt, further, here}
+use Rattle.layout_laws.specs.Seats.{AreParted, FitsRow, ComesToLower, ComesToUpper, IsSeat, LowerNet, Seat, UpperNet, Upright, UprightAt, further, here}
 use Rattle.tech_rules.specs.Rules.{RuleValues, ValidRules}
 use Rattle.layout_laws.specs.Strips.{Agree}
 
@@ -49,28 +49,28 @@ module _ (r : RuleValues) (valid : ValidRules r) (height : ℕ) where
       ]
 
   -- parted uprights that come to one edge are of one net
-  feet-one : (u v : Upright) → FitsRow r height u → FitsRow r height v → AreParted r u v → IsFoot u → IsFoot v → u.net ≡ v.net
-  feet-one u v fit_u fit_v (inl same) foot_u foot_v = same
-  feet-one u v fit_u fit_v (inr (inl under)) foot_u foot_v = absurd (omega (arith, fit_u.long, valid.ranges.vertical_width))
-  feet-one u v fit_u fit_v (inr (inr over)) foot_u foot_v = absurd (omega (arith, fit_v.long, valid.ranges.vertical_width))
+  lower-one : (u v : Upright) → FitsRow r height u → FitsRow r height v → AreParted r u v → ComesToLower u → ComesToLower v → u.net ≡ v.net
+  lower-one u v fit_u fit_v (inl same) lower_u lower_v = same
+  lower-one u v fit_u fit_v (inr (inl under)) lower_u lower_v = absurd (omega (arith, fit_u.long, valid.ranges.vertical_width))
+  lower-one u v fit_u fit_v (inr (inr over)) lower_u lower_v = absurd (omega (arith, fit_v.long, valid.ranges.vertical_width))
 
-  heads-one : (u v : Upright) → FitsRow r height u → FitsRow r height v → AreParted r u v → IsHead height u → IsHead height v → u.net ≡ v.net
-  heads-one u v fit_u fit_v (inl same) head_u head_v = same
-  heads-one u v fit_u fit_v (inr (inl under)) head_u head_v = absurd (omega (arith, fit_v.long, valid.ranges.vertical_width))
-  heads-one u v fit_u fit_v (inr (inr over)) head_u head_v = absurd (omega (arith, fit_u.long, valid.ranges.vertical_width))
+  upper-one : (u v : Upright) → FitsRow r height u → FitsRow r height v → AreParted r u v → ComesToUpper height u → ComesToUpper height v → u.net ≡ v.net
+  upper-one u v fit_u fit_v (inl same) upper_u upper_v = same
+  upper-one u v fit_u fit_v (inr (inl under)) upper_u upper_v = absurd (omega (arith, fit_v.long, valid.ranges.vertical_width))
+  upper-one u v fit_u fit_v (inr (inr over)) upper_u upper_v = absurd (omega (arith, fit_u.long, valid.ranges.vertical_width))
 
   module _ (seats : List Seat) (are : (seat : Seat) → Contains seats seat → IsSeat r height seat) where
     -- in each column of the row's lower edge, and of its upper edge, there is one net
     pub LowerNet-one : Agree (LowerNet seats) (LowerNet seats)
     LowerNet-one column n m a b =
         sym a.of_net
-        ∙ feet-one a.upright b.upright (upright-fits seats are 0 column a.upright a.at) (upright-fits seats are 0 column b.upright b.at)
+        ∙ lower-one a.upright b.upright (upright-fits seats are 0 column a.upright a.at) (upright-fits seats are 0 column b.upright b.at)
         (uprights-parted seats are 0 column a.upright b.upright a.at b.at) a.comes b.comes
         ∙ b.of_net
 
     pub UpperNet-one : Agree (UpperNet height seats) (UpperNet height seats)
     UpperNet-one column n m a b =
         sym a.of_net
-        ∙ heads-one a.upright b.upright (upright-fits seats are 0 column a.upright a.at) (upright-fits seats are 0 column b.upright b.at)
+        ∙ upper-one a.upright b.upright (upright-fits seats are 0 column a.upright a.at) (upright-fits seats are 0 column b.upright b.at)
         (uprights-parted seats are 0 column a.upright b.upright a.at b.at) a.comes b.comes
         ∙ b.of_net

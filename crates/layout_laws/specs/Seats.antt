@@ -9,12 +9,12 @@ pub record Upright : Type 0 where
   pub net : ℕ
 
 -- it comes to the lower edge of its row
-abbrev pub IsFoot : Upright → Type 0
-IsFoot u = u.low ≡ 0
+abbrev pub ComesToLower : Upright → Type 0
+ComesToLower u = u.low ≡ 0
 
 -- it comes to the upper edge of a row of this height
-abbrev pub IsHead : ℕ → Upright → Type 0
-IsHead height u = u.high ≡ height
+abbrev pub ComesToUpper : ℕ → Upright → Type 0
+ComesToUpper height u = u.high ≡ height
 
 -- what stands in a row: its width in columns, and its vertical wires
 pub record Seat : Type 0 where
@@ -25,8 +25,8 @@ pub record Seat : Type 0 where
 pub record FitsRow (r : RuleValues) (height : ℕ) (u : Upright) : Type 0 where
   pub long : u.low + r.vertical_width ≤ u.high
   pub within : u.high ≤ height
-  pub below : IsFoot u ⊎ (r.vertical_space ≤ u.low)
-  pub above : IsHead height u ⊎ (u.high + r.vertical_space ≤ height)
+  pub below : ComesToLower u ⊎ (r.vertical_space ≤ u.low)
+  pub above : ComesToUpper height u ⊎ (u.high + r.vertical_space ≤ height)
 
 -- two uprights of one column are of one net, or one ends the vertical space below the other
 abbrev pub AreParted : RuleValues → Upright → Upright → Type 0
@@ -47,12 +47,12 @@ pub data UprightAt (u : Upright) (column : ℕ) : ℕ → List Seat → Type 0 w
 pub record LowerNet (seats : List Seat) (column net : ℕ) : Type 0 where
   pub upright : Upright
   pub at : UprightAt upright column 0 seats
-  pub comes : IsFoot upright
+  pub comes : ComesToLower upright
   pub of_net : upright.net ≡ net
 
 -- in this column of the row, which has this height, a net comes to its upper edge
 pub record UpperNet (height : ℕ) (seats : List Seat) (column net : ℕ) : Type 0 where
   pub upright : Upright
   pub at : UprightAt upright column 0 seats
-  pub comes : IsHead height upright
+  pub comes : ComesToUpper height upright
   pub of_net : upright.net ≡ net

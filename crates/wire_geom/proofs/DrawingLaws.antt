@@ -19,14 +19,14 @@ use Rattle.wire_geom.specs.declared.drawn.Drawn.{Drawn}
 use Rattle.wire_geom.specs.Boxes.{Box}
 use Rattle.wire_geom.specs.Columns.{InColumns}
 use Rattle.wire_geom.specs.Contact.{layer_name, KeepContact}
-use Rattle.wire_geom.specs.Drawing.{Film, on_horizontal, on_vertical, on_cut, Piece, name_of, segment_piece, via_piece, via_pieces, pieces_of, extent_of, drawn_of, drawn_by, drawing}
+use Rattle.wire_geom.specs.Drawing.{Mask, on_horizontal, on_vertical, on_cut, Piece, name_of, segment_piece, via_piece, via_pieces, pieces_of, extent_of, drawn_of, drawn_by, drawing}
 use Rattle.wire_geom.specs.Edges.{bottom_entry, top_entry, StandsIn, Enters, Keeps, KeepEdges, MeetEntries}
 use Rattle.wire_geom.specs.Grid.{centre, line_at, scaled}
 use Rattle.wire_geom.specs.Spaces.{NetsKeep, NetsApart}
 use Rattle.wire_geom.specs.Widths.{IsCovered, AreWide}
 use Rattle.wire_geom.proofs.BoxLaws.{Inside, Clear-inside}
 use Rattle.wire_geom.proofs.EndLaws.{upper_end-edge}
-use Rattle.wire_geom.proofs.GridLaws.{reach-narrow, halo-columns, space_of, reach_of, halo, film-clear}
+use Rattle.wire_geom.proofs.GridLaws.{reach-narrow, halo-columns, space_of, reach_of, halo, mask-clear}
 use Rattle.wire_geom.proofs.ListLaws.{Contains-map, Contains-map_cases, Contains-flat_map, Contains-flat_map_cases}
 use Rattle.wire_geom.proofs.PatchLaws.{within_columns, Lies, layer_of, patch_of, proper, parted_or_meet}
 use Rattle.wire_geom.proofs.PieceLaws.{PieceFacts, IsWide, HasRoom, IsSquareBox, Stands, Stays, Holder, piece_facts}
@@ -45,16 +45,16 @@ drawing_parts r base wiring =
     refl
 
 -- a layer's name tells the layer
-pub film_is : (r : RuleValues) → ValidRules r → (k film : Film) → name_of r k ≡ name_of r film → k ≡ film
-film_is r valid on_horizontal on_horizontal e = refl
-film_is r valid on_horizontal on_vertical e = absurd (valid.layers.horizontal_vertical e)
-film_is r valid on_horizontal on_cut e = absurd (valid.layers.horizontal_cut e)
-film_is r valid on_vertical on_horizontal e = absurd (valid.layers.horizontal_vertical (sym e))
-film_is r valid on_vertical on_vertical e = refl
-film_is r valid on_vertical on_cut e = absurd (valid.layers.vertical_cut e)
-film_is r valid on_cut on_horizontal e = absurd (valid.layers.horizontal_cut (sym e))
-film_is r valid on_cut on_vertical e = absurd (valid.layers.vertical_cut (sym e))
-film_is r valid on_cut on_cut e = refl
+pub mask_is : (r : RuleValues) → ValidRules r → (k mask : Mask) → name_of r k ≡ name_of r mask → k ≡ mask
+mask_is r valid on_horizontal on_horizontal e = refl
+mask_is r valid on_horizontal on_vertical e = absurd (valid.layers.horizontal_vertical e)
+mask_is r valid on_horizontal on_cut e = absurd (valid.layers.horizontal_cut e)
+mask_is r valid on_vertical on_horizontal e = absurd (valid.layers.horizontal_vertical (sym e))
+mask_is r valid on_vertical on_vertical e = refl
+mask_is r valid on_vertical on_cut e = absurd (valid.layers.vertical_cut e)
+mask_is r valid on_cut on_horizontal e = absurd (valid.layers.horizontal_cut (sym e))
+mask_is r valid on_cut on_vertical e = absurd (valid.layers.vertical_cut (sym e))
+mask_is r valid on_cut on_cut e = refl
 
 -- a rectangle has the sides of its box
 drawn_room : (r : RuleValues) (d : ℕ) (b : Box) → HasRoom (2 * d) b → HasSides (length_in r d) (extent_of r b)
@@ -115,15 +115,15 @@ module _ (pins : Pins) (wiring : Wiring) (wired : Wired pins wiring) (r : RuleVa
       (Contains-map (drawn_of r) (pieces_of r base wiring.tracks e) p member)
 
   -- widths
-  wide_on : (film : Film) (p : Piece) → IsWide r p.film p.box → name_of r p.film ≡ name_of r film → IsWide r film p.box
-  wide_on film p wide named = subst (λ (k : Film). IsWide r k p.box) (film_is r valid p.film film named) wide
+  wide_on : (mask : Mask) (p : Piece) → IsWide r p.mask p.box → name_of r p.mask ≡ name_of r mask → IsWide r mask p.box
+  wide_on mask p wide named = subst (λ (k : Mask). IsWide r k p.box) (mask_is r valid p.mask mask named) wide
 
-  covered : (film : Film) (e : Element) (p : Piece) → Contains (elements wiring) e → Holder (2 * r.cut_enclose) (pieces_of r base wiring.tracks e) film p
-      → IsCovered r (drawing r base wiring) (name_of r film) (drawn_of r p)
-  covered film e p listed holder = record {
+  covered : (mask : Mask) (e : Element) (p : Piece) → Contains (elements wiring) e → Holder (2 * r.cut_enclose) (pieces_of r base wiring.tracks e) mask p
+      → IsCovered r (drawing r base wiring) (name_of r mask) (drawn_of r p)
+  covered mask e p listed holder = record {
     cover = drawn_of r holder.piece;
     is_drawn = is_drawn e holder.piece listed holder.listed;
-    on_layer = ap (name_of r) holder.on_film;
+    on_layer = ap (name_of r) holder.on_mask;
     same_net = holder.same_net;
     encloses = record {
       left = scaled-before r holder.piece.box.x0 r.cut_enclose p.box.x0 holder.left;
@@ -142,38 +142,38 @@ module _ (pins : Pins) (wiring : Wiring) (wired : Wired pins wiring) (r : RuleVa
     cut = each_drawn (λ d. d.shape.layer ≡ r.cut_layer → IsSquare (length_in r r.cut_size) d.shape.rect)
         (λ e p listed member f named. drawn_square r r.cut_size p.box (wide_on on_cut p f.wide named));
     in_horizontal = each_drawn (λ d. d.shape.layer ≡ r.cut_layer → IsCovered r (drawing r base wiring) r.horizontal_layer d)
-        (λ e p listed member f named. covered on_horizontal e p listed (f.horizontal_pad (film_is r valid p.film on_cut named)));
+        (λ e p listed member f named. covered on_horizontal e p listed (f.horizontal_pad (mask_is r valid p.mask on_cut named)));
     in_vertical = each_drawn (λ d. d.shape.layer ≡ r.cut_layer → IsCovered r (drawing r base wiring) r.vertical_layer d)
-        (λ e p listed member f named. covered on_vertical e p listed (f.vertical_pad (film_is r valid p.film on_cut named)));
+        (λ e p listed member f named. covered on_vertical e p listed (f.vertical_pad (mask_is r valid p.mask on_cut named)));
   }
 
   -- spaces
-  pieces_apart : (film : Film) (e f : Element) (p q : Piece) → Contains (elements wiring) e → Contains (elements wiring) f → F e p → F f q
-      → p.film ≡ film → q.film ≡ film → p.net ≢ q.net → Apart (length_in r (space_of r film)) (extent_of r p.box) (extent_of r q.box)
-  pieces_apart film e f p q listed_e listed_f facts_p facts_q ep eq differ =
-      let lies_e = subst (λ (k : Film). Lies e (layer_of k)) ep facts_p.lies in
-      let lies_f = subst (λ (k : Film). Lies f (layer_of k)) eq facts_q.lies in
-      let in_e = subst (λ (k : Film). Inside p.box (halo r base (reach_of r k) (patch_of e))) ep facts_p.inside in
-      let in_f = subst (λ (k : Film). Inside q.box (halo r base (reach_of r k) (patch_of f))) eq facts_q.inside in
+  pieces_apart : (mask : Mask) (e f : Element) (p q : Piece) → Contains (elements wiring) e → Contains (elements wiring) f → F e p → F f q
+      → p.mask ≡ mask → q.mask ≡ mask → p.net ≢ q.net → Apart (length_in r (space_of r mask)) (extent_of r p.box) (extent_of r q.box)
+  pieces_apart mask e f p q listed_e listed_f facts_p facts_q ep eq differ =
+      let lies_e = subst (λ (k : Mask). Lies e (layer_of k)) ep facts_p.lies in
+      let lies_f = subst (λ (k : Mask). Lies f (layer_of k)) eq facts_q.lies in
+      let in_e = subst (λ (k : Mask). Inside p.box (halo r base (reach_of r k) (patch_of e))) ep facts_p.inside in
+      let in_f = subst (λ (k : Mask). Inside q.box (halo r base (reach_of r k) (patch_of f))) eq facts_q.inside in
       let proper_e = proper wiring.columns wiring.tracks e (wired.on_grid e listed_e).0 in
       let proper_f = proper wiring.columns wiring.tracks f (wired.on_grid f listed_f).0 in
-      elim (parted_or_meet e f (layer_of film) lies_e lies_f proper_e proper_f) [
+      elim (parted_or_meet e f (layer_of mask) lies_e lies_f proper_e proper_f) [
         | inl parted ↦
-            scaled-clear r (space_of r film) p.box q.box
-            (Clear-inside (2 * space_of r film) p.box q.box (halo r base (reach_of r film) (patch_of e)) (halo r base (reach_of r film) (patch_of f)) in_e in_f
-            (film-clear r valid base film (patch_of e) (patch_of f) parted))
+            scaled-clear r (space_of r mask) p.box q.box
+            (Clear-inside (2 * space_of r mask) p.box q.box (halo r base (reach_of r mask) (patch_of e)) (halo r base (reach_of r mask) (patch_of f)) in_e in_f
+            (mask-clear r valid base mask (patch_of e) (patch_of f) parted))
         | inr meet ↦ absurd (differ (facts_p.net ∙ wired.apart e f listed_e listed_f meet ∙ sym facts_q.net))
       ]
 
-  nets_keep : (film : Film) → NetsKeep r (drawing r base wiring) (name_of r film) (space_of r film)
-  nets_keep film a b member_a member_b =
-      each_drawn (λ a. a.shape.layer ≡ name_of r film → b.shape.layer ≡ name_of r film → a.net ≢ b.net
-      → Apart (length_in r (space_of r film)) a.shape.rect b.shape.rect)
+  nets_keep : (mask : Mask) → NetsKeep r (drawing r base wiring) (name_of r mask) (space_of r mask)
+  nets_keep mask a b member_a member_b =
+      each_drawn (λ a. a.shape.layer ≡ name_of r mask → b.shape.layer ≡ name_of r mask → a.net ≢ b.net
+      → Apart (length_in r (space_of r mask)) a.shape.rect b.shape.rect)
       (λ e p listed_e member_p facts_p.
-      each_drawn (λ b. name_of r p.film ≡ name_of r film → b.shape.layer ≡ name_of r film → p.net ≢ b.net
-      → Apart (length_in r (space_of r film)) (extent_of r p.box) b.shape.rect)
+      each_drawn (λ b. name_of r p.mask ≡ name_of r mask → b.shape.layer ≡ name_of r mask → p.net ≢ b.net
+      → Apart (length_in r (space_of r mask)) (extent_of r p.box) b.shape.rect)
       (λ f q listed_f member_q facts_q named_p named_q.
-      pieces_apart film e f p q listed_e listed_f facts_p facts_q (film_is r valid p.film film named_p) (film_is r valid q.film film named_q))
+      pieces_apart mask e f p q listed_e listed_f facts_p facts_q (mask_is r valid p.mask mask named_p) (mask_is r valid q.mask mask named_q))
       b member_b)
       a member_a
 
@@ -190,7 +190,7 @@ module _ (pins : Pins) (wiring : Wiring) (wired : Wired pins wiring) (r : RuleVa
         (omega (
           arith,
           f.inside.right,
-          halo-columns r base (reach_of r p.film) wiring.columns (patch_of e) (reach-narrow r valid p.film)
+          halo-columns r base (reach_of r p.mask) wiring.columns (patch_of e) (reach-narrow r valid p.mask)
               (within_columns wiring.columns wiring.tracks e (wired.on_grid e listed).0),
         )));
   }
@@ -199,31 +199,31 @@ module _ (pins : Pins) (wiring : Wiring) (wired : Wired pins wiring) (r : RuleVa
   enters : (entry : ℕ → ℕ → Type 0) (p : Piece) → Stands r entry p → Enters r entry (drawn_of r p)
   enters entry p s = record {
     column = s.column;
-    stands = record { on_layer = ap (name_of r) s.film; left = ap (scaled r) s.left; right = ap (scaled r) s.right };
+    stands = record { on_layer = ap (name_of r) s.mask; left = ap (scaled r) s.left; right = ap (scaled r) s.right };
     has_entry = s.has_entry;
   }
 
   stays_drawn : (lower upper : ℕ → ℕ → Type 0) (p : Piece) → Stays r floor ceiling lower upper p
-      → Keeps r floor ceiling lower upper (space_of r p.film) (drawn_of r p)
+      → Keeps r floor ceiling lower upper (space_of r p.mask) (drawn_of r p)
   stays_drawn lower upper p s = record {
     from = scaled-order r floor p.box.y0 s.from;
     to = scaled-order r p.box.y1 ceiling s.to;
     below = elim s.below [
-      | inl far ↦ inl (scaled-gap r floor (space_of r p.film) p.box.y0 far)
+      | inl far ↦ inl (scaled-gap r floor (space_of r p.mask) p.box.y0 far)
       | inr at ↦ inr (ap (scaled r) at.0, enters lower p at.1)
     ];
     above = elim s.above [
-      | inl far ↦ inl (scaled-gap r p.box.y1 (space_of r p.film) ceiling far)
+      | inl far ↦ inl (scaled-gap r p.box.y1 (space_of r p.mask) ceiling far)
       | inr at ↦ inr (ap (scaled r) at.0, enters upper p at.1)
     ];
   }
 
-  keeps_on : (film : Film) (d : Drawn) → Contains (drawing r base wiring) d → d.shape.layer ≡ name_of r film
-      → Keeps r floor ceiling (bottom_entry pins) (top_entry pins) (space_of r film) d
-  keeps_on film =
-      each_drawn (λ d. d.shape.layer ≡ name_of r film → Keeps r floor ceiling (bottom_entry pins) (top_entry pins) (space_of r film) d)
+  keeps_on : (mask : Mask) (d : Drawn) → Contains (drawing r base wiring) d → d.shape.layer ≡ name_of r mask
+      → Keeps r floor ceiling (bottom_entry pins) (top_entry pins) (space_of r mask) d
+  keeps_on mask =
+      each_drawn (λ d. d.shape.layer ≡ name_of r mask → Keeps r floor ceiling (bottom_entry pins) (top_entry pins) (space_of r mask) d)
       (λ e p listed member f named.
-      subst (λ (k : Film). Keeps r floor ceiling (bottom_entry pins) (top_entry pins) (space_of r k) (drawn_of r p)) (film_is r valid p.film film named)
+      subst (λ (k : Mask). Keeps r floor ceiling (bottom_entry pins) (top_entry pins) (space_of r k) (drawn_of r p)) (mask_is r valid p.mask mask named)
       (stays_drawn (bottom_entry pins) (top_entry pins) p f.stays))
 
   pub drawing_edges : KeepEdges r floor ceiling (bottom_entry pins) (top_entry pins) (drawing r base wiring)

@@ -2,7 +2,7 @@ use Rattle.std.proofs.Common.{ℕ, ◌+◌, ◌*◌, ◌-◌, ◌≤◌, ◌<◌
 use Rattle.std.proofs.Math.Nat.{mul-le-mul_right}
 use Rattle.tech_rules.specs.Rules.{RuleValues, ValidRules, pad}
 use Rattle.wire_geom.specs.Boxes.{Box}
-use Rattle.wire_geom.specs.Drawing.{Film, on_horizontal, on_vertical, on_cut}
+use Rattle.wire_geom.specs.Drawing.{Mask, on_horizontal, on_vertical, on_cut}
 use Rattle.wire_geom.specs.Grid.{centre, line_at}
 use Rattle.wire_geom.proofs.BoxLaws.{Clear, before, behind, under, over}
 
@@ -21,12 +21,12 @@ pub data Parted (p q : Patch) : Type 0 where
   above_it : q.high < p.low → Parted p q
 
 -- the space of a layer, and how far its rectangles reach beyond their grid lines, in half units
-abbrev pub space_of : RuleValues → Film → ℕ
+abbrev pub space_of : RuleValues → Mask → ℕ
 space_of r on_horizontal = r.horizontal_space
 space_of r on_vertical = r.vertical_space
 space_of r on_cut = r.cut_space
 
-abbrev pub reach_of : RuleValues → Film → ℕ
+abbrev pub reach_of : RuleValues → Mask → ℕ
 reach_of r on_horizontal = pad r
 reach_of r on_vertical = pad r
 reach_of r on_cut = r.cut_size
@@ -67,14 +67,14 @@ halo-clear r base size space p q c t (below_it h) = under (omega (arith, line-st
 halo-clear r base size space p q c t (above_it h) = over (omega (arith, line-step r base q.high p.low h))
 
 -- on every layer
-pub film-clear : (r : RuleValues) → ValidRules r → (base : ℕ) (film : Film) (p q : Patch) → Parted p q
-    → Clear (2 * space_of r film) (halo r base (reach_of r film) p) (halo r base (reach_of r film) q)
-film-clear r valid base on_horizontal p q h = halo-clear r base (pad r) r.horizontal_space p q valid.column_horizontal valid.track_horizontal h
-film-clear r valid base on_vertical p q h = halo-clear r base (pad r) r.vertical_space p q valid.column_vertical valid.track_vertical h
-film-clear r valid base on_cut p q h = halo-clear r base r.cut_size r.cut_space p q valid.column_cut valid.track_cut h
+pub mask-clear : (r : RuleValues) → ValidRules r → (base : ℕ) (mask : Mask) (p q : Patch) → Parted p q
+    → Clear (2 * space_of r mask) (halo r base (reach_of r mask) p) (halo r base (reach_of r mask) q)
+mask-clear r valid base on_horizontal p q h = halo-clear r base (pad r) r.horizontal_space p q valid.column_horizontal valid.track_horizontal h
+mask-clear r valid base on_vertical p q h = halo-clear r base (pad r) r.vertical_space p q valid.column_vertical valid.track_vertical h
+mask-clear r valid base on_cut p q h = halo-clear r base r.cut_size r.cut_space p q valid.column_cut valid.track_cut h
 
 -- half of the greatest width fits into half a column
-pub reach-narrow : (r : RuleValues) → ValidRules r → (film : Film) → reach_of r film ≤ r.grid_column
+pub reach-narrow : (r : RuleValues) → ValidRules r → (mask : Mask) → reach_of r mask ≤ r.grid_column
 reach-narrow r valid on_horizontal = omega (arith, valid.column_horizontal)
 reach-narrow r valid on_vertical = omega (arith, valid.column_vertical)
 reach-narrow r valid on_cut = omega (arith, valid.column_cut)

@@ -11,6 +11,8 @@ pub mod PieceLaws
 pub mod ListLaws
 -- half units in half centimicrons
 pub mod ScaleLaws
+-- where the rectangles of a wiring stand in its drawing
+pub mod DrawingPlaces
 -- what the rectangles of a wiring keep
 pub mod DrawingLaws
 -- a worked channel

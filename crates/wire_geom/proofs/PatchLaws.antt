@@ -4,7 +4,7 @@ use Rattle.std.specs.Prelude.{max}
 use Rattle.channel_model.specs.declared.wiring.Segment.TheVariants.{Across, Along}
 use Rattle.channel_model.specs.Elements.{Layer, vertical, horizontal, Element, segment, via, Covers, Meets}
 use Rattle.channel_model.specs.Wired.{IsOnGrid}
-use Rattle.wire_geom.specs.Drawing.{Film, on_horizontal, on_vertical, on_cut}
+use Rattle.wire_geom.specs.Drawing.{Mask, on_horizontal, on_vertical, on_cut}
 use Rattle.wire_geom.proofs.GridLaws.{Patch, Parted, left_of, right_of, below_it, above_it}
 
 -- the patch that an element covers
@@ -22,7 +22,7 @@ Lies (segment (Along net track from to)) horizontal = Unit {0}
 Lies (via v) layer = Unit {0}
 
 -- the layer of a wiring on which a rectangle's element lies; an element with a cut lies on both
-abbrev pub layer_of : Film → Layer
+abbrev pub layer_of : Mask → Layer
 layer_of on_horizontal = horizontal
 layer_of on_vertical = vertical
 layer_of on_cut = vertical

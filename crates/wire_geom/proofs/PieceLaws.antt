@@ -7,7 +7,7 @@ use Rattle.channel_model.specs.Pins.{Pins}
 use Rattle.channel_model.specs.Wired.{IsOnGrid, KeepsEdges}
 use Rattle.tech_rules.specs.Rules.{RuleValues, ValidRules, pad}
 use Rattle.wire_geom.specs.Boxes.{Box, across_box, along_box, square_box}
-use Rattle.wire_geom.specs.Drawing.{Film, on_horizontal, on_vertical, on_cut, Piece, pieces_of}
+use Rattle.wire_geom.specs.Drawing.{Mask, on_horizontal, on_vertical, on_cut, Piece, pieces_of}
 use Rattle.wire_geom.specs.Edges.{bottom_entry, top_entry}
 use Rattle.wire_geom.specs.Grid.{centre, line_at}
 use Rattle.wire_geom.proofs.BoxLaws.{Inside, Holds}
@@ -24,7 +24,7 @@ pub record IsSquareBox (d : ℕ) (b : Box) : Type 0 where
   pub across : b.x0 + d ≡ b.x1
   pub up : b.y0 + d ≡ b.y1
 
-abbrev pub IsWide : RuleValues → Film → Box → Type 0
+abbrev pub IsWide : RuleValues → Mask → Box → Type 0
 IsWide r on_horizontal b = HasRoom (2 * r.horizontal_width) b
 IsWide r on_vertical b = HasRoom (2 * r.vertical_width) b
 IsWide r on_cut b = IsSquareBox (2 * r.cut_size) b
@@ -32,7 +32,7 @@ IsWide r on_cut b = IsSquareBox (2 * r.cut_size) b
 -- a vertical wire in a column in which its net has an entry
 pub record Stands (r : RuleValues) (entry : ℕ → ℕ → Type 0) (p : Piece) : Type 0 where
   pub column : ℕ
-  pub film : p.film ≡ on_vertical
+  pub mask : p.mask ≡ on_vertical
   pub left : p.box.x0 ≡ centre r column - r.vertical_width
   pub right : p.box.x1 ≡ centre r column + r.vertical_width
   pub has_entry : entry column p.net
@@ -41,14 +41,14 @@ pub record Stands (r : RuleValues) (entry : ℕ → ℕ → Type 0) (p : Piece) 
 pub record Stays (r : RuleValues) (floor ceiling : ℕ) (lower upper : ℕ → ℕ → Type 0) (p : Piece) : Type 0 where
   pub from : floor ≤ p.box.y0
   pub to : p.box.y1 ≤ ceiling
-  pub below : (floor + 2 * space_of r p.film ≤ p.box.y0) ⊎ ((p.box.y0 ≡ floor) × Stands r lower p)
-  pub above : (p.box.y1 + 2 * space_of r p.film ≤ ceiling) ⊎ ((p.box.y1 ≡ ceiling) × Stands r upper p)
+  pub below : (floor + 2 * space_of r p.mask ≤ p.box.y0) ⊎ ((p.box.y0 ≡ floor) × Stands r lower p)
+  pub above : (p.box.y1 + 2 * space_of r p.mask ≤ ceiling) ⊎ ((p.box.y1 ≡ ceiling) × Stands r upper p)
 
 -- a piece of its net that holds a box with so much around it
-pub record Holder (d : ℕ) (ps : List Piece) (film : Film) (p : Piece) : Type 0 where
+pub record Holder (d : ℕ) (ps : List Piece) (mask : Mask) (p : Piece) : Type 0 where
   pub piece : Piece
   pub listed : Contains ps piece
-  pub on_film : piece.film ≡ film
+  pub on_mask : piece.mask ≡ mask
   pub same_net : piece.net ≡ p.net
   pub left : piece.box.x0 + d ≤ p.box.x0
   pub low : piece.box.y0 + d ≤ p.box.y0
@@ -58,13 +58,13 @@ pub record Holder (d : ℕ) (ps : List Piece) (film : Film) (p : Piece) : Type 0
 -- what each piece of an element keeps
 pub record PieceFacts (pins : Pins) (r : RuleValues) (base tracks : ℕ) (e : Element) (p : Piece) : Type 0 where
   pub net : p.net ≡ net_of e
-  pub lies : Lies e (layer_of p.film)
-  pub inside : Inside p.box (halo r base (reach_of r p.film) (patch_of e))
+  pub lies : Lies e (layer_of p.mask)
+  pub inside : Inside p.box (halo r base (reach_of r p.mask) (patch_of e))
   pub holds : (layer : Layer) (x y : ℕ) → Covers e layer x y → Holds p.box (centre r x) (line_at r base y)
-  pub wide : IsWide r p.film p.box
+  pub wide : IsWide r p.mask p.box
   pub stays : Stays r (line_at r base 0) (line_at r base (tracks + 1)) (bottom_entry pins) (top_entry pins) p
-  pub horizontal_pad : p.film ≡ on_cut → Holder (2 * r.cut_enclose) (pieces_of r base tracks e) on_horizontal p
-  pub vertical_pad : p.film ≡ on_cut → Holder (2 * r.cut_enclose) (pieces_of r base tracks e) on_vertical p
+  pub horizontal_pad : p.mask ≡ on_cut → Holder (2 * r.cut_enclose) (pieces_of r base tracks e) on_horizontal p
+  pub vertical_pad : p.mask ≡ on_cut → Holder (2 * r.cut_enclose) (pieces_of r base tracks e) on_vertical p
 
 module _ (pins : Pins) (r : RuleValues) (valid : ValidRules r) (base columns tracks : ℕ) where
   abbrev F : Element → Piece → Type 0
@@ -85,7 +85,7 @@ module _ (pins : Pins) (r : RuleValues) (valid : ValidRules r) (base columns tra
 
   across_facts : (net column low high : ℕ) → IsOnGrid columns tracks (segment (Across net column low high)) → 0 < net
       → KeepsEdges pins tracks (segment (Across net column low high))
-      → F (segment (Across net column low high)) (record { film = on_vertical; box = across_box r base tracks column low high; net = net })
+      → F (segment (Across net column low high)) (record { mask = on_vertical; box = across_box r base tracks column low high; net = net })
   across_facts net column low high grid positive edges =
       let l : LowerFacts r base low = lower_facts r valid base low in
       let u : UpperFacts r base tracks high = upper_facts r valid base tracks high grid.2 in
@@ -104,11 +104,11 @@ module _ (pins : Pins) (r : RuleValues) (valid : ValidRules r) (base columns tra
           to = u.to;
           below = elim l.below [
             | inl far ↦ inl far
-            | inr at ↦ inr (at.1, record { column = column; film = refl; left = refl; right = refl; has_entry = (positive, edges.0 at.0) })
+            | inr at ↦ inr (at.1, record { column = column; mask = refl; left = refl; right = refl; has_entry = (positive, edges.0 at.0) })
           ];
           above = elim u.above [
             | inl far ↦ inl far
-            | inr at ↦ inr (at.1, record { column = column; film = refl; left = refl; right = refl; has_entry = (positive, edges.1 at.0) })
+            | inr at ↦ inr (at.1, record { column = column; mask = refl; left = refl; right = refl; has_entry = (positive, edges.1 at.0) })
           ];
         };
         horizontal_pad = λ no. cc;
@@ -116,7 +116,7 @@ module _ (pins : Pins) (r : RuleValues) (valid : ValidRules r) (base columns tra
       }
 
   along_facts : (net track from to : ℕ) → IsOnGrid columns tracks (segment (Along net track from to))
-      → F (segment (Along net track from to)) (record { film = on_horizontal; box = along_box r base track from to; net = net })
+      → F (segment (Along net track from to)) (record { mask = on_horizontal; box = along_box r base track from to; net = net })
   along_facts net track from to grid =
       let narrow : r.horizontal_width ≤ pad r = valid.pad_horizontal in
       let room : pad r + r.horizontal_space ≤ r.grid_column = valid.column_horizontal in
@@ -136,18 +136,18 @@ module _ (pins : Pins) (r : RuleValues) (valid : ValidRules r) (base columns tra
       }
 
   -- a piece of a via, on a layer of which the rules keep the space of such squares
-  square_inside : (film : Film) (v : Via)
-      → Inside (square_box r base (reach_of r film) v.column v.track) (halo r base (reach_of r film) (patch_of (via v)))
-  square_inside film v = record { left = omega arith; low = omega arith; right = omega arith; high = omega arith }
+  square_inside : (mask : Mask) (v : Via)
+      → Inside (square_box r base (reach_of r mask) v.column v.track) (halo r base (reach_of r mask) (patch_of (via v)))
+  square_inside mask v = record { left = omega arith; low = omega arith; right = omega arith; high = omega arith }
 
   square_holds : (v : Via) (size : ℕ) (layer : Layer) (x y : ℕ) → Covers (via v) layer x y
       → Holds (square_box r base size v.column v.track) (centre r x) (line_at r base y)
   square_holds v size = holds_points (via v) (square_box r base size v.column v.track) (omega arith) (omega arith) (omega arith) (omega arith)
 
-  square_stays : (film : Film) (v : Via) (size : ℕ) → size + space_of r film ≤ r.grid_track → 0 < v.track → v.track ≤ tracks
+  square_stays : (mask : Mask) (v : Via) (size : ℕ) → size + space_of r mask ≤ r.grid_track → 0 < v.track → v.track ≤ tracks
       → Stays r (line_at r base 0) (line_at r base (tracks + 1)) (bottom_entry pins) (top_entry pins)
-      (record { film = film; box = square_box r base size v.column v.track; net = v.net })
-  square_stays film v size pitch positive within =
+      (record { mask = mask; box = square_box r base size v.column v.track; net = v.net })
+  square_stays mask v size pitch positive within =
       let floor : line_at r base 0 + 2 * r.grid_track ≤ line_at r base v.track = line-step r base 0 v.track positive in
       let ceiling : line_at r base v.track + 2 * r.grid_track ≤ line_at r base (tracks + 1) = line-step r base v.track (tracks + 1) (omega arith) in
       record { from = omega arith; to = omega arith; below = inl (omega arith); above = inl (omega arith) }
@@ -158,20 +158,20 @@ module _ (pins : Pins) (r : RuleValues) (valid : ValidRules r) (base columns tra
       let floor : line_at r base 0 + 2 * r.grid_track ≤ line_at r base v.track = line-step r base 0 v.track positive in
       record { across = omega arith; up = omega arith }
 
-  abbrev pad_on : Film → Via → Piece
-  pad_on film v = record { film = film; box = square_box r base (pad r) v.column v.track; net = v.net }
+  abbrev pad_on : Mask → Via → Piece
+  pad_on mask v = record { mask = mask; box = square_box r base (pad r) v.column v.track; net = v.net }
 
-  pad_holds : (film : Film) (v : Via) → Contains (pieces_of r base tracks (via v)) (pad_on film v) → 0 < v.track
-      → Holder (2 * r.cut_enclose) (pieces_of r base tracks (via v)) film
-      (record { film = on_cut; box = square_box r base r.cut_size v.column v.track; net = v.net })
-  pad_holds film v listed positive =
+  pad_holds : (mask : Mask) (v : Via) → Contains (pieces_of r base tracks (via v)) (pad_on mask v) → 0 < v.track
+      → Holder (2 * r.cut_enclose) (pieces_of r base tracks (via v)) mask
+      (record { mask = on_cut; box = square_box r base r.cut_size v.column v.track; net = v.net })
+  pad_holds mask v listed positive =
       let floor : line_at r base 0 + 2 * r.grid_track ≤ line_at r base v.track = line-step r base 0 v.track positive in
       let room : pad r + r.vertical_space ≤ r.grid_column = valid.column_vertical in
       let pitch : pad r + r.vertical_space ≤ r.grid_track = valid.track_vertical in
       record {
-        piece = pad_on film v;
+        piece = pad_on mask v;
         listed = listed;
-        on_film = refl;
+        on_mask = refl;
         same_net = refl;
         left = omega arith;
         low = omega arith;
@@ -205,7 +205,7 @@ module _ (pins : Pins) (r : RuleValues) (valid : ValidRules r) (base columns tra
         vertical_pad = λ no. cc;
       }
 
-  cut_facts : (v : Via) → IsOnGrid columns tracks (via v) → F (via v) (record { film = on_cut; box = square_box r base r.cut_size v.column v.track; net = v.net })
+  cut_facts : (v : Via) → IsOnGrid columns tracks (via v) → F (via v) (record { mask = on_cut; box = square_box r base r.cut_size v.column v.track; net = v.net })
   cut_facts v grid =
       let room : r.cut_size + r.cut_space ≤ r.grid_column = valid.column_cut in
       let pitch : r.cut_size + r.cut_space ≤ r.grid_track = valid.track_cut in
@@ -224,13 +224,13 @@ module _ (pins : Pins) (r : RuleValues) (valid : ValidRules r) (base columns tra
   -- what each piece of an element keeps
   pub piece_facts : (e : Element) → IsOnGrid columns tracks e → 0 < net_of e → KeepsEdges pins tracks e → All (F e) (pieces_of r base tracks e)
   piece_facts (segment (Across net column low high)) grid positive edges =
-      All-cons (F (segment (Across net column low high))) (record { film = on_vertical; box = across_box r base tracks column low high; net = net }) []
+      All-cons (F (segment (Across net column low high))) (record { mask = on_vertical; box = across_box r base tracks column low high; net = net }) []
       (across_facts net column low high grid positive edges) (All-nil (F (segment (Across net column low high))))
   piece_facts (segment (Along net track from to)) grid positive edges =
-      All-cons (F (segment (Along net track from to))) (record { film = on_horizontal; box = along_box r base track from to; net = net }) []
+      All-cons (F (segment (Along net track from to))) (record { mask = on_horizontal; box = along_box r base track from to; net = net }) []
       (along_facts net track from to grid) (All-nil (F (segment (Along net track from to))))
   piece_facts (via v) grid positive edges =
-      let cut : Piece = record { film = on_cut; box = square_box r base r.cut_size v.column v.track; net = v.net } in
+      let cut : Piece = record { mask = on_cut; box = square_box r base r.cut_size v.column v.track; net = v.net } in
       All-cons (F (via v)) (pad_on on_horizontal v) (pad_on on_vertical v ∷ (cut ∷ [])) (horizontal_pad_facts v grid)
       (All-cons (F (via v)) (pad_on on_vertical v) (cut ∷ []) (vertical_pad_facts v grid)
       (All-cons (F (via v)) cut [] (cut_facts v grid) (All-nil (F (via v)))))

@@ -11,32 +11,32 @@ use Rattle.wire_geom.specs.Boxes.{Box, across_box, along_box, square_box}
 use Rattle.wire_geom.specs.Grid.{scaled}
 use Rattle.wire_geom.specs.declared.drawn.Drawn.{Drawn}
 
--- the layers on which wirings are drawn
-pub data Film : Type 0 where
-  on_horizontal : Film
-  on_vertical : Film
-  on_cut : Film
+-- the masks on which wirings are drawn: one for each layer of wires, and that of the cuts
+pub data Mask : Type 0 where
+  on_horizontal : Mask
+  on_vertical : Mask
+  on_cut : Mask
 
-abbrev pub name_of : RuleValues → Film → List ℕ
+abbrev pub name_of : RuleValues → Mask → List ℕ
 name_of r on_horizontal = r.horizontal_layer
 name_of r on_vertical = r.vertical_layer
 name_of r on_cut = r.cut_layer
 
 -- a rectangle of a net, in half units
 pub record Piece : Type 0 where
-  pub film : Film
+  pub mask : Mask
   pub box : Box
   pub net : ℕ
 
 -- an Across is a vertical wire, and an Along a horizontal one
 abbrev pub segment_piece : RuleValues → ℕ → ℕ → Segment → Piece
 segment_piece r base tracks (Across net column low high) =
-    record { film = on_vertical; box = across_box r base tracks column low high; net = net }
-segment_piece r base tracks (Along net track from to) = record { film = on_horizontal; box = along_box r base track from to; net = net }
+    record { mask = on_vertical; box = across_box r base tracks column low high; net = net }
+segment_piece r base tracks (Along net track from to) = record { mask = on_horizontal; box = along_box r base track from to; net = net }
 
 -- a via is a pad on each layer of wires, the horizontal one first, and a cut
-abbrev pub via_piece : RuleValues → ℕ → Film → ℕ → Via → Piece
-via_piece r base film size v = record { film = film; box = square_box r base size v.column v.track; net = v.net }
+abbrev pub via_piece : RuleValues → ℕ → Mask → ℕ → Via → Piece
+via_piece r base mask size v = record { mask = mask; box = square_box r base size v.column v.track; net = v.net }
 
 abbrev pub via_pieces : RuleValues → ℕ → Via → List Piece
 via_pieces r base v =
@@ -51,7 +51,7 @@ abbrev pub extent_of : RuleValues → Box → Extent
 extent_of r box = record { x0 = scaled r box.x0; y0 = scaled r box.y0; x1 = scaled r box.x1; y1 = scaled r box.y1 }
 
 abbrev pub drawn_of : RuleValues → Piece → Drawn
-drawn_of r piece = record { shape = record { layer = name_of r piece.film; rect = extent_of r piece.box }; net = piece.net }
+drawn_of r piece = record { shape = record { layer = name_of r piece.mask; rect = extent_of r piece.box }; net = piece.net }
 
 -- the rectangles of an element
 abbrev pub drawn_by : RuleValues → ℕ → ℕ → Element → List Drawn

@@ -2,8 +2,8 @@ ghost use Rattle.channel_model.specs.Elements.{segment as seg, elements};
 ghost use Rattle.channel_model.specs.Pins.{Pins};
 ghost use Rattle.channel_model.specs.Wired.{Wired, IsOnGrid};
 ghost use Rattle.std.specs.List.{All, flat_map};
-ghost use Rattle.std.specs.Prelude.{◌≡◌, ◌<◌, ◌≤◌, ◌+◌, ◌++◌, ℕ, List, IfOk, OnOk, map};
-ghost use Rattle.tech_rules.specs.Rules.{pad as side_of_pad};
+ghost use Rattle.std.specs.Prelude.{◌≡◌, ◌<◌, ◌≤◌, ◌+◌, ◌*◌, ◌++◌, ℕ, List, IfOk, OnOk, Some, length, map, slice_get};
+ghost use Rattle.tech_rules.specs.Rules.{RuleValues, pad as side_of_pad};
 ghost use Rattle.wire_geom.specs.Columns.{InColumns};
 ghost use Rattle.wire_geom.specs.Contact.{KeepContact};
 ghost use Rattle.wire_geom.specs.Drawing.{on_horizontal, on_vertical, on_cut, segment_piece, via_piece, via_pieces, drawn_of, drawing};
@@ -46,64 +46,64 @@ pub fn draw(
     ensures entries { IfOk result (λ drawn. (pins : Pins) → Wired pins wiring.now
         → MeetEntries rules.now (line_at rules.now base 0) (line_at rules.now base (wiring.now.tracks + 1)) (bottom_entry pins) (top_entry pins) drawn.items) }
 {
+    // That the rules are valid is known once they are asked.
+    let _pad = rules.pad();
     let mut drawn = Vec::new(alloc);
-    draw_segments(&mut drawn, wiring, base, rules)?;
-    draw_vias(&mut drawn, wiring, base, rules.pad(), rules)?;
+    for k in 0..shapes(wiring) {
+        drawn.push(shape_at(wiring, k, base, rules))?;
+    }
     Ok(drawn)
 }
 
-// Draws the segments.
-fn draw_segments(
-    drawn: &mut Vec<Drawn>,
-    wiring: &Wiring,
-    base: u32,
-    rules: &Rules,
-) -> Result<(), AllocError>
-    requires { All (λ s. IsOnGrid wiring.now.columns wiring.now.tracks (seg s)) wiring.now.segments }
-    ensures { OnOk result (drawn.new.items
-        ≡ drawn.old.items ++ map (λ s. drawn_of rules.now (segment_piece rules.now base wiring.now.tracks s)) wiring.now.segments) }
+/// How many rectangles a wiring is drawn with: one for each segment and three for each via. Takes no memory.
+pub fn shapes(wiring: &Wiring) -> u64
+    ensures counted { result ≡ length wiring.now.segments + 3 * length wiring.now.vias }
+    ensures drawn { (r : RuleValues) (base : ℕ) → length (drawing r base wiring.now) ≡ result }
 {
-    for segment in wiring.segments.items() {
-        drawn.push(segment_drawn(*segment, wiring, base, rules))?;
-    }
-    Ok(())
+    wiring.segments.items().len() as u64 + 3 * wiring.vias.items().len() as u64
 }
 
-// Draws the vias.
-fn draw_vias(
-    drawn: &mut Vec<Drawn>,
-    wiring: &Wiring,
-    base: u32,
-    pad: u32,
-    rules: &Rules,
-) -> Result<(), AllocError>
-    requires { pad ≡ side_of_pad rules.now }
-    ensures { OnOk result (drawn.new.items
-        ≡ drawn.old.items ++ flat_map (λ v. map (drawn_of rules.now) (via_pieces rules.now base v)) wiring.now.vias) }
+/// The rectangle with number `k` of those with which a wiring is drawn, as `draw` lists them. `base` is the height of the channel's lower edge in units. The
+/// elements have to lie within the wiring's columns and lines. Takes no memory.
+pub fn shape_at(wiring: &Wiring, k: u64, base: u32, rules: &Rules) -> Drawn
+    requires on_grid { All (IsOnGrid wiring.now.columns wiring.now.tracks) (elements wiring.now) }
+    requires within { k < length wiring.now.segments + 3 * length wiring.now.vias }
+    ensures { slice_get (drawing rules.now base wiring.now) k ≡ Some result }
 {
-    for via in wiring.vias.items() {
-        draw_via(drawn, *via, base, pad, rules)?;
+    let segments = wiring.segments.items();
+    let count = segments.len() as u64;
+    if k < count {
+        return segment_drawn(segments[k as usize], wiring, base, rules);
     }
-    Ok(())
+    let part = k - count;
+    via_drawn(
+        wiring.vias.items()[(part / 3) as usize],
+        part % 3,
+        base,
+        rules,
+    )
 }
 
-// Draws a via: its two pads and its cut.
-fn draw_via(
-    drawn: &mut Vec<Drawn>,
-    via: Via,
-    base: u32,
-    pad: u32,
-    rules: &Rules,
-) -> Result<(), AllocError>
-    requires { pad ≡ side_of_pad rules.now }
-    ensures { OnOk result (drawn.new.items ≡ drawn.old.items ++ map (drawn_of rules.now) (via_pieces rules.now base via)) }
+// A rectangle of a via: its horizontal pad, its vertical pad, or its cut.
+fn via_drawn(via: Via, part: u64, base: u32, rules: &Rules) -> Drawn
+    requires { part < 3 }
+    ensures { slice_get (map (drawn_of rules.now) (via_pieces rules.now base via)) part ≡ Some result }
 {
-    let cut = square_rect(rules, base, rules.cut_size, via.column, via.track);
-    let pad = square_rect(rules, base, pad, via.column, via.track);
-    drawn.push(drawn_on(rules.horizontal_layer, pad, via.net))?;
-    drawn.push(drawn_on(rules.vertical_layer, pad, via.net))?;
-    drawn.push(drawn_on(rules.cut_layer, cut, via.net))?;
-    Ok(())
+    let side = if part == 2 {
+        rules.cut_size
+    } else {
+        rules.pad()
+    };
+    let layer = match part {
+        0 => rules.horizontal_layer,
+        1 => rules.vertical_layer,
+        _ => rules.cut_layer,
+    };
+    drawn_on(
+        layer,
+        square_rect(rules, base, side, via.column, via.track),
+        via.net,
+    )
 }
 
 // The rectangle of a segment.

@@ -5,5 +5,5 @@ mod boxes;
 mod drawing;
 mod drawn;
 
-pub use drawing::draw;
+pub use drawing::{draw, shape_at, shapes};
 pub use drawn::Drawn;
