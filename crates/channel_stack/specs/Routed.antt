@@ -9,7 +9,7 @@ use Rattle.feed_cells.specs.Fed.{Fed}
 use Rattle.pin_assign.specs.Bounds.{bound_of}
 use Rattle.pin_assign.specs.Tables.{tables_of}
 use Rattle.tech_rules.specs.Rules.{RuleValues}
-use Rattle.channel_stack.specs.Stack.{Stacked, stack_of, total_columns}
+use Rattle.channel_stack.specs.Stack.{Stacked, total_columns}
 
 -- there is one wiring for each channel, and it connects its channel
 pub record AreWired (d : Netlist) (fed : Fed) (ws : List Wiring) : Type 0 where
@@ -31,9 +31,3 @@ pub record IsWithin (r : RuleValues) (d : Netlist) (fed : Fed) (ws : List Wiring
   pub width : placed.width ≤ (bound_of r d fed).width
   pub height : placed.height ≤ (bound_of r d fed).height
   pub grid : total_columns ws ≤ (bound_of r d fed).grid
-
--- what is placed is the stack of a design's rows and of wirings that are routed
-pub record IsStacked (r : RuleValues) (d : Netlist) (fed : Fed) (placed : Stacked) : Type 0 where
-  pub wirings : List Wiring
-  pub routed : IsRouted r d fed wirings
-  pub is : placed ≡ stack_of r d fed wirings

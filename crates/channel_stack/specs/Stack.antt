@@ -93,3 +93,14 @@ stack_of r d fed ws = record {
   width = most_columns ws * r.grid_column * r.grid_centi;
   height = stack_top r d.height 0 ws * r.grid_centi;
 }
+
+-- the same without the rectangles of channels
+pub record LaidOut : Type 0 where
+  pub channel_base : List ℕ
+  pub row_base : List ℕ
+  pub cells : List (List PlacedItem)
+  pub width : ℕ
+  pub height : ℕ
+
+abbrev pub laid_of : Stacked → LaidOut
+laid_of s = record { channel_base = s.channel_base; row_base = s.row_base; cells = s.cells; width = s.width; height = s.height }

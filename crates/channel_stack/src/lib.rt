@@ -6,5 +6,5 @@ mod placed;
 mod places;
 mod stacking;
 
-pub use placed::{Placed, PlacedItem};
-pub use stacking::stack;
+pub use placed::{Laid, Placed, PlacedItem};
+pub use stacking::{lay, stack};

@@ -30,3 +30,23 @@ impl Model for Placed {
 
     ghost view = { stacked_in };
 }
+
+/// The layout of a routed design without the rectangles of its channels: the lower edges of its channels and rows in units, the items of each row from left to
+/// right, and its width and height in centimicrons. Contracts see the lists.
+#[derive(Debug, Drop)]
+pub struct Laid {
+    pub channel_base: Items<u32>,
+    pub row_base: Items<u32>,
+    pub cells: Items<Items<PlacedItem>>,
+    pub width: u64,
+    pub height: u64,
+}
+
+impl Model for Laid {
+    ghost use Rattle.channel_stack.specs.Stack.{LaidOut};
+    ghost use Rattle.channel_stack.specs.LaidView.{laid_in};
+
+    ghost Value = { LaidOut };
+
+    ghost view = { laid_in };
+}

@@ -4,8 +4,8 @@ ghost use Rattle.channel_model.specs.Elements.{elements};
 ghost use Rattle.channel_model.specs.Wired.{IsOnGrid};
 ghost use Rattle.channel_model.specs.declared.wiring.Wiring.{Wiring};
 ghost use Rattle.channel_stack.specs.Layouts.{layout_of};
-ghost use Rattle.channel_stack.specs.Routed.{AreWired, IsRouted, IsStacked, IsWithin};
-ghost use Rattle.channel_stack.specs.Stack.{drawings, stack_of};
+ghost use Rattle.channel_stack.specs.Routed.{AreWired, IsRouted, IsWithin};
+ghost use Rattle.channel_stack.specs.Stack.{drawings, laid_of, stack_of};
 ghost use Rattle.feed_cells.specs.Fed.{IsFed};
 ghost use Rattle.design_model.specs.Good.{Good};
 ghost use Rattle.design_model.specs.Room.{HasRoom};
@@ -13,7 +13,7 @@ ghost use Rattle.std.specs.List.{All, AllByRecursion};
 ghost use Rattle.std.specs.Prelude.{◌≡◌, IfOk};
 
 use crate::bases::{channel_bases, most_columns, row_bases, stack_top};
-use crate::placed::Placed;
+use crate::placed::{Laid, Placed};
 use crate::places::placed_rows;
 use channel_model::Wiring;
 use design_model::Design;
@@ -48,9 +48,44 @@ fn drawings(
     Ok(drawn)
 }
 
-/// The layout of a routed design: from y 0 up, channel 0, row 0, channel 1, and so on, each row of the design's height and each channel of t tracks
-/// as high as t + 1 tracks. The rows with feeds are those of their cells; there is one wiring for each channel, within the tracks and columns of the
-/// bound, which passes no limit. The one error is want of memory.
+/// Where the channels, rows, cells and feeds of a routed design lie: from y 0 up, channel 0, row 0, channel 1, and so on, each row of the design's height and
+/// each channel of t tracks as high as t + 1 tracks. The rows with feeds are those of their cells; there is one wiring for each channel, within the tracks and
+/// columns of the bound, which passes no limit. The one error is want of memory.
+///
+/// The layout is within its bound. Where each wiring connects its channel, by whatever router, and the cells have room for their pins, the layout of these cells
+/// and feeds, with each wiring drawn on its channel's lower edge, is good for the design and the rules.
+#[tactic(auto, unfolding(crate::specs::Stack::stack_of))]
+pub fn lay(
+    alloc: Global,
+    design: &Design,
+    fed: &FedRows,
+    wirings: &[Wiring],
+    rules: &Rules,
+) -> Result<Laid, AllocError>
+    requires fed { IsFed design.now fed.now }
+    requires routed { IsRouted rules.now design.now fed.now wirings.now }
+    ensures laid { IfOk result (λ laid. laid ≡ laid_of (stack_of rules.now design.now fed.now wirings.now)) }
+    ensures within { IfOk result (λ _. IsWithin rules.now design.now fed.now wirings.now (stack_of rules.now design.now fed.now wirings.now)) }
+    ensures good { IfOk result (λ _. HasRoom rules.now design.now → AreWired design.now fed.now wirings.now
+        → Good rules.now design.now (layout_of rules.now design.now (stack_of rules.now design.now fed.now wirings.now))) }
+{
+    let centi = u64::from(rules.grid_centi);
+    let height = design.height;
+    let channel_base = channel_bases(alloc, wirings, height, rules)?;
+    let row_base = row_bases(alloc, wirings, height, rules)?;
+    let cells = placed_rows(alloc, design, rules, fed.rows.items(), row_base.as_slice())?;
+    let columns = u64::from(most_columns(wirings));
+    Ok(Laid {
+        width: columns * u64::from(rules.grid_column) * centi,
+        height: stack_top(wirings, height, rules) * centi,
+        channel_base: Items::new(channel_base),
+        row_base: Items::new(row_base),
+        cells: Items::new(cells),
+    })
+}
+
+/// The whole layout of a routed design: where its channels, rows, cells and feeds lie, and the rectangles of its channels. It needs what `lay` needs. The one
+/// error is want of memory.
 ///
 /// The layout is within its bound. Where each wiring connects its channel, by whatever router, and the cells have room for their pins, the layout that the result
 /// is is good for the design and the rules.
@@ -65,24 +100,18 @@ pub fn stack(
     requires fed { IsFed design.now fed.now }
     requires routed { IsRouted rules.now design.now fed.now wirings.now }
     ensures stacked { IfOk result (λ placed. placed ≡ stack_of rules.now design.now fed.now wirings.now) }
-    ensures laid { IfOk result (λ placed. IsStacked rules.now design.now fed.now placed) }
     ensures within { IfOk result (λ placed. IsWithin rules.now design.now fed.now wirings.now placed) }
     ensures good { IfOk result (λ placed. HasRoom rules.now design.now → AreWired design.now fed.now wirings.now
         → Good rules.now design.now (layout_of rules.now design.now placed)) }
 {
-    let centi = u64::from(rules.grid_centi);
-    let height = design.height;
-    let channel_base = channel_bases(alloc, wirings, height, rules)?;
-    let row_base = row_bases(alloc, wirings, height, rules)?;
-    let cells = placed_rows(alloc, design, rules, fed.rows.items(), row_base.as_slice())?;
-    let shapes = drawings(alloc, wirings, channel_base.as_slice(), rules)?;
-    let columns = u64::from(most_columns(wirings));
+    let laid = lay(alloc, design, fed, wirings, rules)?;
+    let shapes = drawings(alloc, wirings, laid.channel_base.items(), rules)?;
     Ok(Placed {
-        width: columns * u64::from(rules.grid_column) * centi,
-        height: stack_top(wirings, height, rules) * centi,
-        channel_base: Items::new(channel_base),
-        row_base: Items::new(row_base),
-        cells: Items::new(cells),
+        channel_base: laid.channel_base,
+        row_base: laid.row_base,
+        cells: laid.cells,
         shapes: Items::new(shapes),
+        width: laid.width,
+        height: laid.height,
     })
 }

@@ -1,57 +1,14 @@
-use Rattle.std.proofs.Common.{rules as all_rules, ◌≡◌, ◌<◌, ◌≤◌, ◌^◌, ◌*◌, ℕ, List, Some, arith, subst, sym, ap}
-use Rattle.std.proofs.Math.Nat.{mul-le-mul}
+use Rattle.std.proofs.Common.{rules as all_rules, ◌≡◌, ℕ, Some, sym, subst}
 use Rattle.std.specs.List.{All, AllByRecursion, slice_get}
 use Rattle.channel_model.specs.Elements.{elements}
 use Rattle.channel_model.specs.Wired.{IsOnGrid}
 use Rattle.channel_model.specs.declared.wiring.Wiring.{Wiring}
-use Rattle.feed_cells.specs.Fed.{items_width}
-use Rattle.feed_cells.specs.declared.fed.Item.{Item}
 use Rattle.list_facts.proofs.Every.{every-from-get}
-use Rattle.design_model.specs.Netlist.{Netlist, IsNetlist}
-use Rattle.tech_rules.specs.Rules.{ValidRules}
 use Rattle.design_model.specs.Good.{Good}
 use Rattle.channel_stack.specs.Layouts.{layout_of}
 use Rattle.channel_stack.specs.Routed.{IsWithin}
-use Rattle.channel_stack.specs.Stack.{Stacked, stack_of, stack_top}
-use Rattle.channel_stack.proofs.GoodStack.{stack-good}
-use Rattle.channel_stack.proofs.Heights.{rows-fit, stack-within, top-fits}
+use Rattle.channel_stack.specs.Stack.{Stacked, stack_of}
 use Rattle.channel_stack.proofs.stacking.stack.Goals as goal
-
-pub channel_bases-requires : goal.channel_bases-requires
-channel_bases-requires c =
-    let valid : ValidRules c.args.rules.now = subst ValidRules c.rules.view_is c.rules.invariant in
-    let same : c.args.design.now.height ≡ c.design.inside.height = ap (λ (d : Netlist). d.height) (sym c.design.view_is) in
-    top-fits c.args.rules.now c.args.design.now c.args.fed.now c.args.wirings.now c.design.inside.height valid c.requires.fed c.requires.routed same
-
-pub row_bases-requires : goal.row_bases-requires
-row_bases-requires c =
-    let valid : ValidRules c.args.rules.now = subst ValidRules c.rules.view_is c.rules.invariant in
-    let same : c.args.design.now.height ≡ c.design.inside.height = ap (λ (d : Netlist). d.height) (sym c.design.view_is) in
-    top-fits c.args.rules.now c.args.design.now c.args.fed.now c.args.wirings.now c.design.inside.height valid c.requires.fed c.requires.routed same
-
-pub stack_top-requires : goal.stack_top-requires
-stack_top-requires c =
-    let valid : ValidRules c.args.rules.now = subst ValidRules c.rules.view_is c.rules.invariant in
-    let same : c.args.design.now.height ≡ c.design.inside.height = ap (λ (d : Netlist). d.height) (sym c.design.view_is) in
-    top-fits c.args.rules.now c.args.design.now c.args.fed.now c.args.wirings.now c.design.inside.height valid c.requires.fed c.requires.routed same
-
-pub overflow_mul-result-3 : goal.overflow_mul-result-3
-overflow_mul-result-3 c =
-    let valid : ValidRules c.args.rules.now = subst ValidRules c.rules.view_is c.rules.invariant in
-    let same : c.args.design.now.height ≡ c.design.inside.height = ap (λ (d : Netlist). d.height) (sym c.design.view_is) in
-    let fits : stack_top c.args.rules.now c.design.inside.height 0 c.args.wirings.now < 2 ^ 32 =
-    top-fits c.args.rules.now c.args.design.now c.args.fed.now c.args.wirings.now c.design.inside.height valid c.requires.fed c.requires.routed same in
-    let low : c.stack_top.result ≤ 2 ^ 32 = omega arith in
-    let fine : c.from-centi.result ≤ 1000 = omega (arith, c.rules.invariant.ranges.grid_centi) in
-    let product : c.stack_top.result * c.from-centi.result ≤ 2 ^ 32 * 1000 = mul-le-mul low fine in
-    omega arith
-
-pub placed_rows-requires : goal.placed_rows-requires
-placed_rows-requires c =
-    let valid : ValidRules c.args.rules.now = subst ValidRules c.rules.view_is c.rules.invariant in
-    let rows : c.items.result.now ≡ c.args.fed.now.rows = search all_rules in
-    subst (λ (l : List (List Item)). AllByRecursion (λ (items : List Item). items_width c.args.design.now items < 2 ^ 39) l) (sym rows)
-    (rows-fit c.args.rules.now c.args.design.now c.args.fed.now c.args.wirings.now valid c.requires.fed c.requires.routed)
 
 pub drawings-requires : goal.drawings-requires
 drawings-requires c =
@@ -62,18 +19,12 @@ pub returns-clause-stacked : goal.returns-clause-stacked
 unfolding stack_of
 returns-clause-stacked c = search all_rules
 
-pub returns-clause-laid : goal.returns-clause-laid
-returns-clause-laid c = record { wirings = c.args.wirings.now; routed = c.requires.routed; is = returns-clause-stacked c }
-
 pub returns-clause-within : goal.returns-clause-within
 returns-clause-within c =
-    subst (IsWithin c.args.rules.now c.args.design.now c.args.fed.now c.args.wirings.now) (sym (returns-clause-stacked c))
-    (stack-within c.args.rules.now c.args.design.now c.args.fed.now c.args.wirings.now c.requires.fed c.requires.routed)
+    subst (IsWithin c.args.rules.now c.args.design.now c.args.fed.now c.args.wirings.now) (sym (returns-clause-stacked c)) c.in_ok-laid.ensures.within
 
 pub returns-clause-good : goal.returns-clause-good
 returns-clause-good c =
-    let valid : ValidRules c.args.rules.now = subst ValidRules c.rules.view_is c.rules.invariant in
-    let is : IsNetlist c.args.design.now = subst IsNetlist c.design.view_is c.design.invariant.netlist in
     λ room wired.
     subst (λ (p : Stacked). Good c.args.rules.now c.args.design.now (layout_of c.args.rules.now c.args.design.now p)) (sym (returns-clause-stacked c))
-    (stack-good c.args.rules.now valid c.args.design.now is room c.args.fed.now c.requires.fed c.args.wirings.now wired)
+    (c.in_ok-laid.ensures.good room wired)
