@@ -1,13 +1,9 @@
+-- bytes that go behind those that were buffered
+pub mod AppendsLaws
 -- the text of commands, one part after another
 pub mod Lines
 -- drawings lie within reach
 pub mod Drawings
--- the text of the symbol of feeds
-pub mod FeedLines
--- the text of a placed design, channel behind row
-pub mod LayoutLines
--- a worked text of a placed design, computed
-pub mod LayoutWorked
 -- boxes that are whole in centimicrons
 pub mod WholeBoxes
 -- symbols that can be written

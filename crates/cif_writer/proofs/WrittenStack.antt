@@ -16,17 +16,17 @@ use Rattle.row_model.specs.declared.rows.Seat.{Seat}
 use Rattle.feed_cells.specs.Fed.{Fed, IsFed, item_width}
 use Rattle.feed_cells.specs.declared.fed.Item.{Item}
 use Rattle.feed_cells.specs.declared.fed.Item.TheVariants.{Cell, Feed}
+use Rattle.channel_model.specs.declared.wiring.Wiring.{Wiring}
 use Rattle.wire_geom.specs.declared.drawn.Drawn.{Drawn}
 use Rattle.cif_text.proofs.WrittenMeaning.{written-means}
 use Rattle.cif_text.proofs.WrittenText.{written-reads}
 use Rattle.cif_text.specs.ReadsAs.{ReadsAs}
-use Rattle.cif_text.specs.CifReads.{cif_reads}
 use Rattle.cif_text.specs.Symbols.{Symbol}
 use Rattle.cif_text.specs.Written as written
 use Rattle.cif_text.specs.WrittenLayout as layout
 use Rattle.channel_stack.proofs.KnownItems.{KnownCell, instance-known}
 use Rattle.channel_stack.specs.Layouts.{channel_shapes, instance_cells, item_cells, item_shapes, kind_cells, kind_drawing, layout_of, row_cells, row_shapes, stacked_cells, stacked_shapes}
-use Rattle.channel_stack.specs.Routed.{IsStacked}
+use Rattle.channel_stack.specs.Routed.{IsRouted}
 use Rattle.channel_stack.specs.Stack.{Stacked, placed_from, placed_rows, row_bases, stack_of}
 use Rattle.channel_stack.specs.declared.placed.PlacedItem.{PlacedItem}
 use Rattle.cif_writer.specs.LayoutText.{placed_text}
@@ -153,28 +153,27 @@ module _ (r : RuleValues) (d : Netlist) (is : IsNetlist d) (fed : Fed) where
   rows-there (items ∷ rows) (base ∷ bases) there = (placed-there base 0 items there.0, rows-there rows bases there.1)
 
 -- what is written for a stack is the layout that it is
-written-stack : (r : RuleValues) (d : Netlist) (fed : Fed) → IsNetlist d → IsFed d fed → (placed : Stacked) → IsStacked r d fed placed
-    → layout.written_layout (symbols_of r d fed) (main_items d placed) ≡ layout_of r d placed
+written-stack : (r : RuleValues) (d : Netlist) (fed : Fed) → IsNetlist d → IsFed d fed → (ws : List Wiring)
+    → layout.written_layout (symbols_of r d fed) (main_items d (stack_of r d fed ws)) ≡ layout_of r d (stack_of r d fed ws)
 unfolding layout_of stack_of
-written-stack r d fed is from placed stacked =
-    let rows : AllByRecursion (AreThere r d is fed) (stack_of r d fed stacked.wirings).cells =
-    rows-there r d is fed fed.rows (row_bases r d.height 0 stacked.wirings) (items-there d fed is from) in
-    let there : AllByRecursion (AreThere r d is fed) placed.cells = subst (λ (p : Stacked). AllByRecursion (AreThere r d is fed) p.cells) (sym stacked.is) rows in
+written-stack r d fed is from ws =
+    let there : AllByRecursion (AreThere r d is fed) (stack_of r d fed ws).cells =
+    rows-there r d is fed fed.rows (row_bases r d.height 0 ws) (items-there d fed is from) in
+    let placed : Stacked = stack_of r d fed ws in
     let shapes = main-shapes r d is fed placed.shapes placed.cells there in
     let cells = main-cells r d is fed 0 placed.shapes placed.cells there in
     (λ i. record { cells = cells i; shapes = shapes i })
 
 -- the text of a stack reads as that layout
 pub stack-reads : (r : RuleValues) → ValidRules r → (d : Netlist) → IsNetlist d → HasRoom r d → (fed : Fed) → IsFed d fed
-    → (placed : Stacked) → IsStacked r d fed placed → (text : List ℕ) → text ≡ placed_text r d fed placed → ReadsAs text (layout_of r d placed)
+    → (ws : List Wiring) → IsRouted r d fed ws → ReadsAs (placed_text r d fed (stack_of r d fed ws)) (layout_of r d (stack_of r d fed ws))
 unfolding placed_text
-stack-reads r valid d is room fed from placed stacked text made =
+stack-reads r valid d is room fed from ws routed =
     let ds : List written.WrittenSymbol = symbols_of r d fed in
-    let items : List written.MainItem = main_items d placed in
-    let writable : layout.IsWritable ds items =
-    subst (λ (p : Stacked). layout.IsWritable ds (main_items d p)) (sym stacked.is) (stack-writable r d fed stacked.wirings valid is from room stacked.routed) in
+    let items : List written.MainItem = main_items d (stack_of r d fed ws) in
+    let writable : layout.IsWritable ds items = stack-writable r d fed ws valid is from room routed in
     record {
       commands = written.layout_commands ds items;
-      reads = ap cif_reads made ∙ written-reads ds items writable;
-      means = written-means ds items writable ∙ ap Ok (written-stack r d fed is from placed stacked);
+      reads = written-reads ds items writable;
+      means = written-means ds items writable ∙ ap Ok (written-stack r d fed is from ws);
     }

@@ -1,3 +1,9 @@
+-- bytes that go behind those that were buffered
+pub mod Appends
+pub mod BufferView
+-- a text that is begun
+pub mod Begun
+pub mod WriterView
 -- the symbols of a placed design, and what stands at its main level
 pub mod Symbols
 -- the whole text of a placed design

@@ -1,9 +1,8 @@
-//! The text of a placed design in CIF: a symbol for each kind of cell and one for feeds, and then its channels and rows from the bottom up.
+//! Texts in CIF, written to a file as they are made: a symbol for each kind of cell and one for feeds, and then channels and rows from the bottom up.
 #![tactic(auto)]
 
-mod feed_text;
-mod kind_text;
-mod layout_text;
+mod buffer;
 mod printing;
+mod writer;
 
-pub use layout_text::written_text;
+pub use writer::{StartFault, Writer};

@@ -1,7 +1,8 @@
-use Rattle.std.proofs.Common.{◌≡◌, ◌≤◌, ◌++◌, ◌∙◌, sym, ap, refl, ℕ, List, Option, Some, None, length, take}
+use Rattle.std.proofs.Common.{◌≡◌, ◌≤◌, ◌+◌, ◌++◌, ◌∙◌, sym, ap, refl, ℕ, List, Option, Some, None, Result, Ok, Err, OnErr, length, min, take}
 use Rattle.std.proofs.Common.{arith, append_assoc, length-take}
-use Rattle.std.proofs.lemmas.List.{take-take}
-use Rattle.shelf_io.specs.Told.{Refines, appended}
+use Rattle.std.proofs.Math.Seq.{take-append-add}
+use Rattle.std.proofs.lemmas.List.{take-append-le, take-take, take_min}
+use Rattle.shelf_io.specs.Told.{EndsWithin, Refines, appended}
 
 -- two appends are one of both pieces
 pub appended-twice : (first second third : Option (List ℕ)) (x y : List ℕ)
@@ -19,3 +20,42 @@ appended-twice (Some start) (Some held) third x y one two = λ bytes at.
 -- what fits in a front of a list is a front of the list
 pub front_of_front : (n k : ℕ) (xs : List ℕ) → n ≤ length (take k xs) → take n (take k xs) ≡ take n xs
 front_of_front n k xs fits = take-take n k xs (omega (arith, fits, length-take k xs))
+
+-- what was put in two parts is the text of both
+pub both-whole : (before mid after : Option (List ℕ)) (x y text : List ℕ) → x ++ y ≡ text
+    → Refines mid (appended before x) → Refines after (appended mid y) → Refines after (appended before text)
+both-whole before mid after x y text is one two = rw (← is) (appended-twice before mid after x y one two)
+
+-- a front of the first part is a front of the text
+pub first-front : (before after : Option (List ℕ)) (x y text : List ℕ) → x ++ y ≡ text
+    → EndsWithin before x after → EndsWithin before text after
+first-front before after x y text is ends held at =
+    let found = ends held at in
+    let k : ℕ = min found.0 (length x) in
+    let front : take k text ≡ take found.0 x =
+    ap (take k) (sym is) ∙ take-append-le k x y (omega arith) ∙ take_min found.0 x in
+    (k, ap (appended before) front ∙ found.1)
+
+-- the first part and a front of the second are a front of the text
+pub second-front : (before mid after : Option (List ℕ)) (x y text : List ℕ) → x ++ y ≡ text
+    → Refines mid (appended before x) → EndsWithin mid y after → EndsWithin before text after
+second-front before None after x y text is one ends held at =
+    let found = ends held at in
+    let none : appended None (take found.0 y) ≡ Some held = found.1 in cc
+second-front None (Some middle) after x y text is one ends held at =
+    let none : appended None x ≡ Some middle = one middle refl in cc
+second-front (Some start) (Some middle) after x y text is one ends held at =
+    let found = ends held at in
+    let front : start ++ x ≡ middle = cc (one middle refl) in
+    let whole : middle ++ take found.0 y ≡ held = cc found.1 in
+    let reach : take (length x + found.0) text ≡ x ++ take found.0 y =
+    ap (take (length x + found.0)) (sym is) ∙ take-append-add x y found.0 in (
+      length x + found.0,
+      ap (λ (l : List ℕ). Some l) (ap (λ (l : List ℕ). start ++ l) reach ∙ sym (append_assoc start x (take found.0 y))
+          ∙ ap (λ (l : List ℕ). l ++ take found.0 y) front ∙ whole),
+    )
+
+-- what holds holds where a call failed
+pub on-err : {T E : Type 0} (result : Result T E) (P : Type 0) → P → OnErr result P
+on-err (Ok done) P p = tt
+on-err (Err failed) P p = p

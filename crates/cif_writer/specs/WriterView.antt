@@ -1,0 +1,5 @@
+use Rattle.cif_writer.specs.Begun.{Begun}
+use Rattle.cif_writer.specs.declared.writer.Writer.TheInside.{Inside}
+
+abbrev pub begun_in : Inside → Begun
+begun_in a = record { buffered = a.buffer; last = a.last }
