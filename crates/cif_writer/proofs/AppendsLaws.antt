@@ -1,8 +1,10 @@
-use Rattle.std.proofs.Common.{◌≡◌, ◌++◌, ◌+◌, ◌*◌, ◌∙◌, ap, sym, refl, arith, append_assoc, ℕ, List, [], length, take, Option, Some, None, inl, inr}
+use Rattle.std.proofs.Common.{◌≡◌, ◌++◌, ◌+◌, ◌∙◌, ap, sym, refl, arith, append_assoc, ℕ, List, [], length, take, Option, Some, None, inr}
 use Rattle.std.proofs.lemmas.List.{append-nil, length-append}
-use Rattle.shelf_io.proofs.Appends.{appended-twice, first-front, second-front}
+use Rattle.std.proofs.lemmas.Option.{same_Some}
+use Rattle.shelf_io.proofs.Appends.{appended-twice, both-whole, first-front, second-front}
 use Rattle.shelf_io.specs.Told.{EndsWithin, Refines, appended}
 use Rattle.cif_writer.specs.Appends.{Appends}
+use Rattle.cif_writer.specs.LayoutText.{HoldsFront}
 
 -- bytes that are only buffered
 told-same : (o : Option (List ℕ)) → Refines o (appended o [])
@@ -77,3 +79,25 @@ front-first x y a o n ends = first-front o n (a ++ x) y (a ++ (x ++ y)) (append_
 -- what is buffered is put: all of it, or a front
 pub finished-front : (x a b : List ℕ) (o m n : Option (List ℕ)) → Appends x a b o m → EndsWithin m b n → EndsWithin o (a ++ x) n
 finished-front x a b o m n one ends = second-front o m n one.put b (a ++ x) one.whole one.told ends
+
+-- bytes behind which others are put, with all that was buffered
+pub finished : (x z a b : List ℕ) (o m n : Option (List ℕ)) → Appends x a b o m → Refines n (appended m (b ++ z)) → Refines n (appended o (a ++ (x ++ z)))
+finished x z a b o m n one put =
+    both-whole o m n one.put (b ++ z) (a ++ (x ++ z))
+    (sym (append_assoc one.put b z) ∙ ap (λ (l : List ℕ). l ++ z) one.whole ∙ append_assoc a x z) one.told put
+
+-- a text that is put to a file that was empty: all of it, or a front
+pub begun-whole : (text : List ℕ) (m n : Option (List ℕ)) → Refines m (Some []) → Refines n (appended m text) → Refines n (Some text)
+begun-whole text None n empty put = λ bytes at. let none : appended None text ≡ Some bytes = put bytes at in cc
+begun-whole text (Some held) n empty put = λ bytes at.
+    let none : [] ≡ held = same_Some [] held (empty held refl) in
+    let is : Some (held ++ text) ≡ Some bytes = put bytes at in rw (← none) at is
+
+pub begun-front : (text : List ℕ) (before m n : Option (List ℕ)) → Refines m (Some []) → EndsWithin m text n → HoldsFront text before n
+begun-front text before None n empty ends = λ held at.
+    let f = ends held at in let none : appended None (take f.0 text) ≡ Some held = f.1 in cc
+begun-front text before (Some start) n empty ends = λ held at.
+    let none : [] ≡ start = same_Some [] start (empty start refl) in
+    let f = ends held at in
+    let is : Some (start ++ take f.0 text) ≡ Some held = f.1 in
+    inr (f.0, sym (same_Some (take f.0 text) held (rw (← none) at is)))

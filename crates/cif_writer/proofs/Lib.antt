@@ -3,7 +3,13 @@ pub mod AppendsLaws
 -- the text of commands, one part after another
 pub mod Lines
 -- drawings lie within reach
-pub mod Drawings
+pub mod DrawingReach
+-- the text of a placed design, channel behind row
+pub mod LayoutLines
+-- symbols and their drawings
+pub mod SymbolDrawings
+-- the drawings of symbols lie within reach
+pub mod SymbolReach
 -- boxes that are whole in centimicrons
 pub mod WholeBoxes
 -- symbols that can be written

@@ -47,6 +47,13 @@ feed-few : (r : RuleValues) (height : ℕ) (feeds : Bool) → length (feed_symbo
 feed-few r height false = omega arith
 feed-few r height true = omega arith
 
+-- where there are feeds rows have some height
+pub feed-room : (r : RuleValues) (d : Netlist) (fed : Fed) → ValidRules r → IsNetlist d → IsFed d fed → HasRoom r d → has_feed fed.rows ≡ true → 0 < d.height
+feed-room r d fed valid good is tall some =
+    let pin : 1 ≤ r.grid_pin = valid.ranges.grid_pin.0 in
+    let room : least_height r ≤ d.height = tall (feed-kind d fed good is some) in
+    omega arith
+
 -- the symbols of a routed design can be written
 symbols-are : (r : RuleValues) (d : Netlist) (fed : Fed) → ValidRules r → IsNetlist d → IsFed d fed
     → HasRoom r d
@@ -55,13 +62,7 @@ symbols-are : (r : RuleValues) (d : Netlist) (fed : Fed) → ValidRules r → Is
 symbols-are r d fed valid good is tall across up =
     every-append IsDrawn (map (symbol_for r d.height) d.kinds) (feed_symbol r d.height (has_feed fed.rows))
     (kinds-are r d.height fed.width valid across up d.kinds (kinds-narrow d fed good is) (recursion_from_All IsKind d.kinds good.kinds) tall)
-    (feed-are r d.height valid up (has_feed fed.rows) high)
-  where
-    high : has_feed fed.rows ≡ true → 0 < d.height
-    high some =
-        let pin : 1 ≤ r.grid_pin = valid.ranges.grid_pin.0 in
-        let room : least_height r ≤ d.height = tall (feed-kind d fed good is some) in
-        omega arith
+    (feed-are r d.height valid up (has_feed fed.rows) (feed-room r d fed valid good is tall))
 
 -- the layout of a routed design can be written
 pub stack-writable : (r : RuleValues) (d : Netlist) (fed : Fed) (ws : List Wiring) → ValidRules r → IsNetlist d → IsFed d fed

@@ -1,5 +1,6 @@
-use Rattle.std.specs.Prelude.{ℕ, ◌+◌, List, [], ◌∷◌, ◌++◌, map, length, Bool, true, false, Option, None, Some, slice_get}
+use Rattle.std.specs.Prelude.{ℕ, suc, ◌+◌, List, [], ◌∷◌, ◌++◌, map, length, Bool, true, false, Option, None, Some, option_map, slice_get}
 use Rattle.std.specs.List.{list_any}
+use Rattle.geom_core.specs.declared.layout.Shape.{Shape}
 use Rattle.geom_core.specs.declared.turn.Place.{Place}
 use Rattle.tech_rules.specs.Rules.{RuleValues}
 use Rattle.design_model.specs.Drawing.{drawing_of}
@@ -46,9 +47,16 @@ number_of None = 0
 number_of (Some inst) = inst.kind + 1
 
 -- a cell is a copy of its kind's symbol with its instance's name, and a feed one of the feeds' symbol without a name
+abbrev pub copy_name : Netlist → Item → Option (List ℕ)
+copy_name d (Cell s) = name_of (slice_get d.instances s.instance)
+copy_name d (Feed net) = None
+
+abbrev pub copy_number : Netlist → Item → ℕ
+copy_number d (Cell s) = number_of (slice_get d.instances s.instance)
+copy_number d (Feed net) = length d.kinds + 1
+
 abbrev pub copy_of : Netlist → Item → Place → written.MainItem
-copy_of d (Cell s) place = written.copy (name_of (slice_get d.instances s.instance)) (number_of (slice_get d.instances s.instance)) place
-copy_of d (Feed net) place = written.copy None (length d.kinds + 1) place
+copy_of d item place = written.copy (copy_name d item) (copy_number d item) place
 
 abbrev pub copies_of : Netlist → List PlacedItem → List written.MainItem
 copies_of d items = map (λ (p : PlacedItem). copy_of d p.item p.place) items
@@ -66,3 +74,15 @@ items_of d (drawn ∷ channels) (row ∷ rows) = wires_of drawn ++ (copies_of d 
 -- the main level of a layout
 abbrev pub main_items : Netlist → Stacked → List written.MainItem
 main_items d placed = items_of d placed.shapes placed.cells
+
+-- symbols with these drawings, the first of which has this number, from 0 on: those of kinds have the names of the kinds
+abbrev pub kind_name : Netlist → ℕ → Option (List ℕ)
+kind_name d n = option_map (λ (k : CellKind). k.name) (slice_get d.kinds n)
+
+abbrev pub symbols_with : Netlist → ℕ → List (List Shape) → List written.WrittenSymbol
+symbols_with d n [] = []
+symbols_with d n (shapes ∷ drawings) = record { name = kind_name d n; shapes = shapes } ∷ symbols_with d (suc n) drawings
+
+-- the drawings of the symbols of a layout
+abbrev pub symbol_drawings : RuleValues → Netlist → Fed → List (List Shape)
+symbol_drawings r d fed = map (λ (s : written.WrittenSymbol). s.shapes) (symbols_of r d fed)

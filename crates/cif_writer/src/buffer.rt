@@ -60,7 +60,12 @@ impl Buffer {
 
     /// Puts bytes behind those that are buffered. Whole pieces go to the file. After Failed, which comes only where the file's write count rose, a front of these
     /// bytes was put.
-    pub fn append<S: Shelf>(&mut self, shelf: &mut S, file: &str, bytes: &[u8]) -> Result<(), Failed>
+    pub fn append<S: Shelf>(
+        &mut self,
+        shelf: &mut S,
+        file: &str,
+        bytes: &[u8],
+    ) -> Result<(), Failed>
         ensures appends { OnOk result (Appends bytes.now self.old self.new (S.holds shelf.old file.now) (S.holds shelf.new file.now)) }
         ensures front { OnErr result (EndsWithin (S.holds shelf.old file.now) (self.old ++ bytes.now) (S.holds shelf.new file.now)) }
         ensures others { (other : List ℕ) → other ≢ file.now → S.holds shelf.new other ≡ S.holds shelf.old other }

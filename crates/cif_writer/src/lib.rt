@@ -2,7 +2,11 @@
 #![tactic(auto)]
 
 mod buffer;
+mod drawings;
+mod layout;
 mod printing;
 mod writer;
 
+pub use drawings::symbol_drawings;
+pub use layout::write_layout;
 pub use writer::{StartFault, Writer};

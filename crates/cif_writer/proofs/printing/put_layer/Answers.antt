@@ -1,8 +1,5 @@
 use Rattle.std.proofs.Common.{rules, ◌≡◌, []}
 use Rattle.cif_text.specs.Written.{change}
-use Rattle.cif_text.specs.declared.command.Command.{Command}
-use Rattle.cif_text.specs.Printing.{text_of}
-use Rattle.cif_writer.specs.Appends.{Appends}
 use Rattle.cif_writer.proofs.AppendsLaws.{appends-none}
 use Rattle.cif_writer.proofs.printing.put_layer.Goals as goal
 

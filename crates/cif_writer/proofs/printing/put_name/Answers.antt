@@ -1,4 +1,4 @@
-use Rattle.std.proofs.Common.{◌++◌, ◌∷◌, [], List, ℕ}
+use Rattle.std.proofs.Common.{◌++◌, ◌∷◌, []}
 use Rattle.std.proofs.lemmas.Result.{on_err_weaker, on_ok_weaker}
 use Rattle.shelf_io.proofs.Appends.{on-err}
 use Rattle.cif_writer.proofs.AppendsLaws.{appends-both, front-behind, front-first}

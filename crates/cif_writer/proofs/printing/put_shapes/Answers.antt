@@ -1,4 +1,4 @@
-use Rattle.std.proofs.Common.{rules, ◌≡◌, ◌∙◌, List, None, ap, refl}
+use Rattle.std.proofs.Common.{rules, ◌∙◌, List, None, ap, refl}
 use Rattle.cif_text.specs.Printing.{text_of}
 use Rattle.cif_text.specs.Written.{shape_commands, shapes_commands}
 use Rattle.cif_text.proofs.TextLemmas.{text_of-append}
@@ -19,13 +19,13 @@ loop-shape-init g c = record {
 pub returns-in_err-put_shape-clause-front : goal.returns-in_err-put_shape-clause-front
 returns-in_err-put_shape-clause-front g c =
     let parts = ap (λ (l : List Shape). text_of (shapes_commands c.loop-shape.last l)) c.in-Some.ensures.cases.0
-        ∙ text_of-append (shape_commands c.loop-shape.last c.in-Some.shape.now) _ in
+    ∙ text_of-append (shape_commands c.loop-shape.last c.in-Some.shape.now) _ in
     on-err c.from_residual.result _ (so_far-front _ _ _ _ _ _ _ _ _ c.loop-shape.invariant.so_far parts c.in_err-put_shape.ensures.front)
 
 pub loop-shape-preserved : goal.loop-shape-preserved
 loop-shape-preserved g c =
     let parts = ap (λ (l : List Shape). text_of (shapes_commands c.loop-shape.last l)) c.in-Some.ensures.cases.0
-        ∙ text_of-append (shape_commands c.loop-shape.last c.in-Some.shape.now) _ in
+    ∙ text_of-append (shape_commands c.loop-shape.last c.in-Some.shape.now) _ in
     record {
       so_far = so_far-more _ _ _ _ _ _ _ _ _ _ c.loop-shape.invariant.so_far parts c.in_ok-put_shape.ensures.appends;
       reach = search rules;

@@ -1,4 +1,4 @@
-use Rattle.std.proofs.Common.{rules, ◌≡◌, ◌++◌, List, ℕ, length, arith, ap}
+use Rattle.std.proofs.Common.{rules, ◌≡◌, ◌++◌, length}
 use Rattle.std.proofs.lemmas.Result.{on_ok_weaker}
 use Rattle.cif_writer.proofs.AppendsLaws.{appends-whole}
 use Rattle.cif_writer.proofs.buffer.Buffer.fill.Goals as goal

@@ -11,7 +11,7 @@ use Rattle.design_model.specs.declared.design.Position.{Position}
 use Rattle.geom_core.specs.Reach.{IsInReach, IsShapeInReach}
 
 -- half units within 10^12, in half centimicrons
-scaled-in-reach : (x centi : ℕ) → x ≤ 1000000000000 → centi ≤ 1000 → IsInReach (pos (x * centi))
+pub scaled-in-reach : (x centi : ℕ) → x ≤ 1000000000000 → centi ≤ 1000 → IsInReach (pos (x * centi))
 scaled-in-reach x centi near fine =
     let product : x * centi ≤ 1000000000000 * 1000 = mul-le-mul near fine in
     record { low = omega (arith, ints); high = omega (arith, ints) }

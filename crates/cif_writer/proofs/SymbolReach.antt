@@ -1,0 +1,61 @@
+use Rattle.std.proofs.Common.{◌+◌, ◌*◌, ◌-◌, ◌≤◌, ◌∷◌, [], ℕ, List, Bool, true, false, map, arith, refl, subst, sym}
+use Rattle.std.proofs.lemmas.List.Elements.{recursion_from_All}
+use Rattle.std.specs.List.{AllByRecursion}
+use Rattle.list_facts.proofs.Every.{every-append}
+use Rattle.channel_stack.specs.Layouts.{feed_drawing}
+use Rattle.cif_text.specs.Written as written
+use Rattle.design_model.specs.Drawing.{drawing_of, middle_of}
+use Rattle.design_model.specs.Netlist.{IsKind, IsNetlist, Netlist}
+use Rattle.design_model.specs.declared.design.CellKind.{CellKind}
+use Rattle.feed_cells.specs.Fed.{Fed}
+use Rattle.geom_core.specs.Reach.{IsShapeInReach}
+use Rattle.geom_core.specs.declared.layout.Shape.{Shape}
+use Rattle.tech_rules.specs.Rules.{RuleValues, ValidRules}
+use Rattle.cif_writer.specs.Symbols.{feed_symbol, has_feed, symbol_drawings}
+use Rattle.cif_writer.proofs.DrawingReach.{drawing-in-reach, scaled-in-reach}
+use Rattle.cif_writer.proofs.SymbolDrawings.{parted}
+
+-- all shapes of some drawings are in reach
+abbrev pub AreInReach : List (List Shape) → Type 0
+AreInReach drawings = AllByRecursion (λ (shapes : List Shape). AllByRecursion IsShapeInReach shapes) drawings
+
+kinds-reach : (r : RuleValues) (height : ℕ) → ValidRules r → height ≤ 200000000 → (kinds : List CellKind) → AllByRecursion IsKind kinds
+    → AreInReach (map (drawing_of r height) kinds)
+kinds-reach r height valid low [] are = tt
+kinds-reach r height valid low (k ∷ kinds) are = (drawing-in-reach r height k valid low are.0, kinds-reach r height valid low kinds are.1)
+
+feed-reach : (r : RuleValues) (height : ℕ) → ValidRules r → height ≤ 200000000 → AllByRecursion IsShapeInReach (feed_drawing r height)
+unfolding feed_drawing
+feed-reach r height valid low =
+    let fine : r.grid_centi ≤ 1000 = valid.ranges.grid_centi.1 in
+    let pitch : r.grid_column ≤ 1000 = valid.ranges.grid_column.1 in
+    let wide : r.vertical_width ≤ 1000 = valid.ranges.vertical_width.1 in (
+      record {
+        x0 = scaled-in-reach 0 r.grid_centi (omega arith) fine;
+        y0 = scaled-in-reach 0 r.grid_centi (omega arith) fine;
+        x1 = scaled-in-reach (2 * r.grid_column) r.grid_centi (omega arith) fine;
+        y1 = scaled-in-reach (2 * height) r.grid_centi (omega arith) fine;
+      },
+      (
+        record {
+          x0 = scaled-in-reach (middle_of r.grid_column 0 - r.vertical_width) r.grid_centi (omega arith) fine;
+          y0 = scaled-in-reach 0 r.grid_centi (omega arith) fine;
+          x1 = scaled-in-reach (middle_of r.grid_column 0 + r.vertical_width) r.grid_centi (omega arith) fine;
+          y1 = scaled-in-reach (2 * height) r.grid_centi (omega arith) fine;
+        },
+        tt,
+      ),
+    )
+
+feeds-reach : (r : RuleValues) (height : ℕ) → ValidRules r → height ≤ 200000000 → (feeds : Bool)
+    → AreInReach (map (λ (s : written.WrittenSymbol). s.shapes) (feed_symbol r height feeds))
+feeds-reach r height valid low true = (feed-reach r height valid low, tt)
+feeds-reach r height valid low false = tt
+
+-- the drawings of the symbols of a layout are in reach
+pub symbols-reach : (r : RuleValues) (d : Netlist) (fed : Fed) → ValidRules r → IsNetlist d → AreInReach (symbol_drawings r d fed)
+symbols-reach r d fed valid is =
+    subst AreInReach (sym (parted r d fed (has_feed fed.rows) refl))
+    (every-append (λ (shapes : List Shape). AllByRecursion IsShapeInReach shapes) (map (drawing_of r d.height) d.kinds)
+    (map (λ (s : written.WrittenSymbol). s.shapes) (feed_symbol r d.height (has_feed fed.rows)))
+    (kinds-reach r d.height valid is.low d.kinds (recursion_from_All IsKind d.kinds is.kinds)) (feeds-reach r d.height valid is.low (has_feed fed.rows)))
