@@ -2,6 +2,7 @@ use Rattle.std.proofs.Common.{◌≡◌, ◌≤◌, ◌<◌, ◌∙◌, ℕ, Lis
 use Rattle.std.proofs.lemmas.Bool.Decides.{nat_tests}
 use Rattle.tech_rules.specs.Rules.{RuleValues}
 use Rattle.commands.specs.Answers.{Answers, Finds}
+use Rattle.commands.specs.Job.{Job}
 use Rattle.commands.specs.Limits.{within_limit}
 use Rattle.commands.specs.Refusing.{◌>>=◌}
 use Rattle.commands.specs.Verdict.{design_verdict, files_verdict, rules_said, rules_verdict, stated_rules, verdict_under}
@@ -73,20 +74,20 @@ handed-on view (Ok x) stop said is found = absurd is
 handed-on view (Err other) stop said is found = subst (λ s. Finds view (Err s) said) (sym is) found
 
 -- what stopped the reading of rules stops the verdict on the files
-pub rules-stop : {X Z : Type 0} (view : X → RuleValues) (seen : Z → List ℕ) (stop : Stop) (asked : Option ℕ) (rules design : Option (List ℕ))
-    (said : Result (List ℕ) Refusal) → ((bytes : List ℕ) → rules ≡ Some bytes → Finds view (Err stop) (rules_verdict bytes))
+pub rules-stop : {X Z : Type 0} (view : X → RuleValues) (seen : Z → Job) (stop : Stop) (asked : Option ℕ) (rules design : Option (List ℕ))
+    (said : Result Job Refusal) → ((bytes : List ℕ) → rules ≡ Some bytes → Finds view (Err stop) (rules_verdict bytes))
     → files_verdict asked rules design ≡ Some said → Finds seen (Err stop) said
 unfolding files_verdict
 rules-stop view seen stop asked None design said found is = let none : None ≡ Some said = is in cc
 rules-stop view seen stop asked (Some bytes) design said found is = under asked view seen stop (rules_verdict bytes) design said (found bytes refl) is
   where
-    refused : {Z : Type 0} (asked : Option ℕ) (seen : Z → List ℕ) (refusal : Refusal) (first : Result RuleValues Refusal) (design : Option (List ℕ))
-        (said : Result (List ℕ) Refusal) → first ≡ Err refusal → verdict_under asked first design ≡ Some said → said ≡ Err refusal
+    refused : {Z : Type 0} (asked : Option ℕ) (seen : Z → Job) (refusal : Refusal) (first : Result RuleValues Refusal) (design : Option (List ℕ))
+        (said : Result Job Refusal) → first ≡ Err refusal → verdict_under asked first design ≡ Some said → said ≡ Err refusal
     refused asked seen refusal first design said at is =
         let same : Some (Err refusal) ≡ Some said = ap (λ f. verdict_under asked f design) (sym at) ∙ is in cc
 
-    under : {X Z : Type 0} (asked : Option ℕ) (view : X → RuleValues) (seen : Z → List ℕ) (stop : Stop) (first : Result RuleValues Refusal)
-        (design : Option (List ℕ)) (said : Result (List ℕ) Refusal) → Finds view (Err stop) first
+    under : {X Z : Type 0} (asked : Option ℕ) (view : X → RuleValues) (seen : Z → Job) (stop : Stop) (first : Result RuleValues Refusal)
+        (design : Option (List ℕ)) (said : Result Job Refusal) → Finds view (Err stop) first
         → verdict_under asked first design ≡ Some said → Finds seen (Err stop) said
     under asked view seen (Refused refusals.Usage) first design said found is = refused asked seen _ first design said found is
     under asked view seen (Refused refusals.Toml) first design said found is = refused asked seen _ first design said found is
@@ -102,8 +103,8 @@ rules-stop view seen stop asked (Some bytes) design said found is = under asked 
     under asked view seen WriteFault first design said found is = found
 
 -- where the rules are read, the verdict on the files is that on the design's bytes
-pub under-rules : {Z : Type 0} (seen : Z → List ℕ) (result : Result Z Stop) (values : RuleValues) (asked : Option ℕ) (rules design : Option (List ℕ))
-    (said : Result (List ℕ) Refusal) → ((bytes : List ℕ) → rules ≡ Some bytes → rules_verdict bytes ≡ Ok values)
+pub under-rules : {Z : Type 0} (seen : Z → Job) (result : Result Z Stop) (values : RuleValues) (asked : Option ℕ) (rules design : Option (List ℕ))
+    (said : Result Job Refusal) → ((bytes : List ℕ) → rules ≡ Some bytes → rules_verdict bytes ≡ Ok values)
     → ((bytes : List ℕ) → design ≡ Some bytes → Finds seen result (design_verdict values asked bytes))
     → files_verdict asked rules design ≡ Some said → Finds seen result said
 unfolding files_verdict

@@ -20,21 +20,16 @@ Finds view (Err (Refused refusal)) said = said ≡ Err refusal
 Finds view (Err ReadFault) said = Unit {0}
 Finds view (Err WriteFault) said = ⊥
 
--- there is a text to write
-abbrev pub HasText : Result (List ℕ) Refusal → Type 0
-HasText (Ok text) = Unit {0}
-HasText (Err refusal) = ⊥
+-- there is a job to be done
+abbrev pub IsAccepted : {Y : Type 0} → Result Y Refusal → Type 0
+IsAccepted (Ok job) = Unit {0}
+IsAccepted (Err refusal) = ⊥
 
 -- a command that ended so ended as is said, unless reading failed or memory ran out; it has written, or failed to, only where there
--- is a text
-abbrev pub Ends : Result (Unit {0}) Stop → Result (List ℕ) Refusal → Type 0
-Ends (Ok done) said = HasText said
+-- is a job to be done
+abbrev pub Ends : {Y : Type 0} → Result (Unit {0}) Stop → Result Y Refusal → Type 0
+Ends (Ok done) said = IsAccepted said
 Ends (Err (Refused refusals.Memory)) said = Unit {0}
 Ends (Err (Refused refusal)) said = said ≡ Err refusal
 Ends (Err ReadFault) said = Unit {0}
-Ends (Err WriteFault) said = HasText said
-
--- why a read failed: the rules file's read count rose, or the design's file's did and the rules file, where it is told, states rules
-abbrev pub ReadFails : Option (List ℕ) → ℕ → ℕ → ℕ → ℕ → Type 0
-ReadFails told rules_old rules_new design_old design_new =
-    Rose rules_old rules_new ⊎ (Rose design_old design_new × ((bytes : List ℕ) → told ≡ Some bytes → is_ok (rules_verdict bytes) ≡ true))
+Ends (Err WriteFault) said = IsAccepted said

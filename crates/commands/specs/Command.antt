@@ -50,7 +50,18 @@ unless_refused (kind ∷ kinds) rows = None
 unfoldable pub arguments_of : List Text → Option Names
 arguments_of words = unless_refused (fault_of route_app words) (matches_of route_app words)
 
+-- a command, by what it reads and writes
+pub data Command : Type 0 where
+  route : Names → Command
+
+-- the files that a command reads, in their order, and the one that it writes, if it writes one
+abbrev pub reads_of : Command → List (List ℕ)
+reads_of (route names) = names.rules ∷ names.design ∷ []
+
+abbrev pub writes_of : Command → Option (List ℕ)
+writes_of (route names) = Some names.out
+
 -- the command that words give: the first is `route`, and the others are its arguments
-unfoldable pub command_of : List (List ℕ) → Option Names
+unfoldable pub command_of : List (List ℕ) → Option Command
 command_of [] = None
-command_of (word ∷ others) = if bytes_eq word (codes "route") then arguments_of (word ∷ others) else None
+command_of (word ∷ others) = if bytes_eq word (codes "route") then option_map route (arguments_of (word ∷ others)) else None

@@ -10,6 +10,7 @@ use Rattle.netlist_core.specs.OnGrid.{on_grid}
 use Rattle.design_model.specs.SameNet.{SameNet}
 use Rattle.netlist_core.specs.SignalWords.{parent_calls, word_of}
 use Rattle.cif_text.specs.ReadsAs.{ReadsAs}
+use Rattle.commands.specs.Job.{Job}
 
 -- a text is a good layout of a design: it reads as commands of CIF that mean a layout, and that is good for the design and the rules
 pub record IsGoodText (rules : RuleValues) (d : Netlist) (text : List ℕ) : Type 0 where
@@ -36,3 +37,20 @@ pub record Headline (stated bytes text : List ℕ) : Type 0 where
   pub rules : RuleValues
   pub states : rules_of stated ≡ Ok rules
   pub good : IsGoodOf rules bytes text
+
+-- a job is what a file says under rules: the file is a design on the grid, which is the job's, and whose nets are its pins of equal signal words
+pub record IsJobFor (rules : RuleValues) (file : YalFile) (job : Job) : Type 0 where
+  pub rules_are : job.rules ≡ rules
+  pub checked : on_grid rules file ≡ Ok job.design
+  pub nets : SameNet (word_of (parent_calls file)) job.design.pins
+
+-- a job is what a text of YAL says under rules
+pub record IsJobOf (rules : RuleValues) (bytes : List ℕ) (job : Job) : Type 0 where
+  pub file : YalFile
+  pub read : yal_reads bytes ≡ Ok file
+  pub is : IsJobFor rules file job
+
+-- a job is what the bytes of a rules file and of a design's file say
+pub record IsJobFrom (stated bytes : List ℕ) (job : Job) : Type 0 where
+  pub states : rules_of stated ≡ Ok job.rules
+  pub is : IsJobOf job.rules bytes job

@@ -3,9 +3,11 @@ pub mod RowsWord
 pub mod RowCountView
 pub mod Command
 pub mod Seen
--- how many rows, the wirings of their channels, and the written text
+-- how many rows, the job that is to be done, its wirings and its text
 pub mod Rows
+pub mod Job
 pub mod Text
+pub mod PreparedView
 -- points that may refuse, the limits, what is not built yet, and the names in faults
 pub mod Refusing
 pub mod Limits
@@ -18,6 +20,7 @@ pub mod Status
 pub mod Line
 pub mod Gains
 pub mod Answers
+pub mod Causes
 pub mod Outcome
 -- the headline: what is written reads as a good layout of the design
 pub mod Headline

@@ -1,5 +1,7 @@
 use Rattle.std.specs.Prelude.{◌≡◌, Option, Some, None, Result, Ok, Err}
-use Rattle.commands.specs.Command.{Names}
+use Rattle.commands.specs.Command.{Command, Names, route}
+use Rattle.commands.specs.declared.command.Command as asked
+use Rattle.commands.specs.declared.command.Command.TheVariants as commands
 use Rattle.commands.specs.declared.command.Route.{Route}
 use Rattle.commands.specs.declared.command.WordsFault.{WordsFault}
 use Rattle.commands.specs.declared.command.WordsFault.TheVariants.{Usage, Memory}
@@ -8,8 +10,11 @@ use Rattle.commands.specs.declared.command.WordsFault.TheVariants.{Usage, Memory
 abbrev pub seen : Route → Names
 seen route = record { design = route.design.now; rules = route.rules.now; out = route.out.now; rows = route.rows }
 
--- what was read is what words give, both ways, want of memory aside
-abbrev pub Reads : Result Route WordsFault → Option Names → Type 0
-Reads (Ok route) said = said ≡ Some (seen route)
-Reads (Err Usage) said = said ≡ None
-Reads (Err Memory) said = Unit {0}
+abbrev pub command_seen : asked.Command → Command
+command_seen (commands.Route names) = route (seen names)
+
+-- what was read is what words give, seen so, both ways, want of memory aside
+abbrev pub Reads : {X Y : Type 0} → (X → Y) → Result X WordsFault → Option Y → Type 0
+Reads view (Ok x) said = said ≡ Some (view x)
+Reads view (Err Usage) said = said ≡ None
+Reads view (Err Memory) said = Unit {0}

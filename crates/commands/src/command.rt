@@ -1,14 +1,14 @@
 //! The command that words give.
 
 ghost use Rattle.commands.specs.Command.{arguments_of, command_of, names_in, option_rule, positional_rule, route_app, rows_given};
-ghost use Rattle.commands.specs.Seen.{Reads, seen};
+ghost use Rattle.commands.specs.Seen.{Reads, command_seen, seen};
 ghost use Rattle.clap.specs.Words.{app_of, first_of, found_of, rows_of, rule_of, with_rule};
 ghost use Rattle.std.specs.Prelude.{◌≡◌, false, map, option_map, IfOk};
 
 use crate::rows_word::{RowCount, read_rows};
 use crate::word::Word;
 use clap::error::ErrorKind;
-use clap::{Arg, ArgMatches, Command};
+use clap::{Arg, ArgMatches, Command as Parser};
 use std::alloc::{AllocError, Global};
 
 /// The command to route a design: the names of its file, of the rules file and of the file to write, and the number of rows, 1 to 512,
@@ -19,6 +19,13 @@ pub struct Route<'a> {
     pub rules: &'a str,
     pub out: &'a str,
     pub rows: Option<RowCount>,
+}
+
+/// A command, and what its arguments are.
+#[derive(Clone, Copy, Debug)]
+pub enum Command<'a> {
+    /// To route a design.
+    Route(Route<'a>),
 }
 
 /// Why words gave no command.
@@ -47,7 +54,7 @@ fn option<'a>(alloc: Global, id: &'a str) -> Arg<'a>
 }
 
 // The command with one more argument.
-fn with_arg<'a>(command: Command<'a>, arg: Arg<'a>) -> Result<Command<'a>, AllocError>
+fn with_arg<'a>(command: Parser<'a>, arg: Arg<'a>) -> Result<Parser<'a>, AllocError>
     requires { arg.global ≡ false }
     ensures { IfOk result (λ c. app_of c ≡ with_rule (app_of command.entry) (rule_of arg.entry)) }
 {
@@ -55,10 +62,10 @@ fn with_arg<'a>(command: Command<'a>, arg: Arg<'a>) -> Result<Command<'a>, Alloc
 }
 
 // The command `route` with its arguments.
-fn route_command<'a>(alloc: Global) -> Result<Command<'a>, AllocError>
+fn route_command<'a>(alloc: Global) -> Result<Parser<'a>, AllocError>
     ensures { IfOk result (λ c. app_of c ≡ route_app) }
 {
-    let command = Command::new(alloc, "route");
+    let command = Parser::new(alloc, "route");
     let command = with_arg(command, positional(alloc, "design"))?;
     let command = with_arg(command, positional(alloc, "rules"))?;
     let command = with_arg(command, positional(alloc, "out"))?;
@@ -96,7 +103,7 @@ fn route_of<'a>(matches: &ArgMatches<'a>) -> Option<Route<'a>>
 
 // The names that words give, of which the first is the command's.
 fn read_arguments(alloc: Global, words: &[Word]) -> Result<Route<'_>, WordsFault>
-    ensures { Reads result (arguments_of words.now) }
+    ensures { Reads seen result (arguments_of words.now) }
 {
     let Ok(command) = route_command(alloc) else {
         return Err(WordsFault::Memory);
@@ -116,8 +123,8 @@ fn read_arguments(alloc: Global, words: &[Word]) -> Result<Route<'_>, WordsFault
 /// The command that the words give: `route` and what its arguments are. It errs with Usage exactly where there is none, and with Memory
 /// where memory runs out.
 #[tactic(auto, unfolding(crate::specs::Command::command_of))]
-pub fn read_command(alloc: Global, words: &[Word]) -> Result<Route<'_>, WordsFault>
-    ensures { Reads result (command_of words.now) }
+pub fn read_command(alloc: Global, words: &[Word]) -> Result<Command<'_>, WordsFault>
+    ensures { Reads command_seen result (command_of words.now) }
 {
     let Some(word) = words.first() else {
         return Err(WordsFault::Usage);
@@ -125,5 +132,8 @@ pub fn read_command(alloc: Global, words: &[Word]) -> Result<Route<'_>, WordsFau
     if word.text() != "route" {
         return Err(WordsFault::Usage);
     }
-    read_arguments(alloc, words)
+    match read_arguments(alloc, words) {
+        Ok(names) => Ok(Command::Route(names)),
+        Err(fault) => Err(fault),
+    }
 }

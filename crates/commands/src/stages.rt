@@ -1,21 +1,21 @@
-//! The two stages of a command to route: everything before the file to write is begun, and the writing.
+//! What a command to route does before the file to write is begun.
 
-ghost use Rattle.commands.specs.Answers.{Finds, ReadFails};
-ghost use Rattle.commands.specs.Headline.{Headline, IsGoodOf};
+ghost use Rattle.commands.specs.Answers.{Finds};
+ghost use Rattle.commands.specs.Causes.{FilesFail};
+ghost use Rattle.commands.specs.Headline.{IsJobFrom, IsJobOf};
 ghost use Rattle.commands.specs.Limits.{within_limit};
-ghost use Rattle.commands.specs.Outcome.{HoldsFront};
 ghost use Rattle.commands.specs.Status.{ending_status};
 ghost use Rattle.commands.specs.Verdict.{design_verdict, files_verdict, rules_verdict};
 ghost use Rattle.shelf_io.specs.Count.{Rose};
-ghost use Rattle.shelf_io.specs.Told.{Refines};
-ghost use Rattle.std.specs.Prelude.{◌≡◌, ◌≢◌, ◌≤◌, List, ℕ, length, Ok, Some, IfOk, OnOk, OnErr};
+ghost use Rattle.std.specs.Prelude.{◌≡◌, ◌≢◌, ◌≤◌, List, ℕ, length, Some, IfOk};
 
 use crate::limits::MOST_BYTES;
-use crate::outcome::{stated_rules, text_for};
+use crate::outcome::{prepared_text, stated_rules};
+use crate::prepared::Prepared;
 use crate::refusal::{Limited, Refusal};
 use crate::rows_word::RowCount;
 use crate::stop::Stop;
-use shelf_io::{Failed, LoadFault, Shelf, load, put_all};
+use shelf_io::{LoadFault, Shelf, load};
 use std::alloc::Global;
 use tech_rules::Rules;
 
@@ -61,18 +61,18 @@ fn load_rules<S: Shelf>(alloc: Global, shelf: &mut S, name: &str) -> Result<Rule
     }
 }
 
-// The text for a design's file.
-fn load_text<S: Shelf>(
+// What a design's file holds, laid out and routed.
+fn load_design<S: Shelf>(
     alloc: Global,
     shelf: &mut S,
     name: &str,
-    rules: &Rules,
+    rules: Rules,
     asked: Option<RowCount>,
-) -> Result<Vec<u8>, Stop>
+) -> Result<Prepared, Stop>
     ensures told { (bytes : List ℕ) → S.holds shelf.old name.now ≡ Some bytes
-        → Finds (λ text. text.items) result (design_verdict rules.now asked bytes) }
-    ensures good { IfOk result (λ text. (bytes : List ℕ) → S.holds shelf.old name.now ≡ Some bytes
-        → IsGoodOf rules.now bytes text.items) }
+        → Finds (λ job. job) result (design_verdict rules asked bytes) }
+    ensures is { IfOk result (λ job. (bytes : List ℕ) → S.holds shelf.old name.now ≡ Some bytes
+        → IsJobOf rules bytes job) }
     ensures cause { ending_status result ≡ 8 → Rose (S.read_faults shelf.old name.now) (S.read_faults shelf.new name.now) }
     ensures quiet { ending_status result ≢ 8 → S.read_faults shelf.new ≡ S.read_faults shelf.old }
     ensures unwritten { ending_status result ≢ 9 }
@@ -81,13 +81,13 @@ fn load_text<S: Shelf>(
     ensures writes { S.write_faults shelf.new ≡ S.write_faults shelf.old }
 {
     let bytes = load_within(alloc, shelf, name, Limited::Design)?;
-    match text_for(alloc, bytes.as_slice(), rules, asked) {
-        Ok(text) => Ok(text),
+    match prepared_text(alloc, bytes.as_slice(), rules, asked) {
+        Ok(prepared) => Ok(prepared),
         Err(refusal) => Err(Stop::Refused(refusal)),
     }
 }
 
-/// Reads the rules and then the design, and makes the text to write, in the number of rows that is asked for, if one is. The files stay as they are; ReadFault comes only where a read
+/// Reads the rules and then the design, and lays it out and routes it, in the number of rows that is asked for, if one is. The files stay as they are; ReadFault comes only where a read
 /// count rose.
 pub fn prepare<S: Shelf>(
     alloc: Global,
@@ -95,13 +95,13 @@ pub fn prepare<S: Shelf>(
     rules: &str,
     design: &str,
     asked: Option<RowCount>,
-) -> Result<Vec<u8>, Stop>
+) -> Result<Prepared, Stop>
     ensures told { (said : _) → files_verdict asked (S.holds shelf.old rules.now) (S.holds shelf.old design.now) ≡ Some said
-        → Finds (λ text. text.items) result said }
-    ensures headline { IfOk result (λ text. (stated bytes : List ℕ) → S.holds shelf.old rules.now ≡ Some stated
-        → S.holds shelf.old design.now ≡ Some bytes → Headline stated bytes text.items) }
+        → Finds (λ job. job) result said }
+    ensures is { IfOk result (λ job. (stated bytes : List ℕ) → S.holds shelf.old rules.now ≡ Some stated
+        → S.holds shelf.old design.now ≡ Some bytes → IsJobFrom stated bytes job) }
     ensures cause { ending_status result ≡ 8
-        → ReadFails (S.holds shelf.old rules.now) (S.read_faults shelf.old rules.now) (S.read_faults shelf.new rules.now)
+        → FilesFail (S.holds shelf.old rules.now) (S.read_faults shelf.old rules.now) (S.read_faults shelf.new rules.now)
         (S.read_faults shelf.old design.now) (S.read_faults shelf.new design.now) }
     ensures quiet { ending_status result ≢ 8 → S.read_faults shelf.new ≡ S.read_faults shelf.old }
     ensures unwritten { ending_status result ≢ 9 }
@@ -110,19 +110,5 @@ pub fn prepare<S: Shelf>(
     ensures writes { S.write_faults shelf.new ≡ S.write_faults shelf.old }
 {
     let stated = load_rules(alloc, shelf, rules)?;
-    load_text(alloc, shelf, design, &stated, asked)
-}
-
-/// Makes the file hold just this text, which is put in pieces. Takes no memory. After Failed, which comes only where the file's
-/// write count rose, it holds what it held before, or a front of the text.
-pub fn write<S: Shelf>(shelf: &mut S, out: &str, text: &[u8]) -> Result<(), Failed>
-    ensures whole { OnOk result (Refines (S.holds shelf.new out.now) (Some text.now)) }
-    ensures front { OnErr result (HoldsFront (Ok text.now) (S.holds shelf.old out.now) (S.holds shelf.new out.now)) }
-    ensures others { (other : List ℕ) → other ≢ out.now → S.holds shelf.new other ≡ S.holds shelf.old other }
-    ensures reads { S.read_faults shelf.new ≡ S.read_faults shelf.old }
-    ensures quiet { OnOk result (S.write_faults shelf.new ≡ S.write_faults shelf.old) }
-    ensures cause { OnErr result (Rose (S.write_faults shelf.old out.now) (S.write_faults shelf.new out.now)) }
-{
-    shelf.begin(out)?;
-    put_all(shelf, out, text)
+    load_design(alloc, shelf, design, stated, asked)
 }

@@ -1,19 +1,21 @@
 //! The top call: a command's words, a shelf with the files, and a sink for lines.
 
-ghost use Rattle.commands.specs.Answers.{Ends, ReadFails};
-ghost use Rattle.commands.specs.Command.{Names, command_of};
+ghost use Rattle.commands.specs.Answers.{Ends};
+ghost use Rattle.commands.specs.Causes.{IsQuiet, ReadFails, WriteFails};
+ghost use Rattle.commands.specs.Command as asked;
+ghost use Rattle.commands.specs.Command.{Command, Names, command_of, writes_of};
 ghost use Rattle.commands.specs.Gains.{Gains};
 ghost use Rattle.commands.specs.Headline.{Headline};
 ghost use Rattle.commands.specs.Outcome.{ending_line, EndsAs, Holds, HoldsFront};
 ghost use Rattle.commands.specs.Status.{ending_status, is_status, verdict_status};
-ghost use Rattle.commands.specs.Verdict.{files_verdict, verdict};
-ghost use Rattle.shelf_io.specs.Count.{Rose, Still};
+ghost use Rattle.commands.specs.Seen.{seen};
+ghost use Rattle.commands.specs.Verdict.{Comes, command_verdict, verdict};
 ghost use Rattle.std.specs.Prelude.{◌≡◌, ◌≢◌, ◌⊎◌, List, ℕ, Some, None, true};
 
-use crate::command::{Route, WordsFault, read_command};
+use crate::command::{Command, Route, WordsFault, read_command};
 use crate::line::print_line;
 use crate::refusal::Refusal;
-use crate::stages::{prepare, write};
+use crate::stages::prepare;
 use crate::stop::Stop;
 use crate::word::Word;
 use shelf_io::{Shelf, Sink};
@@ -30,37 +32,28 @@ pub struct Ended {
 
 // Routes a design under the rules of a file into another file.
 fn route<S: Shelf>(alloc: Global, shelf: &mut S, names: &Route<'_>) -> Result<(), Stop>
-    ensures told { (said : _) → files_verdict names.now.rows (S.holds shelf.old names.now.rules.now) (S.holds shelf.old names.now.design.now) ≡ Some said
-        → Ends result said }
-    ensures written { (said : _) → files_verdict names.now.rows (S.holds shelf.old names.now.rules.now) (S.holds shelf.old names.now.design.now) ≡ Some said
+    ensures told { (said : _) → command_verdict (asked.route (seen names.now)) (S.holds shelf.old) ≡ Some said → Ends result said }
+    ensures written { (said : _) → command_verdict (asked.route (seen names.now)) (S.holds shelf.old) ≡ Some said
         → ending_status result ≡ 0 → Holds said (S.holds shelf.new names.now.out.now) }
     ensures headline { (stated bytes held : List ℕ) → S.holds shelf.old names.now.rules.now ≡ Some stated
         → S.holds shelf.old names.now.design.now ≡ Some bytes → ending_status result ≡ 0
         → S.holds shelf.new names.now.out.now ≡ Some held → Headline stated bytes held }
-    ensures front { (said : _) → files_verdict names.now.rows (S.holds shelf.old names.now.rules.now) (S.holds shelf.old names.now.design.now) ≡ Some said
+    ensures front { (said : _) → command_verdict (asked.route (seen names.now)) (S.holds shelf.old) ≡ Some said
         → ending_status result ≡ 9 → HoldsFront said (S.holds shelf.old names.now.out.now) (S.holds shelf.new names.now.out.now) }
     ensures read_cause { ending_status result ≡ 8
-        → ReadFails (S.holds shelf.old names.now.rules.now)
-        (S.read_faults shelf.old names.now.rules.now) (S.read_faults shelf.new names.now.rules.now)
-        (S.read_faults shelf.old names.now.design.now) (S.read_faults shelf.new names.now.design.now) }
-    ensures write_cause { ending_status result ≡ 9
-        → Rose (S.write_faults shelf.old names.now.out.now) (S.write_faults shelf.new names.now.out.now) }
+        → ReadFails (asked.route (seen names.now)) (S.holds shelf.old) (S.read_faults shelf.old) (S.read_faults shelf.new) }
+    ensures write_cause { ending_status result ≡ 9 → WriteFails (asked.route (seen names.now)) (S.write_faults shelf.old) (S.write_faults shelf.new) }
     ensures reads { ending_status result ≢ 8 → S.read_faults shelf.new ≡ S.read_faults shelf.old }
     ensures writes { ending_status result ≢ 9 → S.write_faults shelf.new ≡ S.write_faults shelf.old }
     ensures untouched { ending_status result ≢ 0 → ending_status result ≢ 9 → S.holds shelf.new ≡ S.holds shelf.old }
     ensures others { (other : List ℕ) → other ≢ names.now.out.now → S.holds shelf.new other ≡ S.holds shelf.old other }
     ensures command { ending_status result ≢ 2 }
-    ensures complete { (said : _) → files_verdict names.now.rows (S.holds shelf.old names.now.rules.now) (S.holds shelf.old names.now.design.now) ≡ Some said
-        → Still (S.read_faults shelf.old names.now.rules.now) (S.read_faults shelf.new names.now.rules.now)
-        → Still (S.read_faults shelf.old names.now.design.now) (S.read_faults shelf.new names.now.design.now)
-        → Still (S.write_faults shelf.old names.now.out.now) (S.write_faults shelf.new names.now.out.now)
+    ensures complete { (said : _) → command_verdict (asked.route (seen names.now)) (S.holds shelf.old) ≡ Some said
+        → IsQuiet (asked.route (seen names.now)) (S.read_faults shelf.old) (S.read_faults shelf.new) (S.write_faults shelf.old) (S.write_faults shelf.new)
         → (ending_status result ≡ verdict_status said) ⊎ (ending_status result ≡ 10) }
 {
-    let text = prepare(alloc, shelf, names.rules, names.design, names.rows)?;
-    match write(shelf, names.out, text.as_slice()) {
-        Ok(()) => Ok(()),
-        Err(_) => Err(Stop::WriteFault),
-    }
+    let prepared = prepare(alloc, shelf, names.rules, names.design, names.rows)?;
+    prepared.write(alloc, shelf, names.out)
 }
 
 // Prints the line of what stopped a command, if anything did, and gives the status.
@@ -98,41 +91,35 @@ pub fn run<S: Shelf, K: Sink>(alloc: Global, words: &[Word], shelf: &mut S, out:
     ensures ends { EndsAs (verdict words.now (S.holds shelf.old)) result.status
         (K.written out.old) (K.written out.new) (K.faults out.old) (K.faults out.new) }
 
-    // Status 0: the file to write, where the shelf tells it, holds exactly the text of the verdict.
-    ensures written { (names : Names) (said : _) → command_of words.now ≡ Some names
-        → verdict words.now (S.holds shelf.old) ≡ Some said
-        → result.status ≡ 0 → Holds said (S.holds shelf.new names.out) }
+    // Status 0: the file that the command writes, where the shelf tells it, holds exactly the text of the job.
+    ensures written { (command : Command) (said : _) (file : List ℕ) → Comes words.now (S.holds shelf.old) command said → writes_of command ≡ Some file
+        → result.status ≡ 0 → Holds said (S.holds shelf.new file) }
 
-    // The headline: what is written reads as a layout that is good for the design under the rules.
-    ensures headline { (names : Names) (stated bytes held : List ℕ) → command_of words.now ≡ Some names
+    // The headline: what `route` writes reads as a layout that is good for the design under the rules.
+    ensures headline { (names : Names) (stated bytes held : List ℕ) → command_of words.now ≡ Some (asked.route names)
         → S.holds shelf.old names.rules ≡ Some stated → S.holds shelf.old names.design ≡ Some bytes
         → result.status ≡ 0 → S.holds shelf.new names.out ≡ Some held → Headline stated bytes held }
 
-    // Status 9: there is a text, and the file to write holds what it held, or a front of the text.
-    ensures front { (names : Names) (said : _) → command_of words.now ≡ Some names
-        → verdict words.now (S.holds shelf.old) ≡ Some said
-        → result.status ≡ 9 → HoldsFront said (S.holds shelf.old names.out) (S.holds shelf.new names.out) }
+    // Status 9: there is a job, and the file to write holds what it held, or a front of the job's text.
+    ensures front { (command : Command) (said : _) (file : List ℕ) → Comes words.now (S.holds shelf.old) command said → writes_of command ≡ Some file
+        → result.status ≡ 9 → HoldsFront said (S.holds shelf.old file) (S.holds shelf.new file) }
 
     // Status 8 and 9 come only where a count rose, and where it rose they come.
-    ensures read_cause { (names : Names) → command_of words.now ≡ Some names → result.status ≡ 8
-        → ReadFails (S.holds shelf.old names.rules) (S.read_faults shelf.old names.rules) (S.read_faults shelf.new names.rules)
-        (S.read_faults shelf.old names.design) (S.read_faults shelf.new names.design) }
-    ensures write_cause { (names : Names) → command_of words.now ≡ Some names → result.status ≡ 9
-        → Rose (S.write_faults shelf.old names.out) (S.write_faults shelf.new names.out) }
+    ensures read_cause { (command : Command) → command_of words.now ≡ Some command → result.status ≡ 8
+        → ReadFails command (S.holds shelf.old) (S.read_faults shelf.old) (S.read_faults shelf.new) }
+    ensures write_cause { (command : Command) → command_of words.now ≡ Some command → result.status ≡ 9
+        → WriteFails command (S.write_faults shelf.old) (S.write_faults shelf.new) }
     ensures reads { result.status ≢ 8 → S.read_faults shelf.new ≡ S.read_faults shelf.old }
     ensures writes { result.status ≢ 9 → S.write_faults shelf.new ≡ S.write_faults shelf.old }
 
     // Nothing is lost.
     ensures untouched { result.status ≢ 0 → result.status ≢ 9 → S.holds shelf.new ≡ S.holds shelf.old }
-    ensures others { (names : Names) (other : List ℕ) → command_of words.now ≡ Some names
-        → other ≢ names.out → S.holds shelf.new other ≡ S.holds shelf.old other }
+    ensures others { (command : Command) (other : List ℕ) → command_of words.now ≡ Some command
+        → writes_of command ≢ Some other → S.holds shelf.new other ≡ S.holds shelf.old other }
 
     // Where nothing fails the status is the verdict's, want of memory aside.
-    ensures complete { (names : Names) (said : _) → command_of words.now ≡ Some names
-        → verdict words.now (S.holds shelf.old) ≡ Some said
-        → Still (S.read_faults shelf.old names.rules) (S.read_faults shelf.new names.rules)
-        → Still (S.read_faults shelf.old names.design) (S.read_faults shelf.new names.design)
-        → Still (S.write_faults shelf.old names.out) (S.write_faults shelf.new names.out)
+    ensures complete { (command : Command) (said : _) → Comes words.now (S.holds shelf.old) command said
+        → IsQuiet command (S.read_faults shelf.old) (S.read_faults shelf.new) (S.write_faults shelf.old) (S.write_faults shelf.new)
         → (result.status ≡ verdict_status said) ⊎ (result.status ≡ 10) }
 
     // Status 0 prints nothing.
@@ -140,7 +127,7 @@ pub fn run<S: Shelf, K: Sink>(alloc: Global, words: &[Word], shelf: &mut S, out:
     ensures calm { result.status ≡ 0 → K.faults out.new ≡ K.faults out.old }
 {
     let ending = match read_command(alloc, words) {
-        Ok(names) => route(alloc, shelf, &names),
+        Ok(Command::Route(names)) => route(alloc, shelf, &names),
         Err(WordsFault::Usage) => Err(Stop::Refused(Refusal::Usage)),
         Err(WordsFault::Memory) => Err(Stop::Refused(Refusal::Memory)),
     };

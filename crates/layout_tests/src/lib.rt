@@ -13,3 +13,5 @@ mod stack_tests;
 mod support;
 #[cfg(test)]
 mod text_tests;
+#[cfg(test)]
+mod writer_tests;

@@ -1,20 +1,24 @@
 //! Designs in rows, what is stacked of them, and their texts.
 
-ghost use Rattle.channel_stack.specs.Routed.{IsStacked};
+ghost use Rattle.channel_stack.specs.Routed.{IsRouted};
+ghost use Rattle.design_model.specs.Room.{HasRoom};
 ghost use Rattle.feed_cells.specs.Fed.{IsFed, cells_in};
 ghost use Rattle.feed_cells.specs.Placement.{placement_of};
 ghost use Rattle.row_model.specs.Rows.{ArePlaced};
 ghost use Rattle.std.specs.Prelude.{◌≡◌, ◌<◌, ◌≤◌, IfOk, IfSome};
+ghost use Rattle.tech_rules.specs.Rules.{ValidRules};
 
 use crate::mirror::mirrored;
 use crate::routing::route_channels;
-use channel_stack::{Placed, stack};
-use cif_writer::written_text;
+use channel_model::Wiring;
+use channel_stack::{Placed, lay, stack};
+use cif_writer::{symbol_drawings, write_layout};
 use design_model::Design;
 use feed_cells::{FedRows, Placement, insert_feeds, place};
 use pin_assign::{bound_of, channels};
 use row_model::{Rows, start};
 use samples::{CELLS, SampleFault, designed};
+use shelf_io::MemShelf;
 use std::alloc::{AllocError, Global};
 use std::test::Fail;
 use tech_rules::Rules;
@@ -50,17 +54,17 @@ pub fn rows_of(alloc: Global, design: &Design, count: u32, mirror: bool) -> Resu
     Ok(rows)
 }
 
-/// What is stacked of rows with feeds, whose channels are wired by the plain router; None where the layout is above a limit.
-pub fn stacked(
+/// The wirings of the channels between rows with feeds, by the plain router; None where the layout is above a limit.
+fn wirings_for(
     alloc: Global,
     design: &Design,
     fed: &FedRows,
     placement: &Placement,
     rules: &Rules,
-) -> Result<Option<Placed>, AllocError>
+) -> Result<Option<Vec<Wiring>>, AllocError>
     requires fed { IsFed design.now fed.now }
     requires placement { placement.now ≡ placement_of design.now (cells_in fed.now.rows) }
-    ensures { IfOk result (λ made. IfSome made (IsStacked rules.now design.now fed.now)) }
+    ensures { IfOk result (λ made. IfSome made (λ wirings. IsRouted rules.now design.now fed.now wirings.items)) }
 {
     let bound = bound_of(design, fed, rules);
     if bound.grid > 4000000 || bound.width > 1000000000 || bound.height > 1000000000 {
@@ -68,25 +72,57 @@ pub fn stacked(
     }
     let channels = channels(alloc, design, fed, placement)?;
     let wirings = route_channels(alloc, channels.as_slice())?;
-    let placed = stack(alloc, design, fed, wirings.as_slice(), rules)?;
-    Ok(Some(placed))
+    Ok(Some(wirings))
+}
+
+/// The text of a routed design, as it is written to a shelf in memory; None where that fails.
+fn text_written(
+    alloc: Global,
+    design: &Design,
+    fed: &FedRows,
+    wirings: &[Wiring],
+    rules: &Rules,
+) -> Result<Option<Vec<u8>>, AllocError>
+    requires valid { ValidRules rules.now }
+    requires high { HasRoom rules.now design.now }
+    requires fed { IsFed design.now fed.now }
+    requires routed { IsRouted rules.now design.now fed.now wirings.now }
+{
+    let laid = lay(alloc, design, fed, wirings, rules)?;
+    let symbols = symbol_drawings(alloc, design, fed, rules)?;
+    let mut shelf = MemShelf::new(alloc)?;
+    let written = write_layout(
+        alloc,
+        &mut shelf,
+        "out",
+        design,
+        fed,
+        &laid,
+        wirings,
+        symbols.as_slice(),
+        rules,
+    );
+    match (written, shelf.get("out")) {
+        (Ok(()), Some(bytes)) => Ok(Some(bytes.to_vec(alloc)?)),
+        _ => Ok(None),
+    }
 }
 
 /// A layout: what is stacked, and its text.
 #[derive(Drop)]
-pub struct Laid {
+pub struct Shown {
     pub placed: Placed,
     pub text: Vec<u8>,
 }
 
 /// The layout of rows with feeds; None where it is above a limit, or the cells have no room for their pins.
-fn laid_with(
+fn shown_with(
     alloc: Global,
     design: &Design,
     fed: &FedRows,
     placement: &Placement,
     rules: &Rules,
-) -> Result<Option<Laid>, AllocError>
+) -> Result<Option<Shown>, AllocError>
     requires fed { IsFed design.now fed.now }
     requires placement { placement.now ≡ placement_of design.now (cells_in fed.now.rows) }
 {
@@ -94,47 +130,50 @@ fn laid_with(
     if room > u64::from(design.height) {
         return Ok(None);
     }
-    let Some(placed) = stacked(alloc, design, fed, placement, rules)? else {
+    let Some(wirings) = wirings_for(alloc, design, fed, placement, rules)? else {
         return Ok(None);
     };
-    let text = written_text(alloc, design, fed, &placed, rules)?;
-    Ok(Some(Laid { placed, text }))
+    let placed = stack(alloc, design, fed, wirings.as_slice(), rules)?;
+    match text_written(alloc, design, fed, wirings.as_slice(), rules)? {
+        Some(text) => Ok(Some(Shown { placed, text })),
+        None => Ok(None),
+    }
 }
 
 /// The layout of rows; None where they have none.
-fn laid_rows(
+fn shown_rows(
     alloc: Global,
     design: &Design,
     rows: &Rows,
     rules: &Rules,
-) -> Result<Option<Laid>, AllocError>
+) -> Result<Option<Shown>, AllocError>
     requires { ArePlaced design.now rows.now }
 {
     let placement = place(alloc, design, rows)?;
     let fed = insert_feeds(alloc, design, rows, &placement)?;
-    laid_with(alloc, design, &fed, &placement, rules)
+    shown_with(alloc, design, &fed, &placement, rules)
 }
 
 /// The layout of a design in so many rows; None where it has none.
-fn laid_in(
+fn shown_in(
     alloc: Global,
     design: &Design,
     count: u32,
     mirror: bool,
-) -> Result<Option<Laid>, AllocError>
+) -> Result<Option<Shown>, AllocError>
     requires some { 0 < count }
     requires few { count ≤ 512 }
 {
     let rules = Rules::sample(alloc)?;
     let rows = rows_of(alloc, design, count, mirror)?;
-    laid_rows(alloc, design, &rows, &rules)
+    shown_rows(alloc, design, &rows, &rules)
 }
 
 /// The layout of calls in rows; None where they have none.
-pub fn layout_for(alloc: Global, rowed: Rowed) -> Result<Option<Laid>, Fail> {
+pub fn layout_for(alloc: Global, rowed: Rowed) -> Result<Option<Shown>, Fail> {
     if rowed.rows == 0 || rowed.rows > 512 {
         return Ok(None);
     }
     let design = designed_with(alloc, rowed.calls)?;
-    Ok(laid_in(alloc, &design, rowed.rows, rowed.mirrored)?)
+    Ok(shown_in(alloc, &design, rowed.rows, rowed.mirrored)?)
 }

@@ -2,23 +2,23 @@ use Rattle.std.proofs.Common.{◌≡◌, None, ap, sym, ◌∙◌, arith}
 use Rattle.pin_assign.specs.Bounds.{bound_of}
 use Rattle.commands.specs.Limits.{size_refusal}
 use Rattle.commands.proofs.Points.{unrefused-within}
-use Rattle.commands.proofs.outcome.rows_text.Goals as goal
+use Rattle.commands.proofs.prepared.lay_out.Goals as goal
 
-pub routed_text-requires-clause-narrow : goal.routed_text-requires-clause-narrow
-routed_text-requires-clause-narrow c =
+pub wired-requires-clause-narrow : goal.wired-requires-clause-narrow
+wired-requires-clause-narrow c =
     let small : size_refusal c.bound_of.result ≡ None = sym c.size_refusal.ensures.is ∙ c.in_default.is in
     let within = (unrefused-within c.bound_of.result small).0 in
     let wide = c.bound_of.ensures.wide in
     omega arith
 
-pub routed_text-requires-clause-width : goal.routed_text-requires-clause-width
-routed_text-requires-clause-width c =
-    let bound = bound_of c.args.rules.now c.args.design.now c.in_ok-fed.fed in
+pub wired-requires-clause-width : goal.wired-requires-clause-width
+wired-requires-clause-width c =
+    let bound = bound_of c.args.rules c.args.design c.in_ok-fed.fed in
     let small : size_refusal bound ≡ None = ap size_refusal (sym c.bound_of.ensures.is) ∙ sym c.size_refusal.ensures.is ∙ c.in_default.is in
     (unrefused-within bound small).1.0
 
-pub routed_text-requires-clause-height : goal.routed_text-requires-clause-height
-routed_text-requires-clause-height c =
-    let bound = bound_of c.args.rules.now c.args.design.now c.in_ok-fed.fed in
+pub wired-requires-clause-height : goal.wired-requires-clause-height
+wired-requires-clause-height c =
+    let bound = bound_of c.args.rules c.args.design c.in_ok-fed.fed in
     let small : size_refusal bound ≡ None = ap size_refusal (sym c.bound_of.ensures.is) ∙ sym c.size_refusal.ensures.is ∙ c.in_default.is in
     (unrefused-within bound small).1.1

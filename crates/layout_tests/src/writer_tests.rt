@@ -1,0 +1,75 @@
+//! Texts that are written piece by piece.
+
+use cif_writer::Writer;
+use geom_core::{Name, Place};
+use shelf_io::{Failed, MemShelf};
+use std::alloc::{AllocError, Global};
+use std::test::Fail;
+
+const ORIGIN: Place = Place {
+    dx: 0,
+    dy: 0,
+    mirror: false,
+};
+
+/// A text of 238 copies with names of one byte and one copy with a name of `last` bytes: its lines have 15 bytes, 238 times 6 and 11, 5 and `last` and 11, and 2,
+/// together 4,079 and `last`. A put of the shelf takes at most `most` bytes, and its call with number `fail` fails, where 0 is the one that begins the file.
+struct Case {
+    last: usize,
+    most: usize,
+    fail: u64,
+    whole: bool,
+    held: usize,
+}
+
+const CASES: [Case; 6] = [
+    // A text of 4,096 bytes goes out in one put: call 2 would be a second one.
+    Case { last: 17, most: 5000, fail: 2, whole: true, held: 4096 },
+    Case { last: 18, most: 5000, fail: 2, whole: false, held: 4096 },
+    Case { last: 18, most: 5000, fail: 3, whole: true, held: 4097 },
+    Case { last: 18, most: 100, fail: 3, whole: false, held: 200 },
+    Case { last: 16, most: 5000, fail: 1, whole: false, held: 0 },
+    Case { last: 16, most: 5000, fail: 2, whole: true, held: 4095 },
+];
+
+/// Writes the copies, and ends the text.
+fn write_copies(
+    writer: Writer,
+    shelf: &mut MemShelf,
+    short: &Name,
+    long: &Name,
+) -> Result<(), Failed> {
+    let mut writer = writer;
+    for _ in 0..238 {
+        writer = writer.cell(shelf, "out", Some(short), 1, &ORIGIN)?;
+    }
+    writer = writer.cell(shelf, "out", Some(long), 1, &ORIGIN)?;
+    writer.close(shelf, "out")
+}
+
+/// Whether a case ends so, and its file then holds as many bytes, which begin as the text does.
+fn is_so(alloc: Global, case: &Case) -> Result<bool, AllocError> {
+    let short = Name::new("a".as_bytes().to_vec(alloc)?);
+    let long = Name::new(vec![in alloc; 98; case.last]?);
+    let mut shelf = MemShelf::new(alloc)?;
+    shelf.most(case.most);
+    shelf.fail_at(case.fail)?;
+    let Ok(writer) = Writer::start(alloc, &mut shelf, "out") else {
+        return Ok(false);
+    };
+    let whole = write_copies(writer, &mut shelf, &short, &long).is_ok();
+    let Some(held) = shelf.get("out") else {
+        return Ok(false);
+    };
+    let text = "(cellroute 1);\n91 a;\nC 1 T 0 0;\n91 a;\n".as_bytes();
+    let front = held.len().min(text.len());
+    Ok(whole == case.whole && held.len() == case.held && held[..front] == text[..front])
+}
+
+#[test]
+fn pieces_go_out_when_they_are_full_and_at_the_end(rt: HostRuntime) -> Result<(), Fail> {
+    for case in &CASES {
+        assert!(rt; is_so(rt.alloc(), case)?, "{} {}", case.last, case.fail);
+    }
+    Ok(())
+}
