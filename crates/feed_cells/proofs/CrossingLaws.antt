@@ -1,5 +1,7 @@
 use Rattle.std.proofs.Common.{◌≡◌, ◌≢◌, ◌⊎◌, ◌<◌, ◌≤◌, ◌+◌, ℕ, inl, inr, refl, sym, subst, ◌∙◌, arith, List, [], ◌∷◌, Bool, true, false, cond, leb, eqb, Contains, length, map}
 use Rattle.std.proofs.lemmas.Bool.{and_from, and_parts, both_ways, cases_eq, eq-eqb, eqb-true, le-leb, leb-false, leb-true, lt-ltb, ltb-true}
+use Rattle.list_facts.proofs.Greatest.{greatest-bound, greatest-first, greatest-reached, least-bound, least-first, least-reached}
+use Rattle.list_facts.proofs.Members.{filter-from, filter-member, member-cases, member-head}
 use Rattle.design_model.specs.Netlist.{IsNetlist, Netlist}
 use Rattle.design_model.specs.declared.design.Pin.{Pin}
 use Rattle.row_model.specs.Rows.{ArePlaced}
@@ -11,7 +13,6 @@ use Rattle.feed_cells.specs.Channels.{AllTouch, AreSpread, first_channel, last_c
 use Rattle.feed_cells.specs.Touching.{Touches}
 use Rattle.feed_cells.specs.declared.crossing.Crossing.{Crossing}
 use Rattle.feed_cells.specs.declared.crossing.Crossing.TheVariants.{Alone, One, Many}
-use Rattle.feed_cells.proofs.Members.{filter-from, filter-member, greatest-bound, greatest-first, greatest-reached, least-bound, least-first, least-reached, member-cases, member-head}
 use Rattle.feed_cells.proofs.PinEdges.{pin-edge, row-within}
 
 -- the pins of a net are those of the design that have its number
@@ -33,24 +34,6 @@ in-order false false row (inr none) = absurd (both_ways false refl none)
 
 pub pin-ordered : (d : Netlist) (rows : List (List Seat)) → IsNetlist d → (p : Pin) → Contains d.pins p → lowest d rows p ≤ highest d rows p
 pin-ordered d rows good p member = in-order (has_edge d false p) (has_edge d true p) (row_of d rows p.instance) (pin-edge d good p member)
-
--- the lowest channel is the one below the row where there is a position on the lower edge, else the one above it
-low-cases : (bottom : Bool) (row : ℕ) → ((bottom ≡ true) × (cond bottom row (row + 1) ≡ row)) ⊎ ((bottom ≡ false) × (cond bottom row (row + 1) ≡ row + 1))
-low-cases true row = inl (refl, refl)
-low-cases false row = inr (refl, refl)
-
-pub lowest-is : (d : Netlist) (rows : List (List Seat)) (p : Pin)
-    → ((has_edge d false p ≡ true) × (lowest d rows p ≡ row_of d rows p.instance)) ⊎ ((has_edge d false p ≡ false) × (lowest d rows p ≡ row_of d rows p.instance + 1))
-lowest-is d rows p = low-cases (has_edge d false p) (row_of d rows p.instance)
-
--- the highest is the one above the row where there is a position on the upper edge, else the one below it
-high-cases : (top : Bool) (row : ℕ) → ((top ≡ true) × (cond top (row + 1) row ≡ row + 1)) ⊎ ((top ≡ false) × (cond top (row + 1) row ≡ row))
-high-cases true row = inl (refl, refl)
-high-cases false row = inr (refl, refl)
-
-pub highest-is : (d : Netlist) (rows : List (List Seat)) (p : Pin)
-    → ((has_edge d true p ≡ true) × (highest d rows p ≡ row_of d rows p.instance + 1)) ⊎ ((has_edge d true p ≡ false) × (highest d rows p ≡ row_of d rows p.instance))
-highest-is d rows p = high-cases (has_edge d true p) (row_of d rows p.instance)
 
 -- a channel between the two is beside the row, where there is a position
 between-edges : (bottom top : Bool) (row channel : ℕ) → cond bottom row (row + 1) ≤ channel → channel ≤ cond top (row + 1) row

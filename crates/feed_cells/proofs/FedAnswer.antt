@@ -1,6 +1,8 @@
-use Rattle.std.proofs.Common.{◌≡◌, ℕ, ◌+◌, ◌≤◌, List, map, filter, fold, max, length, arith, ap, ap₂, sym, subst, ◌∙◌, zero, suc, [], ◌∷◌, refl, Bool, true, false, cond}
+use Rattle.std.proofs.Common.{◌≡◌, ℕ, ◌+◌, ◌≤◌, List, map, fold, max, length, arith, ap, ap₂, sym, subst, ◌∙◌, zero, suc, ◌∷◌, refl}
 use Rattle.std.specs.List.{range_with_len}
 use Rattle.std.proofs.lemmas.List.FromFn.{length-map-range_with_len}
+use Rattle.list_facts.proofs.Counts.{length-filter-map}
+use Rattle.design_model.proofs.DesignPins.{nets-few}
 use Rattle.design_model.specs.Netlist.{Netlist, IsNetlist}
 use Rattle.row_model.specs.Rows.{ArePlaced}
 use Rattle.row_model.specs.declared.rows.Seat.{Seat}
@@ -11,23 +13,12 @@ use Rattle.feed_cells.specs.Sizes.{counts_in}
 use Rattle.feed_cells.specs.declared.fed.Item.{Item}
 use Rattle.feed_cells.specs.declared.placement.NetPlace.{NetPlace}
 use Rattle.feed_cells.proofs.FedLaws.{cells-fed}
-use Rattle.feed_cells.proofs.FewNets.{nets-few}
 
 -- a design has at most 200,000 nets
 pub places-few : (d : Netlist) (rows : List (List Seat)) (nets : List NetPlace) → IsNetlist d → nets ≡ map (net_place d rows) (all_nets d) → length nets ≤ 200000
 places-few d rows nets is are =
     let many : length nets ≡ length d.nets = ap length are ∙ length-map-range_with_len (net_place d rows) 1 (length d.nets) in
     omega (arith, nets-few d is)
-
--- as many pass a test before a change as after it
-length-filter-map : {A B : Type 0} (f : A → B) (p : B → Bool) (xs : List A) → length (filter p (map f xs)) ≡ length (filter (λ (x : A). p (f x)) xs)
-length-filter-map f p [] = refl
-length-filter-map {A} {B} f p (x ∷ xs) = by (p (f x)) (length-filter-map f p xs)
-  where
-    by : (b : Bool) → length (filter p (map f xs)) ≡ length (filter (λ (y : A). p (f y)) xs)
-        → length (cond b (f x ∷ filter p (map f xs)) (filter p (map f xs))) ≡ length (cond b (x ∷ filter (λ (y : A). p (f y)) xs) (filter (λ (y : A). p (f y)) xs))
-    by true h = ap (λ (n : ℕ). suc n) h
-    by false h = h
 
 -- the nets of each channel are those that stand in it
 counts-nets : (d : Netlist) (rows : List (List Seat)) (channel n : ℕ)

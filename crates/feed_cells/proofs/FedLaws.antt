@@ -6,6 +6,8 @@ use Rattle.std.proofs.lemmas.List.Sums.{count_by-le-length}
 use Rattle.std.proofs.lemmas.Option.{get_or_from_slice_get, none-some, same_Some, slice_get_within}
 use Rattle.std.specs.List.{slice_get}
 use Rattle.std.specs.Option.{option_map}
+use Rattle.list_facts.proofs.Greatest.{greatest-bound}
+use Rattle.list_facts.proofs.Members.{filter-from, filter-member, map-cases, map-member, member-cases, member-head, member-tail}
 use Rattle.design_model.specs.Netlist.{Netlist}
 use Rattle.row_model.specs.Widths.{columns_of}
 use Rattle.row_model.specs.declared.rows.Seat.{Seat}
@@ -15,7 +17,6 @@ use Rattle.feed_cells.specs.Feeds.{feed_place, is_fed, lefts_of, middle_of}
 use Rattle.feed_cells.specs.Standing.{IsFeed, Stands, seated, feeding}
 use Rattle.feed_cells.specs.declared.fed.Item.{Item}
 use Rattle.feed_cells.specs.declared.fed.Item.TheVariants.{Cell, Feed}
-use Rattle.feed_cells.proofs.Members.{filter-from, filter-member, greatest-bound, map-cases, map-member, member-cases, member-head, member-tail}
 
 -- feeds have no seats
 feeds-seatless : (nets : List ℕ) → seats_in (map Feed nets) ≡ []

@@ -4,6 +4,8 @@ use Rattle.std.specs.Option.{option_and_then}
 use Rattle.std.proofs.lemmas.List.Elements.{recursion_from_All}
 use Rattle.std.proofs.lemmas.List.FromFn.{length-range_with_len}
 use Rattle.std.proofs.lemmas.List.Sums.{sum_by-cons}
+use Rattle.design_model.proofs.DesignPins.{nets-few}
+use Rattle.list_facts.proofs.Counts.{filter-short}
 use Rattle.design_model.specs.Netlist.{Netlist, IsKind, IsNetlist}
 use Rattle.design_model.specs.declared.design.CellKind.{CellKind}
 use Rattle.design_model.specs.declared.design.Inst.{Inst}
@@ -16,7 +18,6 @@ use Rattle.row_model.specs.NearStands.{AreShort}
 use Rattle.feed_cells.specs.Sizes.{AreNarrow}
 use Rattle.feed_cells.specs.declared.fed.Item.{Item}
 use Rattle.feed_cells.specs.declared.fed.Item.TheVariants.{Cell, Feed}
-use Rattle.feed_cells.proofs.FewNets.{filter-short, nets-few}
 
 -- an instance is at most 100,000,000 columns wide
 kinds-few : (kinds : List CellKind) → AllByRecursion IsKind kinds → (k : ℕ) → width_of (slice_get kinds k) ≤ 100000000

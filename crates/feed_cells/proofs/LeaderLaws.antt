@@ -3,11 +3,11 @@ use Rattle.std.proofs.lemmas.Bool.{eqb-true}
 use Rattle.std.proofs.lemmas.List.Folds.{find-append}
 use Rattle.std.specs.List.{find, list_any}
 use Rattle.std.specs.Option.{option_or}
+use Rattle.list_facts.proofs.Members.{find-member}
 use Rattle.design_model.specs.Netlist.{Netlist}
 use Rattle.design_model.specs.declared.design.Pin.{Pin}
 use Rattle.row_model.specs.declared.rows.Seat.{Seat}
 use Rattle.feed_cells.specs.Feeds.{leader, leads_through}
-use Rattle.feed_cells.proofs.Members.{find-member}
 use Rattle.feed_cells.specs.Leaders.{is_in_row, leaders_among, leaders_with, pin_at, with_leader}
 use Rattle.row_model.specs.PinPlaces.{pin_place, pin_place_at}
 use Rattle.row_model.specs.declared.places.PinPlace.{PinPlace}

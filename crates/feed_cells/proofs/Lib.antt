@@ -1,5 +1,3 @@
--- members of lists, and the greatest and the least of them
-pub mod Members
 -- each pin has a position on an edge, and stands in a row
 pub mod PinEdges
 -- the channels that nets stand in, and the pins that touch them
@@ -19,11 +17,7 @@ pub mod PlacementLaws
 pub mod FedAnswer
 -- how wide rows with feeds can be
 pub mod FedWidths
--- a design has no more nets than pins
-pub mod FewNets
 -- the feeds of a row by tables are those of the definition
 pub mod RowFeedLaws
 -- how many nets stand in each channel, counted net by net
 pub mod CountLaws
--- how many elements pass a test that the first ones pass
-pub mod Counting

@@ -4,6 +4,7 @@ use Rattle.std.proofs.lemmas.List.Elements.{All-contains}
 use Rattle.std.proofs.lemmas.Option.{none-some, same_Some, slice_get-get_or, get_or_from_slice_get, slice_get_within}
 use Rattle.std.specs.List.{find, list_any, slice_get}
 use Rattle.std.specs.Option.{option_and_then, option_map, is_some}
+use Rattle.list_facts.proofs.Members.{any-member, find-member}
 use Rattle.design_model.specs.Netlist.{IsKind, IsNetlist, Netlist, terminals_of_kind}
 use Rattle.design_model.specs.PinOrder.{kind_terminals, pin_pair, power_at}
 use Rattle.design_model.specs.declared.design.CellKind.{CellKind}
@@ -16,7 +17,6 @@ use Rattle.row_model.specs.Stands.{Stand, column_in, is_on, or_else, positions_i
 use Rattle.row_model.specs.Widths.{columns_of}
 use Rattle.row_model.specs.declared.rows.Seat.{Seat}
 use Rattle.feed_cells.specs.Crossings.{has_edge}
-use Rattle.feed_cells.proofs.Members.{any-member, find-member}
 
 -- where a search finds something, it has a column
 has-column : (test : Position → Bool) (positions : List Position) → list_any test positions ≡ true → is_some (column_in (find test positions)) ≡ true

@@ -1,5 +1,7 @@
 use Rattle.std.proofs.Common.{◌≡◌, ◌<◌, ◌≤◌, ◌+◌, ℕ, List, map, length, Bool, ◌&&◌, Option, Some, [], ◌∷◌, slice_get, refl, ap, ap₂, ◌∙◌, arith}
 use Rattle.std.specs.List.{AllByRecursion, range_with_len}
+use Rattle.list_facts.proofs.Ranges.{map-map, map-same}
+use Rattle.std.proofs.lemmas.List.Elements.{recursion_from_All}
 use Rattle.list_facts.proofs.Places.{list-by}
 use Rattle.design_model.specs.Netlist.{IsNetlist, Netlist}
 use Rattle.design_model.specs.declared.design.Pin.{Pin}
@@ -7,7 +9,6 @@ use Rattle.row_model.specs.PinPlaces.{pin_place, pin_place_at}
 use Rattle.row_model.specs.Stands.{row_of}
 use Rattle.row_model.specs.declared.places.PinPlace.{PinPlace}
 use Rattle.row_model.specs.declared.rows.Seat.{Seat}
-use Rattle.row_model.proofs.PlacedLaws.{every-of-all}
 use Rattle.feed_cells.specs.Crossings.{all_nets, crossing_of, is_across}
 use Rattle.feed_cells.specs.Feeds.{is_pin, leader}
 use Rattle.feed_cells.specs.Leaders.{leaders_among, leaders_there, leads_among}
@@ -20,7 +21,7 @@ use Rattle.feed_cells.specs.declared.net_spans.NetSpan.{NetSpan}
 use Rattle.feed_cells.specs.declared.placement.NetPlace.{NetPlace}
 use Rattle.feed_cells.specs.declared.placement.PlacedPin.{PlacedPin}
 use Rattle.feed_cells.proofs.LeaderLaws.{leader-among}
-use Rattle.feed_cells.proofs.NetTableLaws.{at_net-by, at_net-image, map-map, map-same}
+use Rattle.feed_cells.proofs.NetTableLaws.{at_net-by, at_net-image}
 use Rattle.feed_cells.proofs.SpanLaws.{span-crossing, span-middle}
 
 module _ (d : Netlist) (rows : List (List Seat)) where
@@ -81,7 +82,7 @@ module _ (d : Netlist) (rows : List (List Seat)) where
   pins-placed good leaders each =
       map-map (pin_place d rows) (placed_by (map (net_place d rows) (all_nets d)) leaders) d.pins
       ∙ map-same (λ (p : Pin). (0 < p.net) × (p.net ≤ length d.nets)) (λ (p : Pin). placed_by (map (net_place d rows) (all_nets d)) leaders (pin_place d rows p)) (placed_pin d rows)
-      (pin-placed leaders each) d.pins (every-of-all (λ (p : Pin). (0 < p.net) × (p.net ≤ length d.nets)) d.pins good.nets)
+      (pin-placed leaders each) d.pins (recursion_from_All (λ (p : Pin). (0 < p.net) × (p.net ≤ length d.nets)) d.pins good.nets)
 
 abbrev lists_with : List PlacedPin → List NetPlace → PlacementLists
 lists_with pins nets = record { pins = pins; nets = nets }

@@ -2,6 +2,7 @@ use Rattle.std.proofs.Common.{◌≡◌, ℕ, ◌+◌, ◌<◌, ◌≤◌, ◌==
 use Rattle.std.proofs.lemmas.Bool.{and_from, and_parts, both_ways, eq-eqb, eqb-true}
 use Rattle.std.specs.List.{find, list_any, range_with_len}
 use Rattle.std.specs.List.Sorted.{IsNonDecreasingBy}
+use Rattle.list_facts.proofs.Members.{any-member, find-member}
 use Rattle.design_model.specs.Netlist.{Netlist}
 use Rattle.design_model.specs.declared.design.Pin.{Pin}
 use Rattle.row_model.specs.PinPlaces.{pin_place_at}
@@ -17,7 +18,6 @@ use Rattle.feed_cells.specs.RowFeeds.{feeds_in, has_row, is_at_place, is_fed_by,
 use Rattle.feed_cells.specs.declared.fed.Item.{Item}
 use Rattle.feed_cells.specs.declared.fed.Item.TheVariants.{Cell}
 use Rattle.feed_cells.specs.declared.placement.NetPlace.{NetPlace}
-use Rattle.feed_cells.proofs.Members.{any-member, find-member}
 use Rattle.feed_cells.proofs.NetTableLaws.{at_net-by, at_net-image}
 
 -- whether a pin leads a net through a row

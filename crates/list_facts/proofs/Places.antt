@@ -44,3 +44,9 @@ unchanged-past {X} rule xs n past there i = by (slice_get xs i) refl
     by (Some x) at =
         let within : i < length xs = slice_get_within xs i x at in
         ap (λ z. Some z) (there i x (λ is. absurd (omega (arith, is, within, past))))
+
+-- what stands at a place within a list
+pub at-place : {A : Type 0} (xs : List A) (k : ℕ) → k < length xs → (x : A) × (slice_get xs k ≡ Some x)
+at-place [] k within = absurd (omega arith)
+at-place (x ∷ xs) zero within = (x, refl)
+at-place (x ∷ xs) (suc k) within = at-place xs k (omega arith)

@@ -1,4 +1,5 @@
 use Rattle.std.proofs.Common.{◌≡◌, ◌<◌, ◌≤◌, ◌⊎◌, ℕ, ◌+◌, List, [], ◌∷◌, Bool, Some, refl, ap, sym, ◌∙◌, subst, inl, inr, arith}
+use Rattle.design_model.proofs.DesignPins.{same-pin}
 use Rattle.design_model.specs.Netlist.{Netlist, IsNetlist}
 use Rattle.design_model.specs.declared.design.Pin.{Pin}
 use Rattle.row_model.specs.Stands.{turned_column}
@@ -9,7 +10,7 @@ use Rattle.feed_cells.specs.declared.fed.Item.{Item}
 use Rattle.feed_cells.specs.declared.fed.Item.TheVariants.{Cell, Feed}
 use Rattle.pin_assign.specs.Sources.{Source, of_pin, of_feed, source_net, SourceEnters, IsOver, IsPinOver, StandsOver, first_over, later_over}
 use Rattle.pin_assign.specs.Entries.{EntryOf, first_entry, later_entry, IsEntry}
-use Rattle.pin_assign.proofs.EdgeLaws.{own-within, same-pin, same-terminal, turned-once, turned-within}
+use Rattle.pin_assign.proofs.EdgeLaws.{own-within, same-terminal, turned-once, turned-within}
 use Rattle.pin_assign.proofs.WidthLaws.{width-more}
 
 -- a cause along items stands over the first of them, or over a later one
@@ -90,18 +91,6 @@ module _ (d : Netlist) (good : IsNetlist d) (top : Bool) where
           | inr further ↦ cause-once a b items (left + item_width d item) column here further
         ]
       ]
-
-  -- two pins that stand on one edge in one column of a row are one
-  pub pin-once : (p q : Pin) (items : List Item) (left column : ℕ) → StandsOver d top (of_pin p) items left column → StandsOver d top (of_pin q) items left column → p ≡ q
-  pin-once p q items left column first second = let same = cause-once (of_pin p) (of_pin q) items left column first second in cc
-
-  -- a pin and a feed stand in different columns
-  pub pin-off_feed : (p : Pin) (net : ℕ) (items : List Item) (left column : ℕ) → StandsOver d top (of_pin p) items left column → StandsOver d top (of_feed net) items left column → ⊥
-  pin-off_feed p net items left column first second = let same = cause-once (of_pin p) (of_feed net) items left column first second in cc
-
-  -- feeds of different nets stand in different columns
-  pub feed-once : (n m : ℕ) (items : List Item) (left column : ℕ) → StandsOver d top (of_feed n) items left column → StandsOver d top (of_feed m) items left column → n ≡ m
-  feed-once n m items left column first second = let same = cause-once (of_feed n) (of_feed m) items left column first second in cc
 
 module _ (d : Netlist) (rows : List (List Seat)) (top : Bool) (channel : ℕ) where
   -- a cause that enters a channel over an item is its entry

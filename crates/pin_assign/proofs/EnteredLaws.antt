@@ -3,6 +3,9 @@ use Rattle.std.proofs.lemmas.Option.{slice_get_within}
 use Rattle.std.proofs.lemmas.List.Elements.{Contains-append_right}
 use Rattle.std.specs.List.{slice_get}
 use Rattle.std.specs.Option.{option_map}
+use Rattle.design_model.proofs.DesignPins.{pin-within}
+use Rattle.list_facts.proofs.Members.{contains-get, member-head}
+use Rattle.list_facts.proofs.Places.{at-place}
 use Rattle.channel_model.specs.Nets.{AreNets}
 use Rattle.channel_model.specs.Pins.{IsChannel}
 use Rattle.design_model.specs.Netlist.{IsNetlist, Netlist}
@@ -10,9 +13,7 @@ use Rattle.design_model.specs.declared.design.Pin.{Pin}
 use Rattle.row_model.specs.Rows.{ArePlaced}
 use Rattle.row_model.specs.Stands.{row_in, row_of}
 use Rattle.row_model.specs.declared.rows.Seat.{Seat}
-use Rattle.row_model.proofs.PinLaws.{pin-within}
 use Rattle.row_model.proofs.StandLaws.{stand-is, stand-there}
-use Rattle.row_model.proofs.WidthLaws.{at-place}
 use Rattle.feed_cells.specs.Crossings.{crossing_of, has_edge, is_in}
 use Rattle.feed_cells.specs.Fed.{fed_row, fed_rows, item_width, nets_in}
 use Rattle.feed_cells.specs.Feeds.{is_fed}
@@ -21,7 +22,6 @@ use Rattle.feed_cells.specs.Touching.{channel_beside}
 use Rattle.feed_cells.specs.declared.fed.Item.{Item}
 use Rattle.feed_cells.specs.declared.fed.Item.TheVariants.{Cell, Feed}
 use Rattle.feed_cells.proofs.FedLaws.{cells-fed, fed-long, fed-row, fed-row-some, item-stands}
-use Rattle.feed_cells.proofs.Members.{member-head}
 use Rattle.feed_cells.proofs.NetLaws.{fed-stands, inside-stands, net-range}
 use Rattle.pin_assign.specs.Causes.{AreDifferent, Cause, EntersBy, EntersTwice, FeedsBy, by_both, by_feed, by_pin, by_pins, over_both}
 use Rattle.pin_assign.specs.Entering.{enters}
@@ -31,7 +31,6 @@ use Rattle.pin_assign.specs.Tables.{table_of}
 use Rattle.pin_assign.proofs.BesideLaws.{StandsBeside, cells-row, feed-beside, feed-item, pin-beside, row-of_stand}
 use Rattle.pin_assign.proofs.ChannelLaws.{AreEntered, TwoCauses, table-channel_from, table-nets_from, two-causes}
 use Rattle.pin_assign.proofs.EnteringLaws.{entered-is}
-use Rattle.pin_assign.proofs.FindLaws.{contains-get}
 use Rattle.pin_assign.proofs.NetLaws.{IsNetIn}
 use Rattle.pin_assign.proofs.TwiceLaws.{cause-inside, enters-twice}
 

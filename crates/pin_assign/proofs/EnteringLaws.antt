@@ -1,8 +1,9 @@
 use Rattle.std.proofs.Common.{◌≡◌, ◌≢◌, ◌⊎◌, ◌<◌, ◌≤◌, ◌+◌, ℕ, max, inl, inr, refl, sym, subst, ap, ◌∙◌, arith, List, [], ◌∷◌, Bool, true, false, cond, eqb, ◌&&◌, ◌||◌, Option, Some, None, Contains}
-use Rattle.std.proofs.lemmas.Bool.{and_from, and_parts, both_ways, cases_Bool, eq-eqb, eqb-true, le-leb, leb-true, lt-ltb, ltb-true, or_cases, or_left, or_right, not_from_false}
+use Rattle.std.proofs.lemmas.Bool.{and_from, and_parts, both_ways, cases_Bool, eq-eqb, eqb-true, le-leb, leb-true, ltb-true, or_cases, or_left, or_right, not_from_false}
 use Rattle.std.proofs.Math.Nat.{le-max_left, le-max_right}
 use Rattle.std.specs.List.{find, list_any}
 use Rattle.std.specs.Option.{is_some}
+use Rattle.list_facts.proofs.Members.{find-member}
 use Rattle.design_model.specs.Netlist.{IsNetlist, Netlist}
 use Rattle.design_model.specs.declared.design.Pin.{Pin}
 use Rattle.design_model.specs.declared.design.Position.{Position}
@@ -15,7 +16,6 @@ use Rattle.feed_cells.specs.Touching.{channel_beside}
 use Rattle.feed_cells.specs.declared.crossing.Crossing.{Crossing}
 use Rattle.feed_cells.specs.declared.crossing.Crossing.TheVariants.{Alone, One, Many}
 use Rattle.feed_cells.proofs.CrossingLaws.{in-net, many-channels, one-channel, pin-ordered, touches-between}
-use Rattle.feed_cells.proofs.Members.{find-member}
 use Rattle.pin_assign.specs.Causes.{IsEntered, Leads, Through}
 use Rattle.pin_assign.specs.Entering.{enters, enters_by}
 
@@ -98,15 +98,9 @@ across-many (One b) row across = absurd (both_ways false refl across)
 across-many (Many lo hi) row across =
     let parts = and_parts _ _ across in (lo, hi, refl, leb-true lo row parts.0, ltb-true row hi parts.1)
 
-is-across : (lo hi row : ℕ) → lo ≤ row → row < hi → is_across (Many lo hi) row ≡ true
-is-across lo hi row above below = and_from _ _ (le-leb lo row above) (lt-ltb row hi below)
-
 -- the greater of a number and one that is not below it
 max-right : (a b : ℕ) → a ≤ b → max a b ≡ b
 max-right a b below = omega arith
-
-max-left : (a b : ℕ) → b ≤ a → max a b ≡ a
-max-left a b above = omega arith
 
 max-below : (a b most : ℕ) → a ≤ most → b ≤ most → max a b ≤ most
 max-below a b most first second = omega arith

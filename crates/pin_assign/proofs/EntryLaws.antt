@@ -3,6 +3,8 @@ use Rattle.std.proofs.lemmas.Bool.{and_from, and_parts, cases_lt, eq-eqb, eqb-tr
 use Rattle.std.proofs.lemmas.List.{get_or_append_left, get_or-append_right}
 use Rattle.std.proofs.lemmas.List.FromFn.{get_or-map-range_with_len}
 use Rattle.std.specs.List.{find}
+use Rattle.design_model.proofs.DesignPins.{same-pin}
+use Rattle.list_facts.proofs.Members.{find-passes, find-some}
 use Rattle.design_model.specs.Netlist.{Netlist, IsNetlist}
 use Rattle.design_model.specs.declared.design.Pin.{Pin}
 use Rattle.row_model.specs.Stands.{edge_column, turned_column}
@@ -14,8 +16,7 @@ use Rattle.feed_cells.specs.declared.fed.Item.TheVariants.{Cell, Feed}
 use Rattle.pin_assign.specs.Entering.{enters}
 use Rattle.pin_assign.specs.Entries.{EntryOf, first_entry, later_entry, IsEntry, PinEntry}
 use Rattle.pin_assign.specs.Tables.{enters_in, is_in_column, item_entries, net_in, row_entries}
-use Rattle.pin_assign.proofs.EdgeLaws.{own-within, same-pin, same-terminal, turned-once, turned-within}
-use Rattle.pin_assign.proofs.FindLaws.{find-passes, find-some}
+use Rattle.pin_assign.proofs.EdgeLaws.{own-within, same-terminal, turned-once, turned-within}
 use Rattle.pin_assign.proofs.WidthLaws.{item-length}
 
 -- a net among the entries of items side by side, the first of which begins in column `left`, that stands in a column of their row

@@ -2,6 +2,8 @@ use Rattle.std.proofs.Common.{◌≤◌, ℕ, zero, suc, ◌+◌, List, [], ◌�
 use Rattle.std.proofs.lemmas.List.FromFn.{length-range_with_len}
 use Rattle.std.proofs.lemmas.List.{length-map}
 use Rattle.std.specs.List.{AllByRecursion, range_with_len}
+use Rattle.design_model.proofs.DesignPins.{nets-few}
+use Rattle.list_facts.proofs.Counts.{filter-short}
 use Rattle.design_model.specs.Netlist.{IsNetlist, Netlist}
 use Rattle.row_model.specs.Rows.{ArePlaced}
 use Rattle.row_model.specs.declared.rows.Seat.{Seat}
@@ -10,7 +12,6 @@ use Rattle.feed_cells.specs.Crossings.{all_nets, crossing_of, is_in}
 use Rattle.feed_cells.specs.Fed.{Fed, IsFed, cells_in, fed_from, fed_row, fed_rows, items_width, nets_in}
 use Rattle.feed_cells.proofs.FedLaws.{fed-long}
 use Rattle.feed_cells.proofs.FedWidths.{row-narrow}
-use Rattle.feed_cells.proofs.FewNets.{filter-short, nets-few}
 use Rattle.pin_assign.specs.Bounded.{AreBounded, AreFewNets}
 
 module _ (d : Netlist) (good : IsNetlist d) (rows : List (List Seat)) where

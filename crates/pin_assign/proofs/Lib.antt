@@ -1,11 +1,7 @@
--- the pins of a net are different
-pub mod DifferentPins
 -- which pins enter a channel, and by what a net crosses a row
 pub mod EnteringLaws
 -- why a net has two entries in each of its channels
 pub mod TwiceLaws
--- finding in lists and filters of them
-pub mod FindLaws
 -- the pins of a design, and the positions that they have on an edge
 pub mod EdgeLaws
 -- how many entries rows and tables have
@@ -42,5 +38,3 @@ pub mod LaidLaws
 pub mod TabledEntries
 -- the rows beside a channel, by its number
 pub mod BelowLaws
--- worked tables, computed
-pub mod Worked

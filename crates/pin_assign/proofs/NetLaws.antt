@@ -1,36 +1,12 @@
-use Rattle.std.proofs.Common.{◌≡◌, ◌<◌, ◌≤◌, ℕ, ◌+◌, ◌-◌, List, length, true, arith, Contains}
-use Rattle.std.proofs.lemmas.List.FromFn.{get_or-range_with_len, length-range_with_len}
+use Rattle.std.proofs.Common.{◌≡◌, ◌<◌, ◌≤◌, ℕ, List, length, true, arith, Contains}
 use Rattle.std.proofs.lemmas.List.Kept.{IsStrictlyIncreasing-filter}
-use Rattle.std.specs.List.{range_with_len}
 use Rattle.std.specs.List.Sorted.{IsStrictlyIncreasing}
+use Rattle.list_facts.proofs.Ranges.{range-increasing}
+use Rattle.list_facts.proofs.Members.{contains-range, filter-from, filter-member, range-contains}
 use Rattle.design_model.specs.Netlist.{Netlist}
 use Rattle.row_model.specs.declared.rows.Seat.{Seat}
 use Rattle.feed_cells.specs.Crossings.{all_nets, crossing_of, is_in}
 use Rattle.feed_cells.specs.Fed.{nets_in}
-use Rattle.pin_assign.proofs.FindLaws.{contains-filter, filter-contains}
-
--- numbers one after another increase
-range-increasing : (a n : ℕ) → IsStrictlyIncreasing (range_with_len a n)
-range-increasing a n k within =
-    let long = length-range_with_len a n in
-    let first = get_or-range_with_len a n k 0 (omega arith) in
-    let second = get_or-range_with_len a n (k + 1) 0 (omega arith) in
-    omega arith
-
--- a number from the first on is one of them
-range-contains : (a n net : ℕ) → a ≤ net → net < a + n → Contains (range_with_len a n) net
-range-contains a n net low high =
-    let long = length-range_with_len a n in
-    let at = get_or-range_with_len a n (net - a) net (omega arith) in
-    (net - a, omega arith, omega arith)
-
-contains-range : (a n net : ℕ) → Contains (range_with_len a n) net → (a ≤ net) × (net < a + n)
-contains-range a n net h =
-    let long = length-range_with_len a n in
-    let within : h.0 < n = (let w = h.1 in omega arith) in
-    let at = get_or-range_with_len a n h.0 net within in
-    let there = h.2 in
-    (omega arith, omega arith)
 
 -- the nets of a channel stand in the order of their numbers
 pub nets-increasing : (d : Netlist) (rows : List (List Seat)) (channel : ℕ) → IsStrictlyIncreasing (nets_in d rows channel)
@@ -41,7 +17,7 @@ nets-increasing d rows channel =
 pub nets-from : (d : Netlist) (rows : List (List Seat)) (channel net : ℕ) → 0 < net → net ≤ length d.nets → is_in (crossing_of d rows net) channel ≡ true
     → Contains (nets_in d rows channel) net
 nets-from d rows channel net some few is =
-    filter-contains (λ (n : ℕ). is_in (crossing_of d rows n) channel) (all_nets d) net (range-contains 1 (length d.nets) net some (omega arith)) is
+    filter-member (λ (n : ℕ). is_in (crossing_of d rows n) channel) (all_nets d) net (range-contains 1 (length d.nets) net some (omega arith)) is
 
 -- a net of a channel is one of the design's, and stands in the channel
 pub record IsNetIn (d : Netlist) (rows : List (List Seat)) (channel net : ℕ) : Type 0 where
@@ -51,7 +27,7 @@ pub record IsNetIn (d : Netlist) (rows : List (List Seat)) (channel net : ℕ) :
 
 pub nets-are : (d : Netlist) (rows : List (List Seat)) (channel net : ℕ) → Contains (nets_in d rows channel) net → IsNetIn d rows channel net
 nets-are d rows channel net h =
-    let kept = contains-filter (λ (n : ℕ). is_in (crossing_of d rows n) channel) (all_nets d) net h in
+    let kept = filter-from (λ (n : ℕ). is_in (crossing_of d rows n) channel) (all_nets d) net h in
     let range = contains-range 1 (length d.nets) net kept.0 in
     let low = range.0 in
     let high = range.1 in

@@ -1,4 +1,5 @@
 use Rattle.std.proofs.Common.{◌≡◌, ℕ, ◌+◌, List, [], ◌∷◌, Bool, Some, refl, ap, sym, ◌∙◌, inl, inr, arith, Contains}
+use Rattle.list_facts.proofs.Members.{member-cases, member-tail}
 use Rattle.design_model.specs.Netlist.{Netlist}
 use Rattle.design_model.specs.declared.design.Pin.{Pin}
 use Rattle.row_model.specs.Stands.{edge_column, turned_column}
@@ -8,7 +9,6 @@ use Rattle.feed_cells.specs.Fed.{item_width, seats_in}
 use Rattle.feed_cells.specs.declared.fed.Item.{Item}
 use Rattle.feed_cells.specs.declared.fed.Item.TheVariants.{Cell, Feed}
 use Rattle.pin_assign.specs.Sources.{Source, IsOver, StandsOver, first_over, later_over, of_feed, of_pin}
-use Rattle.pin_assign.proofs.FindLaws.{contains-cases, contains-later}
 
 -- a cause along items stands in a column
 pub record Standing (d : Netlist) (top : Bool) (cause : Source) (items : List Item) (left : ℕ) : Type 0 where
@@ -23,7 +23,7 @@ pin-stands d top p s (Feed net ∷ items) left own listed seated instance edge =
     let more = pin-stands d top p s items (left + item_width d (Feed net)) own listed seated instance edge in
     record { column = more.column; stands = later_over more.stands }
 pin-stands d top p s (Cell other ∷ items) left own listed seated instance edge =
-    elim (contains-cases other (seats_in items) s seated) [
+    elim (member-cases other (seats_in items) s seated) [
       | inl here ↦
           record {
             column = left + turned_column other.mirror (columns_of d other.instance) own;
@@ -45,7 +45,7 @@ seat-here d top p (Cell s) items left column h = record { seat = s; seated = (0,
 seat-here d top p (Feed net) items left column h = absurd h
 
 seat-later : (p : Pin) (item : Item) (items : List Item) → SeatOf items p → SeatOf (item ∷ items) p
-seat-later p (Cell s) items h = record { seat = h.seat; seated = contains-later s (seats_in items) h.seat h.seated; instance = h.instance }
+seat-later p (Cell s) items h = record { seat = h.seat; seated = member-tail s (seats_in items) h.seat h.seated; instance = h.instance }
 seat-later p (Feed net) items h = record { seat = h.seat; seated = h.seated; instance = h.instance }
 
 pub seat-of : (d : Netlist) (top : Bool) (p : Pin) (items : List Item) (left column : ℕ) → StandsOver d top (of_pin p) items left column → SeatOf items p
@@ -61,7 +61,7 @@ pub record FeedStanding (d : Netlist) (net : ℕ) (items : List Item) (left : �
 pub feed-stands : (d : Netlist) (net : ℕ) (items : List Item) (left : ℕ) → Contains items (Feed net) → FeedStanding d net items left
 feed-stands d net [] left listed = absurd (omega (arith, listed.1))
 feed-stands d net (item ∷ items) left listed =
-    elim (contains-cases item items (Feed net) listed) [
+    elim (member-cases item items (Feed net) listed) [
       | inl here ↦ record { column = left; stands = λ (top : Bool). first_over (feed-over top item here) }
       | inr there ↦
           let more = feed-stands d net items (left + item_width d item) there in
@@ -80,13 +80,4 @@ listed-here d top net (Feed own) items left column h = (0, omega arith, ap (λ (
 pub feed-listed : (d : Netlist) (top : Bool) (net : ℕ) (items : List Item) (left column : ℕ) → StandsOver d top (of_feed net) items left column → Contains items (Feed net)
 feed-listed d top net items left column (first_over {item = item} {items = rest} h) = listed-here d top net item rest left column h
 feed-listed d top net items left column (later_over {item = item} {items = rest} h) =
-    contains-later item rest (Feed net) (feed-listed d top net rest (left + item_width d item) column h)
-
-over-both : (d : Netlist) (top other : Bool) (net : ℕ) (item : Item) (left column : ℕ) → IsOver d top (of_feed net) item left column → IsOver d other (of_feed net) item left column
-over-both d top other net (Cell s) left column h = absurd h
-over-both d top other net (Feed own) left column h = h
-
-pub feed-both : (d : Netlist) (top other : Bool) (net : ℕ) (items : List Item) (left column : ℕ) → StandsOver d top (of_feed net) items left column
-    → StandsOver d other (of_feed net) items left column
-feed-both d top other net items left column (first_over {item = item} h) = first_over (over-both d top other net item left column h)
-feed-both d top other net items left column (later_over {item = item} {items = rest} h) = later_over (feed-both d top other net rest (left + item_width d item) column h)
+    member-tail item rest (Feed net) (feed-listed d top net rest (left + item_width d item) column h)

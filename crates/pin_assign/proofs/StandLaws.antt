@@ -1,4 +1,4 @@
-use Rattle.std.proofs.Common.{◌≡◌, ◌≢◌, ◌<◌, ℕ, List, Bool, true, false, not, Option, Some, None, refl, ap, sym, ◌∙◌, subst}
+use Rattle.std.proofs.Common.{◌≡◌, ◌<◌, ℕ, List, Bool, true, false, not, Option, Some, None, refl, ap, sym, ◌∙◌, subst}
 use Rattle.design_model.specs.Netlist.{Netlist, IsNetlist}
 use Rattle.row_model.specs.declared.rows.Seat.{Seat}
 use Rattle.feed_cells.specs.Fed.{Fed, cells_in}
@@ -86,9 +86,3 @@ place-effect d good fed channel place cause h = by place.upper refl
 pub place-once : (d : Netlist) → IsNetlist d → (fed : Fed) (channel : ℕ) (place : TablePlace) (a b : Source) → StandsAt d fed channel a place → StandsAt d fed channel b place → a ≡ b
 place-once d good fed channel place a b first second =
     one-over d good (not place.upper) (row_beside fed.rows channel place.upper) place.column a b first.over second.over
-
--- different causes stand at different places
-pub places-differ : (d : Netlist) → IsNetlist d → (fed : Fed) (channel : ℕ) (first second : TablePlace) (a b : Source) → StandsAt d fed channel a first
-    → StandsAt d fed channel b second → a ≢ b → first ≢ second
-places-differ d good fed channel first second a b here there differ same =
-    differ (place-once d good fed channel first a b here (subst (λ (p : TablePlace). StandsAt d fed channel b p) (sym same) there))

@@ -4,12 +4,11 @@ use Rattle.std.proofs.lemmas.List.{get_or-append_right, get_or-replicate, get_or
 use Rattle.std.specs.List.{slice_get, slice_index}
 use Rattle.design_model.specs.Netlist.{Netlist, IsNetlist}
 use Rattle.row_model.specs.declared.rows.Seat.{Seat}
-use Rattle.feed_cells.specs.Fed.{Fed, cells_in, items_width}
+use Rattle.feed_cells.specs.Fed.{Fed, cells_in}
 use Rattle.feed_cells.specs.declared.fed.Item.{Item}
 use Rattle.pin_assign.specs.Entries.{EntryIn, EntryOf}
 use Rattle.pin_assign.specs.Tables.{padded, row_below, row_entries, table_of}
 use Rattle.pin_assign.proofs.EntryLaws.{row-cause, row-effect}
-use Rattle.pin_assign.proofs.WidthLaws.{row-length}
 
 -- the padding has no net
 padding : (n i : ℕ) → get_or (replicate {A = ℕ} n 0) i 0 ≡ 0
@@ -68,25 +67,6 @@ module _ (d : Netlist) (rows : List (List Seat)) (top : Bool) (channel width : �
       → slice_index (padded width (row_entries d rows top channel row)) column ≡ net
   edge-effect good None column net h = absurd h
   edge-effect good (Some items) column net h = entries-effect good items column net h
-
--- a net in a column of items side by side is in one of their columns
-pub entry-within : (d : Netlist) → IsNetlist d → (rows : List (List Seat)) (top : Bool) (channel : ℕ) (items : List Item) (column net : ℕ)
-    → EntryOf d rows top channel items 0 column net → column < items_width d items
-entry-within d good rows top channel items column net h =
-    let e = row-effect d rows top channel good items 0 column net h in
-    let place = e.place in
-    let within = e.within in
-    let width = row-length d rows top channel items in
-    omega arith
-
--- one column of items side by side has one net
-pub entry-once : (d : Netlist) → IsNetlist d → (rows : List (List Seat)) (top : Bool) (channel : ℕ) (items : List Item) (left column n m : ℕ)
-    → EntryOf d rows top channel items left column n → EntryOf d rows top channel items left column m → n ≡ m
-entry-once d good rows top channel items left column n m first second =
-    let a = row-effect d rows top channel good items left column n first in
-    let b = row-effect d rows top channel good items left column m second in
-    let same : a.column ≡ b.column = (let p = a.place in let q = b.place in omega arith) in
-    sym a.there ∙ ap (λ (k : ℕ). get_or (row_entries d rows top channel (Some items)) k 0) same ∙ b.there
 
 -- a net in the upper list of a channel's table has its cause at the lower edge of the row above, and each cause there leaves its net
 pub top-cause : (d : Netlist) (fed : Fed) (channel column net : ℕ) → 0 < net → slice_index (table_of d fed channel).top column ≡ net

@@ -6,6 +6,7 @@ use Rattle.std.proofs.lemmas.List.{length-map}
 use Rattle.std.proofs.lemmas.Option.{slice_get_past}
 use Rattle.std.specs.List.{AllByRecursion, find, flat_map, range_with_len}
 use Rattle.std.specs.Option.{option_and_then}
+use Rattle.list_facts.proofs.Ranges.{map-same}
 use Rattle.channel_model.specs.Pins.{IsChannel, Pins}
 use Rattle.design_model.specs.Netlist.{IsNetlist, Netlist}
 use Rattle.design_model.specs.declared.design.Inst.{Inst}
@@ -23,7 +24,6 @@ use Rattle.feed_cells.specs.PlacementLists.{PlacementLists}
 use Rattle.feed_cells.specs.declared.crossing.Crossing.{Crossing}
 use Rattle.feed_cells.specs.declared.crossing.Crossing.TheVariants.{Alone, Many, One}
 use Rattle.feed_cells.specs.declared.placement.PlacedPin.{PlacedPin}
-use Rattle.feed_cells.proofs.NetTableLaws.{map-same}
 use Rattle.feed_cells.proofs.PlacementLaws.{placement-pins}
 use Rattle.row_model.specs.PinPlaces.{edge_of, pin_place_at}
 use Rattle.pin_assign.specs.Tabled.{AreTabled, enters_as, is_laid, items_there, laid, laid_entries, pins_there, tabled_entries, with_pin}

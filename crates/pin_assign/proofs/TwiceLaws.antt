@@ -1,5 +1,7 @@
 use Rattle.std.proofs.Common.{◌≡◌, ◌⊎◌, ◌<◌, ◌≤◌, ◌+◌, ◌-◌, ℕ, max, inl, inr, refl, sym, subst, ap, ◌∙◌, arith, List, ◌∷◌, Bool, true, false, cond, eqb, Contains, length, map}
 use Rattle.std.proofs.lemmas.Bool.{both_ways, cases_eq, eqb-true}
+use Rattle.design_model.proofs.DesignPins.{first-two, kept-ascending}
+use Rattle.list_facts.proofs.Members.{member-head, member-tail}
 use Rattle.design_model.specs.Netlist.{IsNetlist, Netlist}
 use Rattle.design_model.specs.PinOrder.{IsAscending, pin_pair}
 use Rattle.design_model.specs.declared.design.Pin.{Pin}
@@ -15,9 +17,7 @@ use Rattle.feed_cells.specs.declared.crossing.Crossing.{Crossing}
 use Rattle.feed_cells.specs.declared.crossing.Crossing.TheVariants.{Alone, One, Many}
 use Rattle.feed_cells.proofs.CrossingLaws.{channels-within, fed-across, from-across, in-range, of-net, pin-ordered}
 use Rattle.feed_cells.proofs.NetLaws.{across-over, across-under}
-use Rattle.feed_cells.proofs.Members.{member-head, member-tail}
 use Rattle.pin_assign.specs.Causes.{AreDifferent, Cause, EntersBy, EntersTwice, IsEntered, Leads, by_both, by_feed, by_pin, by_pins, over_both}
-use Rattle.pin_assign.proofs.DifferentPins.{first-two, kept-ascending}
 use Rattle.pin_assign.proofs.EnteringLaws.{all-touch, are-spread, crossed-by, enter-lowest, enter-one, entered-is, same-edge}
 
 -- two pins that enter one channel, over whichever edges

@@ -3,6 +3,7 @@ use Rattle.std.proofs.lemmas.Bool.{cond-true, cond-false, eq-eqb, ne_eqb}
 use Rattle.std.proofs.lemmas.Option.{none-some, same_Some, slice_get-map}
 use Rattle.std.specs.List.{AllByRecursion, find, range_with_len}
 use Rattle.std.specs.Option.{option_and_then, option_map}
+use Rattle.list_facts.proofs.Members.{all-get}
 use Rattle.list_facts.proofs.Every.{every-from-get, every-weaker}
 use Rattle.list_facts.proofs.Places.{changed-at, list-by, unchanged-past}
 use Rattle.design_model.specs.Netlist.{IsKind, IsNetlist, IsPosition, Netlist}
@@ -13,7 +14,6 @@ use Rattle.design_model.specs.declared.design.Position.{Position}
 use Rattle.row_model.specs.Stands.{column_in, is_on, positions_in}
 use Rattle.row_model.specs.PinColumns.{before, columns_there, kind_columns, nowhere, pin_columns, position_columns, table_there, terminal_columns, with_position}
 use Rattle.row_model.specs.declared.cell_columns.PinColumns.{PinColumns}
-use Rattle.row_model.proofs.WidthLaws.{all-at}
 
 same-columns : (a b : PinColumns) → a.first ≡ b.first → a.bottom ≡ b.bottom → a.top ≡ b.top → a ≡ b
 same-columns a b first bottom top =
@@ -57,7 +57,7 @@ find-none test (p ∷ positions) none =
 -- the positions of a kind are of its terminals
 positions-within : (k : CellKind) → IsKind k → AllByRecursion (λ (p : Position). p.terminal < length k.terminals) k.positions
 positions-within k is =
-    every-from-get (λ (p : Position). p.terminal < length k.terminals) k.positions (λ n p at. (all-at (IsPosition k) k.positions n p is.positions at).within)
+    every-from-get (λ (p : Position). p.terminal < length k.terminals) k.positions (λ n p at. (all-get (IsPosition k) k.positions n p is.positions at).within)
 
 terminal-past : (k : CellKind) → IsKind k → (t : ℕ) → length k.terminals ≤ t → nowhere ≡ terminal_columns k.positions t
 terminal-past k is t past =
@@ -109,7 +109,7 @@ pub by_tables : (d : Netlist) → IsNetlist d → (tables : List (List PinColumn
 by_tables d good tables are p kind of = by (slice_get d.instances p.instance) refl of
   where
     kinds-are : (n : ℕ) (k : CellKind) → slice_get d.kinds n ≡ Some k → IsKind k
-    kinds-are n k at = all-at IsKind d.kinds n k good.kinds at
+    kinds-are n k at = all-get IsKind d.kinds n k good.kinds at
 
     by : (o : Option Inst) → slice_get d.instances p.instance ≡ o → Some kind ≡ option_map (λ (i : Inst). i.kind) o
         → columns_there (slice_get (table_there (slice_get tables kind)) p.terminal) ≡ pin_columns d p

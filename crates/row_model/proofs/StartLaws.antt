@@ -1,11 +1,12 @@
 use Rattle.std.proofs.Common.{◌≡◌, ◌<◌, ◌≤◌, ℕ, zero, suc, ◌+◌, ◌-◌, ◌*◌, List, [], ◌∷◌, ◌++◌, length, map, take, drop, true, false, refl, ap, sym, ◌∙◌, subst, arith}
 use Rattle.std.proofs.lemmas.Bool.Decides.{nat_tests}
-use Rattle.std.proofs.lemmas.List.{append-nil}
+use Rattle.std.proofs.lemmas.List.{append-nil, take-append-drop}
 use Rattle.std.proofs.lemmas.List.FromFn.{length-range_with_len}
 use Rattle.std.proofs.lemmas.List.Sorted.{IsPermutation-refl}
 use Rattle.std.specs.List.{range_with_len}
 use Rattle.std.specs.List.Sorted.{IsPermutation}
 use Rattle.std.specs.Prelude.{nat_le}
+use Rattle.list_facts.proofs.Ranges.{range-drop, range-first, range-none, range-take}
 use Rattle.design_model.specs.Netlist.{IsNetlist, Netlist}
 use Rattle.row_model.specs.Rows.{all_instances, ArePlaced, instances_in}
 use Rattle.row_model.specs.Start.{least_rows, rounded_up, rows_from, start_rows, taken, upright}
@@ -27,26 +28,6 @@ least-next area height (suc left) k some small =
     let test : nat_le area (k * k * height) ≡ false = grind (arith, nat_tests) in
     let less : suc left - 1 ≡ left = omega arith in
     rw (test, less)
-
--- the numbers from one on and before another begin with that one
-pub range-first : (a b : ℕ) → a < b → range_with_len a (b - a) ≡ a ∷ range_with_len (a + 1) (b - (a + 1))
-range-first a b below = let e : b - a ≡ suc (b - (a + 1)) = omega arith in ap (range_with_len a) e
-
-pub range-none : (a b : ℕ) → b ≤ a → range_with_len a (b - a) ≡ []
-range-none a b past = let e : b - a ≡ 0 = omega arith in ap (range_with_len a) e
-
-pub range-take : (k a n : ℕ) → k ≤ n → take k (range_with_len a n) ≡ range_with_len a k
-range-take zero a n within = refl
-range-take (suc k) a zero within = absurd (omega arith)
-range-take (suc k) a (suc n) within = ap (λ (l : List ℕ). a ∷ l) (range-take k (a + 1) n (omega arith))
-
-pub range-drop : (k a n : ℕ) → k ≤ n → drop k (range_with_len a n) ≡ range_with_len (a + k) (n - k)
-range-drop zero a n within = let at : a + 0 ≡ a = omega arith in let all : n - 0 ≡ n = omega arith in rw (at, all)
-range-drop (suc k) a zero within = absurd (omega arith)
-range-drop (suc k) a (suc n) within =
-    let at : (a + 1) + k ≡ a + suc k = omega arith in
-    let rest : n - k ≡ suc n - suc k = omega arith in
-    range-drop k (a + 1) n (omega arith) ∙ ap (λ (b : ℕ). range_with_len b (n - k)) at ∙ ap (range_with_len (a + suc k)) rest
 
 -- a row takes no more instances than there are
 pub taken-few : (d : Netlist) (wanted : ℕ) (is : List ℕ) → taken d wanted is ≤ length is
@@ -106,18 +87,13 @@ upright-instances : (is : List ℕ) → instances_in (map upright is) ≡ is
 upright-instances [] = refl
 upright-instances (i ∷ is) = ap (λ (l : List ℕ). i ∷ l) (upright-instances is)
 
-front-and-back : (k : ℕ) (is : List ℕ) → take k is ++ drop k is ≡ is
-front-and-back zero is = refl
-front-and-back (suc k) [] = refl
-front-and-back (suc k) (i ∷ is) = ap (λ (l : List ℕ). i ∷ l) (front-and-back k is)
-
 -- and they hold the instances in their order
 rows-instances : (d : Netlist) (target more : ℕ) (is : List ℕ) → all_instances (rows_from d target (suc more) is) ≡ is
 rows-instances d target zero is = append-nil (instances_in (map upright is)) ∙ upright-instances is
 rows-instances d target (suc more) is =
     ap (λ (l : List ℕ). l ++ all_instances (rows_from d target (suc more) (drop (taken d target is) is))) (upright-instances (take (taken d target is) is))
     ∙ ap (λ (l : List ℕ). take (taken d target is) is ++ l) (rows-instances d target more (drop (taken d target is) is))
-    ∙ front-and-back (taken d target is) is
+    ∙ take-append-drop (taken d target is) is
 
 -- the rows that a design begins with hold each instance once
 pub start-placed : (d : Netlist) (rows : ℕ) → IsNetlist d → 0 < rows → rows ≤ 512 → ArePlaced d (start_rows d rows)

@@ -1,10 +1,10 @@
 -- The pins of a design are of its instances.
 use Rattle.std.proofs.Common.{◌≡◌, ◌<◌, length, map, rules, ap, subst, ◌∙◌}
 use Rattle.std.specs.List.{AllByRecursion}
+use Rattle.design_model.proofs.DesignPins.{pins-within}
 use Rattle.design_model.specs.Netlist.{IsNetlist}
 use Rattle.design_model.specs.declared.design.Pin.{Pin}
 use Rattle.row_model.specs.PinColumns.{pin_columns}
-use Rattle.row_model.proofs.PinLaws.{pins-within}
 use Rattle.row_model.proofs.places.tabled_places.Goals as goal
 
 pub loop-pin-init : goal.loop-pin-init
