@@ -1,4 +1,4 @@
-use Rattle.std.proofs.Common.{◌≡◌, ℕ, ◌+◌, ◌≤◌, List, map, fold, max, length, arith, ap, ap₂, sym, subst, ◌∙◌, zero, suc, ◌∷◌, refl}
+use Rattle.std.proofs.Common.{◌≡◌, ℕ, ◌+◌, ◌≤◌, List, map, fold, max, length, arith, ap, ap₂, sym, subst, ◌∙◌, [], ◌∷◌, refl}
 use Rattle.std.specs.List.{range_with_len}
 use Rattle.std.proofs.lemmas.List.FromFn.{length-map-range_with_len}
 use Rattle.list_facts.proofs.Counts.{length-filter-map}
@@ -9,9 +9,9 @@ use Rattle.row_model.specs.declared.rows.Seat.{Seat}
 use Rattle.feed_cells.specs.Crossings.{all_nets, is_in}
 use Rattle.feed_cells.specs.Fed.{Fed, IsFed, cells_in, fed_from, fed_rows, items_width, nets_in}
 use Rattle.feed_cells.specs.Placement.{net_place}
-use Rattle.feed_cells.specs.Sizes.{counts_in}
+use Rattle.feed_cells.specs.Sizes.{count_in}
 use Rattle.feed_cells.specs.declared.fed.Item.{Item}
-use Rattle.feed_cells.specs.declared.placement.NetPlace.{NetPlace}
+use Rattle.feed_cells.specs.declared.net_places.NetPlace.{NetPlace}
 use Rattle.feed_cells.proofs.FedLaws.{cells-fed}
 
 -- a design has at most 200,000 nets
@@ -21,13 +21,10 @@ places-few d rows nets is are =
     omega (arith, nets-few d is)
 
 -- the nets of each channel are those that stand in it
-counts-nets : (d : Netlist) (rows : List (List Seat)) (channel n : ℕ)
-    → counts_in (map (net_place d rows) (all_nets d)) channel n ≡ map (λ (c : ℕ). length (nets_in d rows c)) (range_with_len channel n)
-counts-nets d rows channel zero = refl
-counts-nets d rows channel (suc n) =
-    ap₂ (λ (m : ℕ) (ms : List ℕ). m ∷ ms)
-    (length-filter-map (net_place d rows) (λ (place : NetPlace). is_in place.crossing channel) (all_nets d))
-    (counts-nets d rows (channel + 1) n)
+counts-nets : (d : Netlist) (rows : List (List Seat)) (channels : List ℕ) → map (count_in (map (net_place d rows) (all_nets d))) channels ≡ map (λ (c : ℕ). length (nets_in d rows c)) channels
+counts-nets d rows [] = refl
+counts-nets d rows (channel ∷ channels) =
+    ap₂ (λ (m : ℕ) (ms : List ℕ). m ∷ ms) (length-filter-map (net_place d rows) (λ (place : NetPlace). is_in place.crossing channel) (all_nets d)) (counts-nets d rows channels)
 
 abbrev fed_with : List (List Item) → ℕ → List ℕ → Fed
 fed_with items width nets = record { rows = items; width = width; nets = nets }
@@ -35,12 +32,12 @@ fed_with items width nets = record { rows = items; width = width; nets = nets }
 -- rows with feeds, their width and their nets are the answer
 pub fed-is : (d : Netlist) (rows : List (List Seat)) (places : List NetPlace) (items : List (List Item)) (width : ℕ) (nets : List ℕ)
     → places ≡ map (net_place d rows) (all_nets d)
-    → items ≡ fed_from d rows 0 rows → width ≡ fold max 0 (map (items_width d) (fed_from d rows 0 rows)) → nets ≡ counts_in places 0 (length rows + 1)
+    → items ≡ fed_from d rows 0 rows → width ≡ fold max 0 (map (items_width d) (fed_from d rows 0 rows)) → nets ≡ map (count_in places) (range_with_len 0 (length rows + 1))
     → fed_with items width nets ≡ fed_rows d rows
 unfolding fed_rows
 fed-is d rows places items width nets are items_are width_is nets_are =
     let counted : nets ≡ map (λ (channel : ℕ). length (nets_in d rows channel)) (range_with_len 0 (length rows + 1)) =
-    nets_are ∙ ap (λ (ps : List NetPlace). counts_in ps 0 (length rows + 1)) are ∙ counts-nets d rows 0 (length rows + 1) in
+    nets_are ∙ ap (λ (ps : List NetPlace). map (count_in ps) (range_with_len 0 (length rows + 1))) are ∙ counts-nets d rows (range_with_len 0 (length rows + 1)) in
     ap₂ (λ (r : List (List Item)) (w : ℕ). fed_with r w nets) items_are width_is
     ∙ ap (λ (n : List ℕ). fed_with (fed_from d rows 0 rows) (fold max 0 (map (items_width d) (fed_from d rows 0 rows))) n) counted
 

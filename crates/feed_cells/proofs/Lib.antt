@@ -8,9 +8,8 @@ pub mod FedLaws
 pub mod NetLaws
 -- lists by the numbers of nets
 pub mod NetTableLaws
--- the span of a net gives its crossing and its middle, and its leaders by which pin it crosses rows
+-- the span of a net gives its crossing and its middle
 pub mod SpanLaws
-pub mod LeaderLaws
 -- the pins and nets of a placement
 pub mod PlacementLaws
 -- the parts of the answer are those of the definition
@@ -19,5 +18,3 @@ pub mod FedAnswer
 pub mod FedWidths
 -- the feeds of a row by tables are those of the definition
 pub mod RowFeedLaws
--- how many nets stand in each channel, counted net by net
-pub mod CountLaws

@@ -1,6 +1,5 @@
-use Rattle.std.proofs.Common.{◌≡◌, ℕ, zero, suc, ◌+◌, ◌<◌, ◌≤◌, List, map, Some, ap, ◌∙◌, arith}
+use Rattle.std.proofs.Common.{◌≡◌, ℕ, zero, suc, ◌+◌, ◌<◌, ◌≤◌, map, Some, ap, ◌∙◌, arith}
 use Rattle.std.specs.List.{range_with_len}
-use Rattle.std.specs.Prelude.{slice_get}
 use Rattle.list_facts.proofs.Ranges.{image-at}
 use Rattle.feed_cells.specs.NetTables.{at_net}
 
@@ -9,9 +8,3 @@ pub at_net-image : {A : Type 0} (f : ℕ → A) (count net : ℕ) → 0 < net �
 at_net-image f count zero some few = absurd (omega arith)
 at_net-image f count (suc n) some few =
     image-at f 1 count n (omega arith) ∙ ap (λ (m : ℕ). Some (f m)) (let same : 1 + n ≡ suc n = omega arith in same)
-
--- and what a list has that is known net by net
-pub at_net-by : {A : Type 0} (f : ℕ → A) (count : ℕ) (xs : List A) → ((i : ℕ) → i < count → slice_get xs i ≡ Some (f (i + 1)))
-    → (net : ℕ) → 0 < net → net ≤ count → at_net xs net ≡ Some (f net)
-at_net-by f count xs each zero some few = absurd (omega arith)
-at_net-by f count xs each (suc n) some few = each n (omega arith) ∙ ap (λ (m : ℕ). Some (f m)) (let same : n + 1 ≡ suc n = omega arith in same)

@@ -1,4 +1,4 @@
-use Rattle.std.proofs.Common.{◌≡◌, ◌⊎◌, ◌<◌, ◌≤◌, ◌+◌, ◌-◌, ℕ, inl, inr, refl, sym, subst, ap, ◌∙◌, arith, List, [], ◌∷◌, Bool, true, false, cond, ◌||◌, Some, Contains, length, map, filter}
+use Rattle.std.proofs.Common.{◌≡◌, ◌⊎◌, ◌<◌, ◌≤◌, ◌+◌, ◌-◌, ℕ, inl, inr, refl, sym, subst, ap, ◌∙◌, arith, List, [], ◌∷◌, Bool, true, false, cond, ◌||◌, ◌&&◌, Some, Contains, length, map, filter}
 use Rattle.std.proofs.lemmas.Bool.{both_ways, cases_Bool, cond-true, cond-false}
 use Rattle.std.proofs.lemmas.List.Elements.{All-contains, All-contains_itself, All-filter, Contains-append_cases, Contains-append_right, Contains-push_cases, filter_passes}
 use Rattle.std.proofs.lemmas.List.FromFn.{get_or-range_with_len, length-range_with_len}
@@ -122,3 +122,13 @@ contains-range a n net h =
     let at = get_or-range_with_len a n h.0 net within in
     let there = h.2 in
     (omega arith, omega arith)
+
+-- a search among what a filter keeps
+pub find-filter : {A : Type 0} (test kept : A → Bool) (xs : List A) → find test (filter kept xs) ≡ find (λ (x : A). kept x && test x) xs
+find-filter test kept [] = refl
+find-filter {A} test kept (x ∷ xs) = by (kept x) (find-filter test kept xs)
+  where
+    by : (b : Bool) → find test (filter kept xs) ≡ find (λ (y : A). kept y && test y) xs
+        → find test (cond b (x ∷ filter kept xs) (filter kept xs)) ≡ cond (b && test x) (Some x) (find (λ (y : A). kept y && test y) xs)
+    by true more = ap (cond (test x) (Some x)) more
+    by false more = more

@@ -1,4 +1,4 @@
-use Rattle.std.proofs.Common.{◌≡◌, ◌<◌, ◌≤◌, ℕ, zero, suc, ◌+◌, ◌-◌, List, [], ◌∷◌, map, length, take, drop, Some, false, refl, ap, ap₂, sym, ◌∙◌, arith}
+use Rattle.std.proofs.Common.{◌≡◌, ◌<◌, ◌≤◌, ℕ, zero, suc, ◌+◌, ◌-◌, List, [], ◌∷◌, map, filter, length, take, drop, Some, Bool, true, false, cond, refl, ap, ap₂, sym, ◌∙◌, arith}
 use Rattle.std.proofs.lemmas.Bool.Decides.{nat_tests}
 use Rattle.std.proofs.lemmas.List.FromFn.{get_or-range_with_len, length-range_with_len}
 use Rattle.std.proofs.lemmas.Option.{none-some, same_Some}
@@ -91,3 +91,13 @@ range-increasing a n k within =
     let first = get_or-range_with_len a n k 0 (omega arith) in
     let second = get_or-range_with_len a n (k + 1) 0 (omega arith) in
     omega arith
+
+-- a filter of images is the images of a filter
+pub filter-map : {A B : Type 0} (p : B → Bool) (f : A → B) (xs : List A) → filter p (map f xs) ≡ map f (filter (λ (x : A). p (f x)) xs)
+filter-map p f [] = refl
+filter-map {A} {B} p f (x ∷ xs) = by (p (f x)) (filter-map p f xs)
+  where
+    by : (b : Bool) → filter p (map f xs) ≡ map f (filter (λ (y : A). p (f y)) xs)
+        → cond b (f x ∷ filter p (map f xs)) (filter p (map f xs)) ≡ map f (cond b (x ∷ filter (λ (y : A). p (f y)) xs) (filter (λ (y : A). p (f y)) xs))
+    by true more = ap (λ (ys : List B). f x ∷ ys) more
+    by false more = more

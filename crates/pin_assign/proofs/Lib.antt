@@ -32,8 +32,6 @@ pub mod BoundLaws
 pub mod ChannelTables
 -- rows with their feeds are of bounded sizes
 pub mod FedBounds
--- the entries of a cell, laid pin by pin
-pub mod LaidLaws
 -- the entries of rows by tables
 pub mod TabledEntries
 -- the rows beside a channel, by its number

@@ -17,7 +17,7 @@ use Rattle.feed_cells.specs.declared.crossing.Crossing.{Crossing}
 use Rattle.feed_cells.specs.declared.crossing.Crossing.TheVariants.{Alone, One, Many}
 use Rattle.feed_cells.proofs.CrossingLaws.{channels-within, fed-across, from-across, in-range, of-net, pin-ordered}
 use Rattle.feed_cells.proofs.NetLaws.{across-over, across-under}
-use Rattle.pin_assign.specs.Causes.{AreDifferent, Cause, EntersBy, EntersTwice, IsEntered, Leads, by_both, by_feed, by_pin, by_pins, over_both}
+use Rattle.pin_assign.specs.Causes.{AreDifferent, Cause, CrossesBy, EntersBy, EntersTwice, IsEntered, by_both, by_feed, by_pin, by_pins, over_both}
 use Rattle.pin_assign.proofs.EnteringLaws.{all-touch, are-spread, crossed-by, enter-lowest, enter-one, entered-is, same-edge}
 
 -- two pins that enter one channel, over whichever edges
@@ -60,15 +60,15 @@ crossed-within d rows good placed net lo hi row is below =
     omega arith
 
 -- a crossed row is a cause in the channel under it
-pub cause-under : (d : Netlist) (rows : List (List Seat)) (net row : ℕ) → row < length rows → ((p : Pin) × Leads d rows net row p) ⊎ (is_fed d rows row net ≡ true)
+pub cause-under : (d : Netlist) (rows : List (List Seat)) (net row : ℕ) → row < length rows → ((p : Pin) × CrossesBy d rows net row p) ⊎ (is_fed d rows row net ≡ true)
     → Cause d rows net row false
-cause-under d rows net row within (inl leads) = by_pin leads.0 leads.1.under
+cause-under d rows net row within (inl pin) = by_pin pin.0 pin.1.under
 cause-under d rows net row within (inr fed) = by_feed row (record { within = within; beside = refl; fed = fed })
 
 -- and in the one over it
-pub cause-over : (d : Netlist) (rows : List (List Seat)) (net row : ℕ) → row < length rows → ((p : Pin) × Leads d rows net row p) ⊎ (is_fed d rows row net ≡ true)
+pub cause-over : (d : Netlist) (rows : List (List Seat)) (net row : ℕ) → row < length rows → ((p : Pin) × CrossesBy d rows net row p) ⊎ (is_fed d rows row net ≡ true)
     → Cause d rows net (row + 1) true
-cause-over d rows net row within (inl leads) = by_pin leads.0 leads.1.over
+cause-over d rows net row within (inl pin) = by_pin pin.0 pin.1.over
 cause-over d rows net row within (inr fed) = by_feed row (record { within = within; beside = refl; fed = fed })
 
 no-top : (top : Bool) (row : ℕ) → cond top (row + 1) row ≡ row → top ≡ false
@@ -90,7 +90,7 @@ different-edges : (d : Netlist) (top : Bool) (p q : Pin) → has_edge d top p �
 different-edges d top p q none some instance terminal = both_ways (has_edge d top p) none (same-edge d top p q instance terminal ∙ some)
 
 module _ (d : Netlist) (rows : List (List Seat)) (good : IsNetlist d) (placed : ArePlaced d rows) (net lo hi : ℕ) (is : crossing_of d rows net ≡ Many lo hi) where
-  crossed : (row : ℕ) → lo ≤ row → row < hi → ((p : Pin) × Leads d rows net row p) ⊎ (is_fed d rows row net ≡ true)
+  crossed : (row : ℕ) → lo ≤ row → row < hi → ((p : Pin) × CrossesBy d rows net row p) ⊎ (is_fed d rows row net ≡ true)
   crossed row above below = crossed-by d rows net row (ap (λ (c : Crossing). is_across c row) is ∙ from-across (Many lo hi) row above below)
 
   -- in its first channel the net has the crossed row over it, and a pin that touches no channel further up
@@ -109,12 +109,12 @@ module _ (d : Netlist) (rows : List (List Seat)) (good : IsNetlist d) (placed : 
       same-number : (n : ℕ) → n ≤ n
       same-number n = omega arith
 
-      by : (p : Pin) → highest d rows p ≡ lo → lo < length rows → ((q : Pin) × Leads d rows net lo q) ⊎ (is_fed d rows lo net ≡ true)
+      by : (p : Pin) → highest d rows p ≡ lo → lo < length rows → ((q : Pin) × CrossesBy d rows net lo q) ⊎ (is_fed d rows lo net ≡ true)
           → EntersBy d rows net lo false p ⊎ EntersBy d rows net lo true p → EntersTwice d rows net lo
       by p high within over (inr upper) = over_both (by_pin p upper) (cause-under d rows net lo within over)
-      by p high within (inl leads) (inl lower) =
-          by_pins false p leads.0 lower leads.1.under
-          (different-edges d true p leads.0 (no-top (has_edge d true p) (row_of d rows p.instance) (high ∙ lower.touches.beside)) leads.1.over.touches.edge)
+      by p high within (inl pin) (inl lower) =
+          by_pins false p pin.0 lower pin.1.under
+          (different-edges d true p pin.0 (no-top (has_edge d true p) (row_of d rows p.instance) (high ∙ lower.touches.beside)) pin.1.over.touches.edge)
       by p high within (inr fed) (inl lower) = by_both false p lo lower (record { within = within; beside = refl; fed = fed })
 
   -- in its last channel the crossed row under it, and a pin that touches no channel further down
@@ -136,13 +136,13 @@ module _ (d : Netlist) (rows : List (List Seat)) (good : IsNetlist d) (placed : 
       above : (row lo hi : ℕ) → hi ≡ row + 1 → lo < hi → lo ≤ row
       above row lo hi top ordered = omega arith
 
-      by : (p : Pin) → lowest d rows p ≡ hi → row < length rows → ((q : Pin) × Leads d rows net row q) ⊎ (is_fed d rows row net ≡ true)
+      by : (p : Pin) → lowest d rows p ≡ hi → row < length rows → ((q : Pin) × CrossesBy d rows net row q) ⊎ (is_fed d rows row net ≡ true)
           → EntersBy d rows net hi false p ⊎ EntersBy d rows net hi true p → EntersTwice d rows net hi
       by p low within beneath (inl lower) =
           over_both (subst (λ (n : ℕ). Cause d rows net n true) (sym top) (cause-over d rows net row within beneath)) (by_pin p lower)
-      by p low within (inl leads) (inr upper) =
-          by_pins true p leads.0 upper (subst (λ (n : ℕ). EntersBy d rows net n true leads.0) (sym top) leads.1.over)
-          (different-edges d false p leads.0 (no-bottom (has_edge d false p) (row_of d rows p.instance) (low ∙ upper.touches.beside)) leads.1.under.touches.edge)
+      by p low within (inl pin) (inr upper) =
+          by_pins true p pin.0 upper (subst (λ (n : ℕ). EntersBy d rows net n true pin.0) (sym top) pin.1.over)
+          (different-edges d false p pin.0 (no-bottom (has_edge d false p) (row_of d rows p.instance) (low ∙ upper.touches.beside)) pin.1.under.touches.edge)
       by p low within (inr fed) (inr upper) = by_both true p row upper (record { within = within; beside = top; fed = fed })
 
   -- and between them the rows on both sides

@@ -31,9 +31,9 @@ lowest_of e = if is_some e.bottom then e.row else e.row + 1
 abbrev pub highest_of : PinPlace → ℕ
 highest_of e = if is_some e.top then e.row + 1 else e.row
 
--- whether a pin has positions on both edges
-abbrev pub is_through : PinPlace → Bool
-is_through e = is_some e.bottom && is_some e.top
+-- whether a pin passes its row: it has positions on both edges
+abbrev pub passes_row : PinPlace → Bool
+passes_row e = is_some e.bottom && is_some e.top
 
 -- the column of a pin in its cell on an edge, the upper where `top` holds
 abbrev pub edge_of : Bool → PinPlace → Option ℕ

@@ -1,6 +1,6 @@
 ghost use Rattle.row_model.specs.NearStands.{AreNear, AreShort, IsNear};
 ghost use Rattle.row_model.specs.PinColumns.{pin_columns};
-ghost use Rattle.row_model.specs.PinPlaces.{edge_of, highest_of, is_through, lowest_of, pin_column, pin_place, pin_place_at};
+ghost use Rattle.row_model.specs.PinPlaces.{edge_of, highest_of, passes_row, lowest_of, pin_column, pin_place, pin_place_at};
 ghost use Rattle.row_model.specs.Rows.{ArePlaced};
 ghost use Rattle.row_model.specs.StandTables.{AreStands, tabled_stand};
 ghost use Rattle.row_model.specs.Stands.{column_of, first_column, turned_column};
@@ -43,9 +43,9 @@ impl PinPlace {
         if self.top.is_some() { row + 1 } else { row }
     }
 
-    /// Whether the pin has positions on both edges.
-    pub fn is_through(self) -> bool
-        ensures { result ≡ is_through self }
+    /// Whether the pin passes its row: it has positions on both edges.
+    pub fn passes_row(self) -> bool
+        ensures { result ≡ passes_row self }
     {
         self.bottom.is_some() && self.top.is_some()
     }
