@@ -65,12 +65,7 @@ fn through_pins(
 fn first_through(pins: &[PinPlace], row: u32) -> Option<Pin>
     ensures { result ≡ first_through pins.now row }
 {
-    let mut rest = pins;
-    while let Some((pin, after)) = rest.split_first() {
-        if u32::from(pin.row) == row && pin.passes_row() {
-            return Some(pin.pin);
-        }
-        rest = after;
-    }
-    None
+    pins.iter()
+        .find(|pin| u32::from(pin.row) == row && pin.passes_row())
+        .map(|pin| pin.pin)
 }

@@ -66,3 +66,18 @@ least-reached {A = A} f a (x ∷ xs) = by (min-is (f a) (f x)) (least-reached f 
         → (y : A) × Contains (a ∷ x ∷ xs) y × (f y ≡ fold min (min (f a) (f x)) (map f xs))
     by (inl is) old new = (old.0, lift old.0 (member-cases a xs old.0 old.1), old.2 ∙ ap (λ (n : ℕ). fold min n (map f xs)) (sym is.0))
     by (inr is) old new = (new.0, member-tail a (x ∷ xs) new.0 new.1, new.2 ∙ ap (λ (n : ℕ). fold min n (map f xs)) (sym is.0))
+
+-- no member passes the greatest or the least of all
+pub greatest-all : {A : Type 0} (f : A → ℕ) (a : A) (xs : List A) (x : A) → Contains (a ∷ xs) x → f x ≤ fold max (f a) (map f xs)
+greatest-all f a xs x member = by (member-cases a xs x member)
+  where
+    by : (a ≡ x) ⊎ Contains xs x → f x ≤ fold max (f a) (map f xs)
+    by (inl same) = let first = greatest-first (f a) (map f xs) in let at : f a ≡ f x = ap f same in omega arith
+    by (inr later) = greatest-bound f (f a) xs x later
+
+pub least-all : {A : Type 0} (f : A → ℕ) (a : A) (xs : List A) (x : A) → Contains (a ∷ xs) x → fold min (f a) (map f xs) ≤ f x
+least-all f a xs x member = by (member-cases a xs x member)
+  where
+    by : (a ≡ x) ⊎ Contains xs x → fold min (f a) (map f xs) ≤ f x
+    by (inl same) = let first = least-first (f a) (map f xs) in let at : f a ≡ f x = ap f same in omega arith
+    by (inr later) = least-bound f (f a) xs x later

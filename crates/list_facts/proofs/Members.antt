@@ -132,3 +132,8 @@ find-filter {A} test kept (x ∷ xs) = by (kept x) (find-filter test kept xs)
         → find test (cond b (x ∷ filter kept xs) (filter kept xs)) ≡ cond (b && test x) (Some x) (find (λ (y : A). kept y && test y) xs)
     by true more = ap (cond (test x) (Some x)) more
     by false more = more
+
+-- tests that agree find the same
+pub find-same : {A : Type 0} (p q : A → Bool) → ((x : A) → p x ≡ q x) → (xs : List A) → find p xs ≡ find q xs
+find-same p q same [] = refl
+find-same {A} p q same (x ∷ xs) = ap (λ (b : Bool). cond b (Some x) (find p xs)) (same x) ∙ ap (cond (q x) (Some x)) (find-same p q same xs)

@@ -1,4 +1,4 @@
-use Rattle.std.proofs.Common.{◌≡◌, ◌<◌, ◌≤◌, ℕ, zero, suc, ◌+◌, ◌-◌, List, [], ◌∷◌, map, filter, length, take, drop, Some, Bool, true, false, cond, refl, ap, ap₂, sym, ◌∙◌, arith}
+use Rattle.std.proofs.Common.{◌≡◌, ◌<◌, ◌≤◌, ℕ, zero, suc, ◌+◌, ◌-◌, List, [], ◌∷◌, ◌++◌, map, filter, length, take, drop, Some, Bool, true, false, cond, refl, ap, ap₂, sym, ◌∙◌, arith}
 use Rattle.std.proofs.lemmas.Bool.Decides.{nat_tests}
 use Rattle.std.proofs.lemmas.List.FromFn.{get_or-range_with_len, length-range_with_len}
 use Rattle.std.proofs.lemmas.Option.{none-some, same_Some}
@@ -34,25 +34,16 @@ pub map-same : {A B : Type 0} (P : A → Type 0) (f g : A → B) → ((x : A) �
 map-same P f g same [] every = refl
 map-same {B = B} P f g same (x ∷ xs) every = ap₂ (λ (y : B) (ys : List B). y ∷ ys) (same x every.0) (map-same P f g same xs every.1)
 
--- the numbers from one on and before another begin with that one
-pub range-first : (a b : ℕ) → a < b → range_with_len a (b - a) ≡ a ∷ range_with_len (a + 1) (b - (a + 1))
-range-first a b below = let e : b - a ≡ suc (b - (a + 1)) = omega arith in ap (range_with_len a) e
-
-pub range-none : (a b : ℕ) → b ≤ a → range_with_len a (b - a) ≡ []
-range-none a b past = let e : b - a ≡ 0 = omega arith in ap (range_with_len a) e
-
-pub range-take : (k a n : ℕ) → k ≤ n → take k (range_with_len a n) ≡ range_with_len a k
-range-take zero a n within = refl
-range-take (suc k) a zero within = absurd (omega arith)
-range-take (suc k) a (suc n) within = ap (λ (l : List ℕ). a ∷ l) (range-take k (a + 1) n (omega arith))
-
-pub range-drop : (k a n : ℕ) → k ≤ n → drop k (range_with_len a n) ≡ range_with_len (a + k) (n - k)
-range-drop zero a n within = let at : a + 0 ≡ a = omega arith in let all : n - 0 ≡ n = omega arith in rw (at, all)
-range-drop (suc k) a zero within = absurd (omega arith)
-range-drop (suc k) a (suc n) within =
-    let at : (a + 1) + k ≡ a + suc k = omega arith in
-    let rest : n - k ≡ suc n - suc k = omega arith in
-    range-drop k (a + 1) n (omega arith) ∙ ap (λ (b : ℕ). range_with_len b (n - k)) at ∙ ap (range_with_len (a + suc k)) rest
+-- numbers up to one and those from it on
+pub range-split : (a k n : ℕ) → k ≤ n → range_with_len a k ++ range_with_len (a + k) (n - k) ≡ range_with_len a n
+range-split a zero n within = let at : a + 0 ≡ a = omega arith in let all : n - 0 ≡ n = omega arith in rw (at, all)
+range-split a (suc k) zero within = absurd (omega arith)
+range-split a (suc k) (suc n) within =
+    let at : a + suc k ≡ (a + 1) + k = omega arith in
+    let rest : suc n - suc k ≡ n - k = omega arith in
+    ap (λ (l : List ℕ). a ∷ l)
+    (ap (λ (b : ℕ). range_with_len (a + 1) k ++ range_with_len b (suc n - suc k)) at ∙ ap (λ (m : ℕ). range_with_len (a + 1) k ++ range_with_len ((a + 1) + k) m) rest
+    ∙ range-split (a + 1) k n (omega arith))
 
 -- numbers from a on and below a + n
 pub range-bounds : (a n : ℕ) → AllByRecursion (λ (k : ℕ). (a ≤ k) × (k < a + n)) (range_with_len a n)

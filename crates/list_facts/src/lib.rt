@@ -1,4 +1,4 @@
-//! Lists of names, numbered in the order of their first mention, and facts about lists.
+//! Lists of names, numbered in the order of their first mention, lists by number, and facts about lists.
 #![tactic(auto)]
 
 mod lists;

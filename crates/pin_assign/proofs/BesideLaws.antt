@@ -1,4 +1,4 @@
-use Rattle.std.proofs.Common.{◌≡◌, ℕ, zero, suc, List, Bool, true, false, not, Option, Some, None, refl, ap, sym, ◌∙◌, subst, arith, Contains}
+use Rattle.std.proofs.Common.{◌≡◌, ◌+◌, ℕ, zero, suc, List, Bool, true, false, not, Option, Some, None, refl, ap, sym, ◌∙◌, subst, arith, Contains}
 use Rattle.std.proofs.lemmas.Option.{none-some, same_Some, slice_get-map}
 use Rattle.std.specs.List.{slice_get}
 use Rattle.std.specs.Option.{is_some, option_map}
@@ -14,23 +14,12 @@ use Rattle.pin_assign.specs.Sources.{Source, SourceEnters, StandsOver, of_feed, 
 use Rattle.pin_assign.specs.Entering.{enters}
 use Rattle.pin_assign.specs.Places.{HasOver, TablePlace, StandsAt, channel_facing, row_beside}
 use Rattle.pin_assign.specs.Tables.{row_below}
-use Rattle.pin_assign.proofs.RowCauses.{SeatOf, feed-listed, feed-stands, pin-stands, seat-of}
+use Rattle.pin_assign.proofs.RowCauses.{feed-listed, feed-stands, pin-stands}
 
 -- the row beside a channel is the one that the channel is beside
 pub beside-is : (rows : List (List Item)) (channel row : ℕ) (upper : Bool) → channel ≡ channel_facing row upper → row_beside rows channel upper ≡ slice_get rows row
 beside-is rows channel row true e = ap (slice_get rows) e
 beside-is rows channel row false e = let next : channel ≡ suc row = omega arith in ap (row_below rows) next
-
--- a row beside a channel
-pub record IsRowBeside (rows : List (List Item)) (channel : ℕ) (upper : Bool) (items : List Item) : Type 0 where
-  pub row : ℕ
-  pub beside : channel ≡ channel_facing row upper
-  pub is_row : slice_get rows row ≡ Some items
-
-pub row-beside : (rows : List (List Item)) (channel : ℕ) (upper : Bool) (items : List Item) → row_beside rows channel upper ≡ Some items → IsRowBeside rows channel upper items
-row-beside rows channel true items is = record { row = channel; beside = refl; is_row = is }
-row-beside rows zero false items is = absurd (none-some items is)
-row-beside rows (suc row) false items is = record { row = row; beside = omega arith; is_row = is }
 
 -- the cells of a row with feeds are a row of cells, and each is one of such a row
 pub row-cells : (rows : List (List Item)) (row : ℕ) (items : List Item) → slice_get rows row ≡ Some items → slice_get (cells_in rows) row ≡ Some (seats_in items)
@@ -98,17 +87,17 @@ pub record RowOf (d : Netlist) (fed : Fed) (channel : ℕ) (cause : Source) (pla
   pub over : StandsOver d (not place.upper) cause items 0 place.column
 
 pub row-of_stand : (d : Netlist) (fed : Fed) (channel : ℕ) (cause : Source) (place : TablePlace) → StandsAt d fed channel cause place → RowOf d fed channel cause place
-row-of_stand d fed channel cause place h = by (row_beside fed.rows channel place.upper) refl h.over
+row-of_stand d fed channel cause place h = by place.upper channel (row_beside fed.rows channel place.upper) refl h.over refl refl
   where
-    by : (o : Option (List Item)) → row_beside fed.rows channel place.upper ≡ o → HasOver d (not place.upper) cause o place.column → RowOf d fed channel cause place
-    by None is over = absurd over
-    by (Some items) is over =
-        let r = row-beside fed.rows channel place.upper items is in
-        record { row = r.row; items = items; beside = r.beside; is_row = r.is_row; over = over }
-
--- a pin at a place of a table is of a cell of the row there
-pub pin-seat : (d : Netlist) (fed : Fed) (channel : ℕ) (p : Pin) (place : TablePlace) (r : RowOf d fed channel (of_pin p) place) → SeatOf r.items p
-pin-seat d fed channel p place r = seat-of d (not place.upper) p r.items 0 place.column r.over
+    by : (upper : Bool) (c : ℕ) (o : Option (List Item)) → row_beside fed.rows c upper ≡ o → HasOver d (not place.upper) cause o place.column → c ≡ channel → upper ≡ place.upper
+        → RowOf d fed channel cause place
+    by upper c None is over at side = absurd over
+    by true c (Some items) is over at side =
+        record { row = c; items = items; beside = sym at ∙ ap (λ (u : Bool). channel_facing c u) side; is_row = is; over = over }
+    by false zero (Some items) is over at side = absurd (none-some items is)
+    by false (suc row) (Some items) is over at side =
+        let next : suc row ≡ row + 1 = omega arith in
+        record { row = row; items = items; beside = sym at ∙ next ∙ ap (λ (u : Bool). channel_facing row u) side; is_row = is; over = over }
 
 -- a feed at a place of a table is one of the row there
 pub feed-item : (d : Netlist) (fed : Fed) (channel net : ℕ) (place : TablePlace) (r : RowOf d fed channel (of_feed net) place) → Contains r.items (Feed net)

@@ -11,7 +11,7 @@ use Rattle.feed_cells.specs.declared.fed.Item.TheVariants.{Cell, Feed}
 use Rattle.pin_assign.specs.Sources.{Source, of_pin, of_feed, source_net, SourceEnters, IsOver, IsPinOver, StandsOver, first_over, later_over}
 use Rattle.pin_assign.specs.Entries.{EntryOf}
 use Rattle.pin_assign.proofs.EdgeLaws.{own-within, same-terminal, turned-once, turned-within}
-use Rattle.pin_assign.proofs.WidthLaws.{width-more}
+use Rattle.feed_cells.proofs.FedWidths.{width-cons}
 
 -- a cause along items stands over the first of them, or over a later one
 abbrev OverOne : Netlist → Bool → Source → List Item → ℕ → ℕ → Type 0
@@ -44,13 +44,13 @@ module _ (d : Netlist) (good : IsNetlist d) (top : Bool) where
       let e = over-within cause item left column h in
       let low = e.0 in
       let high = e.1 in
-      let width = width-more d item rest in
+      let width = width-cons d item rest in
       (low, omega arith)
   stands-within cause items left column (later_over {item = item} {items = rest} h) =
       let e = stands-within cause rest (left + item_width d item) column h in
       let low = e.0 in
       let high = e.1 in
-      let width = width-more d item rest in
+      let width = width-cons d item rest in
       (omega arith, omega arith)
 
   -- over one item, different causes stand in different columns

@@ -11,7 +11,7 @@ use Rattle.feed_cells.specs.Fed.{Fed, IsFed, cells_in, fed_rows, nets_in}
 use Rattle.feed_cells.proofs.FedLaws.{fed-long}
 use Rattle.pin_assign.specs.ChannelTables.{AreTablesFor}
 use Rattle.pin_assign.specs.Tables.{table_of, tables_of}
-use Rattle.pin_assign.proofs.EnteredLaws.{table-nets}
+use Rattle.pin_assign.proofs.ChannelLaws.{table-nets}
 use Rattle.pin_assign.proofs.WidthLaws.{table-top_length}
 
 module _ (d : Netlist) (good : IsNetlist d) (rows : List (List Seat)) (placed : ArePlaced d rows) where
@@ -28,7 +28,7 @@ module _ (d : Netlist) (good : IsNetlist d) (rows : List (List Seat)) (placed : 
         let long : length (fed_rows d rows).rows ≡ length rows = fed-long d rows in
         image-at (λ (c : ℕ). length (nets_in d rows c)) 0 (length rows + 1) k (omega arith)
         ∙ ap (λ (n : ℕ). Some (length (nets_in d rows n))) (let same : 0 + k ≡ k = omega arith in same)
-        ∙ ap (λ (nets : List ℕ). Some (length nets)) (nets-one (table_of d (fed_rows d rows) k) (nets_in d rows k) (table-nets d rows good placed k))
+        ∙ ap (λ (nets : List ℕ). Some (length nets)) (nets-one (table_of d (fed_rows d rows) k) (nets_in d rows k) (table-nets d good rows placed k))
         ∙ ap (λ (p : Pins). Some (length (nets_of p))) is;
   }
 

@@ -1,15 +1,15 @@
 use Rattle.std.proofs.Common.{◌≡◌, ◌<◌, ℕ, Bool, true, false, ◌&&◌, eqb, Option, Some, None, refl, ap, sym, ◌∙◌, subst, arith, Contains}
 use Rattle.std.proofs.lemmas.Bool.{and_parts, eqb-true, not-true}
-use Rattle.std.proofs.lemmas.Option.{none-some, option_and_then_some, same_Some}
+use Rattle.std.proofs.lemmas.Option.{none-some, same_Some}
 use Rattle.std.specs.List.{find, slice_get}
 use Rattle.list_facts.proofs.Members.{all-get, contains-get, find-passes, get-contains}
-use Rattle.design_model.specs.Netlist.{Netlist, IsNetlist, IsKind, IsPosition}
+use Rattle.design_model.specs.Netlist.{Netlist, IsNetlist, IsPosition}
 use Rattle.design_model.specs.declared.design.CellKind.{CellKind}
-use Rattle.design_model.specs.declared.design.Inst.{Inst}
 use Rattle.design_model.specs.declared.design.Pin.{Pin}
 use Rattle.design_model.specs.declared.design.Position.{Position}
 use Rattle.row_model.specs.Stands.{column_in, edge_column, is_on, positions_in, positions_of, turned_column}
 use Rattle.row_model.specs.Widths.{columns_of, kind_of, width_of}
+use Rattle.row_model.proofs.WidthLaws.{kind-good}
 
 -- a column of a cell stands in the cell's columns, mirrored or not
 pub turned-within : (mirror : Bool) (columns column : ℕ) → column < columns → turned_column mirror columns column < columns
@@ -20,12 +20,6 @@ turned-within false columns column within = within
 pub turned-once : (mirror : Bool) (columns a b : ℕ) → a < columns → b < columns → turned_column mirror columns a ≡ turned_column mirror columns b → a ≡ b
 turned-once true columns a b first second same = omega arith
 turned-once false columns a b first second same = same
-
--- the kind of an instance is a kind
-pub kind-good : (d : Netlist) → IsNetlist d → (instance : ℕ) (kind : CellKind) → kind_of d instance ≡ Some kind → IsKind kind
-kind-good d good instance kind is =
-    option_and_then_some (λ (i : Inst). slice_get d.kinds i.kind) (slice_get d.instances instance) kind is
-    (λ (i : Inst) (there : slice_get d.instances instance ≡ Some i) (at : slice_get d.kinds i.kind ≡ Some kind). all-get IsKind d.kinds i.kind kind good.kinds at)
 
 -- the first position of a pin on an edge
 pub record EdgePosition (d : Netlist) (top : Bool) (p : Pin) (own : ℕ) : Type 0 where

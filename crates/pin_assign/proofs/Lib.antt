@@ -22,8 +22,6 @@ pub mod RowCauses
 pub mod BesideLaws
 -- tables make channels
 pub mod ChannelLaws
--- the table of each channel of placed rows makes a channel
-pub mod EnteredLaws
 -- the nets of a channel in the order of their numbers
 pub mod NetLaws
 -- the size that a layout is within

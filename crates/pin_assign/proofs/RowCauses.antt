@@ -34,25 +34,6 @@ pin-stands d top p s (Cell other ∷ items) left own listed seated instance edge
           record { column = more.column; stands = later_over more.stands }
     ]
 
--- the seat of a pin that stands on an edge of a row
-pub record SeatOf (items : List Item) (p : Pin) : Type 0 where
-  pub seat : Seat
-  pub seated : Contains (seats_in items) seat
-  pub instance : p.instance ≡ seat.instance
-
-seat-here : (d : Netlist) (top : Bool) (p : Pin) (item : Item) (items : List Item) (left column : ℕ) → IsOver d top (of_pin p) item left column → SeatOf (item ∷ items) p
-seat-here d top p (Cell s) items left column h = record { seat = s; seated = (0, omega arith, refl); instance = h.instance }
-seat-here d top p (Feed net) items left column h = absurd h
-
-seat-later : (p : Pin) (item : Item) (items : List Item) → SeatOf items p → SeatOf (item ∷ items) p
-seat-later p (Cell s) items h = record { seat = h.seat; seated = member-tail s (seats_in items) h.seat h.seated; instance = h.instance }
-seat-later p (Feed net) items h = record { seat = h.seat; seated = h.seated; instance = h.instance }
-
-pub seat-of : (d : Netlist) (top : Bool) (p : Pin) (items : List Item) (left column : ℕ) → StandsOver d top (of_pin p) items left column → SeatOf items p
-seat-of d top p items left column (first_over {item = item} {items = rest} h) = seat-here d top p item rest left column h
-seat-of d top p items left column (later_over {item = item} {items = rest} h) =
-    seat-later p item rest (seat-of d top p rest (left + item_width d item) column h)
-
 -- a feed of a row stands on both of its edges, in one column
 pub record FeedStanding (d : Netlist) (net : ℕ) (items : List Item) (left : ℕ) : Type 0 where
   pub column : ℕ

@@ -2,7 +2,6 @@ use Rattle.std.proofs.Common.{◌≡◌, ◌<◌, ◌≤◌, ◌⊎◌, ◌==◌
 use Rattle.std.proofs.lemmas.Bool.{cases_lt, eqb-true}
 use Rattle.std.proofs.lemmas.Bool.Decides.{nat_tests}
 use Rattle.std.proofs.lemmas.List.Elements.{recursion_from_All}
-use Rattle.std.proofs.lemmas.List.{length-map}
 use Rattle.std.proofs.lemmas.Option.{slice_get_past}
 use Rattle.std.specs.List.{AllByRecursion, find, flat_map, range_with_len}
 use Rattle.std.specs.Option.{option_and_then}
@@ -17,7 +16,7 @@ use Rattle.design_model.specs.declared.design.Pin.{Pin}
 use Rattle.row_model.specs.Stands.{edge_column}
 use Rattle.row_model.specs.Widths.{columns_of, width_of}
 use Rattle.row_model.specs.declared.rows.Seat.{Seat}
-use Rattle.feed_cells.specs.Fed.{Fed, IsFed, cells_in, fed_rows, seats_in}
+use Rattle.feed_cells.specs.Fed.{Fed, IsFed, cells_in}
 use Rattle.feed_cells.specs.declared.fed.Item.{Item}
 use Rattle.feed_cells.specs.declared.fed.Item.TheVariants.{Cell, Feed}
 use Rattle.pin_assign.specs.Entering.{enters, enters_by}
@@ -29,7 +28,7 @@ use Rattle.feed_cells.specs.declared.placement.PlacedPin.{PlacedPin}
 use Rattle.row_model.specs.PinPlaces.{edge_of, pin_place_at}
 use Rattle.pin_assign.specs.Tabled.{AreTabled, enters_as, is_laid, laid, laid_entries, of_instance, tabled_entries}
 use Rattle.pin_assign.specs.Tables.{cell_entries, enters_in, is_in_column, item_entries, net_in, padded, row_below, row_entries, table_of}
-use Rattle.pin_assign.proofs.EnteredLaws.{table-channel}
+use Rattle.pin_assign.proofs.ChannelLaws.{table-channel}
 
 -- an entry, or another where it is none
 abbrev entry_or : ℕ → ℕ → ℕ
@@ -176,13 +175,9 @@ table-made d good fed table tabled channel top bottom top_is bottom_is =
     pins_of top bottom = record { top = top; bottom = bottom }
 
 -- and make a channel
-pub channel-made : (d : Netlist) → IsNetlist d → (fed : Fed) → IsFed d fed → fed.width ≤ 4000000 → (channel : ℕ) → channel ≤ length fed.rows → (pins : Pins)
-    → pins ≡ table_of d fed channel → IsChannel pins
-channel-made d good fed fed_is few channel within pins is = subst IsChannel (sym (is ∙ ap (λ (f : Fed). table_of d f channel) fed_is.is)) made
-  where
-    made : IsChannel (table_of d (fed_rows d (cells_in fed.rows)) channel)
-    made =
-        let long : length (cells_in fed.rows) ≡ length fed.rows = length-map fed.rows seats_in in
-        table-channel d (cells_in fed.rows) good fed_is.placed (subst (λ (f : Fed). f.width ≤ 4000000) fed_is.is few) channel (omega arith)
+pub channel-made : (d : Netlist) → IsNetlist d → (fed : Fed) → IsFed d fed → fed.width ≤ 4000000 → (channel : ℕ) (pins : Pins) → pins ≡ table_of d fed channel → IsChannel pins
+channel-made d good fed fed_is few channel pins is =
+    subst IsChannel (sym (is ∙ ap (λ (f : Fed). table_of d f channel) fed_is.is))
+    (table-channel d good (cells_in fed.rows) fed_is.placed channel (subst (λ (f : Fed). f.width ≤ 4000000) fed_is.is few))
 
 pub ruleset made_laws = (table-made, channel-made)

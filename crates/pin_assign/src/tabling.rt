@@ -88,7 +88,6 @@ fn channel_at(
     requires fed { IsFed design.now fed.now }
     requires narrow { fed.now.width ≤ 4000000 }
     requires tabled { AreTabled design.now (cells_in fed.now.rows) table.now }
-    requires within { channel ≤ length fed.now.rows }
     ensures { IfOk result (λ c. c ≡ table_of design.now fed.now channel) }
 {
     let _pins = &design.pins;

@@ -18,5 +18,5 @@ from_paired-requires c =
     ≡ padded c.args.fed.now.width (flat_map (tabled_entries c.args.design.now c.args.table.now true c.args.channel) (list_there (row_below c.args.fed.now.rows c.args.channel))) =
     search rules in
     let pins : Pins = record { top = c.in_ok-top.top.items; bottom = c.in_ok-bottom.bottom.items } in
-    channel-made c.args.design.now good c.args.fed.now c.requires.fed c.requires.narrow c.args.channel c.requires.within pins
+    channel-made c.args.design.now good c.args.fed.now c.requires.fed c.requires.narrow c.args.channel pins
     (table-made c.args.design.now good c.args.fed.now c.args.table.now c.requires.tabled c.args.channel c.in_ok-top.top.items c.in_ok-bottom.bottom.items top bottom)
