@@ -4,6 +4,7 @@ use Rattle.std.proofs.lemmas.List.Elements.{All-contains}
 use Rattle.std.proofs.lemmas.Option.{none-some, same_Some, slice_get-get_or, get_or_from_slice_get, slice_get_within}
 use Rattle.std.specs.List.{find, list_any, slice_get}
 use Rattle.std.specs.Option.{option_and_then, option_map, is_some}
+use Rattle.row_model.specs.declared.stands.Stand.{Stand}
 use Rattle.list_facts.proofs.Members.{all-get, any-member, find-member}
 use Rattle.design_model.specs.Netlist.{IsKind, IsNetlist, Netlist, terminals_of_kind}
 use Rattle.design_model.specs.PinOrder.{kind_terminals, pin_pair, power_at}
@@ -13,7 +14,7 @@ use Rattle.design_model.specs.declared.design.Pin.{Pin}
 use Rattle.design_model.specs.declared.design.Position.{Position}
 use Rattle.design_model.specs.declared.design.Terminal.{Terminal}
 use Rattle.design_model.proofs.PinsInOrder.{pin-free}
-use Rattle.row_model.specs.Stands.{Stand, column_in, is_on, positions_in, row_in, row_of, stand_of}
+use Rattle.row_model.specs.Stands.{column_in, is_on, positions_in, row_in, row_of, stand_of}
 use Rattle.row_model.specs.declared.rows.Seat.{Seat}
 use Rattle.row_model.proofs.StandLaws.{stand-within}
 use Rattle.feed_cells.specs.Crossings.{has_edge}

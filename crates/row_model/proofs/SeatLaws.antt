@@ -3,11 +3,12 @@ use Rattle.std.proofs.lemmas.Bool.Decides.{nat_tests}
 use Rattle.std.proofs.lemmas.Option.{none-some, same_Some}
 use Rattle.std.specs.List.{AllByRecursion, IsDistinct, slice_get}
 use Rattle.std.specs.Prelude.{nat_eq}
+use Rattle.row_model.specs.declared.stands.Stand.{Stand}
 use Rattle.list_facts.proofs.Distinct.{first-distinct, numbers-apart, second-distinct}
 use Rattle.list_facts.proofs.Every.{every-at, every-left, every-right, every-weaker}
 use Rattle.design_model.specs.Netlist.{Netlist}
 use Rattle.row_model.specs.Rows.{all_instances, AreRows, instances_in}
-use Rattle.row_model.specs.Stands.{Stand, or_else, stand_from, stand_in, stand_of}
+use Rattle.row_model.specs.Stands.{or_else, stand_from, stand_in, stand_of}
 use Rattle.row_model.specs.Widths.{columns_of, row_width}
 use Rattle.row_model.specs.declared.rows.Seat.{Seat}
 use Rattle.row_model.proofs.WidthLaws.{width-cons}

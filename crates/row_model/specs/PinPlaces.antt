@@ -1,7 +1,8 @@
 use Rattle.std.specs.Prelude.{ℕ, ◌+◌, List, Bool, true, false, ◌&&◌, if◌then◌else◌, Option, is_some}
+use Rattle.row_model.specs.declared.stands.Stand.{Stand}
 use Rattle.design_model.specs.Netlist.{Netlist}
 use Rattle.design_model.specs.declared.design.Pin.{Pin}
-use Rattle.row_model.specs.Stands.{Stand, column_at, edge_column, first_column, row_in, stand_of}
+use Rattle.row_model.specs.Stands.{column_at, edge_column, first_column, row_in, stand_of}
 use Rattle.row_model.specs.Widths.{columns_of}
 use Rattle.row_model.specs.declared.places.PinPlace.{PinPlace}
 use Rattle.row_model.specs.declared.rows.Seat.{Seat}

@@ -73,24 +73,9 @@ fn is_on(top: bool, position: Position) -> bool
     if top { position.top } else { !position.top }
 }
 
-/// The columns of all pins of a design in their cells, in the order of the pins. The one error is want of memory; steps as the number of pins and of
-/// positions.
-pub fn all_pin_columns(alloc: Global, design: &Design) -> Result<Vec<PinColumns>, AllocError>
-    ensures { IfOk result (λ v. v.items ≡ map (pin_columns design.now) design.now.pins) }
-{
-    let tables = kind_tables(alloc, design.kinds.items())?;
-    let mut columns = Vec::new(alloc);
-    let mut rest = design.pins.items();
-    while let Some((pin, after)) = rest.split_first() {
-        columns.push(tabled_columns(design, tables.as_slice(), *pin))?;
-        rest = after;
-    }
-    Ok(columns)
-}
-
-// The columns of a pin by the tables of the kinds.
+/// The columns of a pin by the tables of the kinds. Takes no memory.
 #[tactic(auto, using(crate::proofs::CellColumns::by_tables))]
-fn tabled_columns(design: &Design, tables: &[Items<PinColumns>], pin: Pin) -> PinColumns
+pub fn tabled_columns(design: &Design, tables: &[Items<PinColumns>], pin: Pin) -> PinColumns
     requires { tables.now ≡ map kind_columns design.now.kinds }
     ensures { result ≡ pin_columns design.now pin }
 {
@@ -129,8 +114,8 @@ fn columns_there(table: &[PinColumns], terminal: u32) -> PinColumns
     }
 }
 
-// A table for each kind.
-fn kind_tables(alloc: Global, kinds: &[CellKind]) -> Result<Vec<Items<PinColumns>>, AllocError>
+/// A table for each kind, of the columns of its terminals. The one error is want of memory; steps as the number of terminals and of positions.
+pub fn kind_tables(alloc: Global, kinds: &[CellKind]) -> Result<Vec<Items<PinColumns>>, AllocError>
     ensures { IfOk result (λ v. v.items ≡ map kind_columns kinds.now) }
 {
     let mut tables = Vec::new(alloc);
