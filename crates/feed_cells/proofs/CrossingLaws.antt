@@ -1,7 +1,7 @@
 use Rattle.std.proofs.Common.{◌≡◌, ◌≢◌, ◌⊎◌, ◌<◌, ◌≤◌, ◌+◌, ℕ, inl, inr, refl, sym, subst, ◌∙◌, arith, List, [], ◌∷◌, Bool, true, false, cond, leb, eqb, Contains, length, map}
 use Rattle.std.proofs.lemmas.Bool.{and_from, and_parts, both_ways, cases_eq, eq-eqb, eqb-true, le-leb, leb-false, leb-true, lt-ltb, ltb-true}
 use Rattle.list_facts.proofs.Greatest.{greatest-all, greatest-reached, least-all, least-reached}
-use Rattle.list_facts.proofs.Members.{filter-from, filter-member, member-cases, member-head}
+use Rattle.list_facts.proofs.Members.{filter-from, filter-member, member-head}
 use Rattle.design_model.specs.Netlist.{IsNetlist, Netlist}
 use Rattle.design_model.specs.declared.design.Pin.{Pin}
 use Rattle.row_model.specs.Rows.{ArePlaced}

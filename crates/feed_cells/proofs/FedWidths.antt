@@ -1,15 +1,10 @@
-use Rattle.std.proofs.Common.{◌≡◌, ℕ, ◌+◌, ◌*◌, ◌≤◌, ◌==◌, ◌&&◌, zero, suc, List, [], ◌∷◌, ◌++◌, map, filter, length, Option, None, Some, slice_get, arith, refl, sym}
-use Rattle.std.specs.List.{AllByRecursion}
-use Rattle.std.specs.Option.{option_and_then}
-use Rattle.std.proofs.lemmas.List.Elements.{recursion_from_All}
+use Rattle.std.proofs.Common.{◌≡◌, ℕ, ◌+◌, ◌*◌, ◌≤◌, ◌==◌, ◌&&◌, List, [], ◌∷◌, ◌++◌, map, filter, length, arith, refl, sym}
 use Rattle.std.proofs.lemmas.List.FromFn.{length-range_with_len}
 use Rattle.std.proofs.lemmas.List.Sums.{sum_by-cons}
 use Rattle.design_model.proofs.DesignPins.{nets-few}
 use Rattle.list_facts.proofs.Counts.{filter-short}
-use Rattle.design_model.specs.Netlist.{Netlist, IsKind, IsNetlist}
-use Rattle.design_model.specs.declared.design.CellKind.{CellKind}
-use Rattle.design_model.specs.declared.design.Inst.{Inst}
-use Rattle.row_model.specs.Widths.{columns_of, width_of}
+use Rattle.design_model.specs.Netlist.{Netlist, IsNetlist}
+use Rattle.row_model.specs.Widths.{columns_of}
 use Rattle.row_model.specs.declared.rows.Seat.{Seat}
 use Rattle.row_model.proofs.WidthLaws.{columns-few}
 use Rattle.feed_cells.specs.Crossings.{all_nets}

@@ -6,15 +6,9 @@ pub mod CrossingLaws
 pub mod FedLaws
 -- nets that stand in channels, and nets that are alone
 pub mod NetLaws
--- lists by the numbers of nets
-pub mod NetTableLaws
--- the span of a net gives its crossing and its middle
-pub mod SpanLaws
--- the pins and nets of a placement
+-- how far the pins of a net reach, and the pins and nets of a placement
 pub mod PlacementLaws
--- the parts of the answer are those of the definition
-pub mod FedAnswer
 -- how wide rows with feeds can be
 pub mod FedWidths
--- the feeds of a row by tables are those of the definition
+-- the rows with feeds, their widths and their nets are those of the definition
 pub mod RowFeedLaws

@@ -1,7 +1,6 @@
-use Rattle.std.proofs.Common.{◌≡◌, ◌⊎◌, ◌<◌, ◌+◌, ℕ, inl, inr, refl, sym, ap, ◌∙◌, arith, List, [], ◌∷◌, Bool, true, false, cond, eqb, ◌&&◌, Option, Some, None, Contains, length}
+use Rattle.std.proofs.Common.{◌≡◌, ◌⊎◌, ◌<◌, ℕ, inl, inr, refl, ap, ◌∙◌, List, Bool, true, false, eqb, ◌&&◌, Option, Some, None, Contains, length}
 use Rattle.std.proofs.lemmas.Bool.{and_from, not_from_false}
-use Rattle.std.proofs.lemmas.List.Elements.{All-contains}
-use Rattle.std.proofs.lemmas.Option.{none-some, same_Some, slice_get-get_or, get_or_from_slice_get, slice_get_within}
+use Rattle.std.proofs.lemmas.Option.{none-some, same_Some, slice_get-get_or}
 use Rattle.std.specs.List.{find, list_any, slice_get}
 use Rattle.std.specs.Option.{option_and_then, option_map, is_some}
 use Rattle.row_model.specs.declared.stands.Stand.{Stand}

@@ -1,19 +1,21 @@
-use Rattle.std.proofs.Common.{◌≡◌, ◌<◌, ◌≤◌, ◌+◌, ◌-◌, ◌==◌, ◌&&◌, ℕ, List, [], ◌∷◌, map, filter, length, Bool, true, false, cond, not, Option, None, Some, is_some, slice_get, refl, ap, ap₂, sym, ◌∙◌, arith}
+use Rattle.std.specs.List.{range_with_len, AllByRecursion, find}
+use Rattle.std.specs.Option.{option_and_then}
+use Rattle.std.proofs.Common.{◌≡◌, ℕ, zero, suc, ◌+◌, ◌<◌, ◌≤◌, map, Some, ap, ◌∙◌, arith, List, [], ◌∷◌, fold, min, max, true, refl, ◌-◌, ◌==◌, ◌&&◌, filter, length, Bool, false, cond, not, Option, None, is_some, slice_get, ap₂, sym}
 use Rattle.std.proofs.lemmas.Bool.{and_from, le-leb, lt-ltb}
 use Rattle.std.proofs.lemmas.List.Elements.{recursion_from_All}
-use Rattle.std.specs.List.{AllByRecursion, find}
-use Rattle.std.specs.Option.{option_and_then}
+use Rattle.list_facts.proofs.Ranges.{image-at, filter-map, map-map, map-same, range-bounds}
 use Rattle.list_facts.proofs.Every.{every-weaker}
-use Rattle.list_facts.proofs.Ranges.{filter-map, image-at, map-map, map-same, range-bounds}
-use Rattle.design_model.specs.Netlist.{IsNetlist, Netlist}
+use Rattle.design_model.specs.Netlist.{Netlist, IsNetlist}
 use Rattle.design_model.specs.declared.design.Pin.{Pin}
-use Rattle.row_model.specs.PinPlaces.{pin_place, pin_place_at}
-use Rattle.row_model.specs.Stands.{row_of}
-use Rattle.row_model.specs.declared.places.PinPlace.{PinPlace}
+use Rattle.row_model.specs.PinPlaces.{pin_column, pin_place, pin_place_at}
+use Rattle.row_model.specs.Stands.{column_of, row_of}
 use Rattle.row_model.specs.declared.rows.Seat.{Seat}
+use Rattle.row_model.specs.declared.places.PinPlace.{PinPlace}
+use Rattle.feed_cells.specs.NetTables.{at_net}
+use Rattle.feed_cells.specs.Crossings.{crossing_of, crossing_of_pins, highest, lowest, pins_of, all_nets, crossed_rows, has_edge, is_across}
+use Rattle.feed_cells.specs.Feeds.{middle_of, middle_of_pins, is_fed, is_pin, passes, through_pin}
+use Rattle.feed_cells.specs.Spans.{crossing_in, joined, middle_in, span_of}
 use Rattle.feed_cells.specs.Channels.{first_channel}
-use Rattle.feed_cells.specs.Crossings.{all_nets, crossed_rows, crossing_of, has_edge, is_across, pins_of}
-use Rattle.feed_cells.specs.Feeds.{is_fed, is_pin, middle_of, passes, through_pin}
 use Rattle.feed_cells.specs.Placement.{first_through, net_place, net_place_in, nets_among, of_net, placed_by, placed_pin, placed_with, placement_of, through_at}
 use Rattle.feed_cells.specs.RowFeeds.{is_fed_by}
 use Rattle.feed_cells.specs.declared.crossing.Crossing.{Crossing}
@@ -22,8 +24,56 @@ use Rattle.feed_cells.specs.declared.net_places.NetPlace.{NetPlace}
 use Rattle.feed_cells.specs.declared.placement.PlacedPin.{PlacedPin}
 use Rattle.feed_cells.specs.declared.placement.Placement.{Placement}
 use Rattle.feed_cells.proofs.CrossingLaws.{across-range}
-use Rattle.feed_cells.proofs.NetTableLaws.{at_net-image}
-use Rattle.feed_cells.proofs.SpanLaws.{span-crossing, span-middle}
+
+-- what a list of the images of nets has for a net
+pub at_net-image : {A : Type 0} (f : ℕ → A) (count net : ℕ) → 0 < net → net ≤ count → at_net (map f (range_with_len 1 count)) net ≡ Some (f net)
+at_net-image f count zero some few = absurd (omega arith)
+at_net-image f count (suc n) some few =
+    image-at f 1 count n (omega arith) ∙ ap (λ (m : ℕ). Some (f m)) (let same : 1 + n ≡ suc n = omega arith in same)
+
+module _ (d : Netlist) (rows : List (List Seat)) where
+  -- two pins and more reach as far as the greatest and the least of their numbers
+  span-many : (floor ceiling left right : ℕ) (ps : List Pin)
+      → fold joined (Some (record { many = true; floor = floor; ceiling = ceiling; left = left; right = right })) (map (pin_place d rows) ps)
+      ≡ Some (record {
+        many = true;
+        floor = fold max floor (map (lowest d rows) ps);
+        ceiling = fold min ceiling (map (highest d rows) ps);
+        left = fold min left (map (column_of d rows) ps);
+        right = fold max right (map (column_of d rows) ps);
+      })
+  unfolding pin_place_at pin_column column_of
+  span-many floor ceiling left right [] = refl
+  span-many floor ceiling left right (p ∷ ps) =
+      span-many (max floor (lowest d rows p)) (min ceiling (highest d rows p)) (min left (column_of d rows p)) (max right (column_of d rows p)) ps
+
+  crossing-span : (ps : List Pin) → crossing_in (span_of (map (pin_place d rows) ps)) ≡ crossing_of_pins d rows ps
+  unfolding pin_place_at pin_column column_of
+  crossing-span [] = refl
+  crossing-span (p ∷ []) = refl
+  crossing-span (p ∷ q ∷ ps) =
+      ap crossing_in (span-many (max (lowest d rows p) (lowest d rows q)) (min (highest d rows p) (highest d rows q))
+      (min (column_of d rows p) (column_of d rows q)) (max (column_of d rows p) (column_of d rows q)) ps)
+
+  middle-span : (ps : List Pin) → middle_in (span_of (map (pin_place d rows) ps)) ≡ middle_of_pins d rows ps
+  unfolding pin_place_at pin_column column_of
+  middle-span [] = refl
+  middle-span (p ∷ []) = refl
+  middle-span (p ∷ q ∷ ps) =
+      ap middle_in (span-many (max (lowest d rows p) (lowest d rows q)) (min (highest d rows p) (highest d rows q))
+      (min (column_of d rows p) (column_of d rows q)) (max (column_of d rows p) (column_of d rows q)) ps)
+
+-- how far a net's pins reach gives its crossing
+pub span-crossing : (d : Netlist) (rows : List (List Seat)) (net : ℕ) → crossing_in (span_of (map (pin_place d rows) (pins_of d net))) ≡ crossing_of d rows net
+unfolding crossing_of
+span-crossing d rows net = crossing-span d rows (pins_of d net)
+
+-- and its middle
+pub span-middle : (d : Netlist) (rows : List (List Seat)) (net : ℕ) → middle_in (span_of (map (pin_place d rows) (pins_of d net))) ≡ middle_of d rows net
+unfolding middle_of
+span-middle d rows net = middle-span d rows (pins_of d net)
+
+pub ruleset span_laws = (span-crossing, span-middle)
 
 -- a net crosses each of the rows that it crosses
 rows-across : (c : Crossing) → AllByRecursion (λ (row : ℕ). is_across c row ≡ true) (crossed_rows c)

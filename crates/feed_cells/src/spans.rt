@@ -11,7 +11,7 @@ use row_model::{Rows, pin_place};
 
 /// Which channels the net with this number, from 1 to the number of nets, stands in. Takes no memory, and steps as the number of pins
 /// times that of cells and of the positions of a cell.
-#[tactic(auto, using(crate::proofs::SpanLaws::span_laws))]
+#[tactic(auto, using(crate::proofs::PlacementLaws::span_laws))]
 pub fn spans_of(design: &Design, rows: &Rows, net: u32) -> Crossing
     requires some { 0 < net }
     requires within { net ≤ length design.now.nets }

@@ -1,21 +1,24 @@
-use Rattle.std.proofs.Common.{◌≡◌, ◌≢◌, ◌<◌, ◌≤◌, ◌⊎◌, ℕ, ◌+◌, List, ◌∷◌, ◌++◌, Bool, true, false, not, refl, ap, sym, ◌∙◌, subst, inl, inr, arith, Contains}
-use Rattle.std.proofs.lemmas.Option.{slice_get_within}
-use Rattle.std.proofs.lemmas.List.Elements.{Contains-append_right}
+use Rattle.std.specs.List.Sorted.{IsStrictlyIncreasing}
 use Rattle.std.specs.List.{slice_get, slice_index}
 use Rattle.std.specs.Option.{option_map}
-use Rattle.list_facts.proofs.Members.{contains-get, member-head}
+use Rattle.std.proofs.Common.{◌≡◌, ◌<◌, ◌≤◌, ℕ, List, length, true, arith, Contains, ◌≢◌, ◌⊎◌, ◌+◌, ◌∷◌, ◌++◌, Bool, false, not, refl, ap, sym, ◌∙◌, subst, inl, inr}
+use Rattle.std.proofs.lemmas.List.Kept.{IsStrictlyIncreasing-filter}
+use Rattle.std.proofs.lemmas.Option.{slice_get_within}
+use Rattle.std.proofs.lemmas.List.Elements.{Contains-append_right}
+use Rattle.list_facts.proofs.Ranges.{range-increasing}
+use Rattle.list_facts.proofs.Members.{contains-range, filter-from, filter-member, range-contains, contains-get, member-head}
 use Rattle.list_facts.proofs.Places.{at-place}
 use Rattle.channel_model.specs.Nets.{AreNets, StandsIn}
 use Rattle.channel_model.specs.Pins.{IsChannel, Pins}
-use Rattle.design_model.specs.Netlist.{IsNetlist, Netlist}
+use Rattle.design_model.specs.Netlist.{Netlist, IsNetlist}
 use Rattle.design_model.specs.declared.design.Pin.{Pin}
 use Rattle.design_model.proofs.DesignPins.{pin-within}
+use Rattle.row_model.specs.declared.rows.Seat.{Seat}
 use Rattle.row_model.specs.Rows.{ArePlaced}
 use Rattle.row_model.specs.Stands.{row_in, row_of}
-use Rattle.row_model.specs.declared.rows.Seat.{Seat}
 use Rattle.row_model.proofs.StandLaws.{stand-is, stand-there}
-use Rattle.feed_cells.specs.Crossings.{crossing_of, has_edge, is_in}
-use Rattle.feed_cells.specs.Fed.{Fed, fed_row, fed_rows, item_width, nets_in}
+use Rattle.feed_cells.specs.Crossings.{all_nets, crossing_of, is_in, has_edge}
+use Rattle.feed_cells.specs.Fed.{nets_in, Fed, fed_row, fed_rows, item_width}
 use Rattle.feed_cells.specs.Feeds.{is_fed}
 use Rattle.feed_cells.specs.Standing.{Stands, feeding, seated}
 use Rattle.feed_cells.specs.Touching.{channel_beside}
@@ -30,11 +33,35 @@ use Rattle.pin_assign.specs.Sources.{IsOver, Source, StandsOver, first_over, lat
 use Rattle.pin_assign.specs.Tables.{table_of}
 use Rattle.pin_assign.proofs.BesideLaws.{StandsBeside, cells-row, feed-beside, feed-item, pin-beside, row-of_stand}
 use Rattle.pin_assign.proofs.EnteringLaws.{entered-is}
-use Rattle.pin_assign.proofs.NetLaws.{IsNetIn, nets-are, nets-from, nets-increasing}
 use Rattle.pin_assign.proofs.PlaceLaws.{TwoPlaces, paired-from-places}
 use Rattle.pin_assign.proofs.StandLaws.{place-cause, place-effect, place-once}
 use Rattle.pin_assign.proofs.TwiceLaws.{cause-inside, enters-twice}
 use Rattle.pin_assign.proofs.WidthLaws.{table-bottom_length, table-top_length}
+
+-- the nets of a channel stand in the order of their numbers
+pub nets-increasing : (d : Netlist) (rows : List (List Seat)) (channel : ℕ) → IsStrictlyIncreasing (nets_in d rows channel)
+nets-increasing d rows channel =
+    IsStrictlyIncreasing-filter (λ (net : ℕ). is_in (crossing_of d rows net) channel) (all_nets d) (range-increasing 1 (length d.nets))
+
+-- they are the design's nets that stand in it
+pub nets-from : (d : Netlist) (rows : List (List Seat)) (channel net : ℕ) → 0 < net → net ≤ length d.nets → is_in (crossing_of d rows net) channel ≡ true
+    → Contains (nets_in d rows channel) net
+nets-from d rows channel net some few is =
+    filter-member (λ (n : ℕ). is_in (crossing_of d rows n) channel) (all_nets d) net (range-contains 1 (length d.nets) net some (omega arith)) is
+
+-- a net of a channel is one of the design's, and stands in the channel
+pub record IsNetIn (d : Netlist) (rows : List (List Seat)) (channel net : ℕ) : Type 0 where
+  pub some : 0 < net
+  pub few : net ≤ length d.nets
+  pub stands : is_in (crossing_of d rows net) channel ≡ true
+
+pub nets-are : (d : Netlist) (rows : List (List Seat)) (channel net : ℕ) → Contains (nets_in d rows channel) net → IsNetIn d rows channel net
+nets-are d rows channel net h =
+    let kept = filter-from (λ (n : ℕ). is_in (crossing_of d rows n) channel) (all_nets d) net h in
+    let range = contains-range 1 (length d.nets) net kept.0 in
+    let low = range.0 in
+    let high = range.1 in
+    record { some = omega arith; few = omega arith; stands = kept.1 }
 
 -- a pin that stands along items is one of the design's
 listed-along : (d : Netlist) (top : Bool) (p : Pin) (items : List Item) (left column : ℕ) → StandsOver d top (of_pin p) items left column → Contains d.pins p

@@ -14,10 +14,9 @@ use Rattle.feed_cells.specs.Sizes.{AreNarrow}
 use Rattle.feed_cells.specs.declared.fed.Item.{Item}
 use Rattle.feed_cells.specs.declared.net_places.NetPlace.{NetPlace}
 use Rattle.feed_cells.specs.declared.placement.Placement.{Placement}
-use Rattle.feed_cells.proofs.FedAnswer.{fed-cells, fed-from, fed-is, places-few}
+use Rattle.feed_cells.proofs.RowFeedLaws.{fed-cells, fed-from, fed-is, places-few, nets-fed}
 use Rattle.feed_cells.proofs.FedWidths.{fed-narrow}
 use Rattle.feed_cells.proofs.PlacementLaws.{placement-nets}
-use Rattle.feed_cells.proofs.RowFeedLaws.{nets-fed}
 use Rattle.feed_cells.proofs.feeding.insert_feeds.Goals as goal
 
 -- the nets of a placement, by the rows as they are lent

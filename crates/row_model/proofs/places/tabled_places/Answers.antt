@@ -1,5 +1,5 @@
 -- The pins of a design are of its instances.
-use Rattle.std.proofs.Common.{◌≡◌, ◌<◌, length, map, rules, ap, subst, ◌∙◌}
+use Rattle.std.proofs.Common.{◌≡◌, ◌<◌, length, rules, subst}
 use Rattle.std.specs.List.{AllByRecursion}
 use Rattle.design_model.proofs.DesignPins.{pins-within}
 use Rattle.design_model.specs.Netlist.{IsNetlist}
