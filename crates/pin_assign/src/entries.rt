@@ -1,8 +1,8 @@
-ghost use Rattle.pin_assign.specs.Tabled.{enters_as, is_laid, laid, laid_entries, tabled_entries};
+ghost use Rattle.pin_assign.specs.Tabled.{enters_as, laid, laid_entries, tabled_entries};
 ghost use Rattle.pin_assign.specs.Tables.{padded};
 ghost use Rattle.std.specs.List.{flat_map};
 ghost use Rattle.std.specs.Option.{option_map};
-ghost use Rattle.std.specs.Prelude.{◌≡◌, ◌++◌, ◌≤◌, ℕ, fold, slice_get, IfOk, OnOk};
+ghost use Rattle.std.specs.Prelude.{◌≡◌, ◌++◌, ℕ, fold, slice_get, IfOk, OnOk};
 
 use design_model::Design;
 use feed_cells::{Crossing, Item, PlacedPin};

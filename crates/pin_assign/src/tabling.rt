@@ -3,7 +3,7 @@ ghost use Rattle.feed_cells.specs.Placement.{placement_of};
 ghost use Rattle.pin_assign.specs.ChannelTables.{AreTablesFor};
 ghost use Rattle.pin_assign.specs.Tabled.{AreTabled, of_instance};
 ghost use Rattle.pin_assign.specs.Tables.{table_of, tables_of};
-ghost use Rattle.std.specs.Prelude.{◌≡◌, ◌<◌, ◌≤◌, ℕ, Some, length, slice_get, IfOk};
+ghost use Rattle.std.specs.Prelude.{◌≡◌, ◌<◌, ◌≤◌, ℕ, Some, slice_get, IfOk};
 
 use crate::entries::row_entries;
 use crate::rows_beside::{items_at, items_below};

@@ -4,7 +4,7 @@ ghost use Rattle.design_model.specs.declared.design.Position.{Position as Place}
 ghost use Rattle.std.specs.List.{find};
 ghost use Rattle.design_model.specs.declared.design.Inst.{Inst};
 ghost use Rattle.std.specs.Option.{option_map};
-ghost use Rattle.std.specs.Prelude.{◌≡◌, ◌==◌, ◌&&◌, ◌<◌, ℕ, Some, length, map, slice_get, IfOk};
+ghost use Rattle.std.specs.Prelude.{◌≡◌, ◌==◌, ◌&&◌, ◌<◌, ℕ, Some, map, slice_get, IfOk};
 
 use crate::widths::kind_of;
 use design_model::{CellKind, Design, Pin, Position};
