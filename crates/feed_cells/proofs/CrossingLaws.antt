@@ -1,17 +1,18 @@
 use Rattle.std.proofs.Common.{◌≡◌, ◌≢◌, ◌⊎◌, ◌<◌, ◌≤◌, ◌+◌, ℕ, inl, inr, refl, sym, subst, ◌∙◌, arith, List, [], ◌∷◌, Bool, true, false, cond, leb, eqb, Contains, length, map}
 use Rattle.std.proofs.lemmas.Bool.{and_from, and_parts, both_ways, cases_eq, eq-eqb, eqb-true, le-leb, leb-false, leb-true, lt-ltb, ltb-true}
+use Rattle.list_facts.proofs.Greatest.{greatest-all, greatest-reached, least-all, least-reached}
+use Rattle.list_facts.proofs.Members.{filter-from, filter-member, member-head}
 use Rattle.design_model.specs.Netlist.{IsNetlist, Netlist}
 use Rattle.design_model.specs.declared.design.Pin.{Pin}
 use Rattle.row_model.specs.Rows.{ArePlaced}
 use Rattle.row_model.specs.Stands.{row_of}
 use Rattle.row_model.specs.declared.rows.Seat.{Seat}
-use Rattle.feed_cells.specs.Crossings.{crossing_of, crossing_of_pins, greatest, has_edge, highest, is_across, is_in, least, lowest, pins_of}
+use Rattle.feed_cells.specs.Crossings.{crossing_between, crossing_of, crossing_of_pins, greatest, has_edge, highest, is_across, is_in, least, lowest, pins_of}
 use Rattle.feed_cells.specs.Feeds.{is_fed}
 use Rattle.feed_cells.specs.Channels.{AllTouch, AreSpread, first_channel, last_channel}
 use Rattle.feed_cells.specs.Touching.{Touches}
 use Rattle.feed_cells.specs.declared.crossing.Crossing.{Crossing}
 use Rattle.feed_cells.specs.declared.crossing.Crossing.TheVariants.{Alone, One, Many}
-use Rattle.feed_cells.proofs.Members.{filter-from, filter-member, greatest-bound, greatest-first, greatest-reached, least-bound, least-first, least-reached, member-cases, member-head}
 use Rattle.feed_cells.proofs.PinEdges.{pin-edge, row-within}
 
 -- the pins of a net are those of the design that have its number
@@ -33,24 +34,6 @@ in-order false false row (inr none) = absurd (both_ways false refl none)
 
 pub pin-ordered : (d : Netlist) (rows : List (List Seat)) → IsNetlist d → (p : Pin) → Contains d.pins p → lowest d rows p ≤ highest d rows p
 pin-ordered d rows good p member = in-order (has_edge d false p) (has_edge d true p) (row_of d rows p.instance) (pin-edge d good p member)
-
--- the lowest channel is the one below the row where there is a position on the lower edge, else the one above it
-low-cases : (bottom : Bool) (row : ℕ) → ((bottom ≡ true) × (cond bottom row (row + 1) ≡ row)) ⊎ ((bottom ≡ false) × (cond bottom row (row + 1) ≡ row + 1))
-low-cases true row = inl (refl, refl)
-low-cases false row = inr (refl, refl)
-
-pub lowest-is : (d : Netlist) (rows : List (List Seat)) (p : Pin)
-    → ((has_edge d false p ≡ true) × (lowest d rows p ≡ row_of d rows p.instance)) ⊎ ((has_edge d false p ≡ false) × (lowest d rows p ≡ row_of d rows p.instance + 1))
-lowest-is d rows p = low-cases (has_edge d false p) (row_of d rows p.instance)
-
--- the highest is the one above the row where there is a position on the upper edge, else the one below it
-high-cases : (top : Bool) (row : ℕ) → ((top ≡ true) × (cond top (row + 1) row ≡ row + 1)) ⊎ ((top ≡ false) × (cond top (row + 1) row ≡ row))
-high-cases true row = inl (refl, refl)
-high-cases false row = inr (refl, refl)
-
-pub highest-is : (d : Netlist) (rows : List (List Seat)) (p : Pin)
-    → ((has_edge d true p ≡ true) × (highest d rows p ≡ row_of d rows p.instance + 1)) ⊎ ((has_edge d true p ≡ false) × (highest d rows p ≡ row_of d rows p.instance))
-highest-is d rows p = high-cases (has_edge d true p) (row_of d rows p.instance)
 
 -- a channel between the two is beside the row, where there is a position
 between-edges : (bottom top : Bool) (row channel : ℕ) → cond bottom row (row + 1) ≤ channel → channel ≤ cond top (row + 1) row
@@ -78,83 +61,53 @@ pub highest-within : (d : Netlist) (rows : List (List Seat)) → ArePlaced d row
 highest-within d rows placed p =
     high-above (has_edge d true p) (row_of d rows p.instance) (length rows) (row-within d rows p.instance placed.some)
 
-module _ (d : Netlist) (rows : List (List Seat)) (first : Pin) (ps : List Pin) where
-  most-low : (p : Pin) → Contains (first ∷ ps) p → lowest d rows p ≤ greatest (lowest d rows first) (map (lowest d rows) ps)
-  most-low p member =
-      elim (member-cases first ps p member) [
-        | inl same ↦ subst (λ (q : Pin). lowest d rows q ≤ greatest (lowest d rows first) (map (lowest d rows) ps)) same (greatest-first (lowest d rows first) (map (lowest d rows) ps))
-        | inr later ↦ greatest-bound (lowest d rows) (lowest d rows first) ps p later
-      ]
+-- one channel, where the greatest lowest channel is not above the least highest one, and else those between
+between-one : (b t c : ℕ) → crossing_between b t ≡ One c → (b ≡ c) × (b ≤ t)
+between-one b t c is = by (leb b t) refl is
+  where
+    by : (within : Bool) → leb b t ≡ within → cond within (One b) (Many t b) ≡ One c → (b ≡ c) × (b ≤ t)
+    by true within is = (cc, leb-true b t within)
+    by false within is = cc
 
-  least-high : (p : Pin) → Contains (first ∷ ps) p → least (highest d rows first) (map (highest d rows) ps) ≤ highest d rows p
-  least-high p member =
-      elim (member-cases first ps p member) [
-        | inl same ↦ subst (λ (q : Pin). least (highest d rows first) (map (highest d rows) ps) ≤ highest d rows q) same (least-first (highest d rows first) (map (highest d rows) ps))
-        | inr later ↦ least-bound (highest d rows) (highest d rows first) ps p later
-      ]
-
-same-one : (a b : ℕ) → One a ≡ One b → a ≡ b
-same-one a b e = cc
-
-same-many : (a b lo hi : ℕ) → Many a b ≡ Many lo hi → (a ≡ lo) × (b ≡ hi)
-same-many a b lo hi e = (cc, cc)
-
-no-one : (lo hi b : ℕ) → Many lo hi ≡ One b → ⊥
-no-one lo hi b e = cc
-
-no-many : (lo hi b : ℕ) → One b ≡ Many lo hi → ⊥
-no-many lo hi b e = cc
-
-alone-one : (b : ℕ) → Alone ≡ One b → ⊥
-alone-one b e = cc
-
-alone-many : (lo hi : ℕ) → Alone ≡ Many lo hi → ⊥
-alone-many lo hi e = cc
+between-many : (b t lo hi : ℕ) → crossing_between b t ≡ Many lo hi → (t ≡ lo) × (b ≡ hi) × (t < b)
+between-many b t lo hi is = by (leb b t) refl is
+  where
+    by : (within : Bool) → leb b t ≡ within → cond within (One b) (Many t b) ≡ Many lo hi → (t ≡ lo) × (b ≡ hi) × (t < b)
+    by true within is = cc
+    by false within is = (cc, cc, leb-false b t within)
 
 -- the pins of a net with one channel
 pub one-channel : (d : Netlist) (rows : List (List Seat)) (pins : List Pin) (b : ℕ) → crossing_of_pins d rows pins ≡ One b → AllTouch d rows pins b
-one-channel d rows [] b is = absurd (alone-one b is)
-one-channel d rows (p ∷ []) b is = absurd (alone-one b is)
-one-channel d rows (p ∷ q ∷ ps) b is = by (leb (greatest (lowest d rows p) (map (lowest d rows) (q ∷ ps))) (least (highest d rows p) (map (highest d rows) (q ∷ ps)))) refl is
-  where
-    by : (t : Bool) → leb (greatest (lowest d rows p) (map (lowest d rows) (q ∷ ps))) (least (highest d rows p) (map (highest d rows) (q ∷ ps))) ≡ t
-        → cond t (One (greatest (lowest d rows p) (map (lowest d rows) (q ∷ ps)))) (Many (least (highest d rows p) (map (highest d rows) (q ∷ ps))) (greatest (lowest d rows p) (map (lowest d rows) (q ∷ ps)))) ≡ One b
-        → AllTouch d rows (p ∷ q ∷ ps) b
-    by true within is =
-        let same = same-one _ b is in
-        let fits = leb-true _ _ within in
-        record {
-          first = p;
-          second = q;
-          others = ps;
-          some = refl;
-          lows = λ x member. let at = most-low d rows p (q ∷ ps) x member in omega (arith, at, same);
-          highs = λ x member. let at = least-high d rows p (q ∷ ps) x member in omega (arith, at, same, fits);
-        }
-    by false within is = absurd (no-one _ _ b is)
+one-channel d rows [] b is = cc
+one-channel d rows (p ∷ []) b is = cc
+one-channel d rows (p ∷ q ∷ ps) b is =
+    let at = between-one _ _ b is in
+    let same = at.0 in
+    let fits = at.1 in
+    record {
+      first = p;
+      second = q;
+      others = ps;
+      some = refl;
+      lows = λ x member. let low = greatest-all (lowest d rows) p (q ∷ ps) x member in omega (arith, low, same);
+      highs = λ x member. let high = least-all (highest d rows) p (q ∷ ps) x member in omega (arith, high, same, fits);
+    }
 
 -- and of one with several
 pub many-channels : (d : Netlist) (rows : List (List Seat)) (pins : List Pin) (lo hi : ℕ) → crossing_of_pins d rows pins ≡ Many lo hi → AreSpread d rows pins lo hi
-many-channels d rows [] lo hi is = absurd (alone-many lo hi is)
-many-channels d rows (p ∷ []) lo hi is = absurd (alone-many lo hi is)
-many-channels d rows (p ∷ q ∷ ps) lo hi is = by (leb (greatest (lowest d rows p) (map (lowest d rows) (q ∷ ps))) (least (highest d rows p) (map (highest d rows) (q ∷ ps)))) refl is
-  where
-    by : (t : Bool) → leb (greatest (lowest d rows p) (map (lowest d rows) (q ∷ ps))) (least (highest d rows p) (map (highest d rows) (q ∷ ps))) ≡ t
-        → cond t (One (greatest (lowest d rows p) (map (lowest d rows) (q ∷ ps)))) (Many (least (highest d rows p) (map (highest d rows) (q ∷ ps))) (greatest (lowest d rows p) (map (lowest d rows) (q ∷ ps)))) ≡ Many lo hi
-        → AreSpread d rows (p ∷ q ∷ ps) lo hi
-    by true within is = absurd (no-many lo hi _ is)
-    by false within is =
-        let same = same-many _ _ lo hi is in
-        let apart = leb-false _ _ within in
-        let bottom = least-reached (highest d rows) p (q ∷ ps) in
-        let peak = greatest-reached (lowest d rows) p (q ∷ ps) in
-        record {
-          ordered = omega (arith, apart, same.0, same.1);
-          lows = λ x member. let at = most-low d rows p (q ∷ ps) x member in omega (arith, at, same.1);
-          highs = λ x member. let at = least-high d rows p (q ∷ ps) x member in omega (arith, at, same.0);
-          under = (bottom.0, bottom.1, bottom.2 ∙ same.0);
-          over = (peak.0, peak.1, peak.2 ∙ same.1);
-        }
+many-channels d rows [] lo hi is = cc
+many-channels d rows (p ∷ []) lo hi is = cc
+many-channels d rows (p ∷ q ∷ ps) lo hi is =
+    let at = between-many _ _ lo hi is in
+    let bottom = least-reached (highest d rows) p (q ∷ ps) in
+    let peak = greatest-reached (lowest d rows) p (q ∷ ps) in
+    record {
+      ordered = omega (arith, at.0, at.1, at.2);
+      lows = λ x member. let low = greatest-all (lowest d rows) p (q ∷ ps) x member in omega (arith, low, at.1);
+      highs = λ x member. let high = least-all (highest d rows) p (q ∷ ps) x member in omega (arith, high, at.0);
+      under = (bottom.0, bottom.1, bottom.2 ∙ at.0);
+      over = (peak.0, peak.1, peak.2 ∙ at.1);
+    }
 
 -- the channels of a net go from the first up to the last, and the last is at most that above the last row
 pub channels-ordered : (d : Netlist) (rows : List (List Seat)) (net : ℕ) → first_channel (crossing_of d rows net) ≤ last_channel (crossing_of d rows net)

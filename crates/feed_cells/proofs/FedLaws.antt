@@ -1,11 +1,12 @@
-use Rattle.std.proofs.Common.{◌≡◌, ◌⊎◌, ◌<◌, ◌≤◌, ◌+◌, ◌-◌, ◌++◌, ℕ, zero, suc, inl, inr, refl, sym, subst, ap, ◌∙◌, arith, List, [], ◌∷◌, eqb, ltb, ◌&&◌, Option, Some, None, Contains, length, filter, map}
+use Rattle.std.proofs.Common.{◌≡◌, ◌⊎◌, ◌≤◌, ◌+◌, ◌++◌, ℕ, zero, suc, inl, inr, refl, sym, subst, ap, ◌∙◌, arith, List, [], ◌∷◌, eqb, ltb, ◌&&◌, Option, Some, None, Contains, length, filter, map}
 use Rattle.std.proofs.lemmas.Bool.{and_from, and_parts, cases_eq, eq-eqb}
 use Rattle.std.proofs.lemmas.List.Elements.{Contains-append_cases, Contains-append_left, Contains-append_right, filter_map-append}
-use Rattle.std.proofs.lemmas.List.FromFn.{get_or-range_with_len, length-range_with_len}
 use Rattle.std.proofs.lemmas.List.Sums.{count_by-le-length}
 use Rattle.std.proofs.lemmas.Option.{get_or_from_slice_get, none-some, same_Some, slice_get_within}
 use Rattle.std.specs.List.{slice_get}
 use Rattle.std.specs.Option.{option_map}
+use Rattle.list_facts.proofs.Greatest.{greatest-bound}
+use Rattle.list_facts.proofs.Members.{contains-range, range-contains, filter-from, filter-member, map-cases, map-member, member-cases, member-head, member-tail}
 use Rattle.design_model.specs.Netlist.{Netlist}
 use Rattle.row_model.specs.Widths.{columns_of}
 use Rattle.row_model.specs.declared.rows.Seat.{Seat}
@@ -15,7 +16,6 @@ use Rattle.feed_cells.specs.Feeds.{feed_place, is_fed, lefts_of, middle_of}
 use Rattle.feed_cells.specs.Standing.{IsFeed, Stands, seated, feeding}
 use Rattle.feed_cells.specs.declared.fed.Item.{Item}
 use Rattle.feed_cells.specs.declared.fed.Item.TheVariants.{Cell, Feed}
-use Rattle.feed_cells.proofs.Members.{filter-from, filter-member, greatest-bound, map-cases, map-member, member-cases, member-head, member-tail}
 
 -- feeds have no seats
 feeds-seatless : (nets : List ℕ) → seats_in (map Feed nets) ≡ []
@@ -76,30 +76,14 @@ pub fed-long : (d : Netlist) (rows : List (List Seat)) → length (fed_rows d ro
 unfolding fed_rows
 fed-long d rows = fed_from-long d rows 0 rows
 
--- the numbers of nets
-pub net-listed : (d : Netlist) (net : ℕ) → 1 ≤ net → net ≤ length d.nets → Contains (all_nets d) net
-net-listed d net some few =
-    let below : net - 1 < length d.nets = omega arith in
-    let long : length (all_nets d) ≡ length d.nets = length-range_with_len 1 (length d.nets) in
-    let at : 1 + (net - 1) ≡ net = omega arith in
-    (net - 1, omega arith, get_or-range_with_len 1 (length d.nets) (net - 1) net below ∙ at)
-
-pub listed-net : (d : Netlist) (net : ℕ) → Contains (all_nets d) net → (1 ≤ net) × (net ≤ length d.nets)
-listed-net d net member =
-    let long : length (all_nets d) ≡ length d.nets = length-range_with_len 1 (length d.nets) in
-    let place : ℕ = member.0 in
-    let inside : place < length (all_nets d) = member.1 in
-    let below : place < length d.nets = omega arith in
-    let at : 1 + place ≡ net = sym (get_or-range_with_len 1 (length d.nets) place net below) ∙ member.2 in
-    (omega arith, omega arith)
-
 feed-stands : (d : Netlist) (rows : List (List Seat)) (row : ℕ) (seats rest : List Seat) (place : ℕ) (item : Item) → Contains (feeds_at d rows row seats place) item
     → Stands d rows row rest item
 feed-stands d rows row seats rest place item member =
     let from = map-cases Feed (filter (λ (net : ℕ). is_fed d rows row net && eqb (feed_place d rows seats net) place) (all_nets d)) item member in
     let kept = filter-from (λ (net : ℕ). is_fed d rows row net && eqb (feed_place d rows seats net) place) (all_nets d) from.0 from.1 in
-    let ranged = listed-net d from.0 kept.0 in
-    feeding from.0 (record { fed = (and_parts _ _ kept.1).0; some = ranged.0; few = ranged.1 }) (sym from.2)
+    let ranged = contains-range 1 (length d.nets) from.0 kept.0 in
+    let below = ranged.1 in
+    feeding from.0 (record { fed = (and_parts _ _ kept.1).0; some = ranged.0; few = omega arith }) (sym from.2)
 
 items-stand : (d : Netlist) (rows : List (List Seat)) (row : ℕ) (seats : List Seat) (place : ℕ) (rest : List Seat) (item : Item)
     → Contains (items_from d rows row seats place rest) item → Stands d rows row rest item
@@ -150,7 +134,7 @@ feed-among : (d : Netlist) (rows : List (List Seat)) (row : ℕ) (seats : List S
 feed-among d rows row seats place net feed at =
     map-member Feed (filter (λ (net : ℕ). is_fed d rows row net && eqb (feed_place d rows seats net) place) (all_nets d)) net
     (filter-member (λ (net : ℕ). is_fed d rows row net && eqb (feed_place d rows seats net) place) (all_nets d) net
-    (net-listed d net feed.some feed.few) (and_from _ _ feed.fed (eq-eqb (feed_place d rows seats net) place at)))
+    (range-contains 1 (length d.nets) net feed.some (let few = feed.few in omega arith)) (and_from _ _ feed.fed (eq-eqb (feed_place d rows seats net) place at)))
 
 items-feed : (d : Netlist) (rows : List (List Seat)) (row : ℕ) (seats : List Seat) (place : ℕ) (rest : List Seat) (net : ℕ) → IsFeed d rows row net
     → place ≤ feed_place d rows seats net → feed_place d rows seats net ≤ place + length rest
@@ -181,7 +165,8 @@ items-feed d rows row seats place (s ∷ rest) net feed from to =
         (member-tail (Cell s) (items_from d rows row seats (place + 1) rest) (Feed net)
         (more (above (feed_place d rows seats net) from other)))
 
-lefts-long : (d : Netlist) (left : ℕ) (seats : List Seat) → length (lefts_of d left seats) ≡ length seats
+-- a row has as many first columns as seats
+pub lefts-long : (d : Netlist) (left : ℕ) (seats : List Seat) → length (lefts_of d left seats) ≡ length seats
 lefts-long d left [] = refl
 lefts-long d left (s ∷ seats) = ap suc (lefts-long d (left + columns_of d s.instance) seats)
 

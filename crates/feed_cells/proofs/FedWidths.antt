@@ -1,14 +1,12 @@
-use Rattle.std.proofs.Common.{◌≡◌, ℕ, ◌+◌, ◌*◌, ◌≤◌, ◌==◌, ◌&&◌, zero, suc, List, [], ◌∷◌, ◌++◌, map, filter, length, Option, None, Some, slice_get, arith, refl, sym}
-use Rattle.std.specs.List.{AllByRecursion}
-use Rattle.std.specs.Option.{option_and_then}
-use Rattle.std.proofs.lemmas.List.Elements.{recursion_from_All}
+use Rattle.std.proofs.Common.{◌≡◌, ℕ, ◌+◌, ◌*◌, ◌≤◌, ◌==◌, ◌&&◌, List, [], ◌∷◌, ◌++◌, map, filter, length, arith, refl, sym}
 use Rattle.std.proofs.lemmas.List.FromFn.{length-range_with_len}
 use Rattle.std.proofs.lemmas.List.Sums.{sum_by-cons}
-use Rattle.design_model.specs.Netlist.{Netlist, IsKind, IsNetlist}
-use Rattle.design_model.specs.declared.design.CellKind.{CellKind}
-use Rattle.design_model.specs.declared.design.Inst.{Inst}
-use Rattle.row_model.specs.Widths.{columns_of, width_of}
+use Rattle.design_model.proofs.DesignPins.{nets-few}
+use Rattle.list_facts.proofs.Counts.{filter-short}
+use Rattle.design_model.specs.Netlist.{Netlist, IsNetlist}
+use Rattle.row_model.specs.Widths.{columns_of}
 use Rattle.row_model.specs.declared.rows.Seat.{Seat}
+use Rattle.row_model.proofs.WidthLaws.{columns-few}
 use Rattle.feed_cells.specs.Crossings.{all_nets}
 use Rattle.feed_cells.specs.Fed.{feeds_at, fed_from, item_width, items_from, items_width}
 use Rattle.feed_cells.specs.Feeds.{feed_place, is_fed}
@@ -16,23 +14,9 @@ use Rattle.row_model.specs.NearStands.{AreShort}
 use Rattle.feed_cells.specs.Sizes.{AreNarrow}
 use Rattle.feed_cells.specs.declared.fed.Item.{Item}
 use Rattle.feed_cells.specs.declared.fed.Item.TheVariants.{Cell, Feed}
-use Rattle.feed_cells.proofs.FewNets.{filter-short, nets-few}
-
--- an instance is at most 100,000,000 columns wide
-kinds-few : (kinds : List CellKind) → AllByRecursion IsKind kinds → (k : ℕ) → width_of (slice_get kinds k) ≤ 100000000
-kinds-few [] are k = omega arith
-kinds-few (x ∷ xs) are zero = are.0.few
-kinds-few (x ∷ xs) are (suc k) = kinds-few xs are.1 k
-
-columns-few : (d : Netlist) → IsNetlist d → (instance : ℕ) → columns_of d instance ≤ 100000000
-columns-few d is instance = by (slice_get d.instances instance)
-  where
-    by : (o : Option Inst) → width_of (option_and_then (λ (i : Inst). slice_get d.kinds i.kind) o) ≤ 100000000
-    by None = omega arith
-    by (Some i) = kinds-few d.kinds (recursion_from_All IsKind d.kinds is.kinds) i.kind
 
 -- the width of items one behind the other
-width-cons : (d : Netlist) (item : Item) (items : List Item) → items_width d (item ∷ items) ≡ item_width d item + items_width d items
+pub width-cons : (d : Netlist) (item : Item) (items : List Item) → items_width d (item ∷ items) ≡ item_width d item + items_width d items
 width-cons d item items = sum_by-cons (λ (n : ℕ). n) (item_width d item) (map (item_width d) items)
 
 width-append : (d : Netlist) (xs ys : List Item) → items_width d (xs ++ ys) ≡ items_width d xs + items_width d ys

@@ -1,5 +1,3 @@
--- members of lists, and the greatest and the least of them
-pub mod Members
 -- each pin has a position on an edge, and stands in a row
 pub mod PinEdges
 -- the channels that nets stand in, and the pins that touch them
@@ -8,22 +6,9 @@ pub mod CrossingLaws
 pub mod FedLaws
 -- nets that stand in channels, and nets that are alone
 pub mod NetLaws
--- lists by the numbers of nets
-pub mod NetTableLaws
--- the span of a net gives its crossing and its middle, and its leaders by which pin it crosses rows
-pub mod SpanLaws
-pub mod LeaderLaws
--- the pins and nets of a placement
+-- how far the pins of a net reach, and the pins and nets of a placement
 pub mod PlacementLaws
--- the parts of the answer are those of the definition
-pub mod FedAnswer
 -- how wide rows with feeds can be
 pub mod FedWidths
--- a design has no more nets than pins
-pub mod FewNets
--- the feeds of a row by tables are those of the definition
+-- the rows with feeds, their widths and their nets are those of the definition
 pub mod RowFeedLaws
--- how many nets stand in each channel, counted net by net
-pub mod CountLaws
--- how many elements pass a test that the first ones pass
-pub mod Counting

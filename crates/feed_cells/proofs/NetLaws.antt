@@ -1,6 +1,7 @@
 use Rattle.std.proofs.Common.{◌≡◌, ◌≢◌, ◌<◌, ◌≤◌, ◌+◌, ℕ, inl, inr, refl, sym, subst, ◌∙◌, arith, List, [], ◌∷◌, true, false, Contains, length}
 use Rattle.std.proofs.lemmas.Bool.{both_ways}
 use Rattle.std.proofs.lemmas.List.Elements.{All-contains}
+use Rattle.list_facts.proofs.Members.{member-cases, member-head}
 use Rattle.design_model.specs.Netlist.{IsNetlist, Netlist}
 use Rattle.design_model.specs.declared.design.Pin.{Pin}
 use Rattle.row_model.specs.Rows.{ArePlaced}
@@ -14,7 +15,6 @@ use Rattle.feed_cells.specs.declared.crossing.Crossing.TheVariants.{Alone, One, 
 use Rattle.feed_cells.specs.declared.fed.Item.TheVariants.{Feed}
 use Rattle.feed_cells.proofs.CrossingLaws.{across-range, channels-within, fed-across, from-range, in-net, of-net, stands-in}
 use Rattle.feed_cells.proofs.FedLaws.{feed-there}
-use Rattle.feed_cells.proofs.Members.{member-cases, member-head}
 
 -- a net that stands in a channel, or crosses a row, is not alone
 pub inside-stands : (c : Crossing) (channel : ℕ) → is_in c channel ≡ true → c ≢ Alone

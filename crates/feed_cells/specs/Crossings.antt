@@ -1,4 +1,4 @@
-use Rattle.std.specs.Prelude.{◌==◌, ℕ, ◌+◌, List, [], ◌∷◌, map, fold, filter, length, min, max, Bool, true, false, ◌&&◌, if◌then◌else◌, nat_le, nat_lt, is_some}
+use Rattle.std.specs.Prelude.{◌==◌, ℕ, ◌+◌, ◌-◌, List, [], ◌∷◌, map, fold, filter, length, min, max, Bool, true, false, ◌&&◌, if◌then◌else◌, nat_le, nat_lt, is_some}
 use Rattle.std.specs.List.{range_with_len}
 use Rattle.design_model.specs.Netlist.{Netlist}
 use Rattle.design_model.specs.declared.design.Pin.{Pin}
@@ -58,3 +58,9 @@ abbrev pub is_across : Crossing → ℕ → Bool
 is_across Alone row = false
 is_across (One b) row = false
 is_across (Many lo hi) row = nat_le lo row && nat_lt row hi
+
+-- the rows that a net crosses, from the lowest up
+abbrev pub crossed_rows : Crossing → List ℕ
+crossed_rows Alone = []
+crossed_rows (One b) = []
+crossed_rows (Many lo hi) = range_with_len lo (hi - lo)

@@ -1,5 +1,5 @@
-use Rattle.std.specs.Prelude.{◌==◌, ℕ, ◌+◌, ◌/◌, List, [], ◌∷◌, map, Bool, true, false, ◌&&◌, not, Option, None, Some, count_by, nat_lt}
-use Rattle.std.specs.List.{find, list_any}
+use Rattle.std.specs.Prelude.{◌==◌, ℕ, ◌+◌, ◌/◌, List, [], ◌∷◌, map, Bool, true, false, ◌&&◌, not, if◌then◌else◌, Option, None, Some, is_some, count_by, nat_lt}
+use Rattle.std.specs.List.{find}
 use Rattle.design_model.specs.Netlist.{Netlist}
 use Rattle.design_model.specs.declared.design.Pin.{Pin}
 use Rattle.row_model.specs.Stands.{row_of, column_of}
@@ -7,13 +7,13 @@ use Rattle.row_model.specs.Widths.{columns_of}
 use Rattle.row_model.specs.declared.rows.Seat.{Seat}
 use Rattle.feed_cells.specs.Crossings.{has_edge, pins_of, greatest, least, crossing_of, is_across}
 
--- whether a pin is of a net, stands in a row and has positions on both edges of its cell
-abbrev pub leads_through : Netlist → List (List Seat) → ℕ → ℕ → Pin → Bool
-leads_through d rows net row p = p.net == net && row_of d rows p.instance == row && has_edge d false p && has_edge d true p
+-- whether a pin is of a net, stands in a row and passes it: has positions on both edges of its cell
+abbrev pub passes : Netlist → List (List Seat) → ℕ → ℕ → Pin → Bool
+passes d rows net row p = p.net == net && (row_of d rows p.instance == row && (has_edge d false p && has_edge d true p))
 
--- the pin by which a net crosses a row: the first that leads through, if one does
-abbrev pub leader : Netlist → List (List Seat) → ℕ → ℕ → Option Pin
-leader d rows net row = find (leads_through d rows net row) d.pins
+-- the through pin of a net in a row that the net crosses: the first that passes the row, if one does
+abbrev pub through_pin : Netlist → List (List Seat) → ℕ → ℕ → Option Pin
+through_pin d rows net row = if is_across (crossing_of d rows net) row then find (passes d rows net row) d.pins else None
 
 -- whether two pins are one: no two pins have one terminal of one instance
 abbrev pub is_pin : Pin → Option Pin → Bool
@@ -21,12 +21,12 @@ is_pin p None = false
 is_pin p (Some q) = p.instance == q.instance && p.terminal == q.terminal
 
 -- whether a pin's net crosses the pin's row by this pin
-abbrev pub is_leader : Netlist → List (List Seat) → Pin → Bool
-is_leader d rows p = is_across (crossing_of d rows p.net) (row_of d rows p.instance) && is_pin p (leader d rows p.net (row_of d rows p.instance))
+abbrev pub is_through_pin : Netlist → List (List Seat) → Pin → Bool
+is_through_pin d rows p = is_pin p (through_pin d rows p.net (row_of d rows p.instance))
 
--- whether a net crosses a row by a feed
+-- whether a net crosses a row by a feed: it has no through pin there
 abbrev pub is_fed : Netlist → List (List Seat) → ℕ → ℕ → Bool
-is_fed d rows row net = is_across (crossing_of d rows net) row && not (list_any (leads_through d rows net row) d.pins)
+is_fed d rows row net = is_across (crossing_of d rows net) row && not (is_some (through_pin d rows net row))
 
 -- the middle of the columns of pins
 abbrev pub middle_of_pins : Netlist → List (List Seat) → List Pin → ℕ

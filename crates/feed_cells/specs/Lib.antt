@@ -6,19 +6,15 @@ pub mod Touching
 pub mod Channels
 -- which net crosses which row by what, and where a feed stands
 pub mod Feeds
--- where the pins and nets of a design in rows stand
+-- where the pins and nets of a design in rows stand, and how far the pins of a net reach
 pub mod Placement
-pub mod PlacementLists
-pub mod PlacementView
+pub mod Spans
+pub mod NetTables
 -- rows with their feeds
 pub mod Fed
 pub mod FedView
 -- what stands in a row with its feeds
 pub mod Standing
--- how far the pins of a net reach, and by what it crosses rows, taken up pin by pin
-pub mod Spans
-pub mod Leaders
-pub mod NetTables
 -- the feeds of a row by tables
 pub mod RowFeeds
 -- how wide rows are, and how many nets channels have

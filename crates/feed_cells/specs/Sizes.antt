@@ -1,10 +1,10 @@
-use Rattle.std.specs.Prelude.{◌≡◌, ℕ, ◌<◌, ◌≤◌, ◌+◌, ◌^◌, List, Bool, true, false, Some, length, map, filter, slice_get}
-use Rattle.std.specs.List.{AllByRecursion, range_with_len}
+use Rattle.std.specs.Prelude.{◌≡◌, ℕ, ◌<◌, ◌≤◌, ◌+◌, ◌^◌, List, Bool, true, false, Some, length, filter, slice_get}
+use Rattle.std.specs.List.{AllByRecursion}
 use Rattle.design_model.specs.Netlist.{Netlist}
 use Rattle.feed_cells.specs.Crossings.{is_in}
 use Rattle.feed_cells.specs.Fed.{items_width}
 use Rattle.feed_cells.specs.declared.fed.Item.{Item}
-use Rattle.feed_cells.specs.declared.placement.NetPlace.{NetPlace}
+use Rattle.feed_cells.specs.declared.net_places.NetPlace.{NetPlace}
 
 -- rows whose widths in columns are below 2 ^ 64
 abbrev pub AreNarrow : Netlist → List (List Item) → Type 0
@@ -13,10 +13,6 @@ AreNarrow d rows = AllByRecursion (λ (items : List Item). items_width d items <
 -- how many nets stand in a channel
 abbrev pub count_in : List NetPlace → ℕ → ℕ
 count_in nets channel = length (filter (λ (n : NetPlace). is_in n.crossing channel) nets)
-
--- how many nets stand in each of so many channels from one on
-abbrev pub counts_in : List NetPlace → ℕ → ℕ → List ℕ
-counts_in nets channel n = map (count_in nets) (range_with_len channel n)
 
 -- numbers that stay within 200,000 when so many are added to each
 abbrev pub HaveRoom : ℕ → List ℕ → Type 0

@@ -5,16 +5,15 @@ ghost use Rattle.std.specs.Prelude.{◌≡◌, IfOk};
 
 use crate::fed::FedRows;
 use crate::fed_rows::fed_rows;
-use crate::led_rows::led_rows;
 use crate::placement::Placement;
-use crate::row_feeds::nets_by_row;
+use crate::row_feeds::feeds_by_row;
 use crate::totals::{counts_in, greatest_width};
 use design_model::Design;
 use geom_core::Items;
 use row_model::Rows;
 use std::alloc::{AllocError, Global};
 
-/// The rows with a feed wherever a net crosses a row in which no pin of it leads through, by where the pins and nets of the design stand: before the first
+/// The rows with a feed wherever a net crosses a row in which it has no through pin, by where the pins and nets of the design stand: before the first
 /// cell that does not begin left of the middle of the net's pins, or behind the last; feeds at one place in the order of their nets. Then the width of the
 /// widest row, and how many nets stand in each channel. The cells stand as before. The one error is want of memory.
 pub fn insert_feeds(
@@ -32,15 +31,14 @@ pub fn insert_feeds(
     // The bounds of the design's type are known once a field is read.
     let _pins = &design.pins;
     let rows = rows.rows.items();
-    let places = placement.nets.items();
-    let led = led_rows(alloc, places.len(), placement.pins.items())?;
-    let across = nets_by_row(alloc, rows.len(), places, led.as_slice())?;
-    let fed = fed_rows(alloc, design, rows, across.as_slice(), places)?;
+    let nets = placement.nets.items();
+    let feeds = feeds_by_row(alloc, rows.len(), nets)?;
+    let fed = fed_rows(alloc, design, rows, &feeds, nets)?;
     let width = greatest_width(design, fed.as_slice());
-    let nets = counts_in(alloc, rows, places)?;
+    let counts = counts_in(alloc, rows.len() + 1, nets)?;
     Ok(FedRows {
         rows: Items::new(fed),
         width,
-        nets: Items::new(nets),
+        nets: Items::new(counts),
     })
 }

@@ -1,12 +1,11 @@
-//! Feed cells: where a net crosses a row in which no pin of it leads through, a feed takes it to the other side.
+//! Feed cells: where a net crosses a row in which it has no through pin, a feed takes it to the other side.
 #![tactic(auto)]
 
 mod crossing;
 mod fed;
 mod fed_rows;
 mod feeding;
-mod leaders;
-mod led_rows;
+mod net_places;
 mod net_spans;
 mod placement;
 mod places;
@@ -18,5 +17,6 @@ mod totals;
 pub use crossing::Crossing;
 pub use fed::{FedRows, Item};
 pub use feeding::insert_feeds;
-pub use placement::{NetPlace, PlacedPin, Placement, place};
+pub use net_places::NetPlace;
+pub use placement::{PlacedPin, Placement, place};
 pub use spans::spans_of;

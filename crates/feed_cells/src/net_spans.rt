@@ -1,12 +1,8 @@
-ghost use Rattle.feed_cells.specs.Spans.{crossing_in, joined, middle_in, span_among, span_with};
-ghost use Rattle.feed_cells.specs.declared.net_spans.NetSpan.{NetSpan as Span};
-ghost use Rattle.std.specs.List.{range_with_len};
-ghost use Rattle.std.specs.Option.{option_map};
-ghost use Rattle.std.specs.Prelude.{◌≡◌, ◌<◌, ◌+◌, ℕ, Option, Some, fold, length, map, slice_get, IfOk};
+ghost use Rattle.feed_cells.specs.Spans.{crossing_in, joined, middle_in, span_of};
+ghost use Rattle.std.specs.Prelude.{◌≡◌};
 
 use crate::crossing::Crossing;
 use row_model::PinPlace;
-use std::alloc::{AllocError, Global};
 
 /// How far the pins of a net reach: whether they are two or more, the greatest of their lowest channels, the least of their highest ones, and their
 /// least and greatest column.
@@ -20,25 +16,32 @@ pub struct NetSpan {
 }
 
 /// How far pins reach together with one more, if there were any.
-pub fn joined(span: Option<NetSpan>, pin: PinPlace) -> NetSpan
+pub fn joined(span: Option<NetSpan>, pin: PinPlace) -> Option<NetSpan>
     ensures { result ≡ joined span pin }
 {
     let Some(span) = span else {
-        return NetSpan {
+        return Some(NetSpan {
             many: false,
             floor: pin.lowest(),
             ceiling: pin.highest(),
             left: pin.column,
             right: pin.column,
-        };
+        });
     };
-    NetSpan {
+    Some(NetSpan {
         many: true,
         floor: span.floor.max(pin.lowest()),
         ceiling: span.ceiling.min(pin.highest()),
         left: span.left.min(pin.column),
         right: span.right.max(pin.column),
-    }
+    })
+}
+
+/// How far pins reach, if there are any.
+pub fn span_of(pins: &[PinPlace]) -> Option<NetSpan>
+    ensures { result ≡ span_of pins.now }
+{
+    pins.iter().fold(None, |span, pin| joined(span, *pin))
 }
 
 /// Which channels a net stands in whose pins reach so far.
@@ -67,41 +70,5 @@ pub fn middle_in(span: Option<NetSpan>) -> u64
     match span {
         Some(span) => ((u128::from(span.left) + u128::from(span.right)) / 2) as u64,
         None => 0,
-    }
-}
-
-/// How far the pins of each of so many nets reach, which are numbered from 1 on. The one error is want of memory.
-#[tactic(auto, unfolding(crate::specs::Spans::span_among))]
-pub fn net_spans(
-    alloc: Global,
-    nets: usize,
-    pins: &[PinPlace],
-) -> Result<Vec<Option<NetSpan>>, AllocError>
-    ensures long { IfOk result (λ v. length v.items ≡ nets) }
-    ensures each { IfOk result (λ v. (i : ℕ) → i < nets → slice_get v.items i ≡ Some (span_among (i + 1) pins.now)) }
-{
-    let mut spans = vec![in alloc; None; nets]?;
-    join_all(spans.as_mut_slice(), pins);
-    Ok(spans)
-}
-
-// Joins each of these pins to the span of its net.
-fn join_all(spans: &mut [Option<NetSpan>], pins: &[PinPlace])
-    ensures { (i : ℕ) → slice_get spans.new i ≡ option_map (λ (s : Option Span). fold (span_with (i + 1)) s pins.now) (slice_get spans.old i) }
-{
-    let mut rest = pins;
-    while let Some((pin, after)) = rest.split_first() {
-        join(spans, *pin);
-        rest = after;
-    }
-}
-
-// Joins a pin to the span of its net.
-fn join(spans: &mut [Option<NetSpan>], pin: PinPlace)
-    ensures { (i : ℕ) → slice_get spans.new i ≡ option_map (λ (s : Option Span). span_with (i + 1) s pin) (slice_get spans.old i) }
-{
-    let n = pin.pin.net as usize;
-    if 0 < n && n <= spans.len() {
-        spans[n - 1] = Some(joined(spans[n - 1], pin));
     }
 }

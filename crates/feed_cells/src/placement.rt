@@ -1,128 +1,129 @@
-ghost use Rattle.feed_cells.specs.Placement.{crossing_there, net_place_in, placed_by, placement_of};
+ghost use Rattle.feed_cells.specs.Feeds.{is_pin};
+ghost use Rattle.feed_cells.specs.NetTables.{at_net};
+ghost use Rattle.feed_cells.specs.Placement.{nets_among, of_net, placed_by, placement_of};
 ghost use Rattle.row_model.specs.Rows.{ArePlaced};
-ghost use Rattle.std.specs.Prelude.{◌≡◌, map, IfOk};
+ghost use Rattle.std.specs.Option.{option_map};
+ghost use Rattle.std.specs.Prelude.{◌≡◌, ◌≤◌, ◌<◌, ℕ, Some, map, slice_get, IfOk};
 
 use crate::crossing::Crossing;
-use crate::leaders::{Leaders, leaders_of, leads};
-use crate::net_spans::{NetSpan, crossing_in, middle_in, net_spans};
-use design_model::Design;
+use crate::net_places::{NetPlace, net_place};
+use design_model::{Design, Pin};
 use geom_core::Items;
+use list_facts::Lists;
 use row_model::{PinPlace, Rows, pin_places};
 use std::alloc::{AllocError, Global};
-use std::marker::Model;
 
-/// A pin with where it stands, which channels its net stands in, and whether its net crosses its row by it.
+/// A pin with where it stands, which channels its net stands in, and whether it is the through pin of its net in its row.
 #[derive(Clone, Copy, Debug, Drop)]
 pub struct PlacedPin {
     pub place: PinPlace,
     pub crossing: Crossing,
-    pub leads: bool,
+    pub through: bool,
 }
 
-/// Which channels a net stands in, and the middle of the columns of its pins, in rows without feeds.
-#[derive(Clone, Copy, Debug, Drop)]
-pub struct NetPlace {
-    pub crossing: Crossing,
-    pub middle: u64,
-}
-
-/// Where the pins and the nets of a design in rows stand: the pins in their order, and the nets in that of their numbers, from 1 on. Contracts see the lists.
+/// Where the pins and the nets of a design in rows stand: the pins in their order, and the nets in that of their numbers, from 1 on.
 #[derive(Debug, Drop)]
 pub struct Placement {
     pub pins: Items<PlacedPin>,
     pub nets: Items<NetPlace>,
 }
 
-impl Model for Placement {
-    ghost use Rattle.feed_cells.specs.PlacementLists.{PlacementLists};
-    ghost use Rattle.feed_cells.specs.PlacementView.{lists_in};
-
-    ghost Value = { PlacementLists };
-
-    ghost view = { lists_in };
-}
-
 /// Where the pins and nets of a design in rows stand. The one error is want of memory; steps as the number of pins, positions, cells and nets, and for each
-/// pin with positions on both edges as the number of rows in which its net has others.
+/// pin as the number of rows that its net crosses.
 pub fn place(alloc: Global, design: &Design, rows: &Rows) -> Result<Placement, AllocError>
     requires { ArePlaced design.now rows.now }
     ensures { IfOk result (λ placement. placement ≡ placement_of design.now rows.now) }
 {
     // The bounds of the design's type are known once a field is read.
     let _pins = &design.pins;
-    let count = design.nets.items().len();
     let places = pin_places(alloc, design, rows)?;
-    let spans = net_spans(alloc, count, places.as_slice())?;
-    let nets = net_places(alloc, spans.as_slice())?;
-    let leaders = leaders_of(alloc, count, places.as_slice())?;
-    let pins = placed_pins(
-        alloc,
-        places.as_slice(),
-        nets.as_slice(),
-        leaders.as_slice(),
-    )?;
+    let count = design.nets.items().len();
+    let nets = net_places(alloc, count, places.as_slice())?;
+    let pins = placed_pins(alloc, nets.as_slice(), places.as_slice())?;
     Ok(Placement {
         pins: Items::new(pins),
         nets: Items::new(nets),
     })
 }
 
-// The nets by how far their pins reach.
-fn net_places(alloc: Global, spans: &[Option<NetSpan>]) -> Result<Vec<NetPlace>, AllocError>
-    ensures { IfOk result (λ v. v.items ≡ map net_place_in spans.now) }
+// Where so many nets stand, by where all pins do.
+fn net_places(alloc: Global, count: usize, pins: &[PinPlace]) -> Result<Vec<NetPlace>, AllocError>
+    requires { count ≤ 200000 }
+    ensures { IfOk result (λ v. v.items ≡ nets_among pins.now count) }
 {
+    let lists = pins_by_net(alloc, count + 1, pins)?;
     let mut nets = Vec::new(alloc);
-    let mut rest = spans;
-    while let Some((span, after)) = rest.split_first() {
-        nets.push(NetPlace {
-            crossing: crossing_in(*span),
-            middle: middle_in(*span),
-        })?;
-        rest = after;
+    for net in 1..count + 1 {
+        nets.push(net_place(alloc, lists.at(net))?)?;
     }
     Ok(nets)
 }
 
-// The pins with the crossings of their nets, and whether they lead these.
-fn placed_pins(
+// The pins of each net, by the numbers of the nets.
+fn pins_by_net(
     alloc: Global,
-    places: &[PinPlace],
-    nets: &[NetPlace],
-    leaders: &[Leaders],
-) -> Result<Vec<PlacedPin>, AllocError>
-    ensures { IfOk result (λ v. v.items ≡ map (placed_by nets.now leaders.now) places.now) }
+    count: usize,
+    pins: &[PinPlace],
+) -> Result<Lists<PinPlace>, AllocError>
+    ensures { IfOk result (λ lists. (net : ℕ) → net < count → slice_get lists net ≡ Some (of_net net pins.now)) }
 {
-    let mut pins = Vec::new(alloc);
-    let mut rest = places;
-    while let Some((place, after)) = rest.split_first() {
-        pins.push(placed_by(nets, leaders, *place))?;
+    let mut lists = Lists::new(alloc, count)?;
+    let mut rest = pins;
+    while let Some((pin, after)) = rest.split_first() {
+        lists.push(pin.pin.net as usize, *pin)?;
         rest = after;
     }
-    Ok(pins)
+    Ok(lists)
 }
 
-// A pin with its net's crossing, and whether it leads its net.
-#[tactic(auto, unfolding(crate::specs::Placement::placed_by))]
-fn placed_by(nets: &[NetPlace], leaders: &[Leaders], place: PinPlace) -> PlacedPin
-    ensures { result ≡ placed_by nets.now leaders.now place }
+// The pins with the crossings of their nets, and whether they are through pins of these.
+fn placed_pins(
+    alloc: Global,
+    nets: &[NetPlace],
+    places: &[PinPlace],
+) -> Result<Vec<PlacedPin>, AllocError>
+    ensures { IfOk result (λ v. v.items ≡ map (placed_by nets.now) places.now) }
 {
-    let crossing = crossing_there(nets, place.pin.net);
+    places
+        .iter()
+        .map(|place| placed_by(nets, *place))
+        .collect(alloc)
+}
+
+// A pin with the crossing of its net, and whether it is a through pin of it.
+fn placed_by(nets: &[NetPlace], place: PinPlace) -> PlacedPin
+    ensures { result ≡ placed_by nets.now place }
+{
+    let (crossing, through) = match net_at(nets, place.pin.net) {
+        Some(net) => (
+            net.crossing,
+            is_pin(place.pin, net.through_pin(u32::from(place.row))),
+        ),
+        None => (Crossing::Alone, false),
+    };
     PlacedPin {
         place,
         crossing,
-        leads: crossing.is_across(u32::from(place.row)) && leads(leaders, place),
+        through,
     }
 }
 
-// Which channels a net stands in, by a table.
-fn crossing_there(nets: &[NetPlace], net: u32) -> Crossing
-    ensures { result ≡ crossing_there nets.now net }
+/// The net with this number, if there is one.
+pub fn net_at(nets: &[NetPlace], net: u32) -> Option<&NetPlace>
+    ensures { option_map (λ n. n.now) result ≡ at_net nets.now net }
 {
     if net == 0 {
-        return Crossing::Alone;
+        return None;
     }
-    match nets.get(net as usize - 1) {
-        Some(place) => place.crossing,
-        None => Crossing::Alone,
+    nets.get(net as usize - 1)
+}
+
+// Whether two pins are one.
+fn is_pin(pin: Pin, other: Option<Pin>) -> bool
+    ensures { result ≡ is_pin pin other }
+{
+    match other {
+        Some(other) => pin.instance == other.instance && pin.terminal == other.terminal,
+        None => false,
     }
 }

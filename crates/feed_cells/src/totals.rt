@@ -1,21 +1,20 @@
 ghost use Rattle.feed_cells.specs.Fed.{items_width};
 ghost use Rattle.feed_cells.specs.Crossings.{is_in};
-ghost use Rattle.feed_cells.specs.Sizes.{AreNarrow, HaveRoom, count_in, counted, counts_in};
+ghost use Rattle.feed_cells.specs.Sizes.{AreNarrow, HaveRoom, count_in, counted};
+ghost use Rattle.std.specs.List.{range_with_len};
 ghost use Rattle.std.specs.Option.{option_map};
-ghost use Rattle.std.specs.Prelude.{◌≡◌, ◌==◌, ◌&&◌, ◌≤◌, ◌<◌, ◌+◌, ◌^◌, ℕ, Some, length, fold, map, max, nat_le, nat_lt, slice_get, IfOk};
+ghost use Rattle.std.specs.Prelude.{◌≡◌, ◌==◌, ◌≤◌, ◌<◌, ◌+◌, ◌^◌, ℕ, Some, length, fold, map, max, slice_get, IfOk};
 
 use crate::crossing::Crossing;
 use crate::fed::Item;
-use crate::placement::NetPlace;
+use crate::net_places::NetPlace;
 use design_model::Design;
 use geom_core::Items;
-use row_model::Seat;
 use std::alloc::{AllocError, Global};
 
-/// The width of the widest of rows with feeds in columns. Takes no memory.
+/// The width of the widest of rows with feeds in columns, where each is narrow. Takes no memory.
 pub fn greatest_width(design: &Design, rows: &[Items<Item>]) -> u64
-    requires narrow { AreNarrow design.now rows.now }
-    ensures { result ≡ fold max 0 (map (items_width design.now) rows.now) }
+    ensures { AreNarrow design.now rows.now → result ≡ fold max 0 (map (items_width design.now) rows.now) }
 {
     let mut width = 0;
     let mut rest = rows;
@@ -26,32 +25,26 @@ pub fn greatest_width(design: &Design, rows: &[Items<Item>]) -> u64
     width
 }
 
-// The width of a row with feeds in columns.
+// The width of a row with feeds in columns, where it is below 2 ^ 64.
 fn items_width(design: &Design, items: &[Item]) -> u64
-    requires narrow { items_width design.now items.now < 2 ^ 64 }
-    ensures { result ≡ items_width design.now items.now }
+    ensures { items_width design.now items.now < 2 ^ 64 → result ≡ items_width design.now items.now }
 {
-    let mut width = 0;
+    let mut width: u64 = 0;
     let mut rest = items;
     while let Some((item, after)) = rest.split_first() {
-        width += u64::from(item.width(design));
+        width = width.saturating_add(u64::from(item.width(design)));
         rest = after;
     }
     width
 }
 
-/// How many nets stand in each channel of so many rows, from channel 0 on. The one error is want of memory. Takes steps as the number of rows and of
-/// nets, and for each net as the number of its channels.
-pub fn counts_in(
-    alloc: Global,
-    rows: &[Items<Seat>],
-    nets: &[NetPlace],
-) -> Result<Vec<u32>, AllocError>
-    requires few { length rows.now ≤ 514 }
-    requires nets { length nets.now ≤ 200000 }
-    ensures { IfOk result (λ v. v.items ≡ counts_in nets.now 0 (length rows.now + 1)) }
+/// How many nets stand in each of so many channels from channel 0 on. The one error is want of memory. Takes steps as the number of channels and of nets, and
+/// for each net as the number of its channels.
+pub fn counts_in(alloc: Global, channels: usize, nets: &[NetPlace]) -> Result<Vec<u32>, AllocError>
+    requires few { length nets.now ≤ 200000 }
+    ensures { IfOk result (λ v. v.items ≡ map (count_in nets.now) (range_with_len 0 channels)) }
 {
-    let mut counts = vec![in alloc; 0; rows.len() + 1]?;
+    let mut counts = vec![in alloc; 0; channels]?;
     count_all(counts.as_mut_slice(), nets);
     Ok(counts)
 }
@@ -73,18 +66,7 @@ fn count_net(counts: &mut [u32], crossing: Crossing)
     requires { HaveRoom 1 counts.old }
     ensures { (k : ℕ) → slice_get counts.new k ≡ option_map (counted (is_in crossing k)) (slice_get counts.old k) }
 {
-    match crossing {
-        Crossing::Alone => {}
-        Crossing::One(only) => count_one(counts, only as usize),
-        Crossing::Many { lo, hi } => count_between(counts, lo as usize, hi as usize + 1),
-    }
-}
-
-// Counts a net in the channels from the first on and before the end.
-fn count_between(counts: &mut [u32], first: usize, end: usize)
-    requires { HaveRoom 1 counts.old }
-    ensures { (k : ℕ) → slice_get counts.new k ≡ option_map (counted (nat_le first k && nat_lt k end)) (slice_get counts.old k) }
-{
+    let (first, end) = crossing.channels();
     for channel in first..end {
         count_one(counts, channel);
     }

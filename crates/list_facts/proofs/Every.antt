@@ -71,3 +71,12 @@ every-left P (x ∷ xs) ys h = (h.0, every-left P xs ys h.1)
 pub every-right : {X : Type 0} (P : X → Type 0) (xs ys : List X) → AllByRecursion P (xs ++ ys) → AllByRecursion P ys
 every-right P [] ys h = h
 every-right P (x ∷ xs) ys h = every-right P xs ys h.1
+
+-- what holds of each holds of those that a filter keeps
+pub every-filtered : {X : Type 0} (P : X → Type 0) (p : X → Bool) (xs : List X) → AllByRecursion P xs → AllByRecursion P (filter p xs)
+every-filtered P p [] h = tt
+every-filtered P p (x ∷ xs) h = by (p x) (every-filtered P p xs h.1)
+  where
+    by : (b : Bool) → AllByRecursion P (filter p xs) → AllByRecursion P (cond b (x ∷ filter p xs) (filter p xs))
+    by true more = (h.0, more)
+    by false more = more

@@ -8,3 +8,13 @@ pub mod Every
 pub mod Different
 -- what stands at the places of a list
 pub mod Places
+-- members of lists, of filters and of images, and what a search finds
+pub mod Members
+-- the greatest and the least of numbers
+pub mod Greatest
+-- how often a number stands in a list, and how many elements pass a test
+pub mod Counts
+-- numbers in order, and their images
+pub mod Ranges
+-- numbers of which no two are equal
+pub mod Distinct

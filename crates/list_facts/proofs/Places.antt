@@ -1,5 +1,7 @@
-use Rattle.std.proofs.Common.{◌≡◌, ◌≢◌, ◌<◌, ◌≤◌, ◌+◌, ℕ, zero, suc, List, [], ◌∷◌, ◌++◌, length, map, Option, None, Some, refl, ap, ap₂, ◌∙◌, arith, slice_get, slice_set}
-use Rattle.std.proofs.lemmas.Option.{slice_get_within}
+use Rattle.std.proofs.Common.{◌≡◌, ◌≢◌, ◌<◌, ◌≤◌, ◌+◌, ℕ, zero, suc, List, [], ◌∷◌, ◌++◌, length, map, take, drop, replicate, Option, None, Some, refl, ap, ap₂, ◌∙◌, arith, slice_get, slice_set}
+use Rattle.std.proofs.Math.Seq.{take-append_seam}
+use Rattle.std.proofs.lemmas.List.{get_or-replicate, length-replicate}
+use Rattle.std.proofs.lemmas.Option.{slice_get-get_or, slice_get_within}
 use Rattle.std.specs.List.{range_with_len}
 use Rattle.std.specs.Option.{option_map}
 
@@ -44,3 +46,28 @@ unchanged-past {X} rule xs n past there i = by (slice_get xs i) refl
     by (Some x) at =
         let within : i < length xs = slice_get_within xs i x at in
         ap (λ z. Some z) (there i x (λ is. absurd (omega (arith, is, within, past))))
+
+-- what stands at a place within a list
+pub at-place : {A : Type 0} (xs : List A) (k : ℕ) → k < length xs → (x : A) × (slice_get xs k ≡ Some x)
+at-place [] k within = absurd (omega arith)
+at-place (x ∷ xs) zero within = (x, refl)
+at-place (x ∷ xs) (suc k) within = at-place xs k (omega arith)
+
+-- a list of one item at so many places, which are then changed by a rule
+pub filled : {X : Type 0} (rule : ℕ → X → X) (f : ℕ → X) (x : X) → ((k : ℕ) → rule k x ≡ f k) → (n : ℕ) (items new : List X) (len : ℕ) → items ≡ replicate n x
+    → len ≡ length new → length new ≡ length items → ((k : ℕ) → slice_get new k ≡ option_map (rule k) (slice_get items k))
+    → take len (new ++ drop (length new) items) ≡ map f (range_with_len 0 n)
+filled {X} rule f x first n items new len same long as_long each =
+    let wide : length items ≡ n = ap length same ∙ length-replicate n x in
+    ap (λ (m : ℕ). take m (new ++ drop (length new) items)) long
+    ∙ take-append_seam new (drop (length new) items)
+    ∙ list-by f 0 new (λ i below. at i (omega arith))
+    ∙ ap (λ (m : ℕ). map f (range_with_len 0 m)) (as_long ∙ wide)
+  where
+    at : (i : ℕ) → i < n → slice_get new i ≡ Some (f (i + 0))
+    at i below =
+        let number : i ≡ i + 0 = omega arith in
+        let long : length (replicate {A = X} n x) ≡ n = length-replicate n x in
+        let there : slice_get items i ≡ Some x =
+        ap (λ (xs : List X). slice_get xs i) same ∙ slice_get-get_or (replicate n x) i x (omega arith) ∙ ap (λ (y : X). Some y) (get_or-replicate n i x x below) in
+        each i ∙ ap (option_map (rule i)) there ∙ ap (λ (y : X). Some y) (first i) ∙ ap (λ (m : ℕ). Some (f m)) number

@@ -1,36 +1,79 @@
-use Rattle.std.proofs.Common.{◌≡◌, ℕ, zero, suc, List, Bool, true, false, not, Option, Some, None, refl, ap, sym, ◌∙◌, subst, arith, Contains}
-use Rattle.std.proofs.lemmas.Option.{none-some, same_Some, slice_get-map}
 use Rattle.std.specs.List.{slice_get}
 use Rattle.std.specs.Option.{is_some, option_map}
+use Rattle.std.proofs.Common.{◌≡◌, ℕ, ◌+◌, List, [], ◌∷◌, Bool, Some, refl, ap, sym, ◌∙◌, inl, inr, arith, Contains, zero, suc, true, false, not, Option, None, subst}
+use Rattle.std.proofs.lemmas.Option.{none-some, same_Some, slice_get-map}
+use Rattle.list_facts.proofs.Members.{member-cases, member-tail}
 use Rattle.design_model.specs.Netlist.{Netlist}
 use Rattle.design_model.specs.declared.design.Pin.{Pin}
-use Rattle.row_model.specs.Stands.{edge_column}
+use Rattle.row_model.specs.Stands.{edge_column, turned_column}
+use Rattle.row_model.specs.Widths.{columns_of}
 use Rattle.row_model.specs.declared.rows.Seat.{Seat}
-use Rattle.feed_cells.specs.Crossings.{has_edge}
-use Rattle.feed_cells.specs.Fed.{Fed, cells_in, seats_in}
+use Rattle.feed_cells.specs.Fed.{item_width, seats_in, Fed, cells_in}
 use Rattle.feed_cells.specs.declared.fed.Item.{Item}
-use Rattle.feed_cells.specs.declared.fed.Item.TheVariants.{Feed}
-use Rattle.pin_assign.specs.Sources.{Source, SourceEnters, StandsOver, of_feed, of_pin}
+use Rattle.feed_cells.specs.declared.fed.Item.TheVariants.{Cell, Feed}
+use Rattle.feed_cells.specs.Crossings.{has_edge}
+use Rattle.pin_assign.specs.Sources.{Source, IsOver, StandsOver, first_over, later_over, of_feed, of_pin, SourceEnters}
 use Rattle.pin_assign.specs.Entering.{enters}
 use Rattle.pin_assign.specs.Places.{HasOver, TablePlace, StandsAt, channel_facing, row_beside}
 use Rattle.pin_assign.specs.Tables.{row_below}
-use Rattle.pin_assign.proofs.RowCauses.{SeatOf, feed-listed, feed-stands, pin-stands, seat-of}
+
+-- a cause along items stands in a column
+pub record Standing (d : Netlist) (top : Bool) (cause : Source) (items : List Item) (left : ℕ) : Type 0 where
+  pub column : ℕ
+  pub stands : StandsOver d top cause items left column
+
+-- a pin of a cell of a row that has a position on an edge stands on that edge of the row
+pub pin-stands : (d : Netlist) (top : Bool) (p : Pin) (s : Seat) (items : List Item) (left own : ℕ) → Contains d.pins p → Contains (seats_in items) s → p.instance ≡ s.instance
+    → edge_column d top p ≡ Some own → Standing d top (of_pin p) items left
+pin-stands d top p s [] left own listed seated instance edge = absurd (omega (arith, seated.1))
+pin-stands d top p s (Feed net ∷ items) left own listed seated instance edge =
+    let more = pin-stands d top p s items (left + item_width d (Feed net)) own listed seated instance edge in
+    record { column = more.column; stands = later_over more.stands }
+pin-stands d top p s (Cell other ∷ items) left own listed seated instance edge =
+    elim (member-cases other (seats_in items) s seated) [
+      | inl here ↦
+          record {
+            column = left + turned_column other.mirror (columns_of d other.instance) own;
+            stands = first_over (record { listed = listed; instance = instance ∙ ap (λ (x : Seat). x.instance) (sym here); own = own; edge = edge; place = refl });
+          }
+      | inr there ↦
+          let more = pin-stands d top p s items (left + item_width d (Cell other)) own listed there instance edge in
+          record { column = more.column; stands = later_over more.stands }
+    ]
+
+-- a feed of a row stands on both of its edges, in one column
+pub record FeedStanding (d : Netlist) (net : ℕ) (items : List Item) (left : ℕ) : Type 0 where
+  pub column : ℕ
+  pub stands : (top : Bool) → StandsOver d top (of_feed net) items left column
+
+pub feed-stands : (d : Netlist) (net : ℕ) (items : List Item) (left : ℕ) → Contains items (Feed net) → FeedStanding d net items left
+feed-stands d net [] left listed = absurd (omega (arith, listed.1))
+feed-stands d net (item ∷ items) left listed =
+    elim (member-cases item items (Feed net) listed) [
+      | inl here ↦ record { column = left; stands = λ (top : Bool). first_over (feed-over top item here) }
+      | inr there ↦
+          let more = feed-stands d net items (left + item_width d item) there in
+          record { column = more.column; stands = λ (top : Bool). later_over (more.stands top) }
+    ]
+  where
+    feed-over : (top : Bool) (item : Item) → item ≡ Feed net → IsOver d top (of_feed net) item left left
+    feed-over top (Cell s) same = absurd (cc)
+    feed-over top (Feed own) same = let e : own ≡ net = cc in (e, refl)
+
+-- where a feed stands on an edge, it is one of the row's, and stands there on the other edge too
+listed-here : (d : Netlist) (top : Bool) (net : ℕ) (item : Item) (items : List Item) (left column : ℕ) → IsOver d top (of_feed net) item left column → Contains (item ∷ items) (Feed net)
+listed-here d top net (Cell s) items left column h = absurd h
+listed-here d top net (Feed own) items left column h = (0, omega arith, ap (λ (n : ℕ). Feed n) h.0)
+
+pub feed-listed : (d : Netlist) (top : Bool) (net : ℕ) (items : List Item) (left column : ℕ) → StandsOver d top (of_feed net) items left column → Contains items (Feed net)
+feed-listed d top net items left column (first_over {item = item} {items = rest} h) = listed-here d top net item rest left column h
+feed-listed d top net items left column (later_over {item = item} {items = rest} h) =
+    member-tail item rest (Feed net) (feed-listed d top net rest (left + item_width d item) column h)
 
 -- the row beside a channel is the one that the channel is beside
 pub beside-is : (rows : List (List Item)) (channel row : ℕ) (upper : Bool) → channel ≡ channel_facing row upper → row_beside rows channel upper ≡ slice_get rows row
 beside-is rows channel row true e = ap (slice_get rows) e
 beside-is rows channel row false e = let next : channel ≡ suc row = omega arith in ap (row_below rows) next
-
--- a row beside a channel
-pub record IsRowBeside (rows : List (List Item)) (channel : ℕ) (upper : Bool) (items : List Item) : Type 0 where
-  pub row : ℕ
-  pub beside : channel ≡ channel_facing row upper
-  pub is_row : slice_get rows row ≡ Some items
-
-pub row-beside : (rows : List (List Item)) (channel : ℕ) (upper : Bool) (items : List Item) → row_beside rows channel upper ≡ Some items → IsRowBeside rows channel upper items
-row-beside rows channel true items is = record { row = channel; beside = refl; is_row = is }
-row-beside rows zero false items is = absurd (none-some items is)
-row-beside rows (suc row) false items is = record { row = row; beside = omega arith; is_row = is }
 
 -- the cells of a row with feeds are a row of cells, and each is one of such a row
 pub row-cells : (rows : List (List Item)) (row : ℕ) (items : List Item) → slice_get rows row ≡ Some items → slice_get (cells_in rows) row ≡ Some (seats_in items)
@@ -98,17 +141,17 @@ pub record RowOf (d : Netlist) (fed : Fed) (channel : ℕ) (cause : Source) (pla
   pub over : StandsOver d (not place.upper) cause items 0 place.column
 
 pub row-of_stand : (d : Netlist) (fed : Fed) (channel : ℕ) (cause : Source) (place : TablePlace) → StandsAt d fed channel cause place → RowOf d fed channel cause place
-row-of_stand d fed channel cause place h = by (row_beside fed.rows channel place.upper) refl h.over
+row-of_stand d fed channel cause place h = by place.upper channel (row_beside fed.rows channel place.upper) refl h.over refl refl
   where
-    by : (o : Option (List Item)) → row_beside fed.rows channel place.upper ≡ o → HasOver d (not place.upper) cause o place.column → RowOf d fed channel cause place
-    by None is over = absurd over
-    by (Some items) is over =
-        let r = row-beside fed.rows channel place.upper items is in
-        record { row = r.row; items = items; beside = r.beside; is_row = r.is_row; over = over }
-
--- a pin at a place of a table is of a cell of the row there
-pub pin-seat : (d : Netlist) (fed : Fed) (channel : ℕ) (p : Pin) (place : TablePlace) (r : RowOf d fed channel (of_pin p) place) → SeatOf r.items p
-pin-seat d fed channel p place r = seat-of d (not place.upper) p r.items 0 place.column r.over
+    by : (upper : Bool) (c : ℕ) (o : Option (List Item)) → row_beside fed.rows c upper ≡ o → HasOver d (not place.upper) cause o place.column → c ≡ channel → upper ≡ place.upper
+        → RowOf d fed channel cause place
+    by upper c None is over at side = absurd over
+    by true c (Some items) is over at side =
+        record { row = c; items = items; beside = sym at ∙ ap (λ (u : Bool). channel_facing c u) side; is_row = is; over = over }
+    by false zero (Some items) is over at side = absurd (none-some items is)
+    by false (suc row) (Some items) is over at side =
+        let next : suc row ≡ row + 1 = omega arith in
+        record { row = row; items = items; beside = sym at ∙ next ∙ ap (λ (u : Bool). channel_facing row u) side; is_row = is; over = over }
 
 -- a feed at a place of a table is one of the row there
 pub feed-item : (d : Netlist) (fed : Fed) (channel net : ℕ) (place : TablePlace) (r : RowOf d fed channel (of_feed net) place) → Contains r.items (Feed net)

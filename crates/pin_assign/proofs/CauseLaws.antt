@@ -1,4 +1,5 @@
 use Rattle.std.proofs.Common.{◌≡◌, ◌<◌, ◌≤◌, ◌⊎◌, ℕ, ◌+◌, List, [], ◌∷◌, Bool, Some, refl, ap, sym, ◌∙◌, subst, inl, inr, arith}
+use Rattle.design_model.proofs.DesignPins.{same-pin}
 use Rattle.design_model.specs.Netlist.{Netlist, IsNetlist}
 use Rattle.design_model.specs.declared.design.Pin.{Pin}
 use Rattle.row_model.specs.Stands.{turned_column}
@@ -8,9 +9,9 @@ use Rattle.feed_cells.specs.Fed.{item_width, items_width}
 use Rattle.feed_cells.specs.declared.fed.Item.{Item}
 use Rattle.feed_cells.specs.declared.fed.Item.TheVariants.{Cell, Feed}
 use Rattle.pin_assign.specs.Sources.{Source, of_pin, of_feed, source_net, SourceEnters, IsOver, IsPinOver, StandsOver, first_over, later_over}
-use Rattle.pin_assign.specs.Entries.{EntryOf, first_entry, later_entry, IsEntry}
-use Rattle.pin_assign.proofs.EdgeLaws.{own-within, same-pin, same-terminal, turned-once, turned-within}
-use Rattle.pin_assign.proofs.WidthLaws.{width-more}
+use Rattle.pin_assign.specs.Entries.{EntryOf}
+use Rattle.pin_assign.proofs.EdgeLaws.{own-within, same-terminal, turned-once, turned-within}
+use Rattle.feed_cells.proofs.FedWidths.{width-cons}
 
 -- a cause along items stands over the first of them, or over a later one
 abbrev OverOne : Netlist → Bool → Source → List Item → ℕ → ℕ → Type 0
@@ -43,13 +44,13 @@ module _ (d : Netlist) (good : IsNetlist d) (top : Bool) where
       let e = over-within cause item left column h in
       let low = e.0 in
       let high = e.1 in
-      let width = width-more d item rest in
+      let width = width-cons d item rest in
       (low, omega arith)
   stands-within cause items left column (later_over {item = item} {items = rest} h) =
       let e = stands-within cause rest (left + item_width d item) column h in
       let low = e.0 in
       let high = e.1 in
-      let width = width-more d item rest in
+      let width = width-cons d item rest in
       (omega arith, omega arith)
 
   -- over one item, different causes stand in different columns
@@ -91,47 +92,8 @@ module _ (d : Netlist) (good : IsNetlist d) (top : Bool) where
         ]
       ]
 
-  -- two pins that stand on one edge in one column of a row are one
-  pub pin-once : (p q : Pin) (items : List Item) (left column : ℕ) → StandsOver d top (of_pin p) items left column → StandsOver d top (of_pin q) items left column → p ≡ q
-  pin-once p q items left column first second = let same = cause-once (of_pin p) (of_pin q) items left column first second in cc
-
-  -- a pin and a feed stand in different columns
-  pub pin-off_feed : (p : Pin) (net : ℕ) (items : List Item) (left column : ℕ) → StandsOver d top (of_pin p) items left column → StandsOver d top (of_feed net) items left column → ⊥
-  pin-off_feed p net items left column first second = let same = cause-once (of_pin p) (of_feed net) items left column first second in cc
-
-  -- feeds of different nets stand in different columns
-  pub feed-once : (n m : ℕ) (items : List Item) (left column : ℕ) → StandsOver d top (of_feed n) items left column → StandsOver d top (of_feed m) items left column → n ≡ m
-  feed-once n m items left column first second = let same = cause-once (of_feed n) (of_feed m) items left column first second in cc
-
 module _ (d : Netlist) (rows : List (List Seat)) (top : Bool) (channel : ℕ) where
-  -- a cause that enters a channel over an item is its entry
-  item-entry : (cause : Source) (item : Item) (left column : ℕ) → IsOver d top cause item left column → SourceEnters d rows channel cause
-      → IsEntry d rows top channel item left column (source_net cause)
-  item-entry (of_pin p) (Cell s) left column h entering = record { pin = p; over = h; entering = entering; of_net = refl }
-  item-entry (of_pin p) (Feed own) left column h entering = absurd h
-  item-entry (of_feed net) (Cell s) left column h entering = absurd h
-  item-entry (of_feed net) (Feed own) left column h entering = h
-
   -- a cause that stands in a column of a row and enters a channel makes the entry there
   pub entry-from : (cause : Source) (items : List Item) (left column : ℕ) → StandsOver d top cause items left column → SourceEnters d rows channel cause
       → EntryOf d rows top channel items left column (source_net cause)
-  entry-from cause items left column (first_over {item = item} h) entering = first_entry (item-entry cause item left column h entering)
-  entry-from cause items left column (later_over {item = item} {items = rest} h) entering = later_entry (entry-from cause rest (left + item_width d item) column h entering)
-
-  -- what an entry comes from
-  pub record EntryCause (items : List Item) (left column net : ℕ) : Type 0 where
-    pub cause : Source
-    pub stands : StandsOver d top cause items left column
-    pub entering : SourceEnters d rows channel cause
-    pub of_net : source_net cause ≡ net
-
-  item-cause : (item : Item) (items : List Item) (left column net : ℕ) → IsEntry d rows top channel item left column net → EntryCause (item ∷ items) left column net
-  item-cause (Cell s) items left column net h = record { cause = of_pin h.pin; stands = first_over h.over; entering = h.entering; of_net = h.of_net }
-  item-cause (Feed own) items left column net h = record { cause = of_feed net; stands = first_over h; entering = tt; of_net = refl }
-
-  -- each entry of a row comes from a cause that stands in its column and enters the channel
-  pub entry-cause : (items : List Item) (left column net : ℕ) → EntryOf d rows top channel items left column net → EntryCause items left column net
-  entry-cause items left column net (first_entry {item = item} {items = rest} h) = item-cause item rest left column net h
-  entry-cause items left column net (later_entry {item = item} {items = rest} h) =
-      let e = entry-cause rest (left + item_width d item) column net h in
-      record { cause = e.cause; stands = later_over e.stands; entering = e.entering; of_net = e.of_net }
+  entry-from cause items left column stands entering = record { cause = cause; stands = stands; entering = entering; of_net = refl }

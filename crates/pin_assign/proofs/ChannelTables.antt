@@ -1,8 +1,6 @@
-use Rattle.std.proofs.Common.{◌≡◌, ap, sym, ◌∙◌, subst, ◌<◌, ◌+◌, ℕ, zero, suc, List, map, length, Some, arith}
+use Rattle.std.proofs.Common.{◌≡◌, ap, sym, ◌∙◌, subst, ◌<◌, ◌+◌, ℕ, List, length, Some, arith}
 use Rattle.std.proofs.lemmas.List.FromFn.{length-map-range_with_len}
-use Rattle.std.proofs.lemmas.Option.{none-some, same_Some}
-use Rattle.std.specs.List.{range_with_len}
-use Rattle.std.specs.Prelude.{slice_get}
+use Rattle.list_facts.proofs.Ranges.{image-at, image-of, image-within}
 use Rattle.channel_model.specs.Nets.{nets_of}
 use Rattle.channel_model.specs.Pins.{Pins}
 use Rattle.channel_model.proofs.NetsOf.{nets-one}
@@ -11,22 +9,10 @@ use Rattle.row_model.specs.Rows.{ArePlaced}
 use Rattle.row_model.specs.declared.rows.Seat.{Seat}
 use Rattle.feed_cells.specs.Fed.{Fed, IsFed, cells_in, fed_rows, nets_in}
 use Rattle.feed_cells.proofs.FedLaws.{fed-long}
-use Rattle.feed_cells.proofs.NetTableLaws.{image-at}
 use Rattle.pin_assign.specs.ChannelTables.{AreTablesFor}
 use Rattle.pin_assign.specs.Tables.{table_of, tables_of}
-use Rattle.pin_assign.proofs.EnteredLaws.{table-nets}
+use Rattle.pin_assign.proofs.ChannelLaws.{table-nets}
 use Rattle.pin_assign.proofs.WidthLaws.{table-top_length}
-
--- nothing stands past the images of numbers in order
-image-within : {A : Type 0} (f : ℕ → A) (start count k : ℕ) (a : A) → slice_get (map f (range_with_len start count)) k ≡ Some a → k < count
-image-within f start zero k a is = absurd (none-some a is)
-image-within f start (suc count) zero a is = omega arith
-image-within f start (suc count) (suc k) a is = let less = image-within f (start + 1) count k a is in omega arith
-
-image-of : {A : Type 0} (f : ℕ → A) (count k : ℕ) (a : A) → slice_get (map f (range_with_len 0 count)) k ≡ Some a → f k ≡ a
-image-of f count k a is =
-    same_Some (f k) a
-    (ap (λ (n : ℕ). Some (f n)) (let same : k ≡ 0 + k = omega arith in same) ∙ sym (image-at f 0 count k (image-within f 0 count k a is)) ∙ is)
 
 module _ (d : Netlist) (good : IsNetlist d) (rows : List (List Seat)) (placed : ArePlaced d rows) where
   -- the tables of rows with feeds are for them
@@ -42,7 +28,7 @@ module _ (d : Netlist) (good : IsNetlist d) (rows : List (List Seat)) (placed : 
         let long : length (fed_rows d rows).rows ≡ length rows = fed-long d rows in
         image-at (λ (c : ℕ). length (nets_in d rows c)) 0 (length rows + 1) k (omega arith)
         ∙ ap (λ (n : ℕ). Some (length (nets_in d rows n))) (let same : 0 + k ≡ k = omega arith in same)
-        ∙ ap (λ (nets : List ℕ). Some (length nets)) (nets-one (table_of d (fed_rows d rows) k) (nets_in d rows k) (table-nets d rows good placed k))
+        ∙ ap (λ (nets : List ℕ). Some (length nets)) (nets-one (table_of d (fed_rows d rows) k) (nets_in d rows k) (table-nets d good rows placed k))
         ∙ ap (λ (p : Pins). Some (length (nets_of p))) is;
   }
 

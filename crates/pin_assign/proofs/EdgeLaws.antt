@@ -1,20 +1,15 @@
-use Rattle.std.proofs.Common.{◌≡◌, ◌<◌, ℕ, zero, suc, List, [], ◌∷◌, map, Bool, true, false, ◌&&◌, eqb, ltb, Option, Some, None, refl, ap, sym, ◌∙◌, subst, inl, inr, arith, Contains}
-use Rattle.std.specs.Prelude.{◌==◌}
-use Rattle.std.proofs.lemmas.Bool.{and_from, and_parts, eq-eqb, or_cases, eqb-true, ltb-true, not-true}
-use Rattle.std.proofs.lemmas.List.Elements.{All-from_recursion}
-use Rattle.std.proofs.lemmas.Option.{none-some, option_and_then_some, same_Some, slice_get-map}
+use Rattle.std.proofs.Common.{◌≡◌, ◌<◌, ℕ, Bool, true, false, ◌&&◌, eqb, Option, Some, None, refl, ap, sym, ◌∙◌, subst, arith, Contains}
+use Rattle.std.proofs.lemmas.Bool.{and_parts, eqb-true, not-true}
+use Rattle.std.proofs.lemmas.Option.{none-some, same_Some}
 use Rattle.std.specs.List.{find, slice_get}
-use Rattle.std.specs.Option.{option_map}
-use Rattle.design_model.specs.Netlist.{Netlist, IsNetlist, IsKind, IsPosition}
-use Rattle.design_model.specs.PinOrder.{IsAscending, is_less, pin_pair}
+use Rattle.list_facts.proofs.Members.{all-get, contains-get, find-passes, get-contains}
+use Rattle.design_model.specs.Netlist.{Netlist, IsNetlist, IsPosition}
 use Rattle.design_model.specs.declared.design.CellKind.{CellKind}
-use Rattle.design_model.specs.declared.design.Inst.{Inst}
 use Rattle.design_model.specs.declared.design.Pin.{Pin}
 use Rattle.design_model.specs.declared.design.Position.{Position}
-use Rattle.design_model.proofs.PinsInOrder.{pins-ascending}
 use Rattle.row_model.specs.Stands.{column_in, edge_column, is_on, positions_in, positions_of, turned_column}
 use Rattle.row_model.specs.Widths.{columns_of, kind_of, width_of}
-use Rattle.pin_assign.proofs.FindLaws.{all-get, contains-get, find-passes, find-some, get-contains}
+use Rattle.row_model.proofs.WidthLaws.{kind-good}
 
 -- a column of a cell stands in the cell's columns, mirrored or not
 pub turned-within : (mirror : Bool) (columns column : ℕ) → column < columns → turned_column mirror columns column < columns
@@ -25,44 +20,6 @@ turned-within false columns column within = within
 pub turned-once : (mirror : Bool) (columns a b : ℕ) → a < columns → b < columns → turned_column mirror columns a ≡ turned_column mirror columns b → a ≡ b
 turned-once true columns a b first second same = omega arith
 turned-once false columns a b first second same = same
-
--- no pair is less than itself
-less-other : (x : ℕ × ℕ) → is_less x x ≡ true → ⊥
-less-other x is =
-    elim (or_cases (ltb x.0 x.0) (eqb x.0 x.0 && ltb x.1 x.1) is) [
-      | inl less ↦ let h = ltb-true x.0 x.0 less in omega arith
-      | inr less ↦ let h = ltb-true x.1 x.1 (and_parts (eqb x.0 x.0) (ltb x.1 x.1) less).1 in omega arith
-    ]
-
--- a pair of ascending ones stands once
-ascending-once : (xs : List (ℕ × ℕ)) → IsAscending xs → (i j : ℕ) (x : ℕ × ℕ) → slice_get xs i ≡ Some x → slice_get xs j ≡ Some x → i ≡ j
-ascending-once [] up i j x first second = absurd (none-some x first)
-ascending-once (y ∷ ys) up zero zero x first second = refl
-ascending-once (y ∷ ys) up zero (suc j) x first second =
-    let same : y ≡ x = same_Some y x first in
-    let less : is_less y x ≡ true = all-get (λ (z : ℕ × ℕ). is_less y z ≡ true) ys j x (All-from_recursion (λ (z : ℕ × ℕ). is_less y z ≡ true) ys up.0) second in
-    absurd (less-other x (subst (λ (z : ℕ × ℕ). is_less z x ≡ true) same less))
-ascending-once (y ∷ ys) up (suc i) zero x first second =
-    let same : y ≡ x = same_Some y x second in
-    let less : is_less y x ≡ true = all-get (λ (z : ℕ × ℕ). is_less y z ≡ true) ys i x (All-from_recursion (λ (z : ℕ × ℕ). is_less y z ≡ true) ys up.0) first in
-    absurd (less-other x (subst (λ (z : ℕ × ℕ). is_less z x ≡ true) same less))
-ascending-once (y ∷ ys) up (suc i) (suc j) x first second = ap suc (ascending-once ys up.1 i j x first second)
-
--- a pin of a design is its instance and its terminal
-pub same-pin : (d : Netlist) → IsNetlist d → (p q : Pin) → Contains d.pins p → Contains d.pins q → p.instance ≡ q.instance → p.terminal ≡ q.terminal → p ≡ q
-same-pin d good p q first second instance terminal =
-    let pair : ◌≡◌ {A = ℕ × ℕ} (pin_pair q) (pin_pair p) = cc in
-    let at_p : slice_get (map pin_pair d.pins) first.0 ≡ Some (pin_pair p) = slice_get-map pin_pair d.pins first.0 ∙ ap (option_map pin_pair) (contains-get d.pins p first) in
-    let at_q : slice_get (map pin_pair d.pins) second.0 ≡ Some (pin_pair p) =
-    slice_get-map pin_pair d.pins second.0 ∙ ap (option_map pin_pair) (contains-get d.pins q second) ∙ ap (λ (x : ℕ × ℕ). Some x) pair in
-    let one : first.0 ≡ second.0 = ascending-once (map pin_pair d.pins) (pins-ascending d good) first.0 second.0 (pin_pair p) at_p at_q in
-    same_Some p q (sym (contains-get d.pins p first) ∙ ap (slice_get d.pins) one ∙ contains-get d.pins q second)
-
--- the kind of an instance is a kind
-pub kind-good : (d : Netlist) → IsNetlist d → (instance : ℕ) (kind : CellKind) → kind_of d instance ≡ Some kind → IsKind kind
-kind-good d good instance kind is =
-    option_and_then_some (λ (i : Inst). slice_get d.kinds i.kind) (slice_get d.instances instance) kind is
-    (λ (i : Inst) (there : slice_get d.instances instance ≡ Some i) (at : slice_get d.kinds i.kind ≡ Some kind). all-get IsKind d.kinds i.kind kind good.kinds at)
 
 -- the first position of a pin on an edge
 pub record EdgePosition (d : Netlist) (top : Bool) (p : Pin) (own : ℕ) : Type 0 where
@@ -131,13 +88,3 @@ same-terminal d good top p q own instance first second =
 pub position-listed : (d : Netlist) (top : Bool) (p : Pin) (own : ℕ) (a : EdgePosition d top p own) → Contains (positions_of d p.instance) a.position
 position-listed d top p own a =
     subst (λ (k : Option CellKind). Contains (positions_in k) a.position) (sym a.is_kind) (get-contains a.kind.positions a.place a.position a.at)
-
--- a pin of a design is the one that is found by its instance and terminal
-pub pin-found : (d : Netlist) → IsNetlist d → (p : Pin) → Contains d.pins p → find (λ (q : Pin). q.instance == p.instance && q.terminal == p.terminal) d.pins ≡ Some p
-pin-found d good p listed =
-    let own = and_from (eqb p.instance p.instance) (eqb p.terminal p.terminal) (eq-eqb p.instance p.instance refl) (eq-eqb p.terminal p.terminal refl) in
-    let found = find-some (λ (q : Pin). eqb q.instance p.instance && eqb q.terminal p.terminal) d.pins p listed own in
-    let passes = find-passes (λ (q : Pin). eqb q.instance p.instance && eqb q.terminal p.terminal) d.pins found.0 found.1 in
-    let parts = and_parts (eqb found.0.instance p.instance) (eqb found.0.terminal p.terminal) passes.0 in
-    let same = same-pin d good found.0 p passes.1 listed (eqb-true found.0.instance p.instance parts.0) (eqb-true found.0.terminal p.terminal parts.1) in
-    found.1 ∙ ap (λ (q : Pin). Some q) same

@@ -1,8 +1,10 @@
-use Rattle.std.proofs.Common.{◌≡◌, ◌<◌, ℕ, zero, suc, ◌+◌, ◌-◌, List, [], ◌∷◌, length, get_or, Bool, true, ◌&&◌, eqb, Option, Some, None, refl, ap, sym, ◌∙◌, subst, inl, inr, arith, Contains, length-append}
+use Rattle.std.proofs.Common.{◌≡◌, ◌<◌, ℕ, zero, suc, ◌+◌, ◌-◌, List, [], ◌∷◌, length, get_or, Bool, true, Option, Some, None, refl, ap, sym, ◌∙◌, subst, inl, inr, arith, Contains, length-append}
 use Rattle.std.proofs.lemmas.Bool.{and_from, and_parts, cases_lt, eq-eqb, eqb-true}
 use Rattle.std.proofs.lemmas.List.{get_or_append_left, get_or-append_right}
 use Rattle.std.proofs.lemmas.List.FromFn.{get_or-map-range_with_len}
 use Rattle.std.specs.List.{find}
+use Rattle.design_model.proofs.DesignPins.{same-pin}
+use Rattle.list_facts.proofs.Members.{find-passes, find-some}
 use Rattle.design_model.specs.Netlist.{Netlist, IsNetlist}
 use Rattle.design_model.specs.declared.design.Pin.{Pin}
 use Rattle.row_model.specs.Stands.{edge_column, turned_column}
@@ -12,10 +14,10 @@ use Rattle.feed_cells.specs.Fed.{item_width}
 use Rattle.feed_cells.specs.declared.fed.Item.{Item}
 use Rattle.feed_cells.specs.declared.fed.Item.TheVariants.{Cell, Feed}
 use Rattle.pin_assign.specs.Entering.{enters}
-use Rattle.pin_assign.specs.Entries.{EntryOf, first_entry, later_entry, IsEntry, PinEntry}
+use Rattle.pin_assign.specs.Entries.{EntryOf}
+use Rattle.pin_assign.specs.Sources.{IsOver, Source, SourceEnters, StandsOver, first_over, later_over, of_feed, of_pin, source_net}
 use Rattle.pin_assign.specs.Tables.{enters_in, is_in_column, item_entries, net_in, row_entries}
-use Rattle.pin_assign.proofs.EdgeLaws.{own-within, same-pin, same-terminal, turned-once, turned-within}
-use Rattle.pin_assign.proofs.FindLaws.{find-passes, find-some}
+use Rattle.pin_assign.proofs.EdgeLaws.{own-within, same-terminal, turned-once, turned-within}
 use Rattle.pin_assign.proofs.WidthLaws.{item-length}
 
 -- a net among the entries of items side by side, the first of which begins in column `left`, that stands in a column of their row
@@ -42,45 +44,40 @@ record EntersIn (d : Netlist) (rows : List (List Seat)) (top : Bool) (channel : 
 module _ (d : Netlist) (rows : List (List Seat)) (top : Bool) (channel : ℕ) where
   enters-parts : (s : Seat) (column : ℕ) (p : Pin) → enters_in d rows top channel s column p ≡ true → EntersIn d rows top channel s column p
   enters-parts s column p is =
-      let first = and_parts (eqb p.instance s.instance && is_in_column (edge_column d top p) s.mirror (columns_of d s.instance) column) (enters d rows p channel) is in
-      let second = and_parts (eqb p.instance s.instance) (is_in_column (edge_column d top p) s.mirror (columns_of d s.instance) column) first.0 in
-      let place = in-column (edge_column d top p) s.mirror (columns_of d s.instance) column second.1 in
-      record { instance = eqb-true p.instance s.instance second.0; own = place.0; edge = place.1; place = place.2; entering = first.1 }
+      let first = and_parts _ _ is in
+      let second = and_parts _ _ first.1 in
+      let place = in-column (edge_column d top p) s.mirror (columns_of d s.instance) column second.0 in
+      record { instance = eqb-true p.instance s.instance first.0; own = place.0; edge = place.1; place = place.2; entering = second.1 }
 
   enters-from : (s : Seat) (column : ℕ) (p : Pin) → EntersIn d rows top channel s column p → enters_in d rows top channel s column p ≡ true
   enters-from s column p h =
-      and_from (eqb p.instance s.instance && is_in_column (edge_column d top p) s.mirror (columns_of d s.instance) column) (enters d rows p channel)
-      (and_from (eqb p.instance s.instance) (is_in_column (edge_column d top p) s.mirror (columns_of d s.instance) column)
-      (eq-eqb p.instance s.instance h.instance)
-      (subst (λ (o : Option ℕ). is_in_column o s.mirror (columns_of d s.instance) column ≡ true) (sym h.edge) (eq-eqb (turned_column s.mirror (columns_of d s.instance) h.own) column h.place)))
-      h.entering
+      and_from _ _ (eq-eqb p.instance s.instance h.instance)
+      (and_from _ _
+      (subst (λ (o : Option ℕ). is_in_column o s.mirror (columns_of d s.instance) column ≡ true) (sym h.edge) (eq-eqb (turned_column s.mirror (columns_of d s.instance) h.own) column h.place))
+      h.entering)
 
-  -- the net in a column of a cell is that of a pin that enters there
-  pin-cause : (s : Seat) (left column at net : ℕ) → left + column ≡ at → 0 < net → net_in (find (enters_in d rows top channel s column) d.pins) ≡ net
-      → PinEntry d rows top channel s left at net
-  pin-cause s left column at net place some is = by (find (enters_in d rows top channel s column) d.pins) refl is
+  -- an entry of an item has its cause there
+  item-cause : (item : Item) (items : List Item) (left column at net : ℕ) → left + column ≡ at → 0 < net → column < item_width d item
+      → get_or (item_entries d rows top channel item) column 0 ≡ net → EntryOf d rows top channel (item ∷ items) left at net
+  item-cause (Cell s) items left column at net place some within is =
+      by (find (enters_in d rows top channel s column) d.pins) refl
+      (sym (get_or-map-range_with_len (λ (c : ℕ). net_in (find (enters_in d rows top channel s c) d.pins)) 0 (columns_of d s.instance) column column 0 within (omega arith)) ∙ is)
     where
-      by : (o : Option Pin) → find (enters_in d rows top channel s column) d.pins ≡ o → net_in o ≡ net → PinEntry d rows top channel s left at net
+      by : (o : Option Pin) → find (enters_in d rows top channel s column) d.pins ≡ o → net_in o ≡ net → EntryOf d rows top channel (Cell s ∷ items) left at net
       by None found is = absurd (omega arith)
       by (Some p) found is =
           let passes = find-passes (enters_in d rows top channel s column) d.pins p found in
           let h = enters-parts s column p passes.0 in
           let turned = h.place in
           record {
-            pin = p;
-            over = record { listed = passes.1; instance = h.instance; own = h.own; edge = h.edge; place = omega arith };
+            cause = of_pin p;
+            stands = first_over (record { listed = passes.1; instance = h.instance; own = h.own; edge = h.edge; place = omega arith });
             entering = h.entering;
             of_net = is;
           }
-
-  -- an entry of an item has its cause there
-  item-cause : (item : Item) (left column at net : ℕ) → left + column ≡ at → 0 < net → column < item_width d item
-      → get_or (item_entries d rows top channel item) column 0 ≡ net → IsEntry d rows top channel item left at net
-  item-cause (Cell s) left column at net place some within is =
-      pin-cause s left column at net place some
-      (sym (get_or-map-range_with_len (λ (c : ℕ). net_in (find (enters_in d rows top channel s c) d.pins)) 0 (columns_of d s.instance) column column 0 within (omega arith)) ∙ is)
-  item-cause (Feed own) left zero at net place some within is = (is, omega arith)
-  item-cause (Feed own) left (suc column) at net place some within is = absurd (omega arith)
+  item-cause (Feed own) items left zero at net place some within is =
+      record { cause = of_feed net; stands = first_over (is, omega arith); entering = tt; of_net = refl }
+  item-cause (Feed own) items left (suc column) at net place some within is = absurd (omega arith)
 
   -- an entry along a row has its cause there
   pub row-cause : (items : List Item) (left column at net : ℕ) → left + column ≡ at → 0 < net
@@ -89,10 +86,12 @@ module _ (d : Netlist) (rows : List (List Seat)) (top : Bool) (channel : ℕ) wh
   row-cause (item ∷ items) left column at net place some is =
       let width : length (item_entries d rows top channel item) ≡ item_width d item = item-length d rows top channel item in
       elim (cases_lt column (item_width d item)) [
-        | inl here ↦ first_entry (item-cause item left column at net place some here
-            (sym (get_or_append_left (item_entries d rows top channel item) (row_entries d rows top channel (Some items)) 0 column (omega arith)) ∙ is))
-        | inr there ↦ later_entry (row-cause items (left + item_width d item) (column - item_width d item) at net (omega arith) some
-            (sym (get_or-append_right (item_entries d rows top channel item) (row_entries d rows top channel (Some items)) (item_width d item) column 0 width there) ∙ is))
+        | inl here ↦ item-cause item items left column at net place some here
+            (sym (get_or_append_left (item_entries d rows top channel item) (row_entries d rows top channel (Some items)) 0 column (omega arith)) ∙ is)
+        | inr there ↦
+            let e = row-cause items (left + item_width d item) (column - item_width d item) at net (omega arith) some
+            (sym (get_or-append_right (item_entries d rows top channel item) (row_entries d rows top channel (Some items)) (item_width d item) column 0 width there) ∙ is) in
+            record { cause = e.cause; stands = later_over e.stands; entering = e.entering; of_net = e.of_net }
       ]
 
   module _ (good : IsNetlist d) where
@@ -111,29 +110,31 @@ module _ (d : Netlist) (rows : List (List Seat)) (top : Bool) (channel : ℕ) wh
         let same : p ≡ found.0 = same-pin d good p found.0 listed passes.1 instance terminal in
         ap net_in found.1 ∙ ap (λ (q : Pin). q.net) (sym same)
 
-    -- the cause of an item's entry leaves it there
-    item-effect : (item : Item) (left at net : ℕ) → IsEntry d rows top channel item left at net → HasNet (item_entries d rows top channel item) left at net
-    item-effect (Cell s) left at net h =
-        let column : ℕ = turned_column s.mirror (columns_of d s.instance) h.over.own in
-        let own : h.over.own < columns_of d s.instance = subst (λ (n : ℕ). h.over.own < columns_of d n) h.over.instance (own-within d good top h.pin h.over.own h.over.edge) in
-        let within : column < columns_of d s.instance = turned-within s.mirror (columns_of d s.instance) h.over.own own in
+    -- a cause over an item that enters the channel leaves its net there
+    item-effect : (cause : Source) (item : Item) (left at : ℕ) → IsOver d top cause item left at → SourceEnters d rows channel cause
+        → HasNet (item_entries d rows top channel item) left at (source_net cause)
+    item-effect (of_pin p) (Cell s) left at h entering =
+        let column : ℕ = turned_column s.mirror (columns_of d s.instance) h.own in
+        let own : h.own < columns_of d s.instance = subst (λ (n : ℕ). h.own < columns_of d n) h.instance (own-within d good top p h.own h.edge) in
+        let within : column < columns_of d s.instance = turned-within s.mirror (columns_of d s.instance) h.own own in
         let width = item-length d rows top channel (Cell s) in
-        let inside : EntersIn d rows top channel s column h.pin =
-        record { instance = h.over.instance; own = h.over.own; edge = h.over.edge; place = refl; entering = h.entering } in
+        let inside : EntersIn d rows top channel s column p = record { instance = h.instance; own = h.own; edge = h.edge; place = refl; entering = entering } in
         record {
           column = column;
-          place = h.over.place;
+          place = h.place;
           within = omega arith;
           there = get_or-map-range_with_len (λ (c : ℕ). net_in (find (enters_in d rows top channel s c) d.pins)) 0 (columns_of d s.instance) column column 0 within (omega arith)
-              ∙ pin-effect s column h.pin inside h.over.listed ∙ h.of_net;
+              ∙ pin-effect s column p inside h.listed;
         }
-    item-effect (Feed own) left at net h = record { column = 0; place = (let e = h.1 in omega arith); within = omega arith; there = h.0 }
+    item-effect (of_pin p) (Feed own) left at h entering = absurd h
+    item-effect (of_feed net) (Cell s) left at h entering = absurd h
+    item-effect (of_feed net) (Feed own) left at h entering = record { column = 0; place = (let e = h.1 in omega arith); within = omega arith; there = h.0 }
 
-    -- the cause of a row's entry leaves it there
-    pub row-effect : (items : List Item) (left at net : ℕ) → EntryOf d rows top channel items left at net
-        → HasNet (row_entries d rows top channel (Some items)) left at net
-    row-effect items left at net (first_entry {item = item} {items = rest} h) =
-        let e = item-effect item left at net h in
+    -- and so does one along a row
+    pub row-effect : (cause : Source) (items : List Item) (left at : ℕ) → StandsOver d top cause items left at → SourceEnters d rows channel cause
+        → HasNet (row_entries d rows top channel (Some items)) left at (source_net cause)
+    row-effect cause items left at (first_over {item = item} {items = rest} h) entering =
+        let e = item-effect cause item left at h entering in
         let within = e.within in
         let longer = length-append (item_entries d rows top channel item) (row_entries d rows top channel (Some rest)) in
         record {
@@ -142,8 +143,8 @@ module _ (d : Netlist) (rows : List (List Seat)) (top : Bool) (channel : ℕ) wh
           within = omega arith;
           there = get_or_append_left (item_entries d rows top channel item) (row_entries d rows top channel (Some rest)) 0 e.column e.within ∙ e.there;
         }
-    row-effect items left at net (later_entry {item = item} {items = rest} h) =
-        let e = row-effect rest (left + item_width d item) at net h in
+    row-effect cause items left at (later_over {item = item} {items = rest} h) entering =
+        let e = row-effect cause rest (left + item_width d item) at h entering in
         let within = e.within in
         let place = e.place in
         let width = item-length d rows top channel item in

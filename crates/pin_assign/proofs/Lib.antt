@@ -1,11 +1,7 @@
--- the pins of a net are different
-pub mod DifferentPins
 -- which pins enter a channel, and by what a net crosses a row
 pub mod EnteringLaws
 -- why a net has two entries in each of its channels
 pub mod TwiceLaws
--- finding in lists and filters of them
-pub mod FindLaws
 -- the pins of a design, and the positions that they have on an edge
 pub mod EdgeLaws
 -- how many entries rows and tables have
@@ -20,27 +16,15 @@ pub mod CauseLaws
 pub mod PlaceLaws
 -- the places of a table and the causes that stand there
 pub mod StandLaws
--- pins and feeds of a row stand in its columns
-pub mod RowCauses
--- the rows beside a channel, and what stands in its table from them
+-- pins and feeds of a row stand in its columns, and in the tables of the channels beside it
 pub mod BesideLaws
--- tables make channels
+-- the table of each channel of placed rows makes a channel, whose nets are those that stand in it
 pub mod ChannelLaws
--- the table of each channel of placed rows makes a channel
-pub mod EnteredLaws
--- the nets of a channel in the order of their numbers
-pub mod NetLaws
--- the size that a layout is within
-pub mod BoundLaws
 -- how many channels there are, how wide they are, and how many nets they have
 pub mod ChannelTables
--- rows with their feeds are of bounded sizes
+-- rows with their feeds are of bounded sizes, and so is their layout
 pub mod FedBounds
--- the entries of a cell, laid pin by pin
-pub mod LaidLaws
 -- the entries of rows by tables
 pub mod TabledEntries
 -- the rows beside a channel, by its number
 pub mod BelowLaws
--- worked tables, computed
-pub mod Worked

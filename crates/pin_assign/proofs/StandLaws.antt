@@ -1,37 +1,25 @@
-use Rattle.std.proofs.Common.{◌≡◌, ◌≢◌, ◌<◌, ℕ, List, Bool, true, false, not, Option, Some, None, refl, ap, sym, ◌∙◌, subst}
+use Rattle.std.proofs.Common.{◌≡◌, ◌<◌, ℕ, List, Bool, true, false, not, Option, Some, None, refl, sym, ◌∙◌, subst}
+use Rattle.std.specs.List.{slice_index}
 use Rattle.design_model.specs.Netlist.{Netlist, IsNetlist}
-use Rattle.row_model.specs.declared.rows.Seat.{Seat}
 use Rattle.feed_cells.specs.Fed.{Fed, cells_in}
 use Rattle.feed_cells.specs.declared.fed.Item.{Item}
-use Rattle.pin_assign.specs.Sources.{Source, source_net, SourceEnters}
+use Rattle.pin_assign.specs.Sources.{Source, source_net}
 use Rattle.pin_assign.specs.Entries.{EntryIn}
 use Rattle.pin_assign.specs.Places.{HasOver, TablePlace, StandsAt, entry_at, row_beside}
-use Rattle.pin_assign.specs.Tables.{table_of}
-use Rattle.pin_assign.proofs.CauseLaws.{cause-once, entry-cause, entry-from}
-use Rattle.pin_assign.proofs.TableLaws.{bottom-cause, bottom-effect, top-cause, top-effect}
+use Rattle.pin_assign.specs.Tables.{padded, row_entries, table_of}
+use Rattle.pin_assign.proofs.CauseLaws.{cause-once, entry-from}
+use Rattle.pin_assign.proofs.TableLaws.{edge-cause, edge-effect}
 
--- an entry of a row that there may be none of comes from a cause
-record OverIn (d : Netlist) (rows : List (List Seat)) (top : Bool) (channel : ℕ) (row : Option (List Item)) (column net : ℕ) : Type 0 where
-  pub cause : Source
-  pub over : HasOver d top cause row column
-  pub entering : SourceEnters d rows channel cause
-  pub of_net : source_net cause ≡ net
-
-over-in : (d : Netlist) (rows : List (List Seat)) (top : Bool) (channel : ℕ) (row : Option (List Item)) (column net : ℕ) → EntryIn d rows top channel row column net
-    → OverIn d rows top channel row column net
-over-in d rows top channel None column net h = absurd h
-over-in d rows top channel (Some items) column net h =
-    let e = entry-cause d rows top channel items 0 column net h in
-    record { cause = e.cause; over = e.stands; entering = e.entering; of_net = e.of_net }
-
-entry-in : (d : Netlist) (rows : List (List Seat)) (top : Bool) (channel : ℕ) (row : Option (List Item)) (column : ℕ) (cause : Source) → HasOver d top cause row column
-    → SourceEnters d rows channel cause → EntryIn d rows top channel row column (source_net cause)
-entry-in d rows top channel None column cause h entering = absurd h
-entry-in d rows top channel (Some items) column cause h entering = entry-from d rows top channel cause items 0 column h entering
-
-one-over : (d : Netlist) → IsNetlist d → (top : Bool) (row : Option (List Item)) (column : ℕ) (a b : Source) → HasOver d top a row column → HasOver d top b row column → a ≡ b
-one-over d good top None column a b first second = absurd first
-one-over d good top (Some items) column a b first second = cause-once d good top a b items 0 column first second
+-- an entry of a table is one of the row beside the channel
+entry-beside : (d : Netlist) (fed : Fed) (channel : ℕ) (place : TablePlace) → entry_at (table_of d fed channel) place
+    ≡ slice_index (padded fed.width (row_entries d (cells_in fed.rows) (not place.upper) channel (row_beside fed.rows channel place.upper))) place.column
+unfolding table_of
+entry-beside d fed channel place = by place.upper
+  where
+    by : (upper : Bool) → entry_at (table_of d fed channel) (record { upper = upper; column = place.column })
+        ≡ slice_index (padded fed.width (row_entries d (cells_in fed.rows) (not upper) channel (row_beside fed.rows channel upper))) place.column
+    by true = refl
+    by false = refl
 
 -- what stands at a place of a table with a net
 pub record PlaceCause (d : Netlist) (fed : Fed) (channel : ℕ) (place : TablePlace) (net : ℕ) : Type 0 where
@@ -42,53 +30,36 @@ pub record PlaceCause (d : Netlist) (fed : Fed) (channel : ℕ) (place : TablePl
 -- where a table has a net, a cause of the net stands
 pub place-cause : (d : Netlist) (fed : Fed) (channel : ℕ) (place : TablePlace) (net : ℕ) → 0 < net → entry_at (table_of d fed channel) place ≡ net
     → PlaceCause d fed channel place net
-place-cause d fed channel place net some is = by place.upper refl
+place-cause d fed channel place net some is =
+    by (row_beside fed.rows channel place.upper) refl
+    (edge-cause d (cells_in fed.rows) (not place.upper) channel fed.width (row_beside fed.rows channel place.upper) place.column net some (sym (entry-beside d fed channel place) ∙ is))
   where
-    at : (upper : Bool) → place.upper ≡ upper → OverIn d (cells_in fed.rows) (not upper) channel (row_beside fed.rows channel upper) place.column net
+    by : (o : Option (List Item)) → row_beside fed.rows channel place.upper ≡ o → EntryIn d (cells_in fed.rows) (not place.upper) channel o place.column net
         → PlaceCause d fed channel place net
-    at upper side e =
-        record {
-          cause = e.cause;
-          stands = record {
-            over = subst (λ (u : Bool). HasOver d (not u) e.cause (row_beside fed.rows channel u) place.column) (sym side) e.over;
-            entering = e.entering;
-          };
-          of_net = e.of_net;
-        }
-
-    by : (upper : Bool) → place.upper ≡ upper → PlaceCause d fed channel place net
-    by true side =
-        at true side (over-in d (cells_in fed.rows) false channel (row_beside fed.rows channel true) place.column net
-        (top-cause d fed channel place.column net some (ap (λ (u : Bool). entry_at (table_of d fed channel) (record { upper = u; column = place.column })) (sym side) ∙ is)))
-    by false side =
-        at false side (over-in d (cells_in fed.rows) true channel (row_beside fed.rows channel false) place.column net
-        (bottom-cause d fed channel place.column net some (ap (λ (u : Bool). entry_at (table_of d fed channel) (record { upper = u; column = place.column })) (sym side) ∙ is)))
+    by None at e = absurd e
+    by (Some items) at e = record {
+      cause = e.cause;
+      stands = record { over = subst (λ (o : Option (List Item)). HasOver d (not place.upper) e.cause o place.column) (sym at) e.stands; entering = e.entering };
+      of_net = e.of_net;
+    }
 
 -- where a cause stands, a table has its net
 pub place-effect : (d : Netlist) → IsNetlist d → (fed : Fed) (channel : ℕ) (place : TablePlace) (cause : Source) → StandsAt d fed channel cause place
     → entry_at (table_of d fed channel) place ≡ source_net cause
-place-effect d good fed channel place cause h = by place.upper refl
+place-effect d good fed channel place cause h =
+    entry-beside d fed channel place
+    ∙ edge-effect d (cells_in fed.rows) (not place.upper) channel fed.width good (row_beside fed.rows channel place.upper) place.column (source_net cause)
+    (entering (row_beside fed.rows channel place.upper) h.over)
   where
-    over : (upper : Bool) → place.upper ≡ upper → HasOver d (not upper) cause (row_beside fed.rows channel upper) place.column
-    over upper side = subst (λ (u : Bool). HasOver d (not u) cause (row_beside fed.rows channel u) place.column) side h.over
-
-    by : (upper : Bool) → place.upper ≡ upper → entry_at (table_of d fed channel) place ≡ source_net cause
-    by true side =
-        ap (λ (u : Bool). entry_at (table_of d fed channel) (record { upper = u; column = place.column })) side
-        ∙ top-effect d good fed channel place.column (source_net cause)
-        (entry-in d (cells_in fed.rows) false channel (row_beside fed.rows channel true) place.column cause (over true side) h.entering)
-    by false side =
-        ap (λ (u : Bool). entry_at (table_of d fed channel) (record { upper = u; column = place.column })) side
-        ∙ bottom-effect d good fed channel place.column (source_net cause)
-        (entry-in d (cells_in fed.rows) true channel (row_beside fed.rows channel false) place.column cause (over false side) h.entering)
+    entering : (o : Option (List Item)) → HasOver d (not place.upper) cause o place.column
+        → EntryIn d (cells_in fed.rows) (not place.upper) channel o place.column (source_net cause)
+    entering None over = absurd over
+    entering (Some items) over = entry-from d (cells_in fed.rows) (not place.upper) channel cause items 0 place.column over h.entering
 
 -- at one place of a table one cause stands
 pub place-once : (d : Netlist) → IsNetlist d → (fed : Fed) (channel : ℕ) (place : TablePlace) (a b : Source) → StandsAt d fed channel a place → StandsAt d fed channel b place → a ≡ b
-place-once d good fed channel place a b first second =
-    one-over d good (not place.upper) (row_beside fed.rows channel place.upper) place.column a b first.over second.over
-
--- different causes stand at different places
-pub places-differ : (d : Netlist) → IsNetlist d → (fed : Fed) (channel : ℕ) (first second : TablePlace) (a b : Source) → StandsAt d fed channel a first
-    → StandsAt d fed channel b second → a ≢ b → first ≢ second
-places-differ d good fed channel first second a b here there differ same =
-    differ (place-once d good fed channel first a b here (subst (λ (p : TablePlace). StandsAt d fed channel b p) (sym same) there))
+place-once d good fed channel place a b first second = by (row_beside fed.rows channel place.upper) first.over second.over
+  where
+    by : (o : Option (List Item)) → HasOver d (not place.upper) a o place.column → HasOver d (not place.upper) b o place.column → a ≡ b
+    by None one other = absurd one
+    by (Some items) one other = cause-once d good (not place.upper) a b items 0 place.column one other

@@ -4,12 +4,11 @@ use Rattle.std.proofs.lemmas.List.{get_or-append_right, get_or-replicate, get_or
 use Rattle.std.specs.List.{slice_get, slice_index}
 use Rattle.design_model.specs.Netlist.{Netlist, IsNetlist}
 use Rattle.row_model.specs.declared.rows.Seat.{Seat}
-use Rattle.feed_cells.specs.Fed.{Fed, cells_in, items_width}
+use Rattle.feed_cells.specs.Fed.{Fed, cells_in}
 use Rattle.feed_cells.specs.declared.fed.Item.{Item}
-use Rattle.pin_assign.specs.Entries.{EntryIn, EntryOf}
+use Rattle.pin_assign.specs.Entries.{EntryIn}
 use Rattle.pin_assign.specs.Tables.{padded, row_below, row_entries, table_of}
 use Rattle.pin_assign.proofs.EntryLaws.{row-cause, row-effect}
-use Rattle.pin_assign.proofs.WidthLaws.{row-length}
 
 -- the padding has no net
 padding : (n i : ℕ) → get_or (replicate {A = ℕ} n 0) i 0 ≡ 0
@@ -38,55 +37,23 @@ pub padded-from : (width : ℕ) (entries : List ℕ) (column net : ℕ) → colu
 padded-from width entries column net within is = get_or_append_left entries (replicate (width - length entries) 0) 0 column within ∙ is
 
 module _ (d : Netlist) (rows : List (List Seat)) (top : Bool) (channel width : ℕ) where
-  -- each net along an edge of a row has a cause in its column
-  pub entries-cause : (items : List Item) (column net : ℕ) → 0 < net → slice_index (padded width (row_entries d rows top channel (Some items))) column ≡ net
-      → EntryOf d rows top channel items 0 column net
-  entries-cause items column net some is =
-      row-cause d rows top channel items 0 column column net (omega arith) some (padded-is width (row_entries d rows top channel (Some items)) column net some is)
-
-  -- each cause leaves its net in its column, which is one of the row's
-  pub entries-effect : IsNetlist d → (items : List Item) (column net : ℕ) → EntryOf d rows top channel items 0 column net
-      → slice_index (padded width (row_entries d rows top channel (Some items))) column ≡ net
-  entries-effect good items column net h =
-      let e = row-effect d rows top channel good items 0 column net h in
-      let same : e.column ≡ column = (let place = e.place in omega arith) in
-      padded-from width (row_entries d rows top channel (Some items)) column net
-      (subst (λ (n : ℕ). n < length (row_entries d rows top channel (Some items))) same e.within)
-      (ap (λ (n : ℕ). get_or (row_entries d rows top channel (Some items)) n 0) (sym same) ∙ e.there)
-
-  -- where there is no row there is no net
-  pub entries-none : (column : ℕ) → slice_index (padded width (row_entries d rows top channel None)) column ≡ 0
-  entries-none column = padding (width - 0) column
-
-  -- both ways, where there may be no row
+  -- each net along an edge of a row, if there is one, has a cause in its column
   pub edge-cause : (row : Option (List Item)) (column net : ℕ) → 0 < net → slice_index (padded width (row_entries d rows top channel row)) column ≡ net
       → EntryIn d rows top channel row column net
-  edge-cause None column net some is = let none = entries-none column in absurd (omega arith)
-  edge-cause (Some items) column net some is = entries-cause items column net some is
+  edge-cause None column net some is = let none = padding (width - 0) column in absurd (omega arith)
+  edge-cause (Some items) column net some is =
+      row-cause d rows top channel items 0 column column net (omega arith) some (padded-is width (row_entries d rows top channel (Some items)) column net some is)
 
+  -- and each cause leaves its net in its column
   pub edge-effect : IsNetlist d → (row : Option (List Item)) (column net : ℕ) → EntryIn d rows top channel row column net
       → slice_index (padded width (row_entries d rows top channel row)) column ≡ net
   edge-effect good None column net h = absurd h
-  edge-effect good (Some items) column net h = entries-effect good items column net h
-
--- a net in a column of items side by side is in one of their columns
-pub entry-within : (d : Netlist) → IsNetlist d → (rows : List (List Seat)) (top : Bool) (channel : ℕ) (items : List Item) (column net : ℕ)
-    → EntryOf d rows top channel items 0 column net → column < items_width d items
-entry-within d good rows top channel items column net h =
-    let e = row-effect d rows top channel good items 0 column net h in
-    let place = e.place in
-    let within = e.within in
-    let width = row-length d rows top channel items in
-    omega arith
-
--- one column of items side by side has one net
-pub entry-once : (d : Netlist) → IsNetlist d → (rows : List (List Seat)) (top : Bool) (channel : ℕ) (items : List Item) (left column n m : ℕ)
-    → EntryOf d rows top channel items left column n → EntryOf d rows top channel items left column m → n ≡ m
-entry-once d good rows top channel items left column n m first second =
-    let a = row-effect d rows top channel good items left column n first in
-    let b = row-effect d rows top channel good items left column m second in
-    let same : a.column ≡ b.column = (let p = a.place in let q = b.place in omega arith) in
-    sym a.there ∙ ap (λ (k : ℕ). get_or (row_entries d rows top channel (Some items)) k 0) same ∙ b.there
+  edge-effect good (Some items) column net h =
+      let e = row-effect d rows top channel good h.cause items 0 column h.stands h.entering in
+      let same : e.column ≡ column = (let place = e.place in omega arith) in
+      padded-from width (row_entries d rows top channel (Some items)) column net
+      (subst (λ (n : ℕ). n < length (row_entries d rows top channel (Some items))) same e.within)
+      (ap (λ (n : ℕ). get_or (row_entries d rows top channel (Some items)) n 0) (sym same) ∙ e.there ∙ h.of_net)
 
 -- a net in the upper list of a channel's table has its cause at the lower edge of the row above, and each cause there leaves its net
 pub top-cause : (d : Netlist) (fed : Fed) (channel column net : ℕ) → 0 < net → slice_index (table_of d fed channel).top column ≡ net

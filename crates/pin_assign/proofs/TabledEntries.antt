@@ -1,11 +1,14 @@
-use Rattle.std.proofs.Common.{◌≡◌, ◌<◌, ◌≤◌, ◌⊎◌, ◌==◌, ℕ, zero, suc, List, [], ◌∷◌, ◌++◌, map, filter, fold, length, Bool, true, false, ◌&&◌, Option, None, Some, cond, slice_get, refl, ap, sym, ◌∙◌, subst, arith, inl, inr, append_assoc, append-nil}
+use Rattle.std.proofs.Common.{◌≡◌, ◌<◌, ◌≤◌, ◌⊎◌, ◌==◌, ℕ, zero, suc, List, [], ◌∷◌, ◌++◌, map, filter, fold, length, Bool, true, false, ◌&&◌, Option, None, Some, cond, slice_get, refl, ap, ap₂, sym, ◌∙◌, subst, arith, inl, inr}
 use Rattle.std.proofs.lemmas.Bool.{cases_lt, eqb-true}
 use Rattle.std.proofs.lemmas.Bool.Decides.{nat_tests}
 use Rattle.std.proofs.lemmas.List.Elements.{recursion_from_All}
-use Rattle.std.proofs.lemmas.List.{length-map}
 use Rattle.std.proofs.lemmas.Option.{slice_get_past}
 use Rattle.std.specs.List.{AllByRecursion, find, flat_map, range_with_len}
 use Rattle.std.specs.Option.{option_and_then}
+use Rattle.list_facts.specs.Lists.{list_there}
+use Rattle.list_facts.proofs.Every.{every-filtered}
+use Rattle.list_facts.proofs.Members.{find-filter}
+use Rattle.list_facts.proofs.Ranges.{filter-map}
 use Rattle.channel_model.specs.Pins.{IsChannel, Pins}
 use Rattle.design_model.specs.Netlist.{IsNetlist, Netlist}
 use Rattle.design_model.specs.declared.design.Inst.{Inst}
@@ -13,34 +16,19 @@ use Rattle.design_model.specs.declared.design.Pin.{Pin}
 use Rattle.row_model.specs.Stands.{edge_column}
 use Rattle.row_model.specs.Widths.{columns_of, width_of}
 use Rattle.row_model.specs.declared.rows.Seat.{Seat}
-use Rattle.feed_cells.specs.Fed.{Fed, IsFed, cells_in, fed_rows, seats_in}
+use Rattle.feed_cells.specs.Fed.{Fed, IsFed, cells_in}
 use Rattle.feed_cells.specs.declared.fed.Item.{Item}
 use Rattle.feed_cells.specs.declared.fed.Item.TheVariants.{Cell, Feed}
 use Rattle.pin_assign.specs.Entering.{enters, enters_by}
 use Rattle.feed_cells.specs.Crossings.{crossing_of}
-use Rattle.feed_cells.specs.Placement.{placed_pin, placement_of}
-use Rattle.feed_cells.specs.PlacementLists.{PlacementLists}
+use Rattle.feed_cells.specs.Placement.{placed_pin}
 use Rattle.feed_cells.specs.declared.crossing.Crossing.{Crossing}
 use Rattle.feed_cells.specs.declared.crossing.Crossing.TheVariants.{Alone, Many, One}
 use Rattle.feed_cells.specs.declared.placement.PlacedPin.{PlacedPin}
-use Rattle.feed_cells.proofs.NetTableLaws.{map-same}
-use Rattle.feed_cells.proofs.PlacementLaws.{placement-pins}
 use Rattle.row_model.specs.PinPlaces.{edge_of, pin_place_at}
-use Rattle.pin_assign.specs.Tabled.{AreTabled, enters_as, is_laid, items_there, laid, laid_entries, pins_there, tabled_entries, with_pin}
+use Rattle.pin_assign.specs.Tabled.{AreTabled, enters_as, is_laid, laid, laid_entries, of_instance, tabled_entries}
 use Rattle.pin_assign.specs.Tables.{cell_entries, enters_in, is_in_column, item_entries, net_in, padded, row_below, row_entries, table_of}
-use Rattle.pin_assign.proofs.EnteredLaws.{table-channel}
-
--- the pins of an instance, taken one by one, are those that a filter keeps
-with-pins : (i : ℕ) (pins all : List PlacedPin) → fold (with_pin i) pins all ≡ pins ++ filter (λ (a : PlacedPin). a.place.pin.instance == i) all
-with-pins i pins [] = sym (append-nil pins)
-with-pins i pins (a ∷ all) = by (a.place.pin.instance == i) (with-pins i (pins ++ a ∷ []) all ∙ append_assoc pins (a ∷ []) (filter (λ (b : PlacedPin). b.place.pin.instance == i) all)) (with-pins i pins all)
-  where
-    by : (b : Bool) → fold (with_pin i) (pins ++ a ∷ []) all ≡ pins ++ (a ∷ filter (λ (b : PlacedPin). b.place.pin.instance == i) all)
-        → fold (with_pin i) pins all ≡ pins ++ filter (λ (b : PlacedPin). b.place.pin.instance == i) all
-        → fold (with_pin i) (cond b (pins ++ a ∷ []) pins) all
-        ≡ pins ++ cond b (a ∷ filter (λ (b : PlacedPin). b.place.pin.instance == i) all) (filter (λ (b : PlacedPin). b.place.pin.instance == i) all)
-    by true is other = is
-    by false is other = other
+use Rattle.pin_assign.proofs.ChannelLaws.{table-channel}
 
 -- an entry, or another where it is none
 abbrev entry_or : ℕ → ℕ → ℕ
@@ -52,9 +40,6 @@ module _ (d : Netlist) (rows : List (List Seat)) (s : Seat) (top : Bool) (channe
 
   abbrev lay_on : ℕ → PlacedPin → ℕ
   lay_on net a = laid s.mirror (columns_of d s.instance) top channel column net a
-
-  abbrev own : PlacedPin → Bool
-  own a = a.place.pin.instance == s.instance
 
   edge-same : (t : Bool) (p : Pin) → edge_of t (placed_pin d rows p).place ≡ edge_column d t p
   unfolding placed_pin pin_place_at
@@ -95,9 +80,12 @@ module _ (d : Netlist) (rows : List (List Seat)) (s : Seat) (top : Bool) (channe
   net-if true p more = refl
   net-if false p more = refl
 
-  -- the pins of a cell, laid one by one, leave what a search for the first of a column finds
+  abbrev lies : Pin → Bool
+  lies p = is_in_column (edge_column d top p) s.mirror (columns_of d s.instance) column && enters d rows p channel
+
+  -- pins, laid one by one, leave what a search for the first of a column finds
   laid-found : (net : ℕ) (ps : List Pin) → AllByRecursion (λ (p : Pin). (p.net == 0) ≡ false) ps
-      → fold lay_on net (filter own (map (placed_pin d rows) ps)) ≡ entry_or net (net_in (find (enters_in d rows top channel s column) ps))
+      → fold lay_on net (map (placed_pin d rows) ps) ≡ entry_or net (net_in (find lies ps))
   unfolding placed_pin pin_place_at
   laid-found net [] some = none (net == 0) refl
     where
@@ -105,30 +93,19 @@ module _ (d : Netlist) (rows : List (List Seat)) (s : Seat) (top : Bool) (channe
       none true is = eqb-true net 0 is
       none false is = refl
   laid-found net (p ∷ ps) some =
-      by (p.instance == s.instance)
-      (laid-found (lay_on net (placed_pin d rows p)) ps some.1
-      ∙ lay-step net (net_in (find (enters_in d rows top channel s column) ps)) p.net (lays (placed_pin d rows p)) some.0
-      ∙ ap (λ (b : Bool). entry_or net (cond b p.net (net_in (find (enters_in d rows top channel s column) ps)))) (lays-same p)
-      ∙ ap (entry_or net) (sym (net-if (is_in_column (edge_column d top p) s.mirror (columns_of d s.instance) column && enters d rows p channel) p (find (enters_in d rows top channel s column) ps))))
-      (laid-found net ps some.1)
-    where
-      by : (b : Bool)
-          → fold lay_on (lay_on net (placed_pin d rows p)) (filter own (map (placed_pin d rows) ps))
-          ≡ entry_or net (net_in (cond (is_in_column (edge_column d top p) s.mirror (columns_of d s.instance) column && enters d rows p channel) (Some p) (find (enters_in d rows top channel s column) ps)))
-          → fold lay_on net (filter own (map (placed_pin d rows) ps)) ≡ entry_or net (net_in (find (enters_in d rows top channel s column) ps))
-          → fold lay_on net (cond b (placed_pin d rows p ∷ filter own (map (placed_pin d rows) ps)) (filter own (map (placed_pin d rows) ps)))
-          ≡ entry_or net (net_in (cond (b && is_in_column (edge_column d top p) s.mirror (columns_of d s.instance) column && enters d rows p channel) (Some p)
-          (find (enters_in d rows top channel s column) ps)))
-      by true is other = is
-      by false is other = other
+      laid-found (lay_on net (placed_pin d rows p)) ps some.1
+      ∙ lay-step net (net_in (find lies ps)) p.net (lays (placed_pin d rows p)) some.0
+      ∙ ap (λ (b : Bool). entry_or net (cond b p.net (net_in (find lies ps)))) (lays-same p)
+      ∙ ap (entry_or net) (sym (net-if (lies p) p (find lies ps)))
 
--- what is the same of each column is the same of all
-columns-same : (f g : ℕ → ℕ) → (ns : List ℕ) → ((n : ℕ) → f n ≡ g n) → map f ns ≡ map g ns
-columns-same f g ns same = map-same (λ (n : ℕ). Unit {0}) f g (λ n _. same n) ns (every ns)
-  where
-    every : (ms : List ℕ) → AllByRecursion (λ (n : ℕ). Unit {0}) ms
-    every [] = tt
-    every (m ∷ ms) = (tt, every ms)
+  -- and those of a cell among all what the definition finds
+  cell-found : (ps : List Pin) → AllByRecursion (λ (p : Pin). (p.net == 0) ≡ false) ps
+      → fold lay_on 0 (of_instance s.instance (map (placed_pin d rows) ps)) ≡ net_in (find (enters_in d rows top channel s column) ps)
+  unfolding placed_pin pin_place_at
+  cell-found ps some =
+      ap (fold lay_on 0) (filter-map (λ (a : PlacedPin). a.place.pin.instance == s.instance) (placed_pin d rows) ps)
+      ∙ laid-found 0 (filter (λ (p : Pin). p.instance == s.instance) ps) (every-filtered (λ (p : Pin). (p.net == 0) ≡ false) (λ (p : Pin). p.instance == s.instance) ps some)
+      ∙ ap net_in (find-filter lies (λ (p : Pin). p.instance == s.instance) ps)
 
 -- what is the same of each item is the same of a row
 flat-same : (f g : Item → List ℕ) → ((item : Item) → f item ≡ g item) → (items : List Item) → flat_map f items ≡ flat_map g items
@@ -143,21 +120,23 @@ nets-some d good = recursion_from_All (λ (p : Pin). (p.net == 0) ≡ false) d.p
     some {n = n} h = let positive = h.0 in grind (arith, nat_tests)
 
 module _ (d : Netlist) (good : IsNetlist d) (rows : List (List Seat)) (table : List (List PlacedPin)) (tabled : AreTabled d rows table) (top : Bool) (channel : ℕ) where
-  cell-pins : (s : Seat) (pins : List PlacedPin) → pins ≡ fold (with_pin s.instance) [] (map (placed_pin d rows) d.pins)
+  cell-pins : (s : Seat) (pins : List PlacedPin) → pins ≡ of_instance s.instance (map (placed_pin d rows) d.pins)
       → laid_entries s.mirror (columns_of d s.instance) top channel pins ≡ cell_entries d rows top channel s
   unfolding laid_entries
-  cell-pins s pins is =
-      columns-same (λ (column : ℕ). fold (laid s.mirror (columns_of d s.instance) top channel column) 0 pins)
-      (λ (column : ℕ). net_in (find (enters_in d rows top channel s column) d.pins)) (range_with_len 0 (columns_of d s.instance))
-      (λ column. ap (fold (laid s.mirror (columns_of d s.instance) top channel column) 0) (is ∙ with-pins s.instance [] (map (placed_pin d rows) d.pins))
-      ∙ laid-found d rows s top channel column 0 d.pins (nets-some d good))
+  cell-pins s pins is = columns (range_with_len 0 (columns_of d s.instance))
+    where
+      columns : (ns : List ℕ) → map (λ (column : ℕ). fold (laid s.mirror (columns_of d s.instance) top channel column) 0 pins) ns
+          ≡ map (λ (column : ℕ). net_in (find (enters_in d rows top channel s column) d.pins)) ns
+      columns [] = refl
+      columns (n ∷ ns) = ap₂ (λ (x : ℕ) (xs : List ℕ). x ∷ xs)
+          (ap (fold (laid s.mirror (columns_of d s.instance) top channel n) 0) is ∙ cell-found d rows s top channel n d.pins (nets-some d good)) (columns ns)
 
   -- there is no cell without an instance
   no-columns : (instance : ℕ) → length d.instances ≤ instance → columns_of d instance ≡ 0
   no-columns instance past =
       ap (λ (o : Option Inst). width_of (option_and_then (λ (i : Inst). slice_get d.kinds i.kind) o)) (slice_get_past d.instances instance past)
 
-  cell-same : (s : Seat) → laid_entries s.mirror (columns_of d s.instance) top channel (pins_there (slice_get table s.instance)) ≡ cell_entries d rows top channel s
+  cell-same : (s : Seat) → laid_entries s.mirror (columns_of d s.instance) top channel (list_there (slice_get table s.instance)) ≡ cell_entries d rows top channel s
   unfolding laid_entries
   cell-same s = by (cases_lt s.instance (length d.instances))
     where
@@ -167,9 +146,9 @@ module _ (d : Netlist) (good : IsNetlist d) (rows : List (List Seat)) (table : L
       none (suc n) is pins = absurd (omega arith)
 
       by : (s.instance < length d.instances) ⊎ (length d.instances ≤ s.instance)
-          → laid_entries s.mirror (columns_of d s.instance) top channel (pins_there (slice_get table s.instance)) ≡ cell_entries d rows top channel s
-      by (inr past) = none (columns_of d s.instance) (no-columns s.instance past) (pins_there (slice_get table s.instance))
-      by (inl within) = cell-pins s (pins_there (slice_get table s.instance)) (ap pins_there (tabled.each s.instance within))
+          → laid_entries s.mirror (columns_of d s.instance) top channel (list_there (slice_get table s.instance)) ≡ cell_entries d rows top channel s
+      by (inr past) = none (columns_of d s.instance) (no-columns s.instance past) (list_there (slice_get table s.instance))
+      by (inl within) = cell-pins s (list_there (slice_get table s.instance)) (ap list_there (tabled.each s.instance within))
 
   -- the entries of a row by a table are those of the definition
   item-same : (item : Item) → tabled_entries d table top channel item ≡ item_entries d rows top channel item
@@ -177,14 +156,14 @@ module _ (d : Netlist) (good : IsNetlist d) (rows : List (List Seat)) (table : L
   item-same (Cell s) = cell-same s
   item-same (Feed net) = refl
 
-  pub row-same : (row : Option (List Item)) → flat_map (tabled_entries d table top channel) (items_there row) ≡ row_entries d rows top channel row
+  pub row-same : (row : Option (List Item)) → flat_map (tabled_entries d table top channel) (list_there row) ≡ row_entries d rows top channel row
   row-same None = refl
   row-same (Some items) = flat-same (tabled_entries d table top channel) (item_entries d rows top channel) item-same items
 
 -- the lists of a channel by a table are those of its table
 pub table-made : (d : Netlist) → IsNetlist d → (fed : Fed) (table : List (List PlacedPin)) → AreTabled d (cells_in fed.rows) table → (channel : ℕ) (top bottom : List ℕ)
-    → top ≡ padded fed.width (flat_map (tabled_entries d table false channel) (items_there (slice_get fed.rows channel)))
-    → bottom ≡ padded fed.width (flat_map (tabled_entries d table true channel) (items_there (row_below fed.rows channel)))
+    → top ≡ padded fed.width (flat_map (tabled_entries d table false channel) (list_there (slice_get fed.rows channel)))
+    → bottom ≡ padded fed.width (flat_map (tabled_entries d table true channel) (list_there (row_below fed.rows channel)))
     → record { top = top; bottom = bottom } ≡ table_of d fed channel
 unfolding table_of
 table-made d good fed table tabled channel top bottom top_is bottom_is =
@@ -196,21 +175,9 @@ table-made d good fed table tabled channel top bottom top_is bottom_is =
     pins_of top bottom = record { top = top; bottom = bottom }
 
 -- and make a channel
-pub channel-made : (d : Netlist) → IsNetlist d → (fed : Fed) → IsFed d fed → fed.width ≤ 4000000 → (channel : ℕ) → channel ≤ length fed.rows → (pins : Pins)
-    → pins ≡ table_of d fed channel → IsChannel pins
-channel-made d good fed fed_is few channel within pins is = subst IsChannel (sym (is ∙ ap (λ (f : Fed). table_of d f channel) fed_is.is)) made
-  where
-    made : IsChannel (table_of d (fed_rows d (cells_in fed.rows)) channel)
-    made =
-        let long : length (cells_in fed.rows) ≡ length fed.rows = length-map fed.rows seats_in in
-        table-channel d (cells_in fed.rows) good fed_is.placed (subst (λ (f : Fed). f.width ≤ 4000000) fed_is.is few) channel (omega arith)
+pub channel-made : (d : Netlist) → IsNetlist d → (fed : Fed) → IsFed d fed → fed.width ≤ 4000000 → (channel : ℕ) (pins : Pins) → pins ≡ table_of d fed channel → IsChannel pins
+channel-made d good fed fed_is few channel pins is =
+    subst IsChannel (sym (is ∙ ap (λ (f : Fed). table_of d f channel) fed_is.is))
+    (table-channel d good (cells_in fed.rows) fed_is.placed channel (subst (λ (f : Fed). f.width ≤ 4000000) fed_is.is few))
 
 pub ruleset made_laws = (table-made, channel-made)
-
--- a table of the pins of a placement has the pins of its design in these rows
-pub placement-tabled : (d : Netlist) (rows : List (List Seat)) (lists : PlacementLists) (table : List (List PlacedPin)) → lists ≡ placement_of d rows
-    → ((i : ℕ) → i < length d.instances → slice_get table i ≡ Some (fold (with_pin i) [] lists.pins)) → AreTabled d rows table
-placement-tabled d rows lists table is each = record {
-  each = λ i within. each i within
-      ∙ ap (λ (pins : List PlacedPin). Some (fold (with_pin i) [] pins)) (ap (λ (l : PlacementLists). l.pins) is ∙ placement-pins d rows);
-}

@@ -1,5 +1,7 @@
-use Rattle.std.proofs.Common.{◌≡◌, ◌⊎◌, ◌<◌, ◌≤◌, ◌+◌, ◌-◌, ℕ, max, inl, inr, refl, sym, subst, ap, ◌∙◌, arith, List, ◌∷◌, Bool, true, false, cond, eqb, Contains, length, map}
+use Rattle.std.proofs.Common.{◌≡◌, ◌⊎◌, ◌<◌, ◌≤◌, ◌+◌, ◌-◌, not, ℕ, max, inl, inr, refl, sym, subst, ap, ◌∙◌, arith, List, ◌∷◌, Bool, true, false, cond, eqb, Contains, length, map}
 use Rattle.std.proofs.lemmas.Bool.{both_ways, cases_eq, eqb-true}
+use Rattle.design_model.proofs.DesignPins.{first-two, kept-ascending}
+use Rattle.list_facts.proofs.Members.{member-head, member-tail}
 use Rattle.design_model.specs.Netlist.{IsNetlist, Netlist}
 use Rattle.design_model.specs.PinOrder.{IsAscending, pin_pair}
 use Rattle.design_model.specs.declared.design.Pin.{Pin}
@@ -7,7 +9,7 @@ use Rattle.design_model.proofs.PinsInOrder.{pins-ascending}
 use Rattle.row_model.specs.Rows.{ArePlaced}
 use Rattle.row_model.specs.Stands.{row_of}
 use Rattle.row_model.specs.declared.rows.Seat.{Seat}
-use Rattle.feed_cells.specs.Crossings.{crossing_of, has_edge, highest, is_across, is_in, lowest}
+use Rattle.feed_cells.specs.Crossings.{crossing_of, has_edge, is_across, is_in, lowest}
 use Rattle.feed_cells.specs.Channels.{last_channel}
 use Rattle.feed_cells.specs.Feeds.{is_fed}
 use Rattle.feed_cells.specs.Touching.{Touches, channel_beside}
@@ -15,9 +17,7 @@ use Rattle.feed_cells.specs.declared.crossing.Crossing.{Crossing}
 use Rattle.feed_cells.specs.declared.crossing.Crossing.TheVariants.{Alone, One, Many}
 use Rattle.feed_cells.proofs.CrossingLaws.{channels-within, fed-across, from-across, in-range, of-net, pin-ordered}
 use Rattle.feed_cells.proofs.NetLaws.{across-over, across-under}
-use Rattle.feed_cells.proofs.Members.{member-head, member-tail}
-use Rattle.pin_assign.specs.Causes.{AreDifferent, Cause, EntersBy, EntersTwice, IsEntered, Leads, by_both, by_feed, by_pin, by_pins, over_both}
-use Rattle.pin_assign.proofs.DifferentPins.{first-two, kept-ascending}
+use Rattle.pin_assign.specs.Causes.{AreDifferent, Cause, CrossesBy, EntersBy, EntersTwice, IsEntered, by_both, by_feed, by_pin, by_pins, over_both}
 use Rattle.pin_assign.proofs.EnteringLaws.{all-touch, are-spread, crossed-by, enter-lowest, enter-one, entered-is, same-edge}
 
 -- two pins that enter one channel, over whichever edges
@@ -60,15 +60,15 @@ crossed-within d rows good placed net lo hi row is below =
     omega arith
 
 -- a crossed row is a cause in the channel under it
-pub cause-under : (d : Netlist) (rows : List (List Seat)) (net row : ℕ) → row < length rows → ((p : Pin) × Leads d rows net row p) ⊎ (is_fed d rows row net ≡ true)
+pub cause-under : (d : Netlist) (rows : List (List Seat)) (net row : ℕ) → row < length rows → ((p : Pin) × CrossesBy d rows net row p) ⊎ (is_fed d rows row net ≡ true)
     → Cause d rows net row false
-cause-under d rows net row within (inl leads) = by_pin leads.0 leads.1.under
+cause-under d rows net row within (inl pin) = by_pin pin.0 pin.1.under
 cause-under d rows net row within (inr fed) = by_feed row (record { within = within; beside = refl; fed = fed })
 
 -- and in the one over it
-pub cause-over : (d : Netlist) (rows : List (List Seat)) (net row : ℕ) → row < length rows → ((p : Pin) × Leads d rows net row p) ⊎ (is_fed d rows row net ≡ true)
+pub cause-over : (d : Netlist) (rows : List (List Seat)) (net row : ℕ) → row < length rows → ((p : Pin) × CrossesBy d rows net row p) ⊎ (is_fed d rows row net ≡ true)
     → Cause d rows net (row + 1) true
-cause-over d rows net row within (inl leads) = by_pin leads.0 leads.1.over
+cause-over d rows net row within (inl pin) = by_pin pin.0 pin.1.over
 cause-over d rows net row within (inr fed) = by_feed row (record { within = within; beside = refl; fed = fed })
 
 no-top : (top : Bool) (row : ℕ) → cond top (row + 1) row ≡ row → top ≡ false
@@ -90,60 +90,51 @@ different-edges : (d : Netlist) (top : Bool) (p q : Pin) → has_edge d top p �
 different-edges d top p q none some instance terminal = both_ways (has_edge d top p) none (same-edge d top p q instance terminal ∙ some)
 
 module _ (d : Netlist) (rows : List (List Seat)) (good : IsNetlist d) (placed : ArePlaced d rows) (net lo hi : ℕ) (is : crossing_of d rows net ≡ Many lo hi) where
-  crossed : (row : ℕ) → lo ≤ row → row < hi → ((p : Pin) × Leads d rows net row p) ⊎ (is_fed d rows row net ≡ true)
+  crossed : (row : ℕ) → lo ≤ row → row < hi → ((p : Pin) × CrossesBy d rows net row p) ⊎ (is_fed d rows row net ≡ true)
   crossed row above below = crossed-by d rows net row (ap (λ (c : Crossing). is_across c row) is ∙ from-across (Many lo hi) row above below)
 
-  -- in its first channel the net has the crossed row over it, and a pin that touches no channel further up
+  -- in a channel beside a crossed row a pin that has no position on the row's other side is a second cause
+  twice-end : (top : Bool) (row : ℕ) → row < length rows → ((q : Pin) × CrossesBy d rows net row q) ⊎ (is_fed d rows row net ≡ true) → (p : Pin)
+      → (EntersBy d rows net (channel_beside top row) top p → has_edge d (not top) p ≡ false)
+      → EntersBy d rows net (channel_beside top row) false p ⊎ EntersBy d rows net (channel_beside top row) true p → EntersTwice d rows net (channel_beside top row)
+  twice-end true row within by p ends (inl lower) = over_both (cause-over d rows net row within by) (by_pin p lower)
+  twice-end true row within (inl pin) p ends (inr upper) = by_pins true p pin.0 upper pin.1.over (different-edges d false p pin.0 (ends upper) pin.1.under.touches.edge)
+  twice-end true row within (inr fed) p ends (inr upper) = by_both true p row upper (record { within = within; beside = refl; fed = fed })
+  twice-end false row within by p ends (inr upper) = over_both (by_pin p upper) (cause-under d rows net row within by)
+  twice-end false row within (inl pin) p ends (inl lower) = by_pins false p pin.0 lower pin.1.under (different-edges d true p pin.0 (ends lower) pin.1.over.touches.edge)
+  twice-end false row within (inr fed) p ends (inl lower) = by_both false p row lower (record { within = within; beside = refl; fed = fed })
+
+  -- so in its first channel, by a pin that touches no channel further up
   twice-first : EntersTwice d rows net lo
   twice-first =
       let spread = are-spread d rows net lo hi is in
-      let pin = of-net d net spread.under.0 spread.under.1 in
-      let order : lowest d rows spread.under.0 ≤ lo = subst (λ (n : ℕ). lowest d rows spread.under.0 ≤ n) spread.under.2 (pin-ordered d rows good spread.under.0 pin.0) in
-      let at : max (lowest d rows spread.under.0) lo ≡ lo = max-same (lowest d rows spread.under.0) lo order in
-      let entered : IsEntered d rows spread.under.0 lo =
-      subst (λ (n : ℕ). IsEntered d rows spread.under.0 n) at
-      (enter-lowest d rows good spread.under.0 lo hi pin.0 (ap (λ (n : ℕ). crossing_of d rows n) pin.1 ∙ is)) in
-      let within : lo < length rows = crossed-within d rows good placed net lo hi lo is spread.ordered in
-      by spread.under.0 spread.under.2 within (crossed lo (same-number lo) spread.ordered) (enters-by d rows net lo spread.under.0 pin.0 pin.1 entered)
+      let p : Pin = spread.under.0 in
+      let pin = of-net d net p spread.under.1 in
+      let order : lowest d rows p ≤ lo = subst (λ (n : ℕ). lowest d rows p ≤ n) spread.under.2 (pin-ordered d rows good p pin.0) in
+      let at : max (lowest d rows p) lo ≡ lo = max-same (lowest d rows p) lo order in
+      let entered : IsEntered d rows p lo =
+      subst (λ (n : ℕ). IsEntered d rows p n) at (enter-lowest d rows good p lo hi pin.0 (ap (λ (n : ℕ). crossing_of d rows n) pin.1 ∙ is)) in
+      twice-end false lo (crossed-within d rows good placed net lo hi lo is spread.ordered) (crossed lo (itself lo) spread.ordered) p
+      (λ lower. no-top (has_edge d true p) (row_of d rows p.instance) (spread.under.2 ∙ lower.touches.beside)) (enters-by d rows net lo p pin.0 pin.1 entered)
     where
-      same-number : (n : ℕ) → n ≤ n
-      same-number n = omega arith
+      itself : (n : ℕ) → n ≤ n
+      itself n = omega arith
 
-      by : (p : Pin) → highest d rows p ≡ lo → lo < length rows → ((q : Pin) × Leads d rows net lo q) ⊎ (is_fed d rows lo net ≡ true)
-          → EntersBy d rows net lo false p ⊎ EntersBy d rows net lo true p → EntersTwice d rows net lo
-      by p high within over (inr upper) = over_both (by_pin p upper) (cause-under d rows net lo within over)
-      by p high within (inl leads) (inl lower) =
-          by_pins false p leads.0 lower leads.1.under
-          (different-edges d true p leads.0 (no-top (has_edge d true p) (row_of d rows p.instance) (high ∙ lower.touches.beside)) leads.1.over.touches.edge)
-      by p high within (inr fed) (inl lower) = by_both false p lo lower (record { within = within; beside = refl; fed = fed })
-
-  -- in its last channel the crossed row under it, and a pin that touches no channel further down
+  -- and in its last, by a pin that touches no channel further down
   twice-last : (row : ℕ) → hi ≡ row + 1 → EntersTwice d rows net hi
   twice-last row top =
       let spread = are-spread d rows net lo hi is in
-      let pin = of-net d net spread.over.0 spread.over.1 in
-      let at : max (lowest d rows spread.over.0) lo ≡ hi =
-      ap (λ (n : ℕ). max n lo) spread.over.2 ∙ max-first hi lo spread.ordered in
-      let entered : IsEntered d rows spread.over.0 hi =
-      subst (λ (n : ℕ). IsEntered d rows spread.over.0 n) at
-      (enter-lowest d rows good spread.over.0 lo hi pin.0 (ap (λ (n : ℕ). crossing_of d rows n) pin.1 ∙ is)) in
-      let within : row < length rows = crossed-within d rows good placed net lo hi row is (under row hi top) in
-      by spread.over.0 spread.over.2 within (crossed row (above row lo hi top spread.ordered) (under row hi top)) (enters-by d rows net hi spread.over.0 pin.0 pin.1 entered)
-    where
-      under : (row hi : ℕ) → hi ≡ row + 1 → row < hi
-      under row hi top = omega arith
-
-      above : (row lo hi : ℕ) → hi ≡ row + 1 → lo < hi → lo ≤ row
-      above row lo hi top ordered = omega arith
-
-      by : (p : Pin) → lowest d rows p ≡ hi → row < length rows → ((q : Pin) × Leads d rows net row q) ⊎ (is_fed d rows row net ≡ true)
-          → EntersBy d rows net hi false p ⊎ EntersBy d rows net hi true p → EntersTwice d rows net hi
-      by p low within beneath (inl lower) =
-          over_both (subst (λ (n : ℕ). Cause d rows net n true) (sym top) (cause-over d rows net row within beneath)) (by_pin p lower)
-      by p low within (inl leads) (inr upper) =
-          by_pins true p leads.0 upper (subst (λ (n : ℕ). EntersBy d rows net n true leads.0) (sym top) leads.1.over)
-          (different-edges d false p leads.0 (no-bottom (has_edge d false p) (row_of d rows p.instance) (low ∙ upper.touches.beside)) leads.1.under.touches.edge)
-      by p low within (inr fed) (inr upper) = by_both true p row upper (record { within = within; beside = top; fed = fed })
+      let p : Pin = spread.over.0 in
+      let pin = of-net d net p spread.over.1 in
+      let low : lowest d rows p ≡ row + 1 = spread.over.2 ∙ top in
+      let ordered : lo < hi = spread.ordered in
+      let under : row < hi = omega arith in
+      let at : max (lowest d rows p) lo ≡ row + 1 = ap (λ (n : ℕ). max n lo) low ∙ max-first (row + 1) lo (omega arith) in
+      let entered : IsEntered d rows p (row + 1) =
+      subst (λ (n : ℕ). IsEntered d rows p n) at (enter-lowest d rows good p lo hi pin.0 (ap (λ (n : ℕ). crossing_of d rows n) pin.1 ∙ is)) in
+      subst (λ (n : ℕ). EntersTwice d rows net n) (sym top)
+      (twice-end true row (crossed-within d rows good placed net lo hi row is under) (crossed row (omega arith) under) p
+      (λ upper. no-bottom (has_edge d false p) (row_of d rows p.instance) (low ∙ upper.touches.beside)) (enters-by d rows net (row + 1) p pin.0 pin.1 entered))
 
   -- and between them the rows on both sides
   twice-between : (row : ℕ) → lo ≤ row → row + 1 < hi → EntersTwice d rows net (row + 1)

@@ -1,15 +1,16 @@
-use Rattle.std.proofs.Common.{◌≡◌, ◌≤◌, ℕ, zero, suc, ◌+◌, ◌-◌, List, [], ◌∷◌, length, map, replicate, Bool, true, false, Option, Some, None, refl, ap, ◌∙◌, arith, length-append, fold, max}
+use Rattle.std.proofs.Common.{◌≡◌, ◌≤◌, ℕ, zero, suc, ◌-◌, List, [], ◌∷◌, length, replicate, Bool, true, false, Option, Some, None, refl, ◌∙◌, arith, length-append}
 use Rattle.std.proofs.lemmas.List.{length-replicate}
 use Rattle.std.proofs.lemmas.List.FromFn.{length-map-range_with_len}
-use Rattle.std.proofs.lemmas.List.Sums.{sum_by-cons}
-use Rattle.std.proofs.lemmas.Option.{none-some, same_Some}
+use Rattle.std.proofs.lemmas.Option.{none-some}
 use Rattle.std.specs.List.{find, slice_get}
 use Rattle.design_model.specs.Netlist.{Netlist}
 use Rattle.row_model.specs.Widths.{columns_of}
 use Rattle.row_model.specs.declared.rows.Seat.{Seat}
-use Rattle.feed_cells.specs.Fed.{cells_in, fed_from, fed_rows, item_width, items_width}
+use Rattle.feed_cells.specs.Fed.{cells_in, fed_rows, item_width, items_width}
 use Rattle.feed_cells.specs.declared.fed.Item.{Item}
 use Rattle.feed_cells.specs.declared.fed.Item.TheVariants.{Cell, Feed}
+use Rattle.feed_cells.proofs.FedLaws.{fed-width}
+use Rattle.feed_cells.proofs.FedWidths.{width-cons}
 use Rattle.pin_assign.specs.Tables.{enters_in, item_entries, net_in, padded, row_below, row_entries, table_of}
 
 -- an item has as many entries as columns
@@ -18,40 +19,18 @@ item-length d rows top channel (Cell s) =
     length-map-range_with_len (λ (column : ℕ). net_in (find (enters_in d rows top channel s column) d.pins)) 0 (columns_of d s.instance)
 item-length d rows top channel (Feed net) = refl
 
--- items are as wide as the first and the others
-pub width-more : (d : Netlist) (item : Item) (items : List Item) → items_width d (item ∷ items) ≡ item_width d item + items_width d items
-width-more d item items = sum_by-cons (λ (n : ℕ). n) (item_width d item) (map (item_width d) items)
-
 -- a row has as many entries as columns
 pub row-length : (d : Netlist) (rows : List (List Seat)) (top : Bool) (channel : ℕ) (items : List Item)
     → length (row_entries d rows top channel (Some items)) ≡ items_width d items
 row-length d rows top channel [] = refl
 row-length d rows top channel (item ∷ items) =
     length-append (item_entries d rows top channel item) (row_entries d rows top channel (Some items))
-    ∙ (let first = item-length d rows top channel item in let more = row-length d rows top channel items in let both = width-more d item items in omega arith)
+    ∙ (let first = item-length d rows top channel item in let more = row-length d rows top channel items in let both = width-cons d item items in omega arith)
 
 -- padded entries are as many as is wanted, unless they are more
 pub padded-length : (width : ℕ) (entries : List ℕ) → length entries ≤ width → length (padded width entries) ≡ width
 padded-length width entries few =
     length-append entries (replicate (width - length entries) 0) ∙ (let more : length (replicate {A = ℕ} (width - length entries) 0) ≡ width - length entries = length-replicate {A = ℕ} (width - length entries) 0 in omega arith)
-
--- a number among numbers is at most the greatest
-pub below-greatest : (f : List Item → ℕ) (from : ℕ) (rows : List (List Item)) → from ≤ fold max from (map f rows)
-below-greatest f from [] = omega arith
-below-greatest f from (items ∷ rows) = let more = below-greatest f (max from (f items)) rows in omega arith
-
-pub row-below-greatest : (f : List Item → ℕ) (from : ℕ) (rows : List (List Item)) (n : ℕ) (items : List Item) → slice_get rows n ≡ Some items → f items ≤ fold max from (map f rows)
-row-below-greatest f from [] n items is = absurd (none-some items is)
-row-below-greatest f from (first ∷ rows) zero items is =
-    let same : f first ≡ f items = ap f (same_Some first items is) in
-    let more = below-greatest f (max from (f first)) rows in
-    omega arith
-row-below-greatest f from (first ∷ rows) (suc n) items is = row-below-greatest f (max from (f first)) rows n items is
-
--- a row with feeds is at most as wide as the widest
-pub row-width-within : (d : Netlist) (rows : List (List Seat)) (n : ℕ) (items : List Item) → slice_get (fed_rows d rows).rows n ≡ Some items → items_width d items ≤ (fed_rows d rows).width
-unfolding fed_rows
-row-width-within d rows n items is = row-below-greatest (items_width d) 0 (fed_from d rows 0 rows) n items is
 
 -- the entries of a row, if there is one, fit the widest
 entries-within : (d : Netlist) (rows : List (List Seat)) (top : Bool) (channel : ℕ) (row : Option (List Item))
@@ -60,20 +39,19 @@ entries-within : (d : Netlist) (rows : List (List Seat)) (top : Bool) (channel :
 entries-within d rows top channel None fits = omega arith
 entries-within d rows top channel (Some items) fits = let h = fits items refl in let e = row-length d (cells_in (fed_rows d rows).rows) top channel items in omega arith
 
-below-within : (d : Netlist) (rows : List (List Seat)) (channel : ℕ) (items : List Item) → row_below (fed_rows d rows).rows channel ≡ Some items
-    → items_width d items ≤ (fed_rows d rows).width
-below-within d rows zero items is = absurd (cc)
-below-within d rows (suc row) items is = row-width-within d rows row items is
-
 -- both lists of a channel's table are as long as the widest row
 pub table-top_length : (d : Netlist) (rows : List (List Seat)) (channel : ℕ) → length (table_of d (fed_rows d rows) channel).top ≡ (fed_rows d rows).width
 unfolding table_of
 table-top_length d rows channel =
     padded-length (fed_rows d rows).width (row_entries d (cells_in (fed_rows d rows).rows) false channel (slice_get (fed_rows d rows).rows channel))
-    (entries-within d rows false channel (slice_get (fed_rows d rows).rows channel) (λ items is. row-width-within d rows channel items is))
+    (entries-within d rows false channel (slice_get (fed_rows d rows).rows channel) (fed-width d rows channel))
 
 pub table-bottom_length : (d : Netlist) (rows : List (List Seat)) (channel : ℕ) → length (table_of d (fed_rows d rows) channel).bottom ≡ (fed_rows d rows).width
 unfolding table_of
 table-bottom_length d rows channel =
     padded-length (fed_rows d rows).width (row_entries d (cells_in (fed_rows d rows).rows) true channel (row_below (fed_rows d rows).rows channel))
-    (entries-within d rows true channel (row_below (fed_rows d rows).rows channel) (λ items is. below-within d rows channel items is))
+    (entries-within d rows true channel (row_below (fed_rows d rows).rows channel) (below channel))
+  where
+    below : (channel : ℕ) (items : List Item) → row_below (fed_rows d rows).rows channel ≡ Some items → items_width d items ≤ (fed_rows d rows).width
+    below zero items is = absurd (none-some items is)
+    below (suc row) items is = fed-width d rows row items is

@@ -3,7 +3,7 @@ use Rattle.design_model.specs.Netlist.{Netlist}
 use Rattle.design_model.specs.declared.design.Pin.{Pin}
 use Rattle.row_model.specs.declared.rows.Seat.{Seat}
 use Rattle.row_model.specs.Stands.{row_of}
-use Rattle.feed_cells.specs.Crossings.{crossing_of, has_edge, is_in}
+use Rattle.feed_cells.specs.Crossings.{crossing_of, has_edge, is_across, is_in}
 use Rattle.feed_cells.specs.Feeds.{is_fed}
 use Rattle.feed_cells.specs.Touching.{Touches, channel_beside}
 use Rattle.pin_assign.specs.Entering.{enters}
@@ -36,17 +36,18 @@ pub data EntersTwice (d : Netlist) (rows : List (List Seat)) (net channel : ℕ)
   by_pins : (top : Bool) (p q : Pin) → EntersBy d rows net channel top p → EntersBy d rows net channel top q → AreDifferent p q → EntersTwice d rows net channel
   by_both : (top : Bool) (p : Pin) (row : ℕ) → EntersBy d rows net channel top p → FeedsBy d rows net channel top row → EntersTwice d rows net channel
 
--- a pin of a net by which the net crosses a row: it enters the channels on both sides
-pub record Leads (d : Netlist) (rows : List (List Seat)) (net row : ℕ) (p : Pin) : Type 0 where
+-- a pin by which a net crosses a row: it enters the channels on both sides
+pub record CrossesBy (d : Netlist) (rows : List (List Seat)) (net row : ℕ) (p : Pin) : Type 0 where
   pub under : EntersBy d rows net row false p
   pub over : EntersBy d rows net (row + 1) true p
 
--- a pin of a net that stands in a row and has positions on both edges of its cell
-pub record Through (d : Netlist) (rows : List (List Seat)) (net row : ℕ) (p : Pin) : Type 0 where
+-- a pin of a net that stands in a row that the net crosses, and has positions on both edges of its cell
+pub record Passes (d : Netlist) (rows : List (List Seat)) (net row : ℕ) (p : Pin) : Type 0 where
+  pub across : is_across (crossing_of d rows net) row ≡ true
+  pub listed : Contains d.pins p
   pub of_net : p.net ≡ net
   pub row_is : row_of d rows p.instance ≡ row
-  pub bottom : has_edge d false p ≡ true
-  pub top : has_edge d true p ≡ true
+  pub edges : (top : Bool) → has_edge d top p ≡ true
 
 -- a pin enters a channel, which is one of its net, and touches it
 pub record IsEntered (d : Netlist) (rows : List (List Seat)) (p : Pin) (channel : ℕ) : Type 0 where

@@ -4,7 +4,7 @@ use Rattle.design_model.specs.declared.design.Pin.{Pin}
 use Rattle.row_model.specs.Stands.{row_of}
 use Rattle.row_model.specs.declared.rows.Seat.{Seat}
 use Rattle.feed_cells.specs.Crossings.{lowest, crossing_of}
-use Rattle.feed_cells.specs.Feeds.{is_leader}
+use Rattle.feed_cells.specs.Feeds.{is_through_pin}
 use Rattle.feed_cells.specs.declared.crossing.Crossing.{Crossing}
 use Rattle.feed_cells.specs.declared.crossing.Crossing.TheVariants.{Alone, One, Many}
 
@@ -15,7 +15,7 @@ enters_by Alone d rows p channel = false
 enters_by (One b) d rows p channel = channel == b
 enters_by (Many lo hi) d rows p channel =
     channel == max (lowest d rows p) lo
-    || (is_leader d rows p && (channel == row_of d rows p.instance || channel == row_of d rows p.instance + 1))
+    || (is_through_pin d rows p && (channel == row_of d rows p.instance || channel == row_of d rows p.instance + 1))
 
 unfoldable pub enters : Netlist → List (List Seat) → Pin → ℕ → Bool
 enters d rows p channel = enters_by (crossing_of d rows p.net) d rows p channel

@@ -1,7 +1,8 @@
-use Rattle.std.specs.Prelude.{ℕ, ◌+◌, List, Bool, not, Option, None, Some, slice_get, slice_index, if◌then◌else◌}
+use Rattle.std.specs.Prelude.{ℕ, List, Bool, not, Option, None, Some, slice_get, slice_index, if◌then◌else◌}
 use Rattle.channel_model.specs.Pins.{Pins}
 use Rattle.design_model.specs.Netlist.{Netlist}
 use Rattle.feed_cells.specs.Fed.{Fed, cells_in}
+use Rattle.feed_cells.specs.Touching.{channel_beside}
 use Rattle.feed_cells.specs.declared.fed.Item.{Item}
 use Rattle.pin_assign.specs.Sources.{Source, SourceEnters, StandsOver}
 use Rattle.pin_assign.specs.Tables.{row_below}
@@ -21,7 +22,7 @@ row_beside rows channel upper = if upper then slice_get rows channel else row_be
 
 -- the channel beside a row for which the row's pins stand in its `top` list, or in its `bottom` list: channel r lies below row r
 abbrev pub channel_facing : ℕ → Bool → ℕ
-channel_facing row upper = if upper then row else row + 1
+channel_facing row upper = channel_beside (not upper) row
 
 -- a row, if there is one, has this cause on its edge in this column
 abbrev pub HasOver : Netlist → Bool → Source → Option (List Item) → ℕ → Type 0

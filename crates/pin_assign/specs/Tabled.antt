@@ -1,5 +1,6 @@
-use Rattle.std.specs.Prelude.{◌≡◌, ◌==◌, ◌+◌, ◌<◌, ℕ, List, [], ◌∷◌, ◌++◌, max, map, fold, length, Bool, false, ◌&&◌, ◌||◌, if◌then◌else◌, Option, None, Some, slice_get}
+use Rattle.std.specs.Prelude.{◌≡◌, ◌==◌, ◌+◌, ◌<◌, ℕ, List, [], ◌∷◌, max, map, filter, fold, length, Bool, false, ◌&&◌, ◌||◌, if◌then◌else◌, Some, slice_get}
 use Rattle.std.specs.List.{range_with_len}
+use Rattle.list_facts.specs.Lists.{list_there}
 use Rattle.design_model.specs.Netlist.{Netlist}
 use Rattle.row_model.specs.PinPlaces.{edge_of, lowest_of}
 use Rattle.row_model.specs.Widths.{columns_of}
@@ -16,7 +17,7 @@ use Rattle.pin_assign.specs.Tables.{is_in_column}
 abbrev pub enters_as : Crossing → PlacedPin → ℕ → Bool
 enters_as Alone a channel = false
 enters_as (One b) a channel = channel == b
-enters_as (Many lo hi) a channel = channel == max (lowest_of a.place) lo || (a.leads && (channel == a.place.row || channel == a.place.row + 1))
+enters_as (Many lo hi) a channel = channel == max (lowest_of a.place) lo || (a.through && (channel == a.place.row || channel == a.place.row + 1))
 
 -- whether a pin enters a channel over an edge in a column of its cell, which has so many columns and may be mirrored
 abbrev pub is_laid : Bool → ℕ → Bool → ℕ → ℕ → PlacedPin → Bool
@@ -30,25 +31,15 @@ laid mirror columns top channel column net a = if net == 0 && is_laid mirror col
 unfoldable pub laid_entries : Bool → ℕ → Bool → ℕ → List PlacedPin → List ℕ
 laid_entries mirror columns top channel pins = map (λ (column : ℕ). fold (laid mirror columns top channel column) 0 pins) (range_with_len 0 columns)
 
--- the pins of an instance with one more pin, of this instance or another
-abbrev pub with_pin : ℕ → List PlacedPin → PlacedPin → List PlacedPin
-with_pin instance pins a = if a.place.pin.instance == instance then pins ++ a ∷ [] else pins
-
--- what a table has at the place of an instance
-abbrev pub pins_there : Option (List PlacedPin) → List PlacedPin
-pins_there None = []
-pins_there (Some pins) = pins
+-- the pins of an instance among all
+abbrev pub of_instance : ℕ → List PlacedPin → List PlacedPin
+of_instance instance pins = filter (λ (a : PlacedPin). a.place.pin.instance == instance) pins
 
 -- a table has the pins of each instance of a design in rows
 pub record AreTabled (d : Netlist) (rows : List (List Seat)) (table : List (List PlacedPin)) : Type 0 where
-  pub each : (i : ℕ) → i < length d.instances → slice_get table i ≡ Some (fold (with_pin i) [] (map (placed_pin d rows) d.pins))
+  pub each : (i : ℕ) → i < length d.instances → slice_get table i ≡ Some (of_instance i (map (placed_pin d rows) d.pins))
 
 -- the entries of an item by a table of the instances' pins
 unfoldable pub tabled_entries : Netlist → List (List PlacedPin) → Bool → ℕ → Item → List ℕ
-tabled_entries d table top channel (Cell s) = laid_entries s.mirror (columns_of d s.instance) top channel (pins_there (slice_get table s.instance))
+tabled_entries d table top channel (Cell s) = laid_entries s.mirror (columns_of d s.instance) top channel (list_there (slice_get table s.instance))
 tabled_entries d table top channel (Feed net) = net ∷ []
-
--- the items of a row, if there is one
-abbrev pub items_there : Option (List Item) → List Item
-items_there None = []
-items_there (Some items) = items

@@ -19,7 +19,7 @@ is_in_column (Some own) mirror columns column = turned_column mirror columns own
 -- whether a pin of a seated cell enters a channel over an edge in a column of the cell
 abbrev pub enters_in : Netlist → List (List Seat) → Bool → ℕ → Seat → ℕ → Pin → Bool
 enters_in d rows top channel s column p =
-    p.instance == s.instance && is_in_column (edge_column d top p) s.mirror (columns_of d s.instance) column && enters d rows p channel
+    p.instance == s.instance && (is_in_column (edge_column d top p) s.mirror (columns_of d s.instance) column && enters d rows p channel)
 
 -- the net of a pin, 0 for none
 abbrev pub net_in : Option Pin → ℕ

@@ -21,7 +21,7 @@ pub fn bound_of(design: &Design, fed: &FedRows, rules: &Rules) -> Bound
 }
 
 // The same of rows that are not too long or too many.
-#[tactic(auto, using(crate::proofs::BoundLaws::bound_laws), unfolding(crate::specs::Bounds::bound_of))]
+#[tactic(auto, using(crate::proofs::FedBounds::bound_laws), unfolding(crate::specs::Bounds::bound_of))]
 fn bound_within(design: &Design, fed: &FedRows, rules: &Rules) -> Bound
     requires { AreBounded fed.now }
     ensures is { result ≡ bound_of rules.now design.now fed.now }
@@ -55,7 +55,7 @@ fn most_nets(nets: &[u32]) -> u32
 }
 
 // The height in units of channels with two tracks for each of their nets.
-#[tactic(auto, using(crate::proofs::BoundLaws::bound_laws))]
+#[tactic(auto, using(crate::proofs::FedBounds::bound_laws))]
 fn channels_height(nets: &[u32], rules: &Rules) -> u64
     requires channels { length nets.now ≤ 515 }
     requires few { AreFewNets nets.now }

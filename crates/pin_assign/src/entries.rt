@@ -1,12 +1,12 @@
-ghost use Rattle.pin_assign.specs.Tabled.{enters_as, is_laid, laid, laid_entries, tabled_entries};
+ghost use Rattle.pin_assign.specs.Tabled.{enters_as, laid, laid_entries, tabled_entries};
 ghost use Rattle.pin_assign.specs.Tables.{padded};
 ghost use Rattle.std.specs.List.{flat_map};
 ghost use Rattle.std.specs.Option.{option_map};
-ghost use Rattle.std.specs.Prelude.{◌≡◌, ◌++◌, ◌≤◌, ℕ, fold, slice_get, IfOk, OnOk};
+ghost use Rattle.std.specs.Prelude.{◌≡◌, ◌++◌, ℕ, fold, slice_get, IfOk, OnOk};
 
-use crate::by_instance::{CellPins, pins_there};
 use design_model::Design;
 use feed_cells::{Crossing, Item, PlacedPin};
+use list_facts::Lists;
 use row_model::{columns_of, turned_column};
 use std::alloc::{AllocError, Global};
 
@@ -16,7 +16,7 @@ use std::alloc::{AllocError, Global};
 pub fn row_entries(
     alloc: Global,
     design: &Design,
-    table: &[CellPins],
+    table: &Lists<PlacedPin>,
     items: &[Item],
     top: bool,
     channel: u32,
@@ -41,7 +41,7 @@ fn add_item(
     alloc: Global,
     entries: &mut Vec<u32>,
     design: &Design,
-    table: &[CellPins],
+    table: &Lists<PlacedPin>,
     item: Item,
     top: bool,
     channel: u32,
@@ -50,7 +50,7 @@ fn add_item(
 {
     match item {
         Item::Cell(seat) => {
-            let pins = pins_there(table, seat.instance);
+            let pins = table.at(seat.instance as usize);
             let columns = columns_of(design, seat.instance);
             let cell = laid_entries(alloc, seat.mirror, columns, top, channel, pins)?;
             entries.extend_from_slice(cell.as_slice())?;
@@ -121,7 +121,7 @@ fn enters(pin: PlacedPin, channel: u32) -> bool
         Crossing::Many { lo, .. } => {
             let row = u32::from(pin.place.row);
             channel == pin.place.lowest().max(lo)
-                || pin.leads && (channel == row || channel == row + 1)
+                || pin.through && (channel == row || channel == row + 1)
         }
     }
 }

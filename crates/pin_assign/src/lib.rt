@@ -3,7 +3,6 @@
 
 mod bound;
 mod bounding;
-mod by_instance;
 mod entries;
 mod rows_beside;
 mod tabling;

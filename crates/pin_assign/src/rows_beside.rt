@@ -1,4 +1,4 @@
-ghost use Rattle.pin_assign.specs.Tabled.{items_there};
+ghost use Rattle.list_facts.specs.Lists.{list_there};
 ghost use Rattle.pin_assign.specs.Tables.{row_below};
 ghost use Rattle.std.specs.Prelude.{◌≡◌, slice_get};
 
@@ -7,7 +7,7 @@ use geom_core::Items;
 
 /// The items of the row with this number, none where there is no such row.
 pub fn items_at<'r>(rows: &'r [Items<Item>], row: u32) -> &'r [Item]
-    ensures { result.now ≡ items_there (slice_get rows.now row) }
+    ensures { result.now ≡ list_there (slice_get rows.now row) }
 {
     match rows.get(row as usize) {
         Some(items) => items.items(),
@@ -18,7 +18,7 @@ pub fn items_at<'r>(rows: &'r [Items<Item>], row: u32) -> &'r [Item]
 /// The items of the row below the channel with this number, none for channel 0.
 #[tactic(auto, using(crate::proofs::BelowLaws::below_laws))]
 pub fn items_below<'r>(rows: &'r [Items<Item>], channel: u32) -> &'r [Item]
-    ensures { result.now ≡ items_there (row_below rows.now channel) }
+    ensures { result.now ≡ list_there (row_below rows.now channel) }
 {
     if channel == 0 {
         return &[];

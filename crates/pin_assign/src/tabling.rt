@@ -1,16 +1,16 @@
 ghost use Rattle.feed_cells.specs.Fed.{IsFed, cells_in};
 ghost use Rattle.feed_cells.specs.Placement.{placement_of};
 ghost use Rattle.pin_assign.specs.ChannelTables.{AreTablesFor};
-ghost use Rattle.pin_assign.specs.Tabled.{AreTabled};
+ghost use Rattle.pin_assign.specs.Tabled.{AreTabled, of_instance};
 ghost use Rattle.pin_assign.specs.Tables.{table_of, tables_of};
-ghost use Rattle.std.specs.Prelude.{◌≡◌, ◌≤◌, length, IfOk};
+ghost use Rattle.std.specs.Prelude.{◌≡◌, ◌<◌, ◌≤◌, ℕ, Some, slice_get, IfOk};
 
-use crate::by_instance::{CellPins, pins_by_instance};
 use crate::entries::row_entries;
 use crate::rows_beside::{items_at, items_below};
 use channel_model::Channel;
 use design_model::Design;
-use feed_cells::{FedRows, Placement};
+use feed_cells::{FedRows, PlacedPin, Placement};
+use list_facts::Lists;
 use std::alloc::{AllocError, Global};
 
 /// The channels between rows with their feeds, from the lowest up, one more than there are rows, by where the pins of the design stand: which net enters which
@@ -32,11 +32,11 @@ pub fn channels(
     let _pins = &design.pins;
     let table = table_of_pins(alloc, design, fed, placement)?;
     let mut channels = Vec::new(alloc);
-    channels.push(channel_at(alloc, design, fed, table.as_slice(), 0)?)?;
+    channels.push(channel_at(alloc, design, fed, &table, 0)?)?;
     let mut channel = 1;
     let mut rest = fed.rows.items();
     while let Some((_, after)) = rest.split_first() {
-        channels.push(channel_at(alloc, design, fed, table.as_slice(), channel)?)?;
+        channels.push(channel_at(alloc, design, fed, &table, channel)?)?;
         channel += 1;
         rest = after;
     }
@@ -49,14 +49,31 @@ fn table_of_pins(
     design: &Design,
     fed: &FedRows,
     placement: &Placement,
-) -> Result<Vec<CellPins>, AllocError>
+) -> Result<Lists<PlacedPin>, AllocError>
     requires { placement.now ≡ placement_of design.now (cells_in fed.now.rows) }
-    ensures { IfOk result (λ v. AreTabled design.now (cells_in fed.now.rows) v.items) }
+    ensures { IfOk result (λ table. AreTabled design.now (cells_in fed.now.rows) table) }
 {
     // The bounds of the design's type are known once a field is read.
     let _pins = &design.pins;
     let count = design.instances.items().len();
     pins_by_instance(alloc, count, placement.pins.items())
+}
+
+// The pins of each of so many instances, by the numbers of the instances.
+fn pins_by_instance(
+    alloc: Global,
+    count: usize,
+    pins: &[PlacedPin],
+) -> Result<Lists<PlacedPin>, AllocError>
+    ensures { IfOk result (λ table. (i : ℕ) → i < count → slice_get table i ≡ Some (of_instance i pins.now)) }
+{
+    let mut table = Lists::new(alloc, count)?;
+    let mut rest = pins;
+    while let Some((pin, after)) = rest.split_first() {
+        table.push(pin.place.pin.instance as usize, *pin)?;
+        rest = after;
+    }
+    Ok(table)
 }
 
 // The channel with this number, by a table of the instances' pins.
@@ -65,13 +82,12 @@ fn channel_at(
     alloc: Global,
     design: &Design,
     fed: &FedRows,
-    table: &[CellPins],
+    table: &Lists<PlacedPin>,
     channel: u32,
 ) -> Result<Channel, AllocError>
     requires fed { IsFed design.now fed.now }
     requires narrow { fed.now.width ≤ 4000000 }
     requires tabled { AreTabled design.now (cells_in fed.now.rows) table.now }
-    requires within { channel ≤ length fed.now.rows }
     ensures { IfOk result (λ c. c ≡ table_of design.now fed.now channel) }
 {
     let _pins = &design.pins;

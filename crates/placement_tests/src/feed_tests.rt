@@ -115,7 +115,7 @@ fn rows_have_their_feeds(rt: HostRuntime) -> Result<(), Fail> {
             &[0, 1, 1, 1, 0]
         )?
     );
-    // A pin leads a net through a row.
+    // A net crosses a row by its through pin.
     let calls = "u1 BUF n; u2 THR n; u3 INV q; u4 INV n;";
     assert!(rt; is_fed(alloc, calls, 4, "0 | 1 | f1 2 | 3 | ", 2, &[0, 1, 1, 1, 0])?);
     // Feeds at one place stand in the order of nets.

@@ -1,19 +1,18 @@
-use Rattle.std.proofs.Common.{◌≡◌, ◌≢◌, ◌<◌, ◌≤◌, ℕ, zero, suc, ◌+◌, List, [], ◌∷◌, length, map, Bool, true, false, ◌&&◌, eqb, slice_set, Option, None, Some, refl, ap, sym, ◌∙◌, arith, slice_get}
-use Rattle.std.proofs.lemmas.Bool.{cond-true, cond-false, eq-eqb, ne_eqb}
+use Rattle.std.proofs.Common.{◌≡◌, ◌<◌, ◌≤◌, ℕ, zero, suc, ◌+◌, List, [], ◌∷◌, length, map, Bool, true, false, ◌&&◌, eqb, Option, None, Some, refl, ap, sym, ◌∙◌, arith, slice_get}
+use Rattle.std.proofs.lemmas.Bool.{cond-false, ne_eqb}
 use Rattle.std.proofs.lemmas.Option.{none-some, same_Some, slice_get-map}
 use Rattle.std.specs.List.{AllByRecursion, find, range_with_len}
 use Rattle.std.specs.Option.{option_and_then, option_map}
+use Rattle.list_facts.proofs.Members.{all-get, find-filter, find-same}
 use Rattle.list_facts.proofs.Every.{every-from-get, every-weaker}
-use Rattle.list_facts.proofs.Places.{changed-at, list-by, unchanged-past}
 use Rattle.design_model.specs.Netlist.{IsKind, IsNetlist, IsPosition, Netlist}
 use Rattle.design_model.specs.declared.design.CellKind.{CellKind}
 use Rattle.design_model.specs.declared.design.Inst.{Inst}
 use Rattle.design_model.specs.declared.design.Pin.{Pin}
 use Rattle.design_model.specs.declared.design.Position.{Position}
 use Rattle.row_model.specs.Stands.{column_in, is_on, positions_in}
-use Rattle.row_model.specs.PinColumns.{before, columns_there, kind_columns, nowhere, pin_columns, position_columns, table_there, terminal_columns, with_position}
+use Rattle.row_model.specs.PinColumns.{columns_there, kind_columns, nowhere, of_terminal, pin_columns, table_there, terminal_columns}
 use Rattle.row_model.specs.declared.cell_columns.PinColumns.{PinColumns}
-use Rattle.row_model.proofs.WidthLaws.{all-at}
 
 same-columns : (a b : PinColumns) → a.first ≡ b.first → a.bottom ≡ b.bottom → a.top ≡ b.top → a ≡ b
 same-columns a b first bottom top =
@@ -21,32 +20,25 @@ same-columns a b first bottom top =
     ∙ ap (λ (o : Option ℕ). record { first = b.first; bottom = o; top = a.top }) bottom
     ∙ ap (λ (o : Option ℕ). record { first = b.first; bottom = b.bottom; top = o }) top
 
--- a table that has the columns of each terminal of a kind is that of the kind
-pub kind_table : (k : CellKind) (table : List PinColumns) → length table ≡ length k.terminals
-    → ((i : ℕ) → i < length k.terminals → slice_get table i ≡ Some (terminal_columns k.positions i)) → table ≡ kind_columns k
-kind_table k table long each =
-    list-by (terminal_columns k.positions) 0 table (λ i below. each i (omega (arith, below, long)) ∙ ap (λ (n : ℕ). Some (terminal_columns k.positions n)) (plus i))
-    ∙ ap (λ (n : ℕ). map (terminal_columns k.positions) (range_with_len 0 n)) long
+-- the columns of a terminal among its own positions are those among all
+pub own-columns : (positions : List Position) (t : ℕ) → terminal_columns (of_terminal t positions) t ≡ terminal_columns positions t
+own-columns positions t =
+    same-columns (terminal_columns (of_terminal t positions) t) (terminal_columns positions t) (same own (λ a. twice (own a)))
+    (same (λ (a : Position). own a && is_on false a) (λ a. again (own a) (is_on false a))) (same (λ (a : Position). own a && is_on true a) (λ a. again (own a) (is_on true a)))
   where
-    plus : (i : ℕ) → i ≡ i + 0
-    plus i = omega arith
+    own : Position → Bool
+    own a = eqb a.terminal t
 
-here-with : (p : Position) (c : PinColumns) → before c (position_columns p) ≡ with_position p.terminal c p
-here-with p c = sym (cond-true (eqb p.terminal p.terminal) (before c (position_columns p)) c (eq-eqb p.terminal p.terminal refl))
+    twice : (b : Bool) → (b && b) ≡ b
+    twice true = refl
+    twice false = refl
 
-elsewhere-with : (p : Position) (i : ℕ) (c : PinColumns) → i ≢ p.terminal → c ≡ with_position i c p
-elsewhere-with p i c other = sym (cond-false (eqb p.terminal i) (before c (position_columns p)) c (ne_eqb p.terminal i (λ is. other (sym is))))
+    again : (a b : Bool) → (a && (a && b)) ≡ (a && b)
+    again true b = refl
+    again false b = refl
 
--- a table with a position entered for its terminal
-pub entered : (table : List PinColumns) (p : Position) (new : PinColumns) → ((c : PinColumns) → slice_get table p.terminal ≡ Some c → new ≡ before c (position_columns p))
-    → (i : ℕ) → slice_get (slice_set table p.terminal new) i ≡ option_map (λ (c : PinColumns). with_position i c p) (slice_get table i)
-entered table p new is =
-    changed-at (λ (i : ℕ) (c : PinColumns). with_position i c p) table p.terminal new (λ c at. is c at ∙ here-with p c) (elsewhere-with p)
-
--- and one without that terminal
-pub not-entered : (table : List PinColumns) (p : Position) → length table ≤ p.terminal
-    → (i : ℕ) → slice_get table i ≡ option_map (λ (c : PinColumns). with_position i c p) (slice_get table i)
-not-entered table p past = unchanged-past (λ (i : ℕ) (c : PinColumns). with_position i c p) table p.terminal past (elsewhere-with p)
+    same : (test : Position → Bool) → ((a : Position) → (own a && test a) ≡ test a) → column_in (find test (of_terminal t positions)) ≡ column_in (find test positions)
+    same test kept = ap column_in (find-filter test own positions ∙ find-same (λ (a : Position). own a && test a) test kept positions)
 
 -- a terminal past those of positions has none
 find-none : (test : Position → Bool) (positions : List Position) → AllByRecursion (λ (p : Position). test p ≡ false) positions → column_in (find test positions) ≡ None
@@ -57,7 +49,7 @@ find-none test (p ∷ positions) none =
 -- the positions of a kind are of its terminals
 positions-within : (k : CellKind) → IsKind k → AllByRecursion (λ (p : Position). p.terminal < length k.terminals) k.positions
 positions-within k is =
-    every-from-get (λ (p : Position). p.terminal < length k.terminals) k.positions (λ n p at. (all-at (IsPosition k) k.positions n p is.positions at).within)
+    every-from-get (λ (p : Position). p.terminal < length k.terminals) k.positions (λ n p at. (all-get (IsPosition k) k.positions n p is.positions at).within)
 
 terminal-past : (k : CellKind) → IsKind k → (t : ℕ) → length k.terminals ≤ t → nowhere ≡ terminal_columns k.positions t
 terminal-past k is t past =
@@ -109,7 +101,7 @@ pub by_tables : (d : Netlist) → IsNetlist d → (tables : List (List PinColumn
 by_tables d good tables are p kind of = by (slice_get d.instances p.instance) refl of
   where
     kinds-are : (n : ℕ) (k : CellKind) → slice_get d.kinds n ≡ Some k → IsKind k
-    kinds-are n k at = all-at IsKind d.kinds n k good.kinds at
+    kinds-are n k at = all-get IsKind d.kinds n k good.kinds at
 
     by : (o : Option Inst) → slice_get d.instances p.instance ≡ o → Some kind ≡ option_map (λ (i : Inst). i.kind) o
         → columns_there (slice_get (table_there (slice_get tables kind)) p.terminal) ≡ pin_columns d p

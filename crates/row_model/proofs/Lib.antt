@@ -4,13 +4,9 @@ pub mod WidthLaws
 pub mod StartLaws
 -- rows that hold each instance once
 pub mod PlacedLaws
--- pins are of instances
-pub mod PinLaws
 -- where instances stand, and the seats there
 pub mod StandLaws
 -- each seat is where its instance stands
 pub mod SeatLaws
--- worked rows, computed
-pub mod Worked
 -- the columns of pins in their cells
 pub mod CellColumns

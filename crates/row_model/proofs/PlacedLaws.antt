@@ -1,52 +1,17 @@
-use Rattle.std.proofs.Common.{◌≡◌, ◌<◌, ◌≤◌, ℕ, zero, suc, ◌+◌, List, [], ◌∷◌, length, false, ◌∙◌, arith, length-append}
-use Rattle.std.proofs.lemmas.Bool.Decides.{nat_tests}
+use Rattle.std.proofs.Common.{◌≡◌, ◌<◌, ◌≤◌, ℕ, ◌+◌, List, [], ◌∷◌, length, ◌∙◌, arith, length-append}
 use Rattle.std.proofs.lemmas.List.{length-map}
-use Rattle.std.proofs.lemmas.List.Elements.{All-from_recursion}
+use Rattle.std.proofs.lemmas.List.Elements.{All-from_recursion, recursion_from_All}
 use Rattle.std.proofs.lemmas.List.FromFn.{length-range_with_len}
 use Rattle.std.proofs.lemmas.List.Sorted.{All-permutation, length_permutation}
 use Rattle.std.proofs.lemmas.Map.Keys.{IsDistinct-IsPermutation}
-use Rattle.std.specs.List.{AllByRecursion, range_with_len, IsDistinct}
-use Rattle.std.specs.Prelude.{All, nat_eq}
+use Rattle.std.specs.List.{AllByRecursion, range_with_len}
+use Rattle.std.specs.Prelude.{nat_eq}
+use Rattle.list_facts.proofs.Ranges.{eq-flips, range-bounds, range-distinct}
 use Rattle.list_facts.proofs.Every.{every-left, every-right, every-weaker}
 use Rattle.design_model.specs.Netlist.{IsNetlist, Netlist}
 use Rattle.row_model.specs.NearStands.{AreShort}
 use Rattle.row_model.specs.Rows.{all_instances, ArePlaced, AreRows, instances_in}
 use Rattle.row_model.specs.declared.rows.Seat.{Seat}
-
--- what holds of the element at each place holds of each
-pub every-of-all : {A : Type 0} (P : A → Type 0) (xs : List A) → All P xs → AllByRecursion P xs
-every-of-all P [] all = tt
-every-of-all P (x ∷ xs) all = (all 0 x (omega arith), every-of-all P xs (λ k y within. all (suc k) y (omega arith)))
-
--- numbers from a on and below a + n
-pub range-bounds : (a n : ℕ) → AllByRecursion (λ (k : ℕ). (a ≤ k) × (k < a + n)) (range_with_len a n)
-range-bounds a zero = tt
-range-bounds a (suc n) = (
-  (omega arith, omega arith),
-  every-weaker (λ (k : ℕ). (a + 1 ≤ k) × (k < (a + 1) + n)) (λ (k : ℕ). (a ≤ k) × (k < a + suc n)) (λ k h. (lower k h.0, upper k h.1)) (range_with_len (a + 1) n)
-      (range-bounds (a + 1) n),
-)
-  where
-    lower : (k : ℕ) → a + 1 ≤ k → a ≤ k
-    lower k h = omega arith
-
-    upper : (k : ℕ) → k < (a + 1) + n → k < a + suc n
-    upper k h = omega arith
-
--- no two of them are equal
-pub range-distinct : (a n : ℕ) → IsDistinct nat_eq (range_with_len a n)
-unfolding IsDistinct
-range-distinct a zero = tt
-range-distinct a (suc n) = (
-  every-weaker (λ (k : ℕ). (a + 1 ≤ k) × (k < (a + 1) + n)) (λ (k : ℕ). nat_eq a k ≡ false) (λ k h. apart k h.0) (range_with_len (a + 1) n) (range-bounds (a + 1) n),
-  range-distinct (a + 1) n,
-)
-  where
-    apart : (k : ℕ) → a + 1 ≤ k → nat_eq a k ≡ false
-    apart k h = grind (arith, nat_tests)
-
-eq-flips : (x y : ℕ) → nat_eq x y ≡ nat_eq y x
-eq-flips x y = grind (arith, nat_tests)
 
 -- no instance stands twice in placed rows
 pub placed-distinct : (d : Netlist) (rows : List (List Seat)) → ArePlaced d rows → AreRows rows
@@ -56,7 +21,7 @@ placed-distinct d rows placed =
 -- each seat's instance is one of the design's
 pub placed-within : (d : Netlist) (rows : List (List Seat)) → ArePlaced d rows → AllByRecursion (λ (i : ℕ). i < length d.instances) (all_instances rows)
 placed-within d rows placed =
-    every-of-all (λ (i : ℕ). i < length d.instances) (all_instances rows)
+    recursion_from_All (λ (i : ℕ). i < length d.instances) (all_instances rows)
     (All-permutation (λ (i : ℕ). i < length d.instances) (range_with_len 0 (length d.instances)) (all_instances rows) placed.once
     (All-from_recursion (λ (i : ℕ). i < length d.instances) (range_with_len 0 (length d.instances))
     (every-weaker (λ (k : ℕ). (0 ≤ k) × (k < 0 + length d.instances)) (λ (i : ℕ). i < length d.instances) (λ k h. below k h.1) (range_with_len 0 (length d.instances))

@@ -3,29 +3,15 @@ use Rattle.std.proofs.lemmas.Bool.Decides.{nat_tests}
 use Rattle.std.proofs.lemmas.Option.{none-some, same_Some}
 use Rattle.std.specs.List.{AllByRecursion, IsDistinct, slice_get}
 use Rattle.std.specs.Prelude.{nat_eq}
+use Rattle.row_model.specs.declared.stands.Stand.{Stand}
+use Rattle.list_facts.proofs.Distinct.{first-distinct, numbers-apart, second-distinct}
 use Rattle.list_facts.proofs.Every.{every-at, every-left, every-right, every-weaker}
 use Rattle.design_model.specs.Netlist.{Netlist}
 use Rattle.row_model.specs.Rows.{all_instances, AreRows, instances_in}
-use Rattle.row_model.specs.Stands.{Stand, or_else, stand_from, stand_in, stand_of}
+use Rattle.row_model.specs.Stands.{or_else, stand_from, stand_in, stand_of}
 use Rattle.row_model.specs.Widths.{columns_of, row_width}
 use Rattle.row_model.specs.declared.rows.Seat.{Seat}
 use Rattle.row_model.proofs.WidthLaws.{width-cons}
-
--- of two lists without equal numbers, each number of the first differs from each of the second
-numbers-apart : (xs ys : List ℕ) → IsDistinct nat_eq (xs ++ ys) → AllByRecursion (λ (x : ℕ). AllByRecursion (λ (y : ℕ). nat_eq x y ≡ false) ys) xs
-unfolding IsDistinct
-numbers-apart [] ys different = tt
-numbers-apart (x ∷ xs) ys different = (every-right (λ (y : ℕ). nat_eq x y ≡ false) xs ys different.0, numbers-apart xs ys different.1)
-
-first-distinct : (xs ys : List ℕ) → IsDistinct nat_eq (xs ++ ys) → IsDistinct nat_eq xs
-unfolding IsDistinct
-first-distinct [] ys different = tt
-first-distinct (x ∷ xs) ys different = (every-left (λ (y : ℕ). nat_eq x y ≡ false) xs ys different.0, first-distinct xs ys different.1)
-
-second-distinct : (xs ys : List ℕ) → IsDistinct nat_eq (xs ++ ys) → IsDistinct nat_eq ys
-unfolding IsDistinct
-second-distinct [] ys different = different
-second-distinct (x ∷ xs) ys different = second-distinct xs ys different.1
 
 instances-append : (front back : List Seat) → instances_in (front ++ back) ≡ instances_in front ++ instances_in back
 instances-append [] back = refl

@@ -1,14 +1,14 @@
-use Rattle.std.proofs.Common.{◌≡◌, ◌<◌, ◌≤◌, ℕ, zero, suc, ◌+◌, ◌-◌, ◌*◌, List, [], ◌∷◌, ◌++◌, length, map, take, drop, true, false, refl, ap, sym, ◌∙◌, subst, arith}
+use Rattle.std.proofs.Common.{◌≡◌, ◌<◌, ◌≤◌, ℕ, zero, suc, ◌+◌, ◌-◌, ◌*◌, List, [], ◌∷◌, ◌++◌, length, map, true, false, refl, ap, ap₂, sym, ◌∙◌, subst, arith}
 use Rattle.std.proofs.lemmas.Bool.Decides.{nat_tests}
 use Rattle.std.proofs.lemmas.List.{append-nil}
-use Rattle.std.proofs.lemmas.List.FromFn.{length-range_with_len}
 use Rattle.std.proofs.lemmas.List.Sorted.{IsPermutation-refl}
 use Rattle.std.specs.List.{range_with_len}
 use Rattle.std.specs.List.Sorted.{IsPermutation}
 use Rattle.std.specs.Prelude.{nat_le}
-use Rattle.design_model.specs.Netlist.{IsNetlist, Netlist}
+use Rattle.list_facts.proofs.Ranges.{range-split}
+use Rattle.design_model.specs.Netlist.{Netlist}
 use Rattle.row_model.specs.Rows.{all_instances, ArePlaced, instances_in}
-use Rattle.row_model.specs.Start.{least_rows, rounded_up, rows_from, start_rows, taken, upright}
+use Rattle.row_model.specs.Start.{least_rows, rounded_up, rows_from, seats_from, start_rows, taken, upright}
 use Rattle.row_model.specs.Widths.{all_columns, columns_of}
 
 -- the least number of rows is this one where its square has the area, and where no further one is left
@@ -28,107 +28,62 @@ least-next area height (suc left) k some small =
     let less : suc left - 1 ≡ left = omega arith in
     rw (test, less)
 
--- the numbers from one on and before another begin with that one
-pub range-first : (a b : ℕ) → a < b → range_with_len a (b - a) ≡ a ∷ range_with_len (a + 1) (b - (a + 1))
-range-first a b below = let e : b - a ≡ suc (b - (a + 1)) = omega arith in ap (range_with_len a) e
-
-pub range-none : (a b : ℕ) → b ≤ a → range_with_len a (b - a) ≡ []
-range-none a b past = let e : b - a ≡ 0 = omega arith in ap (range_with_len a) e
-
-pub range-take : (k a n : ℕ) → k ≤ n → take k (range_with_len a n) ≡ range_with_len a k
-range-take zero a n within = refl
-range-take (suc k) a zero within = absurd (omega arith)
-range-take (suc k) a (suc n) within = ap (λ (l : List ℕ). a ∷ l) (range-take k (a + 1) n (omega arith))
-
-pub range-drop : (k a n : ℕ) → k ≤ n → drop k (range_with_len a n) ≡ range_with_len (a + k) (n - k)
-range-drop zero a n within = let at : a + 0 ≡ a = omega arith in let all : n - 0 ≡ n = omega arith in rw (at, all)
-range-drop (suc k) a zero within = absurd (omega arith)
-range-drop (suc k) a (suc n) within =
-    let at : (a + 1) + k ≡ a + suc k = omega arith in
-    let rest : n - k ≡ suc n - suc k = omega arith in
-    range-drop k (a + 1) n (omega arith) ∙ ap (λ (b : ℕ). range_with_len b (n - k)) at ∙ ap (range_with_len (a + suc k)) rest
-
 -- a row takes no more instances than there are
-pub taken-few : (d : Netlist) (wanted : ℕ) (is : List ℕ) → taken d wanted is ≤ length is
-taken-few d zero is = omega arith
-taken-few d (suc wanted) [] = omega arith
-taken-few d (suc wanted) (i ∷ is) = let more = taken-few d (suc wanted - columns_of d i) is in omega arith
+taken-few : (d : Netlist) (wanted first n : ℕ) → taken d wanted first n ≤ n
+taken-few d zero first n = omega arith
+taken-few d (suc wanted) first zero = omega arith
+taken-few d (suc wanted) first (suc n) = let more = taken-few d (suc wanted - columns_of d first) (first + 1) n in omega arith
 
--- none where the row is wide enough
-pub taken-enough : (d : Netlist) (wanted : ℕ) (is : List ℕ) → wanted ≡ 0 → taken d wanted is ≡ 0
-taken-enough d zero is enough = refl
-taken-enough d (suc wanted) is enough = absurd (omega arith)
+-- it takes the next one while it is not wide enough
+pub taken-next : (d : Netlist) (wanted first n : ℕ) → 0 < wanted → 0 < n → taken d wanted first n ≡ suc (taken d (wanted - columns_of d first) (first + 1) (n - 1))
+taken-next d zero first n some more = absurd (omega arith)
+taken-next d (suc wanted) first zero some more = absurd (omega arith)
+taken-next d (suc wanted) first (suc n) some more = let less : n ≡ suc n - 1 = omega arith in ap (λ (m : ℕ). suc (taken d (suc wanted - columns_of d first) (first + 1) m)) less
 
--- none where there is no further one
-pub taken-last : (d : Netlist) (wanted next count : ℕ) → count ≤ next → taken d wanted (range_with_len next (count - next)) ≡ 0
-taken-last d zero next count past = refl
-taken-last d (suc wanted) next count past = ap (taken d (suc wanted)) (range-none next count past)
-
--- and else the next one
-pub taken-next : (d : Netlist) (wanted next count : ℕ) → 0 < wanted → next < count
-    → taken d wanted (range_with_len next (count - next)) ≡ suc (taken d (wanted - columns_of d next) (range_with_len (next + 1) (count - (next + 1))))
-taken-next d zero next count some within = absurd (omega arith)
-taken-next d (suc wanted) next count some within = ap (taken d (suc wanted)) (range-first next count within)
-
--- rows of the instances from `next` on, where `end` is the instance after those of the first row
-pub rows-next : (d : Netlist) (target left next end count : ℕ) → 1 < left → next ≤ count
-    → end ≡ next + taken d target (range_with_len next (count - next))
-    → rows_from d target left (range_with_len next (count - next))
-    ≡ map upright (range_with_len next (end - next)) ∷ rows_from d target (left - 1) (range_with_len end (count - end))
-rows-next d target zero next end count more within is = absurd (omega arith)
-rows-next d target (suc zero) next end count more within is = absurd (omega arith)
-rows-next d target (suc (suc left)) next end count more within is =
-    let is_count : length (range_with_len next (count - next)) ≡ count - next = length-range_with_len next (count - next) in
-    let few : taken d target (range_with_len next (count - next)) ≤ count - next = omega (arith, taken-few d target (range_with_len next (count - next))) in
-    let here : taken d target (range_with_len next (count - next)) ≡ end - next = omega arith in
-    let rest : (count - next) - taken d target (range_with_len next (count - next)) ≡ count - end = omega arith in
-    let less : suc left ≡ suc (suc left) - 1 = omega arith in
-    let front = range-take (taken d target (range_with_len next (count - next))) next (count - next) few ∙ ap (range_with_len next) here in
-    let back = range-drop (taken d target (range_with_len next (count - next))) next (count - next) few
-    ∙ ap (λ (n : ℕ). range_with_len n ((count - next) - taken d target (range_with_len next (count - next)))) (sym is) ∙ ap (range_with_len end) rest in
-    ap (λ (l : List ℕ). map upright l ∷ rows_from d target (suc left) (drop (taken d target (range_with_len next (count - next))) (range_with_len next (count - next)))) front
-    ∙ ap (λ (l : List ℕ). map upright (range_with_len next (end - next)) ∷ rows_from d target (suc left) l) back
-    ∙ ap (λ (n : ℕ). map upright (range_with_len next (end - next)) ∷ rows_from d target n (range_with_len end (count - end))) less
+-- a row, and the others
+pub rows-next : (d : Netlist) (target left first n row : ℕ) → 1 < left → row ≡ taken d target first n
+    → seats_from first row ∷ rows_from d target (left - 1) (first + row) (n - row) ≡ rows_from d target left first n
+rows-next d target zero first n row more is = absurd (omega arith)
+rows-next d target (suc zero) first n row more is = absurd (omega arith)
+rows-next d target (suc (suc left)) first n row more is =
+    let less : suc (suc left) - 1 ≡ suc left = omega arith in
+    ap (λ (m : ℕ). seats_from first row ∷ rows_from d target m (first + row) (n - row)) less
+    ∙ ap (λ (k : ℕ). seats_from first k ∷ rows_from d target (suc left) (first + k) (n - k)) is
 
 -- the last row takes the rest
-pub rows-last : (d : Netlist) (target left : ℕ) (is : List ℕ) → 0 < left → left ≤ 1 → rows_from d target left is ≡ map upright is ∷ []
-rows-last d target zero is some few = absurd (omega arith)
-rows-last d target (suc zero) is some few = refl
-rows-last d target (suc (suc left)) is some few = absurd (omega arith)
+pub rows-last : (d : Netlist) (target left first n : ℕ) → 0 < left → left ≤ 1 → seats_from first n ∷ [] ≡ rows_from d target left first n
+rows-last d target zero first n some few = absurd (omega arith)
+rows-last d target (suc zero) first n some few = refl
+rows-last d target (suc (suc left)) first n some few = absurd (omega arith)
 
 -- there are as many rows as are wanted
-rows-count : (d : Netlist) (target rows : ℕ) (is : List ℕ) → length (rows_from d target rows is) ≡ rows
-rows-count d target zero is = refl
-rows-count d target (suc zero) is = refl
-rows-count d target (suc (suc more)) is = ap (λ (n : ℕ). suc n) (rows-count d target (suc more) (drop (taken d target is) is))
+rows-count : (d : Netlist) (target rows first n : ℕ) → length (rows_from d target rows first n) ≡ rows
+rows-count d target zero first n = refl
+rows-count d target (suc zero) first n = refl
+rows-count d target (suc (suc more)) first n = ap suc (rows-count d target (suc more) (first + taken d target first n) (n - taken d target first n))
 
 upright-instances : (is : List ℕ) → instances_in (map upright is) ≡ is
 upright-instances [] = refl
 upright-instances (i ∷ is) = ap (λ (l : List ℕ). i ∷ l) (upright-instances is)
 
-front-and-back : (k : ℕ) (is : List ℕ) → take k is ++ drop k is ≡ is
-front-and-back zero is = refl
-front-and-back (suc k) [] = refl
-front-and-back (suc k) (i ∷ is) = ap (λ (l : List ℕ). i ∷ l) (front-and-back k is)
-
 -- and they hold the instances in their order
-rows-instances : (d : Netlist) (target more : ℕ) (is : List ℕ) → all_instances (rows_from d target (suc more) is) ≡ is
-rows-instances d target zero is = append-nil (instances_in (map upright is)) ∙ upright-instances is
-rows-instances d target (suc more) is =
-    ap (λ (l : List ℕ). l ++ all_instances (rows_from d target (suc more) (drop (taken d target is) is))) (upright-instances (take (taken d target is) is))
-    ∙ ap (λ (l : List ℕ). take (taken d target is) is ++ l) (rows-instances d target more (drop (taken d target is) is))
-    ∙ front-and-back (taken d target is) is
+rows-instances : (d : Netlist) (target more first n : ℕ) → all_instances (rows_from d target (suc more) first n) ≡ range_with_len first n
+rows-instances d target zero first n = append-nil (instances_in (seats_from first n)) ∙ upright-instances (range_with_len first n)
+rows-instances d target (suc more) first n =
+    ap₂ (λ (front back : List ℕ). front ++ back) (upright-instances (range_with_len first (taken d target first n)))
+    (rows-instances d target more (first + taken d target first n) (n - taken d target first n))
+    ∙ range-split first (taken d target first n) n (taken-few d target first n)
 
 -- the rows that a design begins with hold each instance once
-pub start-placed : (d : Netlist) (rows : ℕ) → IsNetlist d → 0 < rows → rows ≤ 512 → ArePlaced d (start_rows d rows)
+pub start-placed : (d : Netlist) (rows : ℕ) → 0 < rows → rows ≤ 512 → ArePlaced d (start_rows d rows)
 unfolding start_rows
-start-placed d zero good some few = absurd (omega arith)
-start-placed d (suc more) good some few =
+start-placed d zero some few = absurd (omega arith)
+start-placed d (suc more) some few =
     let target = rounded_up (all_columns d) (suc more) in
-    let is = range_with_len 0 (length d.instances) in
-    let count : length (rows_from d target (suc more) is) ≡ suc more = rows-count d target (suc more) is in
+    let count : length (rows_from d target (suc more) 0 (length d.instances)) ≡ suc more = rows-count d target (suc more) 0 (length d.instances) in
     record {
       some = omega arith;
       few = omega arith;
-      once = subst (λ (l : List ℕ). IsPermutation is l) (sym (rows-instances d target more is)) (IsPermutation-refl is);
+      once = subst (λ (l : List ℕ). IsPermutation (range_with_len 0 (length d.instances)) l) (sym (rows-instances d target more 0 (length d.instances)))
+          (IsPermutation-refl (range_with_len 0 (length d.instances)));
     }

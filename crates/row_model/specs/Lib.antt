@@ -7,7 +7,6 @@ pub mod Widths
 pub mod Start
 -- where instances and pins stand
 pub mod Stands
-pub mod StandView
 pub mod PinPlaces
 -- how far a stand can be, and tables of stands
 pub mod NearStands

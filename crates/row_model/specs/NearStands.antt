@@ -1,6 +1,6 @@
 use Rattle.std.specs.Prelude.{◌≡◌, ℕ, ◌<◌, ◌≤◌, List, length, Option, Some, slice_get}
 use Rattle.std.specs.List.{AllByRecursion}
-use Rattle.row_model.specs.Stands.{Stand}
+use Rattle.row_model.specs.declared.stands.Stand.{Stand}
 use Rattle.row_model.specs.declared.rows.Seat.{Seat}
 
 -- a stand in one of 514 rows of at most 20,000 cells, each of at most 100,000,000 columns

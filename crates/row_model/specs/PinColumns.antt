@@ -1,6 +1,5 @@
-use Rattle.std.specs.Prelude.{ℕ, ◌==◌, ◌&&◌, List, [], length, map, true, false, Option, None, Some, if◌then◌else◌}
+use Rattle.std.specs.Prelude.{ℕ, ◌==◌, ◌&&◌, List, [], length, map, filter, true, false, Option, None, Some}
 use Rattle.std.specs.List.{find, range_with_len}
-use Rattle.std.specs.Option.{option_or}
 use Rattle.design_model.specs.Netlist.{Netlist}
 use Rattle.design_model.specs.declared.design.CellKind.{CellKind}
 use Rattle.design_model.specs.declared.design.Pin.{Pin}
@@ -28,17 +27,9 @@ kind_columns k = map (terminal_columns k.positions) (range_with_len 0 (length k.
 abbrev pub nowhere : PinColumns
 nowhere = record { first = None; bottom = None; top = None }
 
--- those among positions, then among the positions behind
-abbrev pub before : PinColumns → PinColumns → PinColumns
-before a b = record { first = option_or a.first b.first; bottom = option_or a.bottom b.bottom; top = option_or a.top b.top }
-
--- those of one position
-abbrev pub position_columns : Position → PinColumns
-position_columns p = record { first = Some p.column; bottom = if p.top then None else Some p.column; top = if p.top then Some p.column else None }
-
--- those of a terminal with one position more behind
-abbrev pub with_position : ℕ → PinColumns → Position → PinColumns
-with_position terminal columns p = if p.terminal == terminal then before columns (position_columns p) else columns
+-- the positions of a terminal among all
+abbrev pub of_terminal : ℕ → List Position → List Position
+of_terminal terminal positions = filter (λ (a : Position). a.terminal == terminal) positions
 
 -- those that a table has at a place
 abbrev pub columns_there : Option PinColumns → PinColumns

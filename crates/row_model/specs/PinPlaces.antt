@@ -1,7 +1,8 @@
 use Rattle.std.specs.Prelude.{ℕ, ◌+◌, List, Bool, true, false, ◌&&◌, if◌then◌else◌, Option, is_some}
+use Rattle.row_model.specs.declared.stands.Stand.{Stand}
 use Rattle.design_model.specs.Netlist.{Netlist}
 use Rattle.design_model.specs.declared.design.Pin.{Pin}
-use Rattle.row_model.specs.Stands.{Stand, column_at, edge_column, first_column, row_in, stand_of}
+use Rattle.row_model.specs.Stands.{column_at, edge_column, first_column, row_in, stand_of}
 use Rattle.row_model.specs.Widths.{columns_of}
 use Rattle.row_model.specs.declared.places.PinPlace.{PinPlace}
 use Rattle.row_model.specs.declared.rows.Seat.{Seat}
@@ -31,9 +32,9 @@ lowest_of e = if is_some e.bottom then e.row else e.row + 1
 abbrev pub highest_of : PinPlace → ℕ
 highest_of e = if is_some e.top then e.row + 1 else e.row
 
--- whether a pin has positions on both edges
-abbrev pub is_through : PinPlace → Bool
-is_through e = is_some e.bottom && is_some e.top
+-- whether a pin passes its row: it has positions on both edges
+abbrev pub passes_row : PinPlace → Bool
+passes_row e = is_some e.bottom && is_some e.top
 
 -- the column of a pin in its cell on an edge, the upper where `top` holds
 abbrev pub edge_of : Bool → PinPlace → Option ℕ

@@ -7,12 +7,7 @@ use Rattle.design_model.specs.declared.design.Pin.{Pin}
 use Rattle.design_model.specs.declared.design.Position.{Position}
 use Rattle.row_model.specs.Widths.{kind_of, columns_of}
 use Rattle.row_model.specs.declared.rows.Seat.{Seat}
-
--- where an instance stands: its row, the first of its columns there, and whether it is mirrored
-pub record Stand : Type 0 where
-  pub row : ℕ
-  pub left : ℕ
-  pub mirror : Bool
+use Rattle.row_model.specs.declared.stands.Stand.{Stand}
 
 -- an instance among the seats of a row, the first of which begins in column `left`
 abbrev pub stand_in : Netlist → ℕ → ℕ → List Seat → ℕ → Option Stand

@@ -1,4 +1,4 @@
-use Rattle.std.specs.Prelude.{ℕ, zero, suc, ◌+◌, ◌*◌, ◌-◌, ◌/◌, List, [], ◌∷◌, map, length, take, drop, false, if◌then◌else◌, nat_le}
+use Rattle.std.specs.Prelude.{ℕ, zero, suc, ◌+◌, ◌*◌, ◌-◌, ◌/◌, List, [], ◌∷◌, map, length, false, if◌then◌else◌, nat_le}
 use Rattle.std.specs.List.{range_with_len}
 use Rattle.tech_rules.specs.Rules.{RuleValues}
 use Rattle.design_model.specs.Netlist.{Netlist}
@@ -18,17 +18,22 @@ default_rows r d = least_rows (all_columns d * r.grid_column) d.height 511 1
 abbrev pub upright : ℕ → Seat
 upright instance = record { instance = instance; mirror = false }
 
--- how many of these instances a row takes, in their order, until it is at least as wide as is wanted
-abbrev pub taken : Netlist → ℕ → List ℕ → ℕ
-taken d zero instances = 0
-taken d (suc wanted) [] = 0
-taken d (suc wanted) (i ∷ is) = suc (taken d (suc wanted - columns_of d i) is)
+-- so many instances from one on in their seats, upright
+abbrev pub seats_from : ℕ → ℕ → List Seat
+seats_from first n = map upright (range_with_len first n)
 
--- instances in their order in so many rows: each row takes instances until it is at least as wide as the target, and the last takes the rest
-abbrev pub rows_from : Netlist → ℕ → ℕ → List ℕ → List (List Seat)
-rows_from d target zero is = []
-rows_from d target (suc zero) is = map upright is ∷ []
-rows_from d target (suc (suc more)) is = map upright (take (taken d target is) is) ∷ rows_from d target (suc more) (drop (taken d target is) is)
+-- how many of n instances from one on a row takes, in their order, until it is at least as wide as is wanted
+abbrev pub taken : Netlist → ℕ → ℕ → ℕ → ℕ
+taken d zero first n = 0
+taken d (suc wanted) first zero = 0
+taken d (suc wanted) first (suc n) = suc (taken d (suc wanted - columns_of d first) (first + 1) n)
+
+-- n instances from one on in so many rows: each row takes instances until it is at least as wide as the target, and the last takes the rest
+abbrev pub rows_from : Netlist → ℕ → ℕ → ℕ → ℕ → List (List Seat)
+rows_from d target zero first n = []
+rows_from d target (suc zero) first n = seats_from first n ∷ []
+rows_from d target (suc (suc more)) first n =
+    seats_from first (taken d target first n) ∷ rows_from d target (suc more) (first + taken d target first n) (n - taken d target first n)
 
 -- a number divided by another, rounded up
 abbrev pub rounded_up : ℕ → ℕ → ℕ
@@ -36,4 +41,4 @@ rounded_up a b = (a + (b - 1)) / b
 
 -- the rows that a design begins with
 unfoldable pub start_rows : Netlist → ℕ → List (List Seat)
-start_rows d rows = rows_from d (rounded_up (all_columns d) rows) rows (range_with_len 0 (length d.instances))
+start_rows d rows = rows_from d (rounded_up (all_columns d) rows) rows 0 (length d.instances)

@@ -1,13 +1,15 @@
-ghost use Rattle.row_model.specs.PinColumns.{before, columns_there, kind_columns, pin_columns, position_columns, table_there, terminal_columns, with_position};
-ghost use Rattle.row_model.specs.Stands.{positions_of};
+ghost use Rattle.row_model.specs.PinColumns.{columns_there, kind_columns, of_terminal, pin_columns, table_there, terminal_columns};
+ghost use Rattle.row_model.specs.Stands.{column_in, is_on, positions_of};
+ghost use Rattle.design_model.specs.declared.design.Position.{Position as Place};
+ghost use Rattle.std.specs.List.{find};
 ghost use Rattle.design_model.specs.declared.design.Inst.{Inst};
-ghost use Rattle.row_model.specs.declared.cell_columns.PinColumns.{PinColumns as Columns};
 ghost use Rattle.std.specs.Option.{option_map};
-ghost use Rattle.std.specs.Prelude.{◌≡◌, ◌<◌, ℕ, Some, length, map, slice_get, IfOk};
+ghost use Rattle.std.specs.Prelude.{◌≡◌, ◌==◌, ◌&&◌, ◌<◌, ℕ, Some, map, slice_get, IfOk};
 
 use crate::widths::kind_of;
 use design_model::{CellKind, Design, Pin, Position};
 use geom_core::Items;
+use list_facts::Lists;
 use std::alloc::{AllocError, Global};
 
 /// The columns of a pin in its cell, counted from the left side of the cell as it is drawn: that of its first position, that of its first one on the
@@ -30,35 +32,50 @@ const NOWHERE: PinColumns = PinColumns {
 pub fn pin_columns(design: &Design, pin: Pin) -> PinColumns
     ensures { result ≡ pin_columns design.now pin }
 {
-    let mut columns = NOWHERE;
-    let mut rest = positions_of(design, pin.instance);
-    while let Some((position, after)) = rest.split_first() {
-        if position.terminal == pin.terminal {
-            columns = joined(columns, *position);
-        }
-        rest = after;
-    }
-    columns
+    terminal_columns(positions_of(design, pin.instance), pin.terminal as usize)
 }
 
-/// The columns of all pins of a design in their cells, in the order of the pins. The one error is want of memory; steps as the number of pins and of
-/// positions.
-pub fn all_pin_columns(alloc: Global, design: &Design) -> Result<Vec<PinColumns>, AllocError>
-    ensures { IfOk result (λ v. v.items ≡ map (pin_columns design.now) design.now.pins) }
+// The columns of a terminal among positions.
+fn terminal_columns(positions: &[Position], terminal: usize) -> PinColumns
+    ensures { result ≡ terminal_columns positions.now terminal }
 {
-    let tables = kind_tables(alloc, design.kinds.items())?;
-    let mut columns = Vec::new(alloc);
-    let mut rest = design.pins.items();
-    while let Some((pin, after)) = rest.split_first() {
-        columns.push(tabled_columns(design, tables.as_slice(), *pin))?;
-        rest = after;
+    PinColumns {
+        first: first_column(positions, terminal),
+        bottom: edge_column(positions, terminal, false),
+        top: edge_column(positions, terminal, true),
     }
-    Ok(columns)
 }
 
-// The columns of a pin by the tables of the kinds.
+// The column of a terminal's first position.
+fn first_column(positions: &[Position], terminal: usize) -> Option<u32>
+    ensures { result ≡ column_in (find (λ (a : Place). a.terminal == terminal) positions.now) }
+{
+    positions
+        .iter()
+        .find(|a| a.terminal as usize == terminal)
+        .map(|a| a.column)
+}
+
+// The column of its first position on an edge, the upper where `top` holds.
+fn edge_column(positions: &[Position], terminal: usize, top: bool) -> Option<u32>
+    ensures { result ≡ column_in (find (λ (a : Place). a.terminal == terminal && is_on top a) positions.now) }
+{
+    positions
+        .iter()
+        .find(|a| a.terminal as usize == terminal && is_on(top, **a))
+        .map(|a| a.column)
+}
+
+// Whether a position is on an edge.
+fn is_on(top: bool, position: Position) -> bool
+    ensures { result ≡ is_on top position }
+{
+    if top { position.top } else { !position.top }
+}
+
+/// The columns of a pin by the tables of the kinds. Takes no memory.
 #[tactic(auto, using(crate::proofs::CellColumns::by_tables))]
-fn tabled_columns(design: &Design, tables: &[Items<PinColumns>], pin: Pin) -> PinColumns
+pub fn tabled_columns(design: &Design, tables: &[Items<PinColumns>], pin: Pin) -> PinColumns
     requires { tables.now ≡ map kind_columns design.now.kinds }
     ensures { result ≡ pin_columns design.now pin }
 {
@@ -97,8 +114,8 @@ fn columns_there(table: &[PinColumns], terminal: u32) -> PinColumns
     }
 }
 
-// A table for each kind.
-fn kind_tables(alloc: Global, kinds: &[CellKind]) -> Result<Vec<Items<PinColumns>>, AllocError>
+/// A table for each kind, of the columns of its terminals. The one error is want of memory; steps as the number of terminals and of positions.
+pub fn kind_tables(alloc: Global, kinds: &[CellKind]) -> Result<Vec<Items<PinColumns>>, AllocError>
     ensures { IfOk result (λ v. v.items ≡ map kind_columns kinds.now) }
 {
     let mut tables = Vec::new(alloc);
@@ -110,56 +127,34 @@ fn kind_tables(alloc: Global, kinds: &[CellKind]) -> Result<Vec<Items<PinColumns
     Ok(tables)
 }
 
-// The columns of each terminal of a kind, as a list.
-#[tactic(auto, using(crate::proofs::CellColumns::kind_table))]
+// The columns of each terminal of a kind.
 fn kind_columns(alloc: Global, kind: &CellKind) -> Result<Items<PinColumns>, AllocError>
     ensures { IfOk result (λ table. table ≡ kind_columns kind.now) }
 {
-    let table = terminal_table(alloc, kind)?;
+    let count = kind.terminals.items().len();
+    let lists = positions_by_terminal(alloc, count, kind.positions.items())?;
+    let mut table = Vec::new(alloc);
+    for n in 0..count {
+        table.push(terminal_columns(lists.at(n), n))?;
+    }
     Ok(Items::new(table))
 }
 
-// The columns of each terminal of a kind.
-fn terminal_table(alloc: Global, kind: &CellKind) -> Result<Vec<PinColumns>, AllocError>
-    ensures long { IfOk result (λ v. length v.items ≡ length kind.now.terminals) }
-    ensures each { IfOk result (λ v. (i : ℕ) → i < length kind.now.terminals → slice_get v.items i ≡ Some (terminal_columns kind.now.positions i)) }
+// The positions of each of so many terminals.
+fn positions_by_terminal(
+    alloc: Global,
+    count: usize,
+    positions: &[Position],
+) -> Result<Lists<Position>, AllocError>
+    ensures { IfOk result (λ lists. (t : ℕ) → t < count → slice_get lists t ≡ Some (of_terminal t positions.now)) }
 {
-    let mut table = vec![in alloc; NOWHERE; kind.terminals.items().len()]?;
-    enter_all(table.as_mut_slice(), kind.positions.items());
-    Ok(table)
-}
-
-// Enters positions for their terminals, behind those that have been entered.
-fn enter_all(table: &mut [PinColumns], positions: &[Position])
-    ensures { (i : ℕ) → slice_get table.new i ≡ option_map (λ (c : Columns). before c (terminal_columns positions.now i)) (slice_get table.old i) }
-{
+    let mut lists = Lists::new(alloc, count)?;
     let mut rest = positions;
     while let Some((position, after)) = rest.split_first() {
-        enter(table, *position);
+        lists.push(position.terminal as usize, *position)?;
         rest = after;
     }
-}
-
-// Enters a position for its terminal.
-fn enter(table: &mut [PinColumns], position: Position)
-    ensures { (i : ℕ) → slice_get table.new i ≡ option_map (λ (c : Columns). with_position i c position) (slice_get table.old i) }
-{
-    let n = position.terminal as usize;
-    if n < table.len() {
-        table[n] = joined(table[n], position);
-    }
-}
-
-// The columns with those of a position behind them.
-fn joined(columns: PinColumns, position: Position) -> PinColumns
-    ensures { result ≡ before columns (position_columns position) }
-{
-    let column = Some(position.column);
-    PinColumns {
-        first: columns.first.or(column),
-        bottom: columns.bottom.or(if position.top { None } else { column }),
-        top: columns.top.or(if position.top { column } else { None }),
-    }
+    Ok(lists)
 }
 
 // The positions of an instance's kind, in order.

@@ -1,13 +1,13 @@
 ghost use Rattle.row_model.specs.NearStands.{AreNear, AreShort, IsNear};
-ghost use Rattle.row_model.specs.PinColumns.{pin_columns};
-ghost use Rattle.row_model.specs.PinPlaces.{edge_of, highest_of, is_through, lowest_of, pin_column, pin_place, pin_place_at};
+ghost use Rattle.row_model.specs.PinColumns.{kind_columns, pin_columns};
+ghost use Rattle.row_model.specs.PinPlaces.{edge_of, highest_of, passes_row, lowest_of, pin_column, pin_place, pin_place_at};
 ghost use Rattle.row_model.specs.Rows.{ArePlaced};
 ghost use Rattle.row_model.specs.StandTables.{AreStands, tabled_stand};
 ghost use Rattle.row_model.specs.Stands.{column_of, first_column, turned_column};
 ghost use Rattle.std.specs.Option.{option_map};
 ghost use Rattle.std.specs.Prelude.{◌≡◌, ◌<◌, ◌≤◌, Some, length, map, slice_get, IfOk, IfSome};
 
-use crate::cell_columns::{PinColumns, all_pin_columns, pin_columns};
+use crate::cell_columns::{PinColumns, kind_tables, pin_columns, tabled_columns};
 use crate::rows::{Rows, Seat};
 use crate::stands::{Stand, stand_of, stands_of};
 use crate::widths::columns_of;
@@ -43,9 +43,9 @@ impl PinPlace {
         if self.top.is_some() { row + 1 } else { row }
     }
 
-    /// Whether the pin has positions on both edges.
-    pub fn is_through(self) -> bool
-        ensures { result ≡ is_through self }
+    /// Whether the pin passes its row: it has positions on both edges.
+    pub fn passes_row(self) -> bool
+        ensures { result ≡ passes_row self }
     {
         self.bottom.is_some() && self.top.is_some()
     }
@@ -147,36 +147,32 @@ pub fn pin_places(alloc: Global, design: &Design, rows: &Rows) -> Result<Vec<Pin
     let _pins = &design.pins;
     let rows = rows.rows.items();
     let stands = stands_of(alloc, design, rows)?;
-    let columns = all_pin_columns(alloc, design)?;
-    tabled_places(alloc, design, rows, stands.as_slice(), columns.as_slice())
+    let tables = kind_tables(alloc, design.kinds.items())?;
+    tabled_places(alloc, design, rows, stands.as_slice(), tables.as_slice())
 }
 
-// Where each pin stands, by the stands of the instances and the columns of the pins in their cells.
+// Where each pin stands, by the stands of the instances and the columns of the kinds' terminals.
 fn tabled_places(
     alloc: Global,
     design: &Design,
     rows: &[Items<Seat>],
     stands: &[Option<Stand>],
-    columns: &[PinColumns],
+    tables: &[Items<PinColumns>],
 ) -> Result<Vec<PinPlace>, AllocError>
     requires stands { AreStands design.now rows.now stands.now }
     requires near { AreNear stands.now }
-    requires columns { columns.now ≡ map (pin_columns design.now) design.now.pins }
+    requires tables { tables.now ≡ map kind_columns design.now.kinds }
     ensures { IfOk result (λ v. v.items ≡ map (pin_place design.now rows.now) design.now.pins) }
 {
     // The bounds of the design's type are known once a field is read.
     let _pins = &design.pins;
     let mut places = Vec::new(alloc);
     let mut rest = design.pins.items();
-    let mut others = columns;
     while let Some((pin, after)) = rest.split_first() {
-        let Some((columns, behind)) = others.split_first() else {
-            return Ok(places);
-        };
         let stand = tabled_stand(stands, pin.instance);
-        places.push(pin_place_at(design, stand, *pin, *columns))?;
+        let columns = tabled_columns(design, tables, *pin);
+        places.push(pin_place_at(design, stand, *pin, columns))?;
         rest = after;
-        others = behind;
     }
     Ok(places)
 }

@@ -1,6 +1,7 @@
 ghost use Rattle.row_model.specs.NearStands.{AreNear, AreShort, IsNear};
 ghost use Rattle.row_model.specs.StandTables.{AreStands, stand_if};
-ghost use Rattle.row_model.specs.Stands.{or_else, stand_in, stand_of, Stand as Placed};
+ghost use Rattle.row_model.specs.Stands.{or_else, stand_in, stand_of};
+ghost use Rattle.row_model.specs.declared.stands.Stand.{Stand as Placed};
 ghost use Rattle.std.specs.Option.{option_map};
 ghost use Rattle.std.specs.Prelude.{◌≡◌, ◌==◌, ◌≤◌, ◌<◌, ℕ, Option, length, slice_get, IfOk, IfSome};
 
@@ -9,7 +10,6 @@ use crate::widths::columns_of;
 use design_model::Design;
 use geom_core::Items;
 use std::alloc::{AllocError, Global};
-use std::marker::Model;
 
 /// Where an instance stands: its row, the first of its columns there, and whether it is mirrored.
 #[derive(Clone, Copy, Debug)]
@@ -17,18 +17,6 @@ pub struct Stand {
     pub row: u16,
     pub left: u64,
     pub mirror: bool,
-}
-
-impl Model for Stand {
-    ghost use Rattle.row_model.specs.Stands.{Stand as Placed};
-
-    ghost Value = { Placed };
-
-    ghost use Rattle.row_model.specs.StandView.{stand_seen};
-
-    ghost view = { stand_seen };
-
-    ghost inverse = { λ s. record { row = s.row; left = s.left; mirror = s.mirror } };
 }
 
 // Where an instance stands among the seats of the row with this number, if it is one of them.

@@ -1,7 +1,6 @@
 ghost use Rattle.row_model.specs.Rows.{ArePlaced};
-ghost use Rattle.row_model.specs.Start.{default_rows, least_rows, start_rows, taken, upright};
-ghost use Rattle.std.specs.List.{range_with_len};
-ghost use Rattle.std.specs.Prelude.{◌≡◌, ◌+◌, ◌-◌, ◌*◌, ◌<◌, ◌≤◌, IfOk, length, map};
+ghost use Rattle.row_model.specs.Start.{default_rows, least_rows, rows_from, seats_from, start_rows, taken};
+ghost use Rattle.std.specs.Prelude.{◌≡◌, ◌+◌, ◌<◌, ◌≤◌, IfOk, length};
 
 use crate::rows::{Rows, Seat};
 use crate::widths::{all_columns, columns_of};
@@ -53,47 +52,59 @@ pub fn start(alloc: Global, design: &Design, rows: u32) -> Result<Rows, AllocErr
     ensures placed { IfOk result (λ made. ArePlaced design.now made) }
 {
     let target = (all_columns(design) + u64::from(rows - 1)) / u64::from(rows);
-    let count = design.instances.items().len() as u32;
-    let mut made = Vec::new(alloc);
-    let mut next = 0;
-    let mut left = rows;
-    while left > 1 {
-        let end = row_end(design, target, next);
-        made.push(Items::new(seats(alloc, next, end)?))?;
-        next = end;
-        left -= 1;
-    }
-    made.push(Items::new(seats(alloc, next, count)?))?;
-    Ok(Rows::new(Items::new(made)))
+    Ok(Rows::new(Items::new(rows_from(alloc, design, target, rows)?)))
 }
 
-// The instance after those that a row takes which begins with `first`.
-fn row_end(design: &Design, target: u64, first: u32) -> u32
-    requires { first ≤ length design.now.instances }
-    ensures is { result ≡ first + taken design.now target (range_with_len first (length design.now.instances - first)) }
-    ensures from { first ≤ result }
-    ensures to { result ≤ length design.now.instances }
+// All instances in so many rows, each but the last at least as wide as the target.
+fn rows_from(
+    alloc: Global,
+    design: &Design,
+    target: u64,
+    rows: u32,
+) -> Result<Vec<Items<Seat>>, AllocError>
+    requires { 0 < rows }
+    ensures { IfOk result (λ v. v.items ≡ rows_from design.now target rows 0 (length design.now.instances)) }
 {
-    let count = design.instances.items().len() as u32;
+    let mut made = Vec::new(alloc);
+    let mut first = 0;
+    let mut count = design.instances.items().len() as u32;
+    let mut left = rows;
+    while left > 1 {
+        let row = taken(design, target, first, count);
+        made.push(Items::new(seats(alloc, first, row)?))?;
+        first += row;
+        count -= row;
+        left -= 1;
+    }
+    made.push(Items::new(seats(alloc, first, count)?))?;
+    Ok(made)
+}
+
+// How many of so many instances from `first` on a row takes.
+fn taken(design: &Design, target: u64, first: u32, count: u32) -> u32
+    requires { first + count ≤ 20000 }
+    ensures is { result ≡ taken design.now target first count }
+    ensures few { result ≤ count }
+{
     let mut wanted = target;
-    for instance in first..count {
+    for n in 0..count {
         if wanted == 0 {
-            return instance;
+            return n;
         }
-        wanted = wanted.saturating_sub(u64::from(columns_of(design, instance)));
+        wanted = wanted.saturating_sub(u64::from(columns_of(design, first + n)));
     }
     count
 }
 
-// The seats of instances from `first` on and before `end`, upright.
-fn seats(alloc: Global, first: u32, end: u32) -> Result<Vec<Seat>, AllocError>
-    requires { first ≤ end }
-    ensures { IfOk result (λ seats. seats.items ≡ map upright (range_with_len first (end - first))) }
+// The seats of so many instances from `first` on, upright.
+fn seats(alloc: Global, first: u32, count: u32) -> Result<Vec<Seat>, AllocError>
+    requires { first + count ≤ 20000 }
+    ensures { IfOk result (λ seats. seats.items ≡ seats_from first count) }
 {
     let mut seats = Vec::new(alloc);
-    for instance in first..end {
+    for n in 0..count {
         seats.push(Seat {
-            instance,
+            instance: first + n,
             mirror: false,
         })?;
     }

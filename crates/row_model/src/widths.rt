@@ -1,7 +1,6 @@
-ghost use Rattle.design_model.specs.Netlist.{IsKind};
 ghost use Rattle.row_model.specs.Widths.{all_columns, columns_of, kind_of};
 ghost use Rattle.std.specs.Option.{option_map};
-ghost use Rattle.std.specs.Prelude.{◌≡◌, ◌<◌, ◌≤◌, length};
+ghost use Rattle.std.specs.Prelude.{◌≡◌, ◌≤◌};
 
 use design_model::{CellKind, Design};
 

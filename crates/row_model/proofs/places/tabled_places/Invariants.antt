@@ -1,14 +1,12 @@
 use Rattle.std.proofs.Common.{◌≡◌, ◌<◌, ◌++◌, length, map}
 use Rattle.std.specs.List.{AllByRecursion}
 use Rattle.design_model.specs.declared.design.Pin.{Pin}
-use Rattle.row_model.specs.PinColumns.{pin_columns}
 use Rattle.row_model.specs.PinPlaces.{pin_place}
 use Rattle.row_model.proofs.places.tabled_places.Given as goal
 
 abbrev pub invariant-loop-pin : goal.invariant-loop-pin
 invariant-loop-pin l = record {
   same : l.places.items ++ map (pin_place l.design l.rows) l.rest ≡ map (pin_place l.design l.rows) l.design.pins;
-  beside : l.others ≡ map (pin_columns l.design) l.rest;
   within : AllByRecursion (λ (p : Pin). p.instance < length l.design.instances) l.rest;
 }
 

@@ -1,6 +1,7 @@
 use Rattle.std.proofs.Common.{◌≡◌, ℕ, ◌+◌, ◌*◌, ◌≤◌, Option, length, slice_get}
 use Rattle.std.specs.Option.{option_map}
-use Rattle.row_model.specs.Stands.{Stand, or_else, stand_in}
+use Rattle.row_model.specs.declared.stands.Stand.{Stand}
+use Rattle.row_model.specs.Stands.{or_else, stand_in}
 use Rattle.row_model.specs.NearStands.{AreNear}
 use Rattle.row_model.proofs.stands.enter_row.Given as goal
 

@@ -1,6 +1,7 @@
 use Rattle.std.proofs.Common.{◌≡◌, ℕ, ◌+◌, ◌≤◌, ◌<◌, Option, Some, length, slice_get}
 use Rattle.std.specs.Option.{option_map}
-use Rattle.row_model.specs.Stands.{Stand, or_else, stand_from, stand_of}
+use Rattle.row_model.specs.declared.stands.Stand.{Stand}
+use Rattle.row_model.specs.Stands.{or_else, stand_from, stand_of}
 use Rattle.row_model.specs.NearStands.{AreNear, AreShort}
 use Rattle.row_model.proofs.stands.stands_of.Given as goal
 

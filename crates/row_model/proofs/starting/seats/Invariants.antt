@@ -1,7 +1,6 @@
-use Rattle.std.proofs.Common.{◌≡◌, ◌-◌, map}
-use Rattle.std.specs.List.{range_with_len}
-use Rattle.row_model.specs.Start.{upright}
+use Rattle.std.proofs.Common.{◌≡◌}
+use Rattle.row_model.specs.Start.{seats_from}
 use Rattle.row_model.proofs.starting.seats.Given as goal
 
-abbrev pub invariant-loop-instance : goal.invariant-loop-instance
-invariant-loop-instance l = l.seats.items ≡ map upright (range_with_len l.first (l.instance - l.first))
+abbrev pub invariant-loop-n : goal.invariant-loop-n
+invariant-loop-n l = l.seats.items ≡ seats_from l.first l.n
