@@ -5,6 +5,7 @@ use Rattle.std.proofs.lemmas.List.Sorted.{Contains-permutation, IsPermutation-sy
 use Rattle.std.proofs.lemmas.Option.{slice_get_within}
 use Rattle.std.specs.List.{AllByRecursion, range_with_len}
 use Rattle.std.specs.Prelude.{slice_get}
+use Rattle.list_facts.proofs.Members.{map-cases, map-member, member-cases, member-head, member-tail}
 use Rattle.tech_rules.specs.Rules.{RuleValues, ValidRules}
 use Rattle.design_model.specs.Netlist.{Netlist, IsNetlist, IsKind, IsPosition}
 use Rattle.design_model.specs.Drawing.{drawing_of}
@@ -19,7 +20,6 @@ use Rattle.wire_geom.specs.declared.drawn.Drawn.{Drawn}
 use Rattle.row_model.specs.Rows.{ArePlaced, all_instances, instances_in}
 use Rattle.row_model.specs.Widths.{kind_of}
 use Rattle.row_model.specs.declared.rows.Seat.{Seat}
-use Rattle.feed_cells.proofs.Members.{map-cases, map-member, member-cases, member-head, member-tail}
 use Rattle.feed_cells.specs.Fed.{Fed, cells_in, seats_in}
 use Rattle.feed_cells.specs.declared.fed.Item.{Item}
 use Rattle.feed_cells.specs.declared.fed.Item.TheVariants.{Cell, Feed}

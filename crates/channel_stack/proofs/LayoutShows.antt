@@ -6,6 +6,8 @@ use Rattle.std.proofs.lemmas.Option.{none-some, same_Some, slice_get_within}
 use Rattle.std.specs.Option.{is_some}
 use Rattle.std.specs.Prelude.{slice_get}
 use Rattle.geom_core.specs.declared.layout.Cell as layouts
+use Rattle.design_model.proofs.DesignPins.{pin-found}
+use Rattle.list_facts.proofs.Members.{map-cases}
 use Rattle.geom_core.specs.declared.layout.Shape.{Shape}
 use Rattle.tech_rules.specs.Rules.{RuleValues, ValidRules}
 use Rattle.geom_core.specs.Moving.{moved_shape}
@@ -24,12 +26,11 @@ use Rattle.row_model.specs.Rows.{ArePlaced}
 use Rattle.row_model.specs.Stands.{edge_column, positions_in, positions_of}
 use Rattle.row_model.specs.Widths.{kind_of}
 use Rattle.row_model.specs.declared.rows.Seat.{Seat}
-use Rattle.feed_cells.proofs.Members.{map-cases}
 use Rattle.feed_cells.proofs.PinEdges.{pin-edge}
 use Rattle.feed_cells.specs.Fed.{Fed, cells_in, items_width}
 use Rattle.feed_cells.specs.declared.fed.Item.{Item}
 use Rattle.feed_cells.specs.declared.fed.Item.TheVariants.{Cell}
-use Rattle.pin_assign.proofs.EdgeLaws.{EdgePosition, edge-position, pin-found}
+use Rattle.pin_assign.proofs.EdgeLaws.{EdgePosition, edge-position}
 use Rattle.layout_laws.proofs.ListPlaces.{at-contains, contains-at}
 use Rattle.wire_geom.proofs.ListLaws.{map-at}
 use Rattle.layout_laws.specs.Labels.{ShowsPins}

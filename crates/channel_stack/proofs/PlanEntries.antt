@@ -1,6 +1,9 @@
 use Rattle.std.proofs.Common.{◌≡◌, refl, sym, ap, ◌∙◌, subst, ℕ, ◌-◌, suc, ◌+◌, ◌<◌, List, [], ◌∷◌, ◌++◌, length, map, Bool, true, false, cond, Option, Some, Contains, arith}
 use Rattle.std.proofs.lemmas.Bool.{not-true}
 use Rattle.std.specs.Prelude.{slice_get, slice_index}
+use Rattle.design_model.proofs.DesignPins.{pin-found}
+use Rattle.feed_cells.proofs.FedWidths.{width-cons}
+use Rattle.list_facts.proofs.Members.{map-member, member-head}
 use Rattle.tech_rules.specs.Rules.{RuleValues}
 use Rattle.design_model.specs.Netlist.{Netlist, IsNetlist}
 use Rattle.design_model.specs.declared.design.Pin.{Pin}
@@ -11,14 +14,12 @@ use Rattle.row_model.specs.declared.rows.Seat as seats
 use Rattle.feed_cells.specs.Fed.{Fed, cells_in, item_width, items_width}
 use Rattle.feed_cells.specs.declared.fed.Item.{Item}
 use Rattle.feed_cells.specs.declared.fed.Item.TheVariants.{Cell, Feed}
-use Rattle.feed_cells.proofs.Members.{map-member, member-head}
 use Rattle.pin_assign.specs.Entries.{EntryIn}
 use Rattle.pin_assign.specs.Sources.{Source, of_pin, of_feed, source_net, SourceEnters, IsOver, IsPinOver, StandsOver, first_over, later_over}
 use Rattle.pin_assign.specs.Tables.{table_of}
-use Rattle.pin_assign.proofs.CauseLaws.{entry-cause, entry-from}
-use Rattle.pin_assign.proofs.EdgeLaws.{edge-position, pin-found, position-listed}
+use Rattle.pin_assign.proofs.CauseLaws.{entry-from}
+use Rattle.pin_assign.proofs.EdgeLaws.{edge-position, position-listed}
 use Rattle.pin_assign.proofs.TableLaws.{bottom-cause, bottom-effect, top-cause, top-effect}
-use Rattle.pin_assign.proofs.WidthLaws.{width-more}
 use Rattle.layout_laws.specs.Seats.{ComesToLower, ComesToUpper, LowerNet, UpperNet, Upright, UprightAt}
 use Rattle.wire_geom.specs.Edges.{bottom_entry, top_entry}
 use Rattle.channel_stack.specs.Planned.{feed_upright, net_at, net_found, row_seats, seat_of, upright_of}
@@ -108,7 +109,7 @@ module _ (d : Netlist) (top : Bool) (cause : Source) where
       record { front = []; item = item; back = rest; is = refl; over = subst (λ (n : ℕ). IsOver d top cause item n column) begins over }
   over-of items left column (later_over {item = item} {items = rest} stands) =
       let found = over-of rest (left + item_width d item) column stands in
-      let begins : left + item_width d item + items_width d found.front ≡ left + items_width d (item ∷ found.front) = omega (arith, width-more d item found.front) in
+      let begins : left + item_width d item + items_width d found.front ≡ left + items_width d (item ∷ found.front) = omega (arith, width-cons d item found.front) in
       record {
         front = item ∷ found.front;
         item = found.item;
@@ -124,7 +125,7 @@ module _ (d : Netlist) (top : Bool) (cause : Source) where
       let same : from ≡ left = omega (arith, begins) in
       first_over (subst (λ (n : ℕ). IsOver d top cause item n column) same over)
   over-along (first ∷ front) item back left from column begins over =
-      later_over (over-along front item back (left + item_width d first) from column (omega (arith, begins, width-more d first front)) over)
+      later_over (over-along front item back (left + item_width d first) from column (omega (arith, begins, width-cons d first front)) over)
 
 -- a wire of a row that comes to an edge in a column
 pub record EdgeWire (r : RuleValues) (d : Netlist) (top : Bool) (items : List Item) (column net : ℕ) : Type 0 where
@@ -136,7 +137,7 @@ pub record EdgeWire (r : RuleValues) (d : Netlist) (top : Bool) (items : List It
 edge-wire : (r : RuleValues) (d : Netlist) → IsNetlist d → (rows : List (List seats.Seat)) (top : Bool) (channel : ℕ) (items : List Item) (column net : ℕ)
     → EntryIn d rows top channel (Some items) column net → EdgeWire r d top items column net
 edge-wire r d good rows top channel items column net entry =
-    let e = entry-cause d rows top channel items 0 column net entry in
+    let e = entry in
     let o = over-of d top e.cause items 0 column e.stands in
     let w = wire-over r d good top e.cause o.item (0 + items_width d o.front) column o.over in
     record {

@@ -2,6 +2,8 @@ use Rattle.std.proofs.Common.{◌≡◌, inl, inr, refl, sym, ap, ◌∙◌, sub
 use Rattle.std.proofs.lemmas.List.Elements.{All-contains}
 use Rattle.std.proofs.lemmas.Option.{same_Some}
 use Rattle.std.specs.Prelude.{slice_get}
+use Rattle.list_facts.proofs.Members.{map-cases, member-cases}
+use Rattle.row_model.proofs.WidthLaws.{kind-good}
 use Rattle.tech_rules.specs.Rules.{RuleValues, ValidRules}
 use Rattle.design_model.specs.Room.{least_height}
 use Rattle.design_model.specs.Netlist.{Netlist, IsNetlist, IsPosition}
@@ -12,8 +14,7 @@ use Rattle.row_model.specs.Widths.{columns_of, kind_of, width_of}
 use Rattle.row_model.specs.declared.rows.Seat as seats
 use Rattle.feed_cells.specs.declared.fed.Item.{Item}
 use Rattle.feed_cells.specs.declared.fed.Item.TheVariants.{Cell, Feed}
-use Rattle.feed_cells.proofs.Members.{map-cases, member-cases}
-use Rattle.pin_assign.proofs.EdgeLaws.{kind-good, turned-once, turned-within}
+use Rattle.pin_assign.proofs.EdgeLaws.{turned-once, turned-within}
 use Rattle.layout_laws.specs.Seats.{AreParted, FitsRow, IsSeat, Upright}
 use Rattle.layout_laws.proofs.ListPlaces.{contains-at}
 use Rattle.channel_stack.specs.Planned.{feed_upright, high_of, low_of, net_at, seat_of, upright_of}

@@ -3,6 +3,7 @@ use Rattle.std.proofs.lemmas.List.Elements.{All-contains}
 use Rattle.std.proofs.lemmas.Option.{slice_get-get_or}
 use Rattle.std.specs.Option.{option_map}
 use Rattle.std.specs.Prelude.{slice_get}
+use Rattle.pin_assign.specs.Causes.{CrossesBy}
 use Rattle.geom_core.specs.declared.layout.Layout.{Layout}
 use Rattle.tech_rules.specs.Rules.{RuleValues, ValidRules}
 use Rattle.design_model.specs.Netlist.{Netlist, IsNetlist}
@@ -24,7 +25,6 @@ use Rattle.feed_cells.specs.declared.fed.Item.TheVariants.{Cell, Feed}
 use Rattle.feed_cells.proofs.CrossingLaws.{channels-ordered, channels-within, fed-across, from-across, in-range}
 use Rattle.feed_cells.proofs.FedLaws.{cells-fed, fed-long, fed-row}
 use Rattle.feed_cells.proofs.NetLaws.{across-stands, across-within, alone-same, fed-net, fed-stands, inside-stands}
-use Rattle.pin_assign.specs.Causes.{Leads}
 use Rattle.pin_assign.specs.Entering.{enters}
 use Rattle.pin_assign.proofs.EnteringLaws.{crossed-by, enters-lowest}
 use Rattle.layout_laws.specs.Chains.{AreTogether, same}
@@ -130,7 +130,7 @@ module _ (r : RuleValues) (d : Netlist) (good : IsNetlist d) (rows : List (List 
       (subst (λ (x : Drawn). EntersBelow r plan k x) (sym drawn) (feed-below r d fed ws good k front back own at (omega (arith, feed.some))))
 
   -- a net crosses a row by a pin
-  crossed-pin : (net k : ℕ) → k < length (fed_rows d rows).rows → (p : Pin) → Leads d rows net k p → IsCrossed r plan d l k net
+  crossed-pin : (net k : ℕ) → k < length (fed_rows d rows).rows → (p : Pin) → CrossesBy d rows net k p → IsCrossed r plan d l k net
   crossed-pin net k within p leads =
       let under = leads.under in
       let over = leads.over in

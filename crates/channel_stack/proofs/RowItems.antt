@@ -2,14 +2,14 @@ use Rattle.std.proofs.Common.{◌≡◌, inl, inr, refl, sym, ap, ◌∙◌, sub
 use Rattle.std.proofs.lemmas.List.Elements.{Contains-append_cases, Contains-append_left, Contains-append_right}
 use Rattle.std.proofs.lemmas.Option.{slice_get-get_or, unwrap_or-slice_get}
 use Rattle.std.specs.Prelude.{slice_get, unwrap_or}
+use Rattle.feed_cells.proofs.FedWidths.{width-cons}
+use Rattle.list_facts.proofs.Members.{map-cases, map-member, member-cases, member-head, member-tail}
 use Rattle.tech_rules.specs.Rules.{RuleValues, ValidRules}
 use Rattle.design_model.specs.Netlist.{Netlist}
 use Rattle.row_model.specs.declared.rows.Seat as seats
 use Rattle.feed_cells.specs.Fed.{Fed, item_width, items_width, seats_in}
 use Rattle.feed_cells.specs.declared.fed.Item.{Item}
 use Rattle.feed_cells.specs.declared.fed.Item.TheVariants.{Cell, Feed}
-use Rattle.feed_cells.proofs.Members.{map-cases, map-member, member-cases, member-head, member-tail}
-use Rattle.pin_assign.proofs.WidthLaws.{width-more}
 use Rattle.layout_laws.specs.Seats.{Upright, UprightAt, here, further}
 use Rattle.layout_laws.specs.Uprights.{IsWired}
 use Rattle.wire_geom.specs.declared.drawn.Drawn.{Drawn}
@@ -65,7 +65,7 @@ module _ (r : RuleValues) (d : Netlist) where
   seat-wide (Feed net) = refl
 
   further-on : (left : ℕ) (item : Item) (front : List Item) → left + (seat_of r d item).width + items_width d front ≡ left + items_width d (item ∷ front)
-  further-on left item front = omega (arith, width-more d item front, seat-wide item)
+  further-on left item front = omega (arith, width-cons d item front, seat-wide item)
 
   -- an upright of an item stands in its column of the row
   pub upright-stands : (front : List Item) (item : Item) (back : List Item) (left column : ℕ) (upright : Upright) → Contains (seat_of r d item).uprights upright

@@ -1,12 +1,13 @@
 use Rattle.std.proofs.Common.{◌≡◌, ◌⊎◌, inl, inr, sym, ap, subst, ℕ, ◌+◌, ◌<◌, List, ◌∷◌, ◌++◌, Bool, true, false, not, Some, Contains}
 use Rattle.std.proofs.lemmas.List.Elements.{Contains-append_right}
 use Rattle.std.specs.Prelude.{slice_get}
+use Rattle.design_model.proofs.DesignPins.{pin-within}
+use Rattle.list_facts.proofs.Members.{contains-get, member-head}
 use Rattle.design_model.specs.Netlist.{Netlist, IsNetlist}
 use Rattle.design_model.specs.declared.design.Pin.{Pin}
 use Rattle.row_model.specs.Rows.{ArePlaced}
 use Rattle.row_model.specs.Stands.{row_in, row_of}
 use Rattle.row_model.specs.declared.rows.Seat.{Seat}
-use Rattle.row_model.proofs.PinLaws.{pin-within}
 use Rattle.row_model.proofs.StandLaws.{stand-is, stand-there}
 use Rattle.feed_cells.specs.Crossings.{crossing_of, is_across, is_in}
 use Rattle.feed_cells.specs.Fed.{Fed, cells_in, fed_rows, items_width, seats_in}
@@ -15,7 +16,6 @@ use Rattle.feed_cells.specs.declared.fed.Item.{Item}
 use Rattle.feed_cells.specs.declared.fed.Item.TheVariants.{Cell, Feed}
 use Rattle.feed_cells.proofs.CrossingLaws.{fed-across}
 use Rattle.feed_cells.proofs.FedLaws.{cells-fed, fed-row-some, item-stands}
-use Rattle.feed_cells.proofs.Members.{member-head}
 use Rattle.feed_cells.proofs.NetLaws.{across-over, across-under}
 use Rattle.pin_assign.specs.Entering.{enters}
 use Rattle.pin_assign.specs.Places.{TablePlace, StandsAt, channel_facing, entry_at}
@@ -23,7 +23,6 @@ use Rattle.pin_assign.specs.Sources.{Source, of_feed, of_pin, source_net, IsOver
 use Rattle.pin_assign.specs.Tables.{table_of}
 use Rattle.pin_assign.proofs.BesideLaws.{cells-row, feed-item, row-of_stand}
 use Rattle.pin_assign.proofs.EnteringLaws.{entered-is}
-use Rattle.pin_assign.proofs.FindLaws.{contains-get}
 use Rattle.pin_assign.proofs.StandLaws.{place-cause}
 use Rattle.wire_geom.specs.Edges.{bottom_entry, top_entry}
 use Rattle.channel_stack.proofs.PlanEntries.{over-of}

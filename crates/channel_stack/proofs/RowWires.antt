@@ -1,5 +1,6 @@
 use Rattle.std.proofs.Common.{◌≡◌, refl, sym, ap, ◌∙◌, subst, ℕ, suc, ◌+◌, ◌*◌, ◌<◌, List, [], ◌∷◌, ◌++◌, length, map, true, false, Some, Contains, arith}
 use Rattle.std.specs.Prelude.{slice_get, slice_index}
+use Rattle.list_facts.proofs.Members.{map-cases, map-member, member-head}
 use Rattle.geom_core.specs.declared.layout.Layout.{Layout}
 use Rattle.tech_rules.specs.Rules.{RuleValues, ValidRules}
 use Rattle.design_model.specs.Joined.{Draws}
@@ -14,7 +15,6 @@ use Rattle.feed_cells.specs.Crossings.{has_edge}
 use Rattle.feed_cells.specs.Fed.{Fed, cells_in, items_width}
 use Rattle.feed_cells.specs.declared.fed.Item.{Item}
 use Rattle.feed_cells.specs.declared.fed.Item.TheVariants.{Cell, Feed}
-use Rattle.feed_cells.proofs.Members.{map-cases, map-member, member-head}
 use Rattle.pin_assign.specs.Entering.{enters}
 use Rattle.pin_assign.specs.Sources.{of_feed, of_pin}
 use Rattle.pin_assign.specs.Tables.{table_of}

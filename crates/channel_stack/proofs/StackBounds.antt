@@ -6,12 +6,12 @@ use Rattle.std.proofs.lemmas.List.Sums.{sum_by-cons}
 use Rattle.std.proofs.lemmas.Option.{same_Some, slice_get-map, slice_get_within}
 use Rattle.std.specs.List.{AllByRecursion, range_with_len}
 use Rattle.std.specs.Prelude.{slice_get, option_map}
+use Rattle.list_facts.proofs.Places.{at-place}
 use Rattle.list_facts.proofs.Every.{every-from-get}
 use Rattle.tech_rules.specs.Rules.{RuleValues, ValidRules}
 use Rattle.design_model.specs.Netlist.{Netlist}
 use Rattle.channel_model.specs.Limits.{most_tracks}
 use Rattle.channel_model.specs.declared.wiring.Wiring.{Wiring}
-use Rattle.row_model.proofs.WidthLaws.{at-place}
 use Rattle.feed_cells.specs.Fed.{Fed, IsFed, cells_in, fed_rows, items_width, nets_in, seats_in}
 use Rattle.feed_cells.specs.declared.fed.Item.{Item}
 use Rattle.feed_cells.proofs.FedLaws.{fed-width}

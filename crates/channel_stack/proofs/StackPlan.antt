@@ -1,6 +1,9 @@
 use Rattle.std.proofs.Common.{◌≡◌, ◌∙◌, sym, ap, subst, ℕ, ◌+◌, ◌<◌, List, [], length, get_or, map, Some, Contains, arith}
 use Rattle.std.proofs.lemmas.List.Elements.{All-contains, All-from_recursion}
 use Rattle.std.specs.Prelude.{◌==◌, slice_get}
+use Rattle.design_model.proofs.DesignPins.{pin-within}
+use Rattle.list_facts.proofs.Members.{find-member, map-cases}
+use Rattle.list_facts.proofs.Ranges.{image-at}
 use Rattle.list_facts.proofs.Every.{every-get}
 use Rattle.tech_rules.specs.Rules.{RuleValues, ValidRules}
 use Rattle.design_model.specs.Netlist.{Netlist, IsNetlist}
@@ -10,14 +13,11 @@ use Rattle.design_model.specs.Room.{HasRoom}
 use Rattle.channel_model.specs.declared.wiring.Wiring.{Wiring}
 use Rattle.row_model.specs.Rows.{ArePlaced}
 use Rattle.row_model.specs.declared.rows.Seat as seats
-use Rattle.row_model.proofs.PinLaws.{pin-within}
 use Rattle.row_model.proofs.PlacedLaws.{IsWithin, rows-within}
 use Rattle.feed_cells.specs.Fed.{Fed, fed_rows}
 use Rattle.feed_cells.specs.Standing.{Stands, seated, feeding}
 use Rattle.feed_cells.specs.declared.fed.Item.{Item}
 use Rattle.feed_cells.proofs.FedLaws.{fed-row-some, item-stands}
-use Rattle.feed_cells.proofs.Members.{find-member, map-cases}
-use Rattle.feed_cells.proofs.NetTableLaws.{image-at}
 use Rattle.pin_assign.specs.Tables.{table_of}
 use Rattle.layout_laws.specs.Plans.{IsPlan, channel_height}
 use Rattle.layout_laws.specs.Seats.{IsSeat, UprightAt}

@@ -7,24 +7,25 @@ use Rattle.std.proofs.lemmas.Option.{slice_get-get_or, slice_get_within}
 use Rattle.std.specs.List.{AllByRecursion, list_any}
 use Rattle.std.specs.Prelude.{◌==◌, slice_get, option_map}
 use Rattle.std.specs.Option.{option_and_then}
+use Rattle.row_model.specs.declared.stands.Stand.{Stand}
+use Rattle.design_model.proofs.DesignPins.{pin-within}
+use Rattle.list_facts.proofs.Members.{find-member, map-member, member-head}
+use Rattle.list_facts.proofs.Places.{at-place}
 use Rattle.list_facts.proofs.Every.{every-from-get, every-get}
 use Rattle.design_model.specs.Netlist.{Netlist, IsNetlist}
 use Rattle.design_model.specs.declared.design.CellKind.{CellKind}
 use Rattle.design_model.specs.declared.design.Inst.{Inst}
 use Rattle.design_model.specs.declared.design.Pin.{Pin}
-use Rattle.row_model.specs.Stands.{Stand, stand_of}
+use Rattle.row_model.specs.Stands.{stand_of}
 use Rattle.row_model.specs.Widths.{kind_of, columns_of, width_of}
 use Rattle.row_model.specs.declared.rows.Seat.{Seat}
-use Rattle.row_model.proofs.PinLaws.{pin-within}
 use Rattle.row_model.proofs.PlacedLaws.{IsWithin, rows-within}
 use Rattle.row_model.proofs.StandLaws.{IsStand, stand-is, stand-there}
-use Rattle.row_model.proofs.WidthLaws.{at-place}
 use Rattle.feed_cells.specs.Fed.{Fed, IsFed, cells_in, fed_row, fed_rows, item_width, items_width, seats_in}
 use Rattle.feed_cells.specs.Standing.{Stands, seated, feeding}
 use Rattle.feed_cells.specs.declared.fed.Item.{Item}
 use Rattle.feed_cells.specs.declared.fed.Item.TheVariants.{Cell, Feed}
 use Rattle.feed_cells.proofs.FedLaws.{fed-row, fed-row-some, fed-width, item-stands, seat-stands}
-use Rattle.feed_cells.proofs.Members.{find-member, map-member, member-head}
 use Rattle.cif_writer.specs.Symbols.{is_feed, has_feed}
 
 -- a member of a list stands at a place of it
@@ -43,7 +44,7 @@ pub instance-narrow : (d : Netlist) (fed : Fed) → IsFed d fed → (instance : 
 instance-narrow d fed is instance inside =
     let rows : List (List Seat) = cells_in fed.rows in
     let there : (stand : Stand) × (stand_of d rows instance ≡ Some stand) × (stand.row < length rows) = stand-there d rows instance is.placed inside in
-    let stand : IsStand d rows instance there.0 = stand-is d rows instance there.0 there.1 in
+    let stand : IsStand rows instance there.0 = stand-is d rows instance there.0 there.1 in
     let seats : List Seat = stand.front ++ stand.seat ∷ stand.back in
     let seat : Contains seats stand.seat = Contains-append_right stand.front (stand.seat ∷ stand.back) stand.seat (member-head stand.seat stand.back) in
     let items : List Item = fed_row d rows there.0.row seats in

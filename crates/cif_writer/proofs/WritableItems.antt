@@ -5,6 +5,8 @@ use Rattle.std.proofs.lemmas.List.Elements.{recursion_from_All}
 use Rattle.std.proofs.lemmas.Option.{slice_get-map}
 use Rattle.std.specs.List.{AllByRecursion}
 use Rattle.std.specs.Prelude.{slice_get, option_map}
+use Rattle.feed_cells.proofs.FedWidths.{width-cons}
+use Rattle.list_facts.proofs.Places.{at-place}
 use Rattle.list_facts.proofs.Every.{every-append, every-get, every-map, every-weaker}
 use Rattle.tech_rules.specs.Rules.{RuleValues, ValidRules}
 use Rattle.geom_core.specs.Names.{IsName}
@@ -14,8 +16,6 @@ use Rattle.design_model.specs.declared.design.Inst.{Inst}
 use Rattle.channel_model.specs.Elements.{elements}
 use Rattle.channel_model.specs.Wired.{IsOnGrid}
 use Rattle.channel_model.specs.declared.wiring.Wiring.{Wiring}
-use Rattle.pin_assign.proofs.WidthLaws.{width-more}
-use Rattle.row_model.proofs.WidthLaws.{at-place}
 use Rattle.wire_geom.specs.Drawing.{drawing}
 use Rattle.wire_geom.specs.declared.drawn.Drawn.{Drawn}
 use Rattle.feed_cells.specs.Fed.{item_width, items_width}
@@ -141,7 +141,7 @@ module _ (r : RuleValues) (d : Netlist) (feeds : Bool) (valid : ValidRules r) (g
   copies-are base left [] low room there = tt
   copies-are base left (item ∷ row) low room there =
       let width : ℕ = item_width d item in
-      let more : items_width d (item ∷ row) ≡ item_width d item + items_width d row = width-more d item row in
+      let more : items_width d (item ∷ row) ≡ item_width d item + items_width d row = width-cons d item row in
       let first : left + item_width d item ≤ wide = first-fits left (item_width d item) (items_width d row) (items_width d (item ∷ row)) wide more room in
       let corner : corner_column (is_mirrored item) left (item_width d item) ≤ left + item_width d item = corner-within (is_mirrored item) left (item_width d item) in
       let column : corner_column (is_mirrored item) left (item_width d item) ≤ wide = omega arith in (

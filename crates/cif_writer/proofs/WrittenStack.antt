@@ -2,6 +2,7 @@ use Rattle.std.proofs.Common.{◌≡◌, refl, ap, sym, ◌∙◌, append_assoc,
 use Rattle.std.proofs.lemmas.List.{length-append, length-map}
 use Rattle.std.specs.List.{AllByRecursion}
 use Rattle.std.specs.Prelude.{slice_get}
+use Rattle.list_facts.proofs.Places.{at-place}
 use Rattle.geom_core.specs.Moving.{moved_shape, turn_at}
 use Rattle.geom_core.specs.declared.layout.Cell as layouts
 use Rattle.geom_core.specs.declared.layout.Shape.{Shape}
@@ -11,7 +12,6 @@ use Rattle.design_model.specs.Netlist.{Netlist, IsNetlist}
 use Rattle.design_model.specs.Room.{HasRoom}
 use Rattle.design_model.specs.declared.design.CellKind.{CellKind}
 use Rattle.design_model.specs.declared.design.Inst.{Inst}
-use Rattle.row_model.proofs.WidthLaws.{at-place}
 use Rattle.row_model.specs.declared.rows.Seat.{Seat}
 use Rattle.feed_cells.specs.Fed.{Fed, IsFed, item_width}
 use Rattle.feed_cells.specs.declared.fed.Item.{Item}
