@@ -64,7 +64,7 @@ ids-insert t tracks zero = refl
 ids-insert t [] (suc k) = refl
 ids-insert t (u ∷ tracks) (suc k) = ap (λ l. u.id ∷ l) (ids-insert t tracks k)
 
-Apart-insert : (x : ℕ) (xs : List ℕ) (k : ℕ) → (Contains xs x → ⊥) → Apart xs → Apart (insert xs k x)
+pub Apart-insert : (x : ℕ) (xs : List ℕ) (k : ℕ) → (Contains xs x → ⊥) → Apart xs → Apart (insert xs k x)
 Apart-insert x xs zero none apart = (none, apart)
 Apart-insert x [] (suc k) none apart = (none, apart)
 Apart-insert x (z ∷ zs) (suc k) none apart = (
