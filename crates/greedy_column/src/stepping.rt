@@ -113,8 +113,6 @@ fn column_of<C: Chooses>(
         taken.done.joins taken.done.ended taken.done.moves) }
     ensures tracks { IfOk result (λ taken. taken.tracks ≡ moved taken.done.moves (freed taken.done.ended
         (with_nets top taken.done.top bottom taken.done.bottom (with_made before.now taken.done.made)))) }
-    ensures made { IfOk result (λ taken. AreMadeFrom fresh (length before.now) taken.done.made) }
-    ensures few { IfOk result (λ taken. length taken.done.made ≤ 2) }
 {
     let straight = has_equal_pins(top, bottom);
     let top_pin = pin_of(ahead, column, top);

@@ -33,5 +33,5 @@ returns-clause-state g c =
     IsState-from_copy c.args.channel.now c.args.column c.args.state.now.fresh c.args.state.now.order c.items-3.result.now c.in_ok-taken.taken.done
     c.pin_in-top.result c.pin_in-bottom.result c.items-3.ensures
     (c.pin_in-top.ensures ∙ ap (λ (l : List ℕ). get_or l c.args.column 0) (cc)) (c.pin_in-bottom.ensures ∙ ap (λ (l : List ℕ). get_or l c.args.column 0) (cc))
-    c.requires.state.numbered c.requires.state.standing c.in_ok-taken.ensures.made c.in_ok-taken.taken.tracks _ c.in_ok-taken.ensures.tracks
+    c.requires.state.numbered c.requires.state.standing (returns-clause-fair g c).lawful.made c.in_ok-taken.taken.tracks _ c.in_ok-taken.ensures.tracks
     (ap (λ (l : List Made). c.args.state.now.fresh + length l) c.items-4.ensures)
