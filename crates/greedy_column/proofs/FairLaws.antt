@@ -5,7 +5,7 @@ use Rattle.choose_core.specs.declared.candidate.Candidate.{Candidate}
 use Rattle.greedy_column.specs.declared.column.Track.{Track}
 use Rattle.greedy_column.specs.declared.column.Column.{Column}
 use Rattle.greedy_column.specs.declared.span.Span.{Span}
-use Rattle.greedy_column.specs.Tracks.{ids, line_of, hold}
+use Rattle.greedy_column.specs.Tracks.{ids}
 use Rattle.greedy_column.specs.Replay.{top_pin, bottom_pin, with_made, entered, freed, freed_among}
 use Rattle.greedy_column.specs.Ahead.{next_of}
 use Rattle.greedy_column.specs.Neighbours.{AreNeighbours}
@@ -17,8 +17,8 @@ use Rattle.greedy_column.specs.Moving.{order_of_moves}
 use Rattle.greedy_column.specs.Follows.{Follows, entries_of, pin_of, pin_spans, move_ids}
 use Rattle.greedy_column.specs.State.{AreNumbered}
 use Rattle.greedy_column.proofs.Members.{in_map_back}
-use Rattle.greedy_column.proofs.IdLaws.{Apart, Apart-from, Apart-to, ids-hold, AreNumbered-with_made}
-use Rattle.greedy_column.proofs.TableLaws.{line_of-line}
+use Rattle.greedy_column.proofs.IdLaws.{Apart, Apart-from, Apart-to, ids-entered, AreNumbered-with_made}
+use Rattle.greedy_column.proofs.TableLaws.{same_line}
 use Rattle.greedy_column.proofs.LineLaws.{LieWithin-lines}
 use Rattle.greedy_column.proofs.DrawnLaws.{IsPiece, IsPiece-neighbour, joined-neighbours, none_possible, drawn}
 use Rattle.greedy_column.proofs.JoinedLaws.{AreJoined-from}
@@ -40,16 +40,7 @@ map_twice f g (x ∷ xs) = ap (λ l. f (g x) ∷ l) (map_twice f g xs)
 pub Apart-entered : (pins : Pins) (column fresh count : ℕ) (before : List Track) (done : Column) → AreNumbered fresh before → AreMadeFrom fresh count done.made
     → Apart (ids (entered pins column done before))
 Apart-entered pins column fresh count before done numbered made =
-    let same : ids (entered pins column done before) ≡ ids (with_made before done.made) =
-    ids-hold done.top (top_pin pins column) (hold done.bottom (bottom_pin pins column) (with_made before done.made))
-    ∙ ids-hold done.bottom (bottom_pin pins column) (with_made before done.made) in
-    subst (λ l. Apart l) (sym same) (Apart-from (ids (with_made before done.made)) (AreNumbered-with_made fresh count before done.made numbered made).distinct)
-
--- lines that are of tracks have ids of their own
-same_line : (now : List Track) (one other : ℕ) → Apart (ids now) → (0 < one) × (one ≤ length now) → (0 < other) × (other ≤ length now)
-    → id_on now one ≡ id_on now other → one ≡ other
-same_line now one other apart first second same =
-    sym (line_of-line now one apart first.0 first.1) ∙ ap (line_of (ids now)) same ∙ line_of-line now other apart second.0 second.1
+    subst (λ l. Apart l) (sym (ids-entered pins column before done)) (Apart-from (ids (with_made before done.made)) (AreNumbered-with_made fresh count before done.made numbered made).distinct)
 
 -- a record that follows the steps is fair, whatever is answered
 pub Fair-from : (may : List Candidate → ℕ → Type 0) (pins : Pins) (column fresh : ℕ) (before : List Track) (done : Column)

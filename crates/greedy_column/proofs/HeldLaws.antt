@@ -10,7 +10,7 @@ use Rattle.greedy_column.specs.Replay.{top_pin, bottom_pin, with_made, entered}
 use Rattle.greedy_column.specs.Lawful.{AreMadeFrom, TopEnters, WasFree}
 use Rattle.greedy_column.specs.State.{AreNumbered}
 use Rattle.greedy_column.proofs.Members.{in_none, in_first, in_later, in_cases, in_map_back}
-use Rattle.greedy_column.proofs.IdLaws.{ids-insert, ids-hold, in_insert, AreNumbered-with_made}
+use Rattle.greedy_column.proofs.IdLaws.{ids-insert, ids-hold, ids-entered, in_insert, AreNumbered-with_made}
 use Rattle.greedy_column.proofs.LawfulLaws.{AreEntered}
 
 -- a track that is given to a net is the net's, and any other keeps its own
@@ -66,12 +66,6 @@ in_with_made tracks (m ∷ made) id member =
       ]
       | inr later ↦ inr (in_later m.id id (map (λ (o : Made). o.id) made) later)
     ]
-
--- the ids once the pins have entered
-pub ids-entered : (pins : Pins) (column : ℕ) (before : List Track) (done : Column) → ids (entered pins column done before) ≡ ids (with_made before done.made)
-ids-entered pins column before done =
-    ids-hold done.top (top_pin pins column) (hold done.bottom (bottom_pin pins column) (with_made before done.made))
-    ∙ ids-hold done.bottom (bottom_pin pins column) (with_made before done.made)
 
 module _ (pins : Pins) (column fresh : ℕ) (before : List Track) (done : Column) (numbered : AreNumbered fresh before)
     (made : AreMadeFrom fresh (length before) done.made)

@@ -6,7 +6,8 @@ use Rattle.greedy_column.specs.declared.column.Track.{Track}
 use Rattle.greedy_column.specs.Tracks.{ids}
 use Rattle.greedy_column.specs.Replay.{freed, freed_among}
 use Rattle.greedy_column.specs.Lines.{net_on, lines_from, is_held, held_lines}
-use Rattle.greedy_column.proofs.Members.{in_none, in_one, in_first, any_from}
+use Rattle.greedy_column.proofs.Members.{in_none, in_first, any_from}
+use Rattle.greedy_column.proofs.LineLaws.{one_line}
 use Rattle.greedy_column.proofs.TableLaws.{nets}
 use Rattle.greedy_column.proofs.GroupLaws.{HoldsLine}
 
@@ -38,10 +39,6 @@ listed_held now net line holds =
     let e : 1 + (line - 1) ≡ line = omega (arith, holds.begins) in
     subst (λ l. Contains (held_lines now) l) e (listed_at 1 (line - 1) now (omega (arith, holds.begins, holds.within)) (omega (arith, holds.held, holds.some)))
 
-one_at : (b : Bool) (line other : ℕ) → Contains (cond b (line ∷ []) []) other → (line ≡ other) × (b ≡ true)
-one_at true line other member = (in_one line other member, refl)
-one_at false line other member = absurd (in_none other member)
-
 -- a line that is listed once some tracks are freed: its track is held and none of these
 pub record IsKeptAt (ended : List ℕ) (tracks : List Track) (first line : ℕ) : Type 0 where
   pub place : ℕ
@@ -62,7 +59,7 @@ kept_at ended first line [] member = absurd (in_none line member)
 kept_at ended first line (t ∷ tracks) member =
     elim (Contains-append_cases (cond (is_held (freed_among ended t)) (first ∷ []) []) (lines_from is_held (suc first) (freed ended tracks)) line member) [
       | inl here ↦
-          let one = one_at (is_held (freed_among ended t)) first line here in
+          let one = one_line (is_held (freed_among ended t)) first line here in
           let test = among_test ended t one.1 in
           record { place = 0; within = omega arith; is = omega (arith, one.0); some = test.0; kept = test.1 }
       | inr later ↦
@@ -76,7 +73,7 @@ pub held_at : (first line : ℕ) (tracks : List Track) → Contains (lines_from 
 held_at first line [] member = absurd (in_none line member)
 held_at first line (t ∷ tracks) member =
     elim (Contains-append_cases (cond (is_held t) (first ∷ []) []) (lines_from is_held (suc first) tracks) line member) [
-      | inl here ↦ let one = one_at (is_held t) first line here in (0, omega arith, omega (arith, one.0), some_held t.net one.1)
+      | inl here ↦ let one = one_line (is_held t) first line here in (0, omega arith, omega (arith, one.0), some_held t.net one.1)
       | inr later ↦ let rest = held_at (suc first) line tracks later in (suc rest.0, omega (arith, rest.1), omega (arith, rest.2), rest.3)
     ]
 

@@ -17,7 +17,7 @@ use Rattle.greedy_column.specs.Ending.{EndsFollow, chain_from, groups, joined_pa
 use Rattle.greedy_column.specs.Follows.{AreEnded}
 use Rattle.greedy_column.proofs.Members.{in_map, in_map_back, any_at, any_from}
 use Rattle.greedy_column.proofs.IdLaws.{Apart}
-use Rattle.greedy_column.proofs.TableLaws.{line_of-line}
+use Rattle.greedy_column.proofs.TableLaws.{line_of-line, same_line}
 use Rattle.greedy_column.proofs.PairLaws.{chain_from-first}
 use Rattle.greedy_column.proofs.LaterLaws.{HasLaterPin-from, goes_on-from_later}
 use Rattle.greedy_column.proofs.DrawnLaws.{IsPiece-neighbour}
@@ -93,8 +93,7 @@ module _ (may : List Candidate → ℕ → Type 0) (pins : Pins) (column : ℕ) 
   ended_to net line holds member =
       let from = in_map_back (id_on now) (id_on now line) ending ((told.members (id_on now line)).0 member) in
       let other = (ending_held from.0 from.1).1 in
-      let same : from.0 ≡ line =
-      sym (line_of-line now from.0 apart other.begins other.within) ∙ ap (line_of (ids now)) from.2 ∙ line_of-line now line apart holds.begins holds.within in
+      let same : from.0 ≡ line = same_line now from.0 line apart (other.begins, other.within) (holds.begins, holds.within) from.2 in
       subst (λ l. Contains ending l) same from.1
 
   -- what ends is held

@@ -25,12 +25,11 @@ use Rattle.greedy_column.specs.Follows.{Follows, entries_of, pin_of, pin_spans}
 use Rattle.greedy_column.specs.State.{AreNumbered}
 use Rattle.greedy_column.proofs.Members.{in_none, in_one, in_map_back, in_filter_back}
 use Rattle.greedy_column.proofs.PickLaws.{picked_is_option}
-use Rattle.greedy_column.proofs.IdLaws.{Apart, Apart-from, Apart-insert, ids-insert, in_insert}
+use Rattle.greedy_column.proofs.IdLaws.{Apart, Apart-from, Apart-insert, ids-insert, ids-entered, in_insert}
 use Rattle.greedy_column.proofs.TableLaws.{length-ids, line_of-at, line_of-line}
 use Rattle.greedy_column.proofs.EntryLaws.{IsOpenLine, IsOpenLine-from}
 use Rattle.greedy_column.proofs.EntersLaws.{KindSays, kind_says}
 use Rattle.greedy_column.proofs.LawfulLaws.{above_lowest-within}
-use Rattle.greedy_column.proofs.HeldLaws.{ids-entered}
 use Rattle.greedy_column.proofs.CrossLaws.{AreUncrossed}
 
 -- the lines of ids once a new one is put among them: those below it stay, it stands where it is put, and those above rise

@@ -8,7 +8,7 @@ use Rattle.choose_core.specs.declared.candidate.Candidate.{Candidate}
 use Rattle.choose_core.specs.declared.candidate.Next.{Next}
 use Rattle.greedy_column.specs.declared.column.Track.{Track}
 use Rattle.greedy_column.specs.declared.column.Column.{Column}
-use Rattle.greedy_column.specs.Tracks.{ids, hold}
+use Rattle.greedy_column.specs.Tracks.{ids}
 use Rattle.greedy_column.specs.Replay.{top_pin, bottom_pin, with_made, with_nets, freed, moved, entered, after}
 use Rattle.greedy_column.specs.Ahead.{next_of}
 use Rattle.greedy_column.specs.Lawful.{AreMadeFrom}
@@ -18,7 +18,7 @@ use Rattle.greedy_column.specs.Joining.{span_in}
 use Rattle.greedy_column.specs.Follows.{Follows, FollowsOn, entries_of, pin_with}
 use Rattle.greedy_column.specs.State.{AreNumbered, IsState}
 use Rattle.greedy_column.proofs.Members.{any_at, in_none}
-use Rattle.greedy_column.proofs.IdLaws.{Apart-to, ids-hold, ids-freed, ids-moved, AreNumbered-ids, AreNumbered-with_made}
+use Rattle.greedy_column.proofs.IdLaws.{Apart-to, ids-entered, ids-freed, ids-moved, AreNumbered-ids, AreNumbered-with_made}
 use Rattle.greedy_column.proofs.NetLaws.{AreNets, AreNets-after}
 
 -- there are fewer tracks than ids have been given
@@ -97,9 +97,7 @@ pub IsState-after : (pins : Pins) (column fresh : ℕ) (before : List Track) (do
 IsState-after pins column fresh before done numbered nets made order next order_is next_is =
     let now : List Track = entered pins column done before in
     let same : ids (after pins column done before) ≡ ids (with_made before done.made) =
-    ids-moved done.moves (freed done.ended now) ∙ ids-freed done.ended now
-    ∙ ids-hold done.top (top_pin pins column) (hold done.bottom (bottom_pin pins column) (with_made before done.made))
-    ∙ ids-hold done.bottom (bottom_pin pins column) (with_made before done.made) in
+    ids-moved done.moves (freed done.ended now) ∙ ids-freed done.ended now ∙ ids-entered pins column before done in
     rw (order_is, next_is) (record {
       numbered = AreNumbered-ids (fresh + length done.made) (with_made before done.made) (after pins column done before) same
           (AreNumbered-with_made fresh (length before) before done.made numbered made);
