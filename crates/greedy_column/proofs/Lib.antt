@@ -50,5 +50,5 @@ pub mod GroupEndLaws
 pub mod KeepLaws
 -- a record is fair
 pub mod FairLaws
--- the records of a worked channel
+-- the records of a worked channel: they follow the steps, and what is fair
 pub mod Worked
