@@ -1,6 +1,7 @@
 //! A table of records for the columns of a channel, and the test whether `step` makes them.
 
 ghost use Rattle.greedy_column.specs.Ahead.{IsAhead};
+ghost use Rattle.greedy_column.specs.State.{IsState};
 
 use channel_model::Channel;
 use choose_core::Chooser;
@@ -20,6 +21,17 @@ pub struct Wanted<'a> {
     pub moves: &'a [(u32, u32)],
 }
 
+/// A column that does nothing.
+pub const NOTHING: Wanted<'static> = Wanted {
+    made: &[],
+    top: 0,
+    bottom: 0,
+    straight: false,
+    joins: &[],
+    ended: &[],
+    moves: &[],
+};
+
 fn is_wanted(done: &Column, wanted: &Wanted) -> bool {
     are_made(done, wanted.made)
         && (done.top, done.bottom, done.straight) == (wanted.top, wanted.bottom, wanted.straight)
@@ -35,6 +47,31 @@ fn are_made(done: &Column, wanted: &[(u32, u32)]) -> bool {
             .iter()
             .zip(wanted)
             .all(|(one, pair)| (one.id, one.below) == *pair)
+}
+
+/// Whether the record of a column is as it is wanted. A column that lacks memory is taken again from what it has left, so that
+/// the records are the same where one allocation fails.
+pub fn next_is(
+    alloc: Global,
+    state: &mut ColumnState,
+    channel: &Channel,
+    ahead: &Ahead,
+    column: u32,
+    chooser: &Chooser,
+    wanted: &Wanted,
+) -> Result<bool, Fail>
+    requires state { IsState channel.now state.old }
+    requires ahead { IsAhead channel.now ahead.now }
+    ensures { IsState channel.now state.new }
+{
+    if state.fresh > 1_000_000 {
+        return Ok(false);
+    }
+    let done = match step(alloc, state, channel, ahead, column, chooser) {
+        Ok(done) => done,
+        Err(_) => step(alloc, state, channel, ahead, column, chooser)?,
+    };
+    Ok(is_wanted(&done, wanted))
 }
 
 /// The number of the first column whose record is another one than is wanted, or how many are wanted.
@@ -62,11 +99,17 @@ fn first_other_in(
 {
     let mut state = ColumnState::new(alloc)?;
     for (column, one) in wanted.iter().enumerate() {
-        if state.fresh > 1000 || column > 1000 {
-            return Ok(column);
-        }
-        let done = step(alloc, &mut state, channel, ahead, column as u32, chooser)?;
-        if !is_wanted(&done, one) {
+        if column > 1000
+            || !next_is(
+                alloc,
+                &mut state,
+                channel,
+                ahead,
+                column as u32,
+                chooser,
+                one,
+            )?
+        {
             return Ok(column);
         }
     }

@@ -6,4 +6,6 @@ mod chooser_tests;
 #[cfg(test)]
 mod column_tables;
 #[cfg(test)]
+mod wide_tests;
+#[cfg(test)]
 mod worked_tests;

@@ -1,21 +1,10 @@
 //! Records of small channels under the nearest and the last candidate, column by column.
 
 use crate::chooser_tests::{counting_chooser, last_chooser, nearest_chooser};
-use crate::column_tables::{Wanted, first_other};
+use crate::column_tables::{NOTHING, Wanted, first_other};
 use std::cell::Cell;
 use std::rc::Rc;
 use std::test::Fail;
-
-// A column that does nothing.
-const NOTHING: Wanted<'static> = Wanted {
-    made: &[],
-    top: 0,
-    bottom: 0,
-    straight: false,
-    joins: &[],
-    ended: &[],
-    moves: &[],
-};
 
 // The channel with bottom pins 1, 2 and top pins 2, 1: two columns and one past the end.
 const CROSSED: [Wanted<'static>; 3] = [

@@ -1,4 +1,4 @@
-use Rattle.std.proofs.Common.{◌≡◌, ◌⊎◌, inl, inr, ◌<◌, ◌≤◌, ◌+◌, ◌-◌, ◌||◌, eqb, ℕ, suc, List, [], ◌∷◌, Bool, true, false, cond, length, map, get_or, refl, sym, subst, ap, ◌∙◌, arith, Contains, eqb-true}
+use Rattle.std.proofs.Common.{◌≡◌, ◌⊎◌, inl, inr, ◌<◌, ◌≤◌, ◌+◌, ◌-◌, ◌||◌, eqb, ℕ, suc, List, [], ◌∷◌, true, cond, length, map, get_or, refl, sym, subst, ap, ◌∙◌, arith, Contains, eqb-true}
 use Rattle.std.proofs.lemmas.Bool.{ne_eqb, cases_eq}
 use Rattle.std.proofs.lemmas.List.Elements.{Contains-append_cases}
 use Rattle.choose_core.specs.declared.candidate.Candidate.{Candidate}
@@ -13,8 +13,9 @@ use Rattle.greedy_column.specs.Lawful.{IsOpen}
 use Rattle.greedy_column.specs.Lines.{is_open, lines_from, open_lines, id_on, net_on, place_of_new}
 use Rattle.greedy_column.specs.Offers.{offer}
 use Rattle.greedy_column.specs.Entering.{EntersAlone, entry_at, new_track}
-use Rattle.greedy_column.proofs.Members.{in_none, in_one, in_first}
+use Rattle.greedy_column.proofs.Members.{in_none, in_first}
 use Rattle.greedy_column.proofs.PickLaws.{picked_is_option}
+use Rattle.greedy_column.proofs.LineLaws.{one_line}
 use Rattle.greedy_column.proofs.IdLaws.{Apart}
 use Rattle.greedy_column.proofs.TableLaws.{nets, held_by-line, id_on-member}
 
@@ -30,16 +31,12 @@ either n net test = elim (cases_eq n 0) [
   | inr some ↦ inr (eqb-true n net (sym (ap (λ b. b || eqb n net) (ne_eqb n 0 some)) ∙ test))
 ]
 
-one_of : (b : Bool) (line other : ℕ) → Contains (cond b (line ∷ []) []) other → (line ≡ other) × (b ≡ true)
-one_of true line other member = (in_one line other member, refl)
-one_of false line other member = absurd (in_none other member)
-
 open_at : (net first line : ℕ) (tracks : List Track) → Contains (lines_from (is_open net) first tracks) line
     → (k : ℕ) × (k < length tracks) × (line ≡ first + k) × ((get_or (nets tracks) k 0 ≡ 0) ⊎ (get_or (nets tracks) k 0 ≡ net))
 open_at net first line [] member = absurd (in_none line member)
 open_at net first line (t ∷ tracks) member =
     elim (Contains-append_cases (cond (is_open net t) (first ∷ []) []) (lines_from (is_open net) (suc first) tracks) line member) [
-      | inl here ↦ let one = one_of (is_open net t) first line here in (0, omega arith, omega (arith, one.0), either t.net net one.1)
+      | inl here ↦ let one = one_line (is_open net t) first line here in (0, omega arith, omega (arith, one.0), either t.net net one.1)
       | inr later ↦ let rest = open_at net (suc first) line tracks later in (suc rest.0, omega (arith, rest.1), omega (arith, rest.2), rest.3)
     ]
 

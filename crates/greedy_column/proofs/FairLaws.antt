@@ -1,46 +1,35 @@
-use Rattle.std.proofs.Common.{◌≡◌, ◌⊎◌, ◌<◌, ◌≤◌, ◌++◌, ◌↔◌, eqb, ℕ, List, [], ◌∷◌, length, map, refl, sym, subst, ap, ◌∙◌, arith, Contains}
+use Rattle.std.proofs.Common.{◌≡◌, ◌<◌, ◌≤◌, ◌++◌, ℕ, List, [], ◌∷◌, length, map, refl, sym, subst, ap, ◌∙◌, arith, Contains}
 use Rattle.std.proofs.lemmas.List.{length-map}
-use Rattle.std.specs.Bool.{IsTrue}
-use Rattle.std.specs.List.{IsDistinct}
 use Rattle.channel_model.specs.Pins.{Pins}
 use Rattle.choose_core.specs.declared.candidate.Candidate.{Candidate}
 use Rattle.greedy_column.specs.declared.column.Track.{Track}
-use Rattle.greedy_column.specs.declared.column.Made.{Made}
 use Rattle.greedy_column.specs.declared.column.Column.{Column}
 use Rattle.greedy_column.specs.declared.span.Span.{Span}
-use Rattle.greedy_column.specs.Tracks.{ids, line_of, hold}
+use Rattle.greedy_column.specs.Tracks.{ids}
 use Rattle.greedy_column.specs.Replay.{top_pin, bottom_pin, with_made, entered, freed, freed_among}
 use Rattle.greedy_column.specs.Ahead.{next_of}
 use Rattle.greedy_column.specs.Neighbours.{AreNeighbours}
-use Rattle.greedy_column.specs.Lawful.{HasEqualPins, AreMadeFrom}
-use Rattle.greedy_column.specs.Keeping.{AreJoined}
+use Rattle.greedy_column.specs.Lawful.{AreMadeFrom, IsMove}
+use Rattle.greedy_column.specs.Fair.{Fair}
 use Rattle.greedy_column.specs.Lines.{is_held, is_open, id_on, free_lines}
 use Rattle.greedy_column.specs.Joining.{neighbours, ids_of}
 use Rattle.greedy_column.specs.Moving.{order_of_moves}
 use Rattle.greedy_column.specs.Follows.{Follows, entries_of, pin_of, pin_spans, move_ids}
 use Rattle.greedy_column.specs.State.{AreNumbered}
 use Rattle.greedy_column.proofs.Members.{in_map_back}
-use Rattle.greedy_column.proofs.IdLaws.{Apart, Apart-from, Apart-to, ids-hold, AreNumbered-with_made}
-use Rattle.greedy_column.proofs.TableLaws.{line_of-line}
+use Rattle.greedy_column.proofs.IdLaws.{Apart, Apart-from, Apart-to, ids-entered, AreNumbered-with_made}
+use Rattle.greedy_column.proofs.TableLaws.{same_line}
 use Rattle.greedy_column.proofs.LineLaws.{LieWithin-lines}
 use Rattle.greedy_column.proofs.DrawnLaws.{IsPiece, IsPiece-neighbour, joined-neighbours, none_possible, drawn}
 use Rattle.greedy_column.proofs.JoinedLaws.{AreJoined-from}
 use Rattle.greedy_column.proofs.MadeLaws.{AreMadeForPins-from}
 use Rattle.greedy_column.proofs.PartLaws.{AreNeighbours-from, Apart-rising, Apart-lines_from, Apart-map, moves_within, moves_apart}
-use Rattle.greedy_column.proofs.LawfulLaws.{AreEntered, AreEntered-from}
-
--- what is proved so far of what is fair: the straight vertical, the entries, the additions, the joins, that no track ends or
--- moves twice and none is moved to twice, and that no two neighbouring tracks are left apart without cause
-pub record FairSoFar (pins : Pins) (column fresh : ℕ) (before : List Track) (done : Column) : Type 0 where
-  pub straight : IsTrue done.straight ↔ HasEqualPins pins column
-  pub entries : AreEntered pins column before done
-  pub made : AreMadeFrom fresh (length before) done.made
-  pub made_entered : (m : Made) → Contains done.made m → (m.id ≡ done.top) ⊎ (m.id ≡ done.bottom)
-  pub joins : (low high : ℕ) → Contains done.joins (low, high) → (net : ℕ) × AreNeighbours (entered pins column done before) net low high
-  pub ended_once : IsDistinct (λ i j. eqb i j) done.ended
-  pub moved_once : IsDistinct (λ i j. eqb i j) (map (λ (m : ℕ × ℕ). m.0) done.moves)
-  pub moved_apart : IsDistinct (λ i j. eqb i j) (map (λ (m : ℕ × ℕ). m.1) done.moves)
-  pub joined : AreJoined pins column (entered pins column done before) done
+use Rattle.greedy_column.proofs.LawfulLaws.{AreEntered-from}
+use Rattle.greedy_column.proofs.CrossLaws.{uncrossed-joins, uncrossed-moves, uncrossed-verticals}
+use Rattle.greedy_column.proofs.PinLaws.{uncrossed-pins}
+use Rattle.greedy_column.proofs.KeepLaws.{ended_held, keeps}
+use Rattle.greedy_column.proofs.MovedLaws.{IsMove-from}
+use Rattle.greedy_column.proofs.SparingLaws.{SparesTracks-from}
 
 -- a map after a map
 map_twice : {X Y : Type 0} (f : Y → ℕ) (g : X → Y) (xs : List X) → map f (map g xs) ≡ map (λ x. f (g x)) xs
@@ -51,20 +40,12 @@ map_twice f g (x ∷ xs) = ap (λ l. f (g x) ∷ l) (map_twice f g xs)
 pub Apart-entered : (pins : Pins) (column fresh count : ℕ) (before : List Track) (done : Column) → AreNumbered fresh before → AreMadeFrom fresh count done.made
     → Apart (ids (entered pins column done before))
 Apart-entered pins column fresh count before done numbered made =
-    let same : ids (entered pins column done before) ≡ ids (with_made before done.made) =
-    ids-hold done.top (top_pin pins column) (hold done.bottom (bottom_pin pins column) (with_made before done.made))
-    ∙ ids-hold done.bottom (bottom_pin pins column) (with_made before done.made) in
-    subst (λ l. Apart l) (sym same) (Apart-from (ids (with_made before done.made)) (AreNumbered-with_made fresh count before done.made numbered made).distinct)
+    subst (λ l. Apart l) (sym (ids-entered pins column before done)) (Apart-from (ids (with_made before done.made)) (AreNumbered-with_made fresh count before done.made numbered made).distinct)
 
--- lines that are of tracks have ids of their own
-same_line : (now : List Track) (one other : ℕ) → Apart (ids now) → (0 < one) × (one ≤ length now) → (0 < other) × (other ≤ length now)
-    → id_on now one ≡ id_on now other → one ≡ other
-same_line now one other apart first second same =
-    sym (line_of-line now one apart first.0 first.1) ∙ ap (line_of (ids now)) same ∙ line_of-line now other apart second.0 second.1
-
-pub FairSoFar-from : (may : List Candidate → ℕ → Type 0) (pins : Pins) (column fresh : ℕ) (before : List Track) (done : Column)
-    → length pins.top ≡ length pins.bottom → AreNumbered fresh before → Follows may pins column fresh before done → FairSoFar pins column fresh before done
-FairSoFar-from may pins column fresh before done matched numbered follows =
+-- a record that follows the steps is fair, whatever is answered
+pub Fair-from : (may : List Candidate → ℕ → Type 0) (pins : Pins) (column fresh : ℕ) (before : List Track) (done : Column)
+    → length pins.top ≡ length pins.bottom → AreNumbered fresh before → Follows may pins column fresh before done → Fair pins column fresh before done
+Fair-from may pins column fresh before done matched numbered follows =
     let now : List Track = entered pins column done before in
     let spans : List Span = pin_spans pins column now done in
     let on = follows.goes_on in
@@ -80,27 +61,48 @@ FairSoFar-from may pins column fresh before done matched numbered follows =
     let from = (LieWithin-lines is_held kept).each m.0 found.0 in
     let to = (LieWithin-lines (is_open 0) now).each m.1 found.1 in
     ((from.0, omega (arith, from.1, long)), to) in
+    let entries = AreEntered-from may pins column fresh before done matched numbered follows in
+    let on_lines = drawn pins column now done on.joined apart each on.joins_told in
     record {
-      straight = follows.straight;
-      entries = AreEntered-from may pins column fresh before done matched numbered follows;
-      made = made.placed;
-      made_entered = made.entered;
-      joins = λ low high member.
-          let from = in_map_back (ids_of now) (low, high) on.joined (subst (λ (l : List (ℕ × ℕ)). Contains l (low, high)) on.joins_told member) in
-          let pair = AreNeighbours-from now from.0 apart (each from.0 from.1) in (
-            from.0.net,
-            subst (λ h. AreNeighbours now from.0.net low h) (ap (λ (p : ℕ × ℕ). p.1) from.2)
-                (subst (λ l. AreNeighbours now from.0.net l (id_on now from.0.high)) (ap (λ (p : ℕ × ℕ). p.0) from.2) pair),
-          );
-      ended_once = Apart-to done.ended (Apart-rising done.ended on.ends_told.ascending);
-      moved_once = Apart-to (map (λ (m : ℕ × ℕ). m.0) done.moves)
-          (subst (λ l. Apart l) (sym (ap (λ (l : List (ℕ × ℕ)). map (λ (m : ℕ × ℕ). m.0) l) on.moves_told ∙ map_twice (λ (m : ℕ × ℕ). m.0) (move_ids now) on.moving))
-          (Apart-map (λ (m : ℕ × ℕ). id_on now m.0) (λ (m : ℕ × ℕ). m.0) on.moving
-          (λ x y first second same. same_line now x.0 y.0 apart (within x first).0 (within y second).0 same) moves.0));
-      moved_apart = Apart-to (map (λ (m : ℕ × ℕ). m.1) done.moves)
-          (subst (λ l. Apart l) (sym (ap (λ (l : List (ℕ × ℕ)). map (λ (m : ℕ × ℕ). m.1) l) on.moves_told ∙ map_twice (λ (m : ℕ × ℕ). m.1) (move_ids now) on.moving))
-          (Apart-map (λ (m : ℕ × ℕ). id_on now m.1) (λ (m : ℕ × ℕ). m.1) on.moving
-          (λ x y first second same. same_line now x.1 y.1 apart (within x first).1 (within y second).1 same) moves.1));
-      joined = AreJoined-from pins column now done (spans ++ on.joined) apart (drawn pins column now done on.joined apart each on.joins_told)
+      lawful = record {
+        straight = follows.straight;
+        top_enters = entries.top_enters;
+        top_none = entries.top_none;
+        bottom_enters = entries.bottom_enters;
+        bottom_none = entries.bottom_none;
+        entered_once = entries.entered_once;
+        made = made.placed;
+        made_entered = made.entered;
+        joins = λ low high member.
+            let from = in_map_back (ids_of now) (low, high) on.joined (subst (λ (l : List (ℕ × ℕ)). Contains l (low, high)) on.joins_told member) in
+            let pair = AreNeighbours-from now from.0 apart (each from.0 from.1) in (
+              from.0.net,
+              subst (λ h. AreNeighbours now from.0.net low h) (ap (λ (p : ℕ × ℕ). p.1) from.2)
+                  (subst (λ l. AreNeighbours now from.0.net l (id_on now from.0.high)) (ap (λ (p : ℕ × ℕ). p.0) from.2) pair),
+            );
+        ended_once = Apart-to done.ended (Apart-rising done.ended on.ends_told.ascending);
+        ended_held = ended_held may pins column now done (spans ++ on.joined) on.ending matched apart on_lines on.ends_follow on.ends_told;
+        moves = λ old new member.
+            let from = in_map_back (move_ids now) (old, new) on.moving (subst (λ (l : List (ℕ × ℕ)). Contains l (old, new)) on.moves_told member) in
+            let lines = moves_within may (next_of pins column) now (order_of_moves kept) (spans ++ on.joined) (free_lines now) on.moving on.moves_follow from.0 from.1 in
+            subst (λ n. IsMove before now done old n) (ap (λ (p : ℕ × ℕ). p.1) from.2)
+            (subst (λ o. IsMove before now done o (id_on now from.0.1)) (ap (λ (p : ℕ × ℕ). p.0) from.2)
+            (IsMove-from pins column fresh before done numbered made.placed made.entered entries apart from.0.0 from.0.1 lines.0 lines.1));
+        moved_once = Apart-to (map (λ (m : ℕ × ℕ). m.0) done.moves)
+            (subst (λ l. Apart l) (sym (ap (λ (l : List (ℕ × ℕ)). map (λ (m : ℕ × ℕ). m.0) l) on.moves_told ∙ map_twice (λ (m : ℕ × ℕ). m.0) (move_ids now) on.moving))
+            (Apart-map (λ (m : ℕ × ℕ). id_on now m.0) (λ (m : ℕ × ℕ). m.0) on.moving
+            (λ x y first second same. same_line now x.0 y.0 apart (within x first).0 (within y second).0 same) moves.0));
+        moved_apart = Apart-to (map (λ (m : ℕ × ℕ). m.1) done.moves)
+            (subst (λ l. Apart l) (sym (ap (λ (l : List (ℕ × ℕ)). map (λ (m : ℕ × ℕ). m.1) l) on.moves_told ∙ map_twice (λ (m : ℕ × ℕ). m.1) (move_ids now) on.moving))
+            (Apart-map (λ (m : ℕ × ℕ). id_on now m.1) (λ (m : ℕ × ℕ). m.1) on.moving
+            (λ x y first second same. same_line now x.1 y.1 apart (within x first).1 (within y second).1 same) moves.1));
+        apart = uncrossed-verticals pins column now done (spans ++ on.joined) on.moving apart on_lines on.moves_told within
+            (uncrossed-moves may (next_of pins column) now (order_of_moves kept) (spans ++ on.joined) (free_lines now) on.moving
+            (uncrossed-joins may (next_of pins column) (neighbours now) spans on.joined
+            (uncrossed-pins may pins column fresh before done numbered follows) on.joins_follow) on.moves_follow);
+      };
+      spares = SparesTracks-from may pins column fresh before done matched numbered follows;
+      joined = AreJoined-from pins column now done (spans ++ on.joined) apart on_lines
           (none_possible may (next_of pins column) (neighbours now) spans on.joined on.joins_follow);
+      keeps = keeps may pins column now done (spans ++ on.joined) on.ending matched apart on_lines on.ends_follow on.ends_told;
     }

@@ -1,10 +1,12 @@
 use Rattle.std.proofs.Common.{◌≡◌, ◌⊎◌, inl, inr, ◌<◌, ◌+◌, eqb, ℕ, zero, suc, List, [], ◌∷◌, Bool, true, false, cond, length, refl, sym, subst, ap, ◌∙◌, arith, Contains, add-zero, eq-eqb}
 use Rattle.std.proofs.lemmas.Bool.{ne_eqb}
 use Rattle.std.specs.List.{IsDistinct, AllByRecursion, insert, list_any}
+use Rattle.channel_model.specs.Pins.{Pins}
 use Rattle.greedy_column.specs.declared.column.Track.{Track}
 use Rattle.greedy_column.specs.declared.column.Made.{Made}
+use Rattle.greedy_column.specs.declared.column.Column.{Column}
 use Rattle.greedy_column.specs.Tracks.{ids, held_by, given, hold}
-use Rattle.greedy_column.specs.Replay.{with_made, freed_among, freed, moved}
+use Rattle.greedy_column.specs.Replay.{top_pin, bottom_pin, with_made, freed_among, freed, moved, entered}
 use Rattle.greedy_column.specs.Lawful.{AreMadeFrom}
 use Rattle.greedy_column.specs.State.{AreNumbered}
 use Rattle.greedy_column.proofs.Members.{in_none, in_first, in_later, in_cases}
@@ -64,7 +66,7 @@ ids-insert t tracks zero = refl
 ids-insert t [] (suc k) = refl
 ids-insert t (u ∷ tracks) (suc k) = ap (λ l. u.id ∷ l) (ids-insert t tracks k)
 
-Apart-insert : (x : ℕ) (xs : List ℕ) (k : ℕ) → (Contains xs x → ⊥) → Apart xs → Apart (insert xs k x)
+pub Apart-insert : (x : ℕ) (xs : List ℕ) (k : ℕ) → (Contains xs x → ⊥) → Apart xs → Apart (insert xs k x)
 Apart-insert x xs zero none apart = (none, apart)
 Apart-insert x [] (suc k) none apart = (none, apart)
 Apart-insert x (z ∷ zs) (suc k) none apart = (
@@ -117,6 +119,12 @@ id_given id net t = step (eqb t.id id) where
 pub ids-hold : (id net : ℕ) (tracks : List Track) → ids (hold id net tracks) ≡ ids tracks
 ids-hold id net [] = refl
 ids-hold id net (t ∷ tracks) = λ i. id_given id net t i ∷ ids-hold id net tracks i
+
+-- the ids once the pins have entered
+pub ids-entered : (pins : Pins) (column : ℕ) (before : List Track) (done : Column) → ids (entered pins column done before) ≡ ids (with_made before done.made)
+ids-entered pins column before done =
+    ids-hold done.top (top_pin pins column) (hold done.bottom (bottom_pin pins column) (with_made before done.made))
+    ∙ ids-hold done.bottom (bottom_pin pins column) (with_made before done.made)
 
 id_freed : (ended : List ℕ) (t : Track) → (freed_among ended t).id ≡ t.id
 id_freed ended t = step (list_any (λ id. eqb id t.id) ended) where

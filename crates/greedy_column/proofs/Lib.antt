@@ -28,15 +28,27 @@ pub mod TableLaws
 pub mod NeighbourLaws
 pub mod DrawnLaws
 pub mod JoinedLaws
--- parts of what is fair: what is made
+-- a record is lawful: what is made, its entries, joins and moves
 pub mod MadeLaws
 pub mod PartLaws
 pub mod LaterLaws
 pub mod EntryLaws
 pub mod EntersLaws
 pub mod LawfulLaws
-pub mod FairLaws
+pub mod HeldLaws
+pub mod CrossLaws
+pub mod PinLaws
+pub mod MovedLaws
+-- it spares tracks
 pub mod SpareLaws
 pub mod SparingLaws
--- the records of a worked channel
+-- one track is kept of each group: what is linked, lines of groups, and what ends of a group
+pub mod GroupLaws
+pub mod HeldLineLaws
+pub mod ChainLaws
+pub mod GroupEndLaws
+pub mod KeepLaws
+-- a record is fair
+pub mod FairLaws
+-- the records of a worked channel: they follow the steps, and what is fair
 pub mod Worked

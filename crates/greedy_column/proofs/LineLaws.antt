@@ -13,7 +13,7 @@ pub record StandsOn (passes : Track → Bool) (tracks : List Track) (first line 
   pub there : Contains tracks track
   pub passing : passes track ≡ true
 
-one_line : (b : Bool) (line other : ℕ) → Contains (cond b (line ∷ []) []) other → (line ≡ other) × (b ≡ true)
+pub one_line : (b : Bool) (line other : ℕ) → Contains (cond b (line ∷ []) []) other → (line ≡ other) × (b ≡ true)
 one_line true line other member = (in_one line other member, refl)
 one_line false line other member = absurd (in_none other member)
 

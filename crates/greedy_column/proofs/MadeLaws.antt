@@ -23,19 +23,22 @@ use Rattle.greedy_column.proofs.LineLaws.{LieWithin-lines, place_of_new-most}
 pub record AreMadeForPins (before : List Track) (fresh : ℕ) (entries : Entries) : Type 0 where
   pub placed : AreMadeFrom fresh (length before) entries.made
   pub entered : (m : Made) → Contains entries.made m → (m.id ≡ entries.top) ⊎ (m.id ≡ entries.bottom)
+  pub few : length entries.made ≤ 2
 
 module _ (may : List Candidate → ℕ → Type 0) (before : List Track) (fresh : ℕ) where
   none_made : (top bottom : ℕ) → AreMadeForPins before fresh (record { made = []; top = top; bottom = bottom })
-  none_made top bottom = record { placed = tt; entered = λ m member. absurd (in_none m member) }
+  none_made top bottom = record { placed = tt; entered = λ m member. absurd (in_none m member); few = omega arith }
 
   made_at : (edge : Edge) → AreMadeForPins before fresh (entry_at edge (new_track fresh (place_of_new (length before) 0 (length before)) ∷ []) fresh)
   made_at Upper = record {
     placed = (refl, place_of_new-most (length before) 0 (length before) (omega arith), tt);
     entered = λ m member. inl (sym (ap (λ (n : Made). n.id) (in_one (new_track fresh (place_of_new (length before) 0 (length before))) m member)));
+    few = omega arith;
   }
   made_at Lower = record {
     placed = (refl, place_of_new-most (length before) 0 (length before) (omega arith), tt);
     entered = λ m member. inr (sym (ap (λ (n : Made). n.id) (in_one (new_track fresh (place_of_new (length before) 0 (length before))) m member)));
+    few = omega arith;
   }
 
   none_at : (edge : Edge) (id : ℕ) → AreMadeForPins before fresh (entry_at edge [] id)
@@ -58,6 +61,7 @@ module _ (may : List Candidate → ℕ → Type 0) (before : List Track) (fresh 
     entered = λ m member.
         let same : fresh ≡ m.id = ap (λ (n : Made). n.id) (in_one (new_track fresh below) m member) in
         elim enters [ inl is ↦ inl (sym same ∙ is) | inr is ↦ inr (sym same ∙ is) ];
+    few = omega arith;
   }
 
   new_made : (top bottom : Pin) (uppers lowers : List ℕ) (new : Newcomer) (entries : Entries) → LieWithin (length before) uppers → LieWithin (length before) lowers
@@ -82,6 +86,7 @@ module _ (may : List Candidate → ℕ → Type 0) (before : List Track) (fresh 
           | inl here ↦ inr (sym (ap (λ (n : Made). n.id) here))
           | inr later ↦ inl (sym (ap (λ (n : Made). n.id) (in_one (new_track (fresh + 1) upper) m later)))
         ];
+        few = omega arith;
       })
 
   pair_made : (top bottom : Pin) (uppers lowers partnered : List ℕ) (entries : Entries) → LieWithin (length before) uppers → LieWithin (length before) lowers

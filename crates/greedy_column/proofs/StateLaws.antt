@@ -8,7 +8,7 @@ use Rattle.choose_core.specs.declared.candidate.Candidate.{Candidate}
 use Rattle.choose_core.specs.declared.candidate.Next.{Next}
 use Rattle.greedy_column.specs.declared.column.Track.{Track}
 use Rattle.greedy_column.specs.declared.column.Column.{Column}
-use Rattle.greedy_column.specs.Tracks.{ids, hold}
+use Rattle.greedy_column.specs.Tracks.{ids}
 use Rattle.greedy_column.specs.Replay.{top_pin, bottom_pin, with_made, with_nets, freed, moved, entered, after}
 use Rattle.greedy_column.specs.Ahead.{next_of}
 use Rattle.greedy_column.specs.Lawful.{AreMadeFrom}
@@ -18,7 +18,7 @@ use Rattle.greedy_column.specs.Joining.{span_in}
 use Rattle.greedy_column.specs.Follows.{Follows, FollowsOn, entries_of, pin_with}
 use Rattle.greedy_column.specs.State.{AreNumbered, IsState}
 use Rattle.greedy_column.proofs.Members.{any_at, in_none}
-use Rattle.greedy_column.proofs.IdLaws.{Apart-to, ids-hold, ids-freed, ids-moved, AreNumbered-ids, AreNumbered-with_made}
+use Rattle.greedy_column.proofs.IdLaws.{Apart-to, ids-entered, ids-freed, ids-moved, AreNumbered-ids, AreNumbered-with_made}
 use Rattle.greedy_column.proofs.NetLaws.{AreNets, AreNets-after}
 
 -- there are fewer tracks than ids have been given
@@ -91,28 +91,26 @@ Follows-from_copy may next pins column fresh before copy done a b copied first s
     done.joins done.ended done.moves) copied follows)
 
 -- after a column, a state with which the next one may begin
-pub IsState-after : (pins : Pins) (column fresh : ℕ) (before copy : List Track) (done : Column) → copy ≡ before → AreNumbered fresh before → AreNets pins before
-    → AreMadeFrom fresh (length copy) done.made → (order : List Track) (next : ℕ) → order ≡ after pins column done before → next ≡ fresh + length done.made
+pub IsState-after : (pins : Pins) (column fresh : ℕ) (before : List Track) (done : Column) → AreNumbered fresh before → AreNets pins before
+    → AreMadeFrom fresh (length before) done.made → (order : List Track) (next : ℕ) → order ≡ after pins column done before → next ≡ fresh + length done.made
     → IsState pins (record { order = order; fresh = next })
-IsState-after pins column fresh before copy done copied numbered nets made order next order_is next_is =
+IsState-after pins column fresh before done numbered nets made order next order_is next_is =
     let now : List Track = entered pins column done before in
     let same : ids (after pins column done before) ≡ ids (with_made before done.made) =
-    ids-moved done.moves (freed done.ended now) ∙ ids-freed done.ended now
-    ∙ ids-hold done.top (top_pin pins column) (hold done.bottom (bottom_pin pins column) (with_made before done.made))
-    ∙ ids-hold done.bottom (bottom_pin pins column) (with_made before done.made) in
+    ids-moved done.moves (freed done.ended now) ∙ ids-freed done.ended now ∙ ids-entered pins column before done in
     rw (order_is, next_is) (record {
       numbered = AreNumbered-ids (fresh + length done.made) (with_made before done.made) (after pins column done before) same
-          (AreNumbered-with_made fresh (length copy) before done.made numbered made);
+          (AreNumbered-with_made fresh (length before) before done.made numbered made);
       standing = AreNets-after pins column done before nets;
     })
 
 -- the same, from a copy of the tracks
 pub IsState-from_copy : (pins : Pins) (column fresh : ℕ) (before copy : List Track) (done : Column) (a b : ℕ) → copy ≡ before → a ≡ top_pin pins column → b ≡ bottom_pin pins column
-    → AreNumbered fresh before → AreNets pins before → AreMadeFrom fresh (length copy) done.made → (order : List Track) (next : ℕ)
+    → AreNumbered fresh before → AreNets pins before → AreMadeFrom fresh (length before) done.made → (order : List Track) (next : ℕ)
     → order ≡ moved done.moves (freed done.ended (with_nets a done.top b done.bottom (with_made copy done.made))) → next ≡ fresh + length done.made
     → IsState pins (record { order = order; fresh = next })
 IsState-from_copy pins column fresh before copy done a b copied first second numbered nets made order next order_is next_is =
-    IsState-after pins column fresh before copy done copied numbered nets made order next
+    IsState-after pins column fresh before done numbered nets made order next
     (order_is ∙ (λ i. moved done.moves (freed done.ended (with_nets (first i) done.top (second i) done.bottom (with_made (copied i) done.made))))) next_is
 
 -- without a track and with 1 as the first id

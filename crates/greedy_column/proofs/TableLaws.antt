@@ -50,3 +50,9 @@ held_by-line tracks line apart some within = held_by-at tracks (line - 1) apart 
 
 pub id_on-member : (tracks : List Track) (line : ℕ) → 0 < line → line ≤ length tracks → Contains (ids tracks) (id_on tracks line)
 id_on-member tracks line some within = Contains-get_or (ids tracks) (line - 1) 0 (omega (arith, length-ids tracks))
+
+-- lines that are of tracks have ids of their own
+pub same_line : (now : List Track) (one other : ℕ) → Apart (ids now) → (0 < one) × (one ≤ length now) → (0 < other) × (other ≤ length now)
+    → id_on now one ≡ id_on now other → one ≡ other
+same_line now one other apart first second same =
+    sym (line_of-line now one apart first.0 first.1) ∙ ap (line_of (ids now)) same ∙ line_of-line now other apart second.0 second.1

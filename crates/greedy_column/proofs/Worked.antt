@@ -4,9 +4,13 @@ use Rattle.channel_model.proofs.Worked.{crossed}
 use Rattle.choose_core.specs.declared.candidate.Candidate.{Candidate}
 use Rattle.greedy_column.specs.declared.column.Track.{Track}
 use Rattle.greedy_column.specs.declared.column.Column.{Column}
+use Rattle.greedy_column.specs.Verticals.{floor, on}
 use Rattle.greedy_column.specs.Lawful.{HasEqualPins}
+use Rattle.greedy_column.specs.Fair.{Fair}
 use Rattle.greedy_column.specs.Replay.{after}
 use Rattle.greedy_column.specs.Follows.{Follows, AreEnded}
+use Rattle.greedy_column.proofs.StateLaws.{IsState-first}
+use Rattle.greedy_column.proofs.FairLaws.{Fair-from}
 
 -- the three records of the channel with bottom pins 1, 2 and top pins 2, 1: two columns and one past the end
 abbrev first_column : Column
@@ -134,3 +138,27 @@ module _ (may : List Candidate → ℕ → Type 0) (first : (list : List Candida
       moves_told = refl;
     };
   }
+
+-- and are fair
+pub fair_first : Fair crossed 0 1 [] first_column
+fair_first =
+    Fair-from (λ list answer. answer ≡ 0) crossed 0 1 [] first_column refl (IsState-first crossed).numbered (follows_first (λ list answer. answer ≡ 0) (λ list. refl))
+
+-- a record that joins the tracks of net 1 across the vertical of net 2 is not
+abbrev crossing_join : Column
+crossing_join = record {
+  made = record { id = 3; below = 2 } ∷ [];
+  top = 3;
+  bottom = 2;
+  straight = false;
+  joins = (1, 3) ∷ [];
+  ended = 2 ∷ [];
+  moves = [];
+}
+
+pub not_fair_crossing : Fair crossed 1 3 two_nets crossing_join → ⊥
+not_fair_crossing fair =
+    let same : ◌≡◌ {A = ℕ} 2 1 =
+    fair.lawful.apart (record { net = 2; low = floor; high = on 2 }) (record { net = 1; low = on 1; high = on 3 }) (0, lit< tt, refl) (2, lit< tt, refl)
+    (omega arith, omega arith) in
+    omega arith

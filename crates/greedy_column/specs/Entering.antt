@@ -64,30 +64,47 @@ newcomer_of uppers (line ∷ lowers) = TopPin
 newcomer_of (line ∷ uppers) [] = BottomPin
 newcomer_of [] [] = BothPins
 
--- two pins without a pair of lines: one or both get a new track
-abbrev pub EntersNew : (List Candidate → ℕ → Type 0) → Pin → Pin → List Track → ℕ → List ℕ → List ℕ → Newcomer → Entries → Type 0
-EntersNew may top bottom before fresh uppers lowers TopPin entries =
+-- the bottom pin's net enters one of its lines, and that of the top pin a new track above it
+abbrev pub EntersAbove : (List Candidate → ℕ → Type 0) → Pin → List Track → ℕ → List ℕ → Entries → Type 0
+EntersAbove may bottom before fresh lowers entries =
     (line : ℕ) × IsPicked may (offer (bottom_question bottom)) lowers line
     × (entries ≡ record { made = new_track fresh (place_of_new (length before) line (length before)) ∷ []; top = fresh; bottom = id_on before line })
-EntersNew may top bottom before fresh uppers lowers BottomPin entries =
+
+-- the top pin's net enters one of its lines, and that of the bottom pin a new track below it
+abbrev pub EntersBelow : (List Candidate → ℕ → Type 0) → Pin → List Track → ℕ → List ℕ → Entries → Type 0
+EntersBelow may top before fresh uppers entries =
     (line : ℕ) × IsPicked may (offer (top_question top (length before))) uppers line
     × (entries ≡ record { made = new_track fresh (place_of_new (length before) 0 (line - 1)) ∷ []; top = id_on before line; bottom = fresh })
-EntersNew may top bottom before fresh uppers lowers BothPins entries =
-    entries ≡ record {
-      made = new_track fresh (place_of_new (length before) 0 (length before))
-          ∷ (new_track (fresh + 1) (place_of_new (length before + 1) (place_of_new (length before) 0 (length before) + 1) (length before + 1)) ∷ []);
-      top = fresh + 1;
-      bottom = fresh;
-    }
 
--- two pins: the net of the top pin enters one of its lines that have a partner, and that of the bottom pin one below it
+-- both nets enter new tracks, one just above the other
+abbrev pub both_new : List Track → ℕ → Entries
+both_new before fresh = record {
+  made = new_track fresh (place_of_new (length before) 0 (length before))
+      ∷ (new_track (fresh + 1) (place_of_new (length before + 1) (place_of_new (length before) 0 (length before) + 1) (length before + 1)) ∷ []);
+  top = fresh + 1;
+  bottom = fresh;
+}
+
+-- two pins without a pair of lines: one or both get a new track
+abbrev pub EntersNew : (List Candidate → ℕ → Type 0) → Pin → Pin → List Track → ℕ → List ℕ → List ℕ → Newcomer → Entries → Type 0
+EntersNew may top bottom before fresh uppers lowers TopPin entries = EntersAbove may bottom before fresh lowers entries
+EntersNew may top bottom before fresh uppers lowers BottomPin entries = EntersBelow may top before fresh uppers entries
+EntersNew may top bottom before fresh uppers lowers BothPins entries = entries ≡ both_new before fresh
+
+-- two pins with a pair of lines: the net of the top pin enters one of its lines that have a partner, and that of the bottom pin
+-- one below it
+abbrev pub EntersPartners : (List Candidate → ℕ → Type 0) → Pin → Pin → List Track → List ℕ → List ℕ → Entries → Type 0
+EntersPartners may top bottom before lowers partnered entries =
+    (line : ℕ) × IsPicked may (offer (top_question top (length before))) partnered line
+    × ((below : ℕ) × IsPicked may (offer (bottom_question bottom)) (below_line line lowers) below
+    × (entries ≡ record { made = []; top = id_on before line; bottom = id_on before below }))
+
+-- two pins, by the lines of the top pin that have a partner
 abbrev pub EntersPair : (List Candidate → ℕ → Type 0) → Pin → Pin → List Track → ℕ → List ℕ → List ℕ → List ℕ → Entries → Type 0
 EntersPair may top bottom before fresh uppers lowers [] entries =
     EntersNew may top bottom before fresh uppers lowers (newcomer_of uppers lowers) entries
 EntersPair may top bottom before fresh uppers lowers (partnered ∷ others) entries =
-    (line : ℕ) × IsPicked may (offer (top_question top (length before))) (partnered ∷ others) line
-    × ((below : ℕ) × IsPicked may (offer (bottom_question bottom)) (below_line line lowers) below
-    × (entries ≡ record { made = []; top = id_on before line; bottom = id_on before below }))
+    EntersPartners may top bottom before lowers (partnered ∷ others) entries
 
 -- a column's kind, by the net of its top pin and that of its bottom pin
 abbrev pub pin_kind : ℕ → ℕ → PinKind

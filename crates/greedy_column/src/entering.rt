@@ -1,7 +1,6 @@
 ghost use Rattle.greedy_column.specs.Entering.{Enters, EntersAlone, EntersEqual, bottom_question, entry_at, is_ending, pin_kind, straight_question, top_question};
-ghost use Rattle.greedy_column.specs.Lawful.{AreMadeFrom};
 ghost use Rattle.greedy_column.specs.Lines.{LieWithin, holds_track, place_of_new};
-ghost use Rattle.std.specs.Prelude.{◌≡◌, ◌<◌, ◌≤◌, ◌+◌, ◌^◌, ◌||◌, IfOk, length};
+ghost use Rattle.std.specs.Prelude.{◌≡◌, ◌<◌, ◌+◌, ◌^◌, ◌||◌, IfOk, length};
 
 use crate::column::{Made, Track};
 use crate::lines::{holds_track, id_on, open_lines};
@@ -153,9 +152,7 @@ pub fn enter<C: Chooses>(
 ) -> Result<Entries, AllocError>
     requires few { length before.now + 2 < 2 ^ 32 }
     requires fresh { fresh + 2 < 2 ^ 32 }
-    ensures enters { IfOk result (λ entries. Enters (C.answers chooser.now) top bottom before.now fresh entries) }
-    ensures made { IfOk result (λ entries. AreMadeFrom fresh (length before.now) entries.made) }
-    ensures few { IfOk result (λ entries. length entries.made ≤ 2) }
+    ensures { IfOk result (λ entries. Enters (C.answers chooser.now) top bottom before.now fresh entries) }
 {
     match pin_kind(top.net, bottom.net) {
         PinKind::NoPins => Ok(Entries {
@@ -201,9 +198,7 @@ fn enter_alone<C: Chooses>(
 ) -> Result<Entries, AllocError>
     requires few { length before.now + 2 < 2 ^ 32 }
     requires within { LieWithin (length before.now) lines.now }
-    ensures enters { IfOk result (λ entries. EntersAlone (C.answers chooser.now) edge question before.now fresh lines.now entries) }
-    ensures made { IfOk result (λ entries. AreMadeFrom fresh (length before.now) entries.made) }
-    ensures few { IfOk result (λ entries. length entries.made ≤ 2) }
+    ensures { IfOk result (λ entries. EntersAlone (C.answers chooser.now) edge question before.now fresh lines.now entries) }
 {
     if lines.is_empty() {
         let tracks = before.len() as u32;
@@ -224,10 +219,8 @@ fn enter_equal<C: Chooses>(
     pin: Pin,
 ) -> Result<Entries, AllocError>
     requires few { length before.now + 2 < 2 ^ 32 }
-    ensures enters { IfOk result (λ entries.
+    ensures { IfOk result (λ entries.
         EntersEqual (C.answers chooser.now) pin before.now fresh (holds_track before.now pin.net || is_ending pin.next) entries) }
-    ensures made { IfOk result (λ entries. AreMadeFrom fresh (length before.now) entries.made) }
-    ensures few { IfOk result (λ entries. length entries.made ≤ 2) }
 {
     if holds_track(before, pin.net) || is_ending(pin.next) {
         return Ok(Entries {

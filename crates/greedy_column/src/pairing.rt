@@ -1,7 +1,6 @@
-ghost use Rattle.greedy_column.specs.Entering.{EntersNew, EntersPair, newcomer_of};
-ghost use Rattle.greedy_column.specs.Lawful.{AreMadeFrom};
-ghost use Rattle.greedy_column.specs.Lines.{LieWithin, above_lowest};
-ghost use Rattle.std.specs.Prelude.{◌≡◌, ◌<◌, ◌≤◌, ◌+◌, ◌^◌, IfOk, length};
+ghost use Rattle.greedy_column.specs.Entering.{EntersAbove, EntersBelow, EntersPair, EntersPartners, both_new, newcomer_of};
+ghost use Rattle.greedy_column.specs.Lines.{LieWithin, above_lowest, below_line};
+ghost use Rattle.std.specs.Prelude.{◌≡◌, ◌<◌, ◌+◌, ◌^◌, ℕ, Contains, IfOk, length};
 
 use crate::column::{Made, Track};
 use crate::entering::{Entries, Newcomer, Pin, place_of_new};
@@ -37,16 +36,38 @@ pub fn enter_pair<C: Chooses>(
     requires fresh { fresh + 2 < 2 ^ 32 }
     requires uppers { LieWithin (length before.now) uppers.now }
     requires lowers { LieWithin (length before.now) lowers.now }
-    ensures enters { IfOk result (λ entries. EntersPair (C.answers chooser.now) top bottom before.now fresh
+    ensures { IfOk result (λ entries. EntersPair (C.answers chooser.now) top bottom before.now fresh
         uppers.now lowers.now (above_lowest lowers.now uppers.now) entries) }
-    ensures made { IfOk result (λ entries. AreMadeFrom fresh (length before.now) entries.made) }
-    ensures few { IfOk result (λ entries. length entries.made ≤ 2) }
 {
     let partnered = above_lowest(alloc, lowers, uppers)?;
-    if partnered.is_empty() {
-        return enter_new(alloc, chooser, before, fresh, top, bottom, uppers, lowers);
+    if !partnered.is_empty() {
+        return enter_partners(alloc, chooser, before, top, bottom, lowers, &partnered);
     }
-    let line = pick_line(alloc, chooser, top.top_question(before.len()), &partnered)?;
+    match newcomer_of(uppers, lowers) {
+        Newcomer::TopPin => enter_above(alloc, chooser, before, fresh, bottom, lowers),
+        Newcomer::BottomPin => enter_below(alloc, chooser, before, fresh, top, uppers),
+        Newcomer::BothPins => enter_both_new(alloc, before, fresh),
+    }
+}
+
+// Those of two pins with a pair of lines, from the lines of the top pin that have a partner.
+fn enter_partners<C: Chooses>(
+    alloc: Global,
+    chooser: &C,
+    before: &[Track],
+    top: Pin,
+    bottom: Pin,
+    lowers: &[u32],
+    partnered: &[u32],
+) -> Result<Entries, AllocError>
+    requires few { length before.now + 2 < 2 ^ 32 }
+    requires some { 0 < length partnered.now }
+    requires within { LieWithin (length before.now) partnered.now }
+    requires lowers { LieWithin (length before.now) lowers.now }
+    requires partners { (line : ℕ) → Contains partnered.now line → 0 < length (below_line line lowers.now) }
+    ensures { IfOk result (λ entries. EntersPartners (C.answers chooser.now) top bottom before.now lowers.now partnered.now entries) }
+{
+    let line = pick_line(alloc, chooser, top.top_question(before.len()), partnered)?;
     let partners = below_line(alloc, line, lowers)?;
     let below = pick_line(alloc, chooser, bottom.bottom_question(), &partners)?;
     Ok(Entries {
@@ -56,62 +77,77 @@ pub fn enter_pair<C: Chooses>(
     })
 }
 
-// The entries of two pins that have no pair of lines.
-fn enter_new<C: Chooses>(
+// Those of two pins of which the bottom pin enters one of its lines, and the top pin a new track above it.
+fn enter_above<C: Chooses>(
+    alloc: Global,
+    chooser: &C,
+    before: &[Track],
+    fresh: u32,
+    bottom: Pin,
+    lowers: &[u32],
+) -> Result<Entries, AllocError>
+    requires few { length before.now + 2 < 2 ^ 32 }
+    requires some { 0 < length lowers.now }
+    requires within { LieWithin (length before.now) lowers.now }
+    ensures { IfOk result (λ entries. EntersAbove (C.answers chooser.now) bottom before.now fresh lowers.now entries) }
+{
+    let line = pick_line(alloc, chooser, bottom.bottom_question(), lowers)?;
+    let tracks = before.len() as u32;
+    let below = place_of_new(tracks, line, tracks);
+    let made = vec![in alloc; Made { id: fresh, below }]?;
+    Ok(Entries {
+        made: Items::new(made),
+        top: fresh,
+        bottom: id_on(before, line),
+    })
+}
+
+// Those of two pins of which the top pin enters one of its lines, and the bottom pin a new track below it.
+fn enter_below<C: Chooses>(
     alloc: Global,
     chooser: &C,
     before: &[Track],
     fresh: u32,
     top: Pin,
-    bottom: Pin,
     uppers: &[u32],
-    lowers: &[u32],
 ) -> Result<Entries, AllocError>
     requires few { length before.now + 2 < 2 ^ 32 }
+    requires some { 0 < length uppers.now }
+    requires within { LieWithin (length before.now) uppers.now }
+    ensures { IfOk result (λ entries. EntersBelow (C.answers chooser.now) top before.now fresh uppers.now entries) }
+{
+    let line = pick_line(alloc, chooser, top.top_question(before.len()), uppers)?;
+    let below = place_of_new(before.len() as u32, 0, line - 1);
+    let made = vec![in alloc; Made { id: fresh, below }]?;
+    Ok(Entries {
+        made: Items::new(made),
+        top: id_on(before, line),
+        bottom: fresh,
+    })
+}
+
+// Those of two pins that both enter new tracks.
+fn enter_both_new(alloc: Global, before: &[Track], fresh: u32) -> Result<Entries, AllocError>
+    requires few { length before.now + 2 < 2 ^ 32 }
     requires fresh { fresh + 2 < 2 ^ 32 }
-    requires uppers { LieWithin (length before.now) uppers.now }
-    requires lowers { LieWithin (length before.now) lowers.now }
-    ensures enters { IfOk result (λ entries. EntersNew (C.answers chooser.now) top bottom before.now fresh
-        uppers.now lowers.now (newcomer_of uppers.now lowers.now) entries) }
-    ensures made { IfOk result (λ entries. AreMadeFrom fresh (length before.now) entries.made) }
-    ensures few { IfOk result (λ entries. length entries.made ≤ 2) }
+    ensures { IfOk result (λ entries. entries ≡ both_new before.now fresh) }
 {
     let tracks = before.len() as u32;
-    match newcomer_of(uppers, lowers) {
-        Newcomer::TopPin => {
-            let line = pick_line(alloc, chooser, bottom.bottom_question(), lowers)?;
-            let below = place_of_new(tracks, line, tracks);
-            let made = vec![in alloc; Made { id: fresh, below }]?;
-            Ok(Entries {
-                made: Items::new(made),
-                top: fresh,
-                bottom: id_on(before, line),
-            })
-        }
-        Newcomer::BottomPin => {
-            let line = pick_line(alloc, chooser, top.top_question(before.len()), uppers)?;
-            let below = place_of_new(tracks, 0, line - 1);
-            let made = vec![in alloc; Made { id: fresh, below }]?;
-            Ok(Entries {
-                made: Items::new(made),
-                top: id_on(before, line),
-                bottom: fresh,
-            })
-        }
-        Newcomer::BothPins => {
-            let below = place_of_new(tracks, 0, tracks);
-            let lower = Made { id: fresh, below };
-            let below = place_of_new(tracks + 1, below + 1, tracks + 1);
-            let upper = Made {
-                id: fresh + 1,
-                below,
-            };
-            let made = vec![in alloc; lower, upper]?;
-            Ok(Entries {
-                made: Items::new(made),
-                top: fresh + 1,
-                bottom: fresh,
-            })
-        }
-    }
+    let lower = place_of_new(tracks, 0, tracks);
+    let upper = place_of_new(tracks + 1, lower + 1, tracks + 1);
+    let made = vec![in alloc;
+        Made {
+            id: fresh,
+            below: lower,
+        },
+        Made {
+            id: fresh + 1,
+            below: upper,
+        },
+    ]?;
+    Ok(Entries {
+        made: Items::new(made),
+        top: fresh + 1,
+        bottom: fresh,
+    })
 }

@@ -1,11 +1,10 @@
 ghost use Rattle.greedy_column.specs.Ahead.{IsAhead};
+ghost use Rattle.greedy_column.specs.Fair.{Fair};
 ghost use Rattle.greedy_column.specs.Follows.{Follows, FollowsOn, entries_of, pin_with};
 ghost use Rattle.greedy_column.specs.Entering.{Enters};
 ghost use Rattle.greedy_column.specs.Joining.{span_in};
-ghost use Rattle.greedy_column.specs.Keeping.{AreJoined};
 ghost use Rattle.greedy_column.specs.Lawful.{AreMadeFrom};
-ghost use Rattle.greedy_column.specs.Replay.{after, entered, freed, moved, with_made, with_nets};
-ghost use Rattle.greedy_column.specs.Sparing.{SparesTracks};
+ghost use Rattle.greedy_column.specs.Replay.{after, freed, moved, with_made, with_nets};
 ghost use Rattle.greedy_column.specs.State.{IsState};
 ghost use Rattle.greedy_column.specs.Tracks.{ids};
 ghost use Rattle.greedy_column.specs.Uses.{next_after};
@@ -114,8 +113,6 @@ fn column_of<C: Chooses>(
         taken.done.joins taken.done.ended taken.done.moves) }
     ensures tracks { IfOk result (λ taken. taken.tracks ≡ moved taken.done.moves (freed taken.done.ended
         (with_nets top taken.done.top bottom taken.done.bottom (with_made before.now taken.done.made)))) }
-    ensures made { IfOk result (λ taken. AreMadeFrom fresh (length before.now) taken.done.made) }
-    ensures few { IfOk result (λ taken. length taken.done.made ≤ 2) }
 {
     let straight = has_equal_pins(top, bottom);
     let top_pin = pin_of(ahead, column, top);
@@ -166,7 +163,7 @@ fn taken_from(entries: Entries, straight: bool, outcome: Outcome) -> Taken
 /// One column of the greedy sweep, from the state that the columns before it have left. A column at or past the channel's end
 /// has no pins. The column's pins enter tracks, the tracks of one net are joined where that is possible, one track of each group
 /// that is joined is kept, and the kept tracks may move. Each choice is an answer of the chooser, and the record is what these
-/// steps make of it. The one error is want of memory, and the state is then as before.
+/// steps make of it; it is fair, whatever the chooser answers. The one error is want of memory, and the state is then as before.
 ///
 /// Source: Rivest and Fiduccia, A Greedy Channel Router (1982).
 pub fn step(
@@ -182,8 +179,7 @@ pub fn step(
     requires ahead { IsAhead channel.now ahead.now }
     ensures follows { IfOk result (λ done.
         Follows (⟦<Chooser as Chooses>⟧.answers chooser.now) channel.now column state.old.fresh state.old.order done) }
-    ensures spares { IfOk result (λ done. SparesTracks channel.now column state.old.order done) }
-    ensures joined { IfOk result (λ done. AreJoined channel.now column (entered channel.now column done state.old.order) done) }
+    ensures fair { IfOk result (λ done. Fair channel.now column state.old.fresh state.old.order done) }
     ensures replay { IfOk result (λ done. state.new.order ≡ after channel.now column done state.old.order) }
     ensures fresh { IfOk result (λ done. state.new.fresh ≡ state.old.fresh + length done.made) }
     ensures state { IfOk result (λ _. IsState channel.now state.new) }

@@ -3,8 +3,7 @@ use Rattle.channel_model.specs.Pins.{IsChannel}
 use Rattle.greedy_column.specs.declared.column.Made.{Made}
 use Rattle.greedy_column.specs.declared.column.Track.{Track}
 use Rattle.greedy_column.specs.Uses.{next_after}
-use Rattle.greedy_column.proofs.FairLaws.{FairSoFar-from}
-use Rattle.greedy_column.proofs.SparingLaws.{SparesTracks-from}
+use Rattle.greedy_column.proofs.FairLaws.{Fair-from}
 use Rattle.greedy_column.proofs.StateLaws.{AreNumbered-few, Follows-from_copy, IsState-from_copy}
 use Rattle.greedy_column.proofs.stepping.step.Goals as goal
 
@@ -24,20 +23,15 @@ returns-clause-follows g c =
     (c.pin_in-top.ensures ∙ ap (λ (l : List ℕ). get_or l c.args.column 0) (cc)) (c.pin_in-bottom.ensures ∙ ap (λ (l : List ℕ). get_or l c.args.column 0) (cc))
     (λ net. c.requires.ahead c.args.column net) c.in_ok-taken.ensures.straight c.in_ok-taken.ensures.enters c.in_ok-taken.ensures.follows
 
-pub returns-clause-spares : goal.returns-clause-spares
-returns-clause-spares g c =
+pub returns-clause-fair : goal.returns-clause-fair
+returns-clause-fair g c =
     let is : IsChannel c.args.channel.now = search rules in
-    SparesTracks-from _ c.args.channel.now c.args.column c.args.state.now.fresh c.args.state.now.order _ is.matched c.requires.state.numbered (returns-clause-follows g c)
-
-pub returns-clause-joined : goal.returns-clause-joined
-returns-clause-joined g c =
-    let is : IsChannel c.args.channel.now = search rules in
-    (FairSoFar-from _ c.args.channel.now c.args.column c.args.state.now.fresh c.args.state.now.order _ is.matched c.requires.state.numbered (returns-clause-follows g c)).joined
+    Fair-from _ c.args.channel.now c.args.column c.args.state.now.fresh c.args.state.now.order _ is.matched c.requires.state.numbered (returns-clause-follows g c)
 
 pub returns-clause-state : goal.returns-clause-state
 returns-clause-state g c =
     IsState-from_copy c.args.channel.now c.args.column c.args.state.now.fresh c.args.state.now.order c.items-3.result.now c.in_ok-taken.taken.done
     c.pin_in-top.result c.pin_in-bottom.result c.items-3.ensures
     (c.pin_in-top.ensures ∙ ap (λ (l : List ℕ). get_or l c.args.column 0) (cc)) (c.pin_in-bottom.ensures ∙ ap (λ (l : List ℕ). get_or l c.args.column 0) (cc))
-    c.requires.state.numbered c.requires.state.standing c.in_ok-taken.ensures.made c.in_ok-taken.taken.tracks _ c.in_ok-taken.ensures.tracks
+    c.requires.state.numbered c.requires.state.standing (returns-clause-fair g c).lawful.made c.in_ok-taken.taken.tracks _ c.in_ok-taken.ensures.tracks
     (ap (λ (l : List Made). c.args.state.now.fresh + length l) c.items-4.ensures)

@@ -1,0 +1,4 @@
+use Rattle.column_tests.proofs.wide_tests.first_crowded_other.Goals as goal
+
+pub loop-column-init : goal.loop-column-init
+loop-column-init g c = c.in_ok-state.ensures.state c.args.channel.now
