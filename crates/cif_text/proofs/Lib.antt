@@ -15,3 +15,5 @@ pub mod WrittenText
 pub mod WrittenMeaning
 -- what callers need: texts in parts, names, and the symbols of a written layout
 pub mod TextLemmas
+-- the counts of steps and commands do not matter
+pub mod FuelLaws
