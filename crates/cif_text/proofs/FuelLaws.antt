@@ -2,31 +2,31 @@ use Rattle.std.proofs.Common.{◌≡◌, refl, ap, ℕ, zero, suc, ◌<◌, ◌�
 use Rattle.std.specs.Char.{is_ascii_digit}
 use Rattle.std.specs.Prelude.{◌&&◌, ◌==◌, if◌then◌else◌, nat_le}
 use Rattle.std.specs.Str.Parse.{digits_value}
-use Rattle.cif_text.specs.declared.command.Command.{Command}
 use Rattle.cif_text.specs.declared.fault.CifKind.TheVariants as kinds
 use Rattle.cif_text.specs.Bytes.{is_between, is_blank, not_semicolon, span, skip, begins, ends}
 use Rattle.cif_text.specs.InOrder.{◌>>=◌}
 use Rattle.cif_text.specs.Numbers.{Wrong, too_great, malformed, greatest, value_at, natural, number, apart}
 use Rattle.cif_text.specs.Forms.{Form}
 use Rattle.cif_text.specs.Calls.{Step, translate, mirror_x, mirror_y, rotate, point_of, mirror_of, step_of, steps_of}
-use Rattle.cif_text.specs.Commands.{Fault, fails, open_behind, after_comment, is_left_out, form_of, may_stand, reading_of, cut_of, comment_end, comment_of, command_at}
+use Rattle.cif_text.specs.Commands.{fails, open_behind, after_comment, is_left_out, form_of, may_stand, reading_of, cut_of, comment_end, comment_of, command_at}
 use Rattle.cif_text.specs.CifReads.{is_end, is_open_behind, commands_at}
+use Rattle.cif_text.specs.Answers.{commands_of}
 
 -- what is left behind a reading is at most so many bytes
 pub record Leaves {A E : Type 0} (most : ℕ) (r : Result (A × List ℕ) E) : Type 0 where
   pub holds : IfOk r (λ x. length x.1 ≤ most)
 
 -- one reading behind another
-next-leaves : {A B E : Type 0} (n m : ℕ) (r : Result (A × List ℕ) E) (f : A × List ℕ → Result (B × List ℕ) E)
+pub next-leaves : {A B E : Type 0} (n m : ℕ) (r : Result (A × List ℕ) E) (f : A × List ℕ → Result (B × List ℕ) E)
     → Leaves n r → ((x : A × List ℕ) → length x.1 ≤ n → Leaves m (f x)) → Leaves m (r >>= f)
 next-leaves n m (Ok x) f first onward = onward x first.holds
 next-leaves n m (Err e) f first onward = record { holds = tt }
 
-either-leaves : {A E : Type 0} (n : ℕ) (b : Bool) (r s : Result (A × List ℕ) E) → Leaves n r → Leaves n s → Leaves n (cond b r s)
+pub either-leaves : {A E : Type 0} (n : ℕ) (b : Bool) (r s : Result (A × List ℕ) E) → Leaves n r → Leaves n s → Leaves n (cond b r s)
 either-leaves n true r s first second = first
 either-leaves n false r s first second = second
 
-fewer-leaves : {A E : Type 0} (n m : ℕ) (r : Result (A × List ℕ) E) → n ≤ m → Leaves n r → Leaves m r
+pub fewer-leaves : {A E : Type 0} (n m : ℕ) (r : Result (A × List ℕ) E) → n ≤ m → Leaves n r → Leaves m r
 fewer-leaves n m (Ok x) le h = let few : length x.1 ≤ n = h.holds in record { holds = omega arith }
 fewer-leaves n m (Err e) le h = record { holds = tt }
 
@@ -41,18 +41,18 @@ span-rest p (c ∷ cs) = by (p c) (span-rest p cs)
     by false h = omega arith
 
 -- numbers
-value-leaves : (place : ℕ) (found : List ℕ × List ℕ) → Leaves (length found.1) (value_at place found)
+pub value-leaves : (place : ℕ) (found : List ℕ × List ℕ) → Leaves (length found.1) (value_at place found)
 value-leaves place ([], rest) = record { holds = tt }
 value-leaves place (d ∷ ds, rest) =
     either-leaves (length rest) (nat_le (digits_value 10 (d ∷ ds)) greatest) (Ok (digits_value 10 (d ∷ ds), rest)) (Err (too_great place))
     (record { holds = omega arith }) (record { holds = tt })
 
-natural-leaves : (bytes : List ℕ) → Leaves (length bytes) (natural bytes)
+pub natural-leaves : (bytes : List ℕ) → Leaves (length bytes) (natural bytes)
 unfolding natural
 natural-leaves bytes =
     fewer-leaves _ _ (value_at (length bytes) (span is_ascii_digit bytes)) (span-rest is_ascii_digit bytes) (value-leaves (length bytes) (span is_ascii_digit bytes))
 
-number-leaves : (bytes : List ℕ) → Leaves (length bytes) (number bytes)
+pub number-leaves : (bytes : List ℕ) → Leaves (length bytes) (number bytes)
 unfolding number
 number-leaves [] = record { holds = tt }
 number-leaves (c ∷ cs) =
@@ -81,7 +81,7 @@ mirror-leaves (c ∷ cs) =
     either-leaves (length (c ∷ cs)) (c == 88) (Ok (mirror_x, cs)) _ (record { holds = omega arith })
     (either-leaves (length (c ∷ cs)) (c == 89) (Ok (mirror_y, cs)) (Err malformed) (record { holds = omega arith }) (record { holds = tt }))
 
-step-leaves : (c : ℕ) (bytes : List ℕ) → Leaves (length bytes) (step_of c bytes)
+pub step-leaves : (c : ℕ) (bytes : List ℕ) → Leaves (length bytes) (step_of c bytes)
 unfolding step_of
 step-leaves c bytes =
     either-leaves (length bytes) (c == 84) _ _ (point-leaves translate bytes)
@@ -171,10 +171,6 @@ commands-enough (suc n) (suc m) inside bytes enough_n enough_m =
     by (c ∷ cs) some_n some_m more =
         bind-same (length cs) (command_at inside (c ∷ cs)) _ _ (command-leaves inside c cs) (λ first left.
         let others = more (is_open_behind inside first.0) first.1 (omega arith) in rw others refl)
-
--- the commands of a text that begins inside a definition or outside
-abbrev pub commands_of : Bool → List ℕ → Result (List Command) Fault
-commands_of inside bytes = commands_at (suc (length bytes)) inside bytes
 
 -- a text reads as its first command, and then as the text behind it reads
 pub commands-in-order : (inside : Bool) (bytes : List ℕ)

@@ -13,6 +13,10 @@ pub mod Calls
 pub mod Commands
 -- the reading of a whole text
 pub mod CifReads
+-- what a program that reads answers
+pub mod Answers
+-- the whole of a call's steps, as a program has it
+pub mod Transforms
 -- the commands whose printed text reads as they are
 pub mod Printable
 -- the numbers of boxes and calls at a scale
