@@ -12,6 +12,9 @@ pub mod FormLemmas
 pub mod PlainLemmas
 -- the printed text of commands reads as those commands
 pub mod ReadBack
+-- the shapes of symbols and of the main level, by the commands that draw them
+pub mod BodyLaws
+pub mod DrawnLaws
 -- a written layout is a text, and means that layout
 pub mod WrittenText
 pub mod WrittenMeaning

@@ -25,6 +25,8 @@ pub mod Scales
 pub mod Symbols
 -- the layout that commands mean
 pub mod Meaning
+-- the shapes that commands draw
+pub mod Bodies
 -- the layout that a text reads as
 pub mod ReadsAs
 -- the commands of a written layout, and what they mean
