@@ -24,6 +24,8 @@ pub mod TextLemmas
 pub mod ReadingLaws
 -- what the steps of a call do together
 pub mod MoveLaws
+-- the commands that a text can give
+pub mod SoundLemmas
 -- where a number stands that is too great
 pub mod PlaceLaws
 -- the counts of steps and commands do not matter

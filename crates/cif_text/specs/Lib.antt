@@ -13,6 +13,8 @@ pub mod Calls
 pub mod Commands
 -- the reading of a whole text
 pub mod CifReads
+-- the commands that a text can give
+pub mod Sound
 -- what a program that reads answers
 pub mod Answers
 -- the whole of a call's steps, as a program has it

@@ -2,6 +2,7 @@ ghost use Rattle.cif_text.specs.Answers.{Finds, form_seen};
 ghost use Rattle.cif_text.specs.Calls.{Step as SpecStep, call_form, call_of, mirror_of, point_of, rotate, step_of, translate};
 ghost use Rattle.cif_text.specs.Numbers.{greatest};
 ghost use Rattle.cif_text.specs.Printable.{IsNear};
+ghost use Rattle.cif_text.specs.Sound.{FormIsSound, IsFormed};
 ghost use Rattle.cif_text.specs.Transforms.{IsNearStep, IsWithin, call_under, followed, moves_of, step_seen};
 ghost use Rattle.std.specs.Prelude.{◌≡◌, ◌≤◌, ◌+◌, ◌^◌, ℕ, ℤ, IfOk};
 
@@ -91,7 +92,9 @@ fn moves_at(bytes: &[u8]) -> Result<Result<Transform, CifKind>, Misfit>
 
 /// The call of a symbol, where its whole offset has the magnitude of a number.
 fn call_of(n: u64, t: Transform) -> Result<Command, CifKind>
-    ensures { result ≡ call_of n t }
+    requires { n ≤ greatest }
+    ensures is { result ≡ call_of n t }
+    ensures sound { IfOk result IsFormed }
 {
     if t.dx.unsigned_abs() > GREATEST || t.dy.unsigned_abs() > GREATEST {
         return Err(CifKind::Number);
@@ -107,7 +110,9 @@ fn call_of(n: u64, t: Transform) -> Result<Command, CifKind>
 
 /// The call of a symbol under what its steps do together.
 fn call_under(n: u64, whole: Result<Transform, CifKind>) -> Result<Command, CifKind>
-    ensures { result ≡ call_under n whole }
+    requires { n ≤ greatest }
+    ensures is { result ≡ call_under n whole }
+    ensures sound { IfOk result IsFormed }
 {
     match whole {
         Ok(t) => call_of(n, t),
@@ -117,7 +122,8 @@ fn call_under(n: u64, whole: Result<Transform, CifKind>) -> Result<Command, CifK
 
 /// The form of a call: the symbol's number and the transformation.
 pub fn call_form(body: &[u8]) -> Form
-    ensures { call_form body.now ≡ form_seen result }
+    ensures is { call_form body.now ≡ form_seen result }
+    ensures sound { FormIsSound result }
 {
     let (n, rest) = natural_at(after_separators(body))?;
     let whole = moves_at(after_blanks(rest))?;

@@ -1,6 +1,8 @@
 ghost use Rattle.cif_text.specs.Answers.{Gives, HasPlaceWithin, Tells, form_seen};
 ghost use Rattle.cif_text.specs.Bytes.{not_semicolon, span};
 ghost use Rattle.cif_text.specs.Commands.{after_comment, command_at, comment_of, cut_of, form_of, is_left_out, may_stand, open_behind, reading_of};
+ghost use Rattle.cif_text.specs.Sound.{FormIsSound, IsInPlace};
+ghost use Rattle.cif_text.specs.declared.command.Command.TheVariants as commands;
 ghost use Rattle.std.specs.Prelude.{◌≡◌, ◌≤◌, ◌<◌, ◌+◌, ◌^◌, IfOk, length, option_map};
 
 use crate::bytes::{after_blanks, are_blanks, begins_with, split_body};
@@ -43,7 +45,8 @@ fn after_comment(bytes: &[u8]) -> Option<&[u8]>
 
 /// A comment that begins where so many bytes are left, from what stands behind its first byte. Takes no memory.
 fn comment(left: usize, bytes: &[u8]) -> Result<(Command, &[u8]), Flaw>
-    ensures { Tells (λ x. (x.0, x.1.now)) result (comment_of left (after_comment 0 bytes.now)) }
+    ensures stands { IfOk result (λ x. x.0 ≡ commands.Comment) }
+    ensures tells { Tells (λ x. (x.0, x.1.now)) result (comment_of left (after_comment 0 bytes.now)) }
 {
     let Some(bytes) = after_comment(bytes) else {
         return Err(Flaw {
@@ -80,7 +83,8 @@ fn is_left_out(first: u8, body: &[u8]) -> bool
 
 /// The form of a command that begins with this byte. The one error is want of memory.
 fn form_at(alloc: Global, first: u8, body: &[u8]) -> Result<Form, AllocError>
-    ensures { IfOk result (λ form. form_of first body.now ≡ form_seen form) }
+    ensures is { IfOk result (λ form. form_of first body.now ≡ form_seen form) }
+    ensures sound { IfOk result FormIsSound }
 {
     if first.is_ascii_digit() {
         return user_form(alloc, first, body);
@@ -107,8 +111,10 @@ fn may_stand(inside: bool, command: &Command) -> bool
 
 /// What a command reads as from its form: so many bytes are left at the command, and so many behind its semicolon.
 fn from_form(inside: bool, left: usize, rest: &[u8], form: Form) -> Result<Command, Flaw>
-    requires { HasPlaceWithin left (length rest.now) form }
-    ensures { Tells (λ command. (command, rest.now)) result (reading_of inside left rest.now (form_seen form)) }
+    requires place { HasPlaceWithin left (length rest.now) form }
+    requires sound { FormIsSound form }
+    ensures stands { IfOk result (IsInPlace inside) }
+    ensures tells { Tells (λ command. (command, rest.now)) result (reading_of inside left rest.now (form_seen form)) }
 {
     match form {
         Ok(Ok(command)) => {
@@ -141,7 +147,8 @@ fn cut_command<'a>(
     bytes: &'a [u8],
 ) -> Result<(Command, &'a [u8]), Stop>
     requires { left ≡ length bytes.now + 1 }
-    ensures { Gives (λ x. (x.0, x.1.now)) result (cut_of inside left first (span not_semicolon bytes.entry.now).0 (span not_semicolon bytes.entry.now).1) }
+    ensures stands { IfOk result (λ x. IsInPlace inside x.0) }
+    ensures gives { Gives (λ x. (x.0, x.1.now)) result (cut_of inside left first (span not_semicolon bytes.entry.now).0 (span not_semicolon bytes.entry.now).1) }
 {
     let (body, tail) = split_body(bytes);
     let Some((_, rest)) = tail.split_first() else {
@@ -163,7 +170,8 @@ fn cut_command<'a>(
 
 /// The command that begins here, inside a definition or outside, and what stands behind it.
 pub fn command_at(alloc: Global, inside: bool, bytes: &[u8]) -> Result<(Command, &[u8]), Stop>
-    ensures { Gives (λ x. (x.0, x.1.now)) result (command_at inside bytes.now) }
+    ensures stands { IfOk result (λ x. IsInPlace inside x.0) }
+    ensures gives { Gives (λ x. (x.0, x.1.now)) result (command_at inside bytes.now) }
 {
     let Some((first, after)) = bytes.split_first() else {
         return Err(Stop::At(Flaw {

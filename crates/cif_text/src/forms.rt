@@ -1,9 +1,10 @@
 ghost use Rattle.cif_text.specs.Answers.{form_seen, user_kind_of};
 ghost use Rattle.cif_text.specs.Bytes.{is_blank};
 ghost use Rattle.cif_text.specs.Forms.{axis_of, box_along, box_end, box_form, definition_form, finished, layer_form, naming, start_form, user_form};
-ghost use Rattle.cif_text.specs.Numbers.{greatest};
+ghost use Rattle.cif_text.specs.Printable.{IsNear, IsPart};
+ghost use Rattle.cif_text.specs.Sound.{FormIsSound, IsFormed};
 ghost use Rattle.cif_text.specs.declared.command.Command.TheVariants as commands;
-ghost use Rattle.std.specs.Prelude.{◌≡◌, ◌≤◌, IfOk};
+ghost use Rattle.std.specs.Prelude.{◌≡◌, IfOk};
 
 use crate::bytes::{
     after_blanks, after_separators, are_blanks, are_separators, split_digits, split_layer,
@@ -29,9 +30,12 @@ fn box_along(
     dx: i64,
     dy: i64,
 ) -> Result<Command, CifKind>
-    requires length { length ≤ greatest }
-    requires width { width ≤ greatest }
-    ensures { result ≡ box_along length width cx cy (axis_of dx dy) }
+    requires length { IsPart length }
+    requires width { IsPart width }
+    requires across { IsNear cx }
+    requires up { IsNear cy }
+    ensures is { result ≡ box_along length width cx cy (axis_of dx dy) }
+    ensures sound { IfOk result IsFormed }
 {
     let Some(upright) = is_upright(dx, dy) else {
         return Err(CifKind::Turned);
@@ -48,9 +52,12 @@ fn box_along(
 /// What stands behind a box's centre: perhaps a direction, else the length lies along x.
 #[tactic(auto, unfolding(crate::specs::Forms::box_end))]
 fn box_end(length: u64, width: u64, cx: i64, cy: i64, bytes: &[u8]) -> Form
-    requires length { length ≤ greatest }
-    requires width { width ≤ greatest }
-    ensures { box_end length width cx cy bytes.now ≡ form_seen result }
+    requires length { IsPart length }
+    requires width { IsPart width }
+    requires across { IsNear cx }
+    requires up { IsNear cy }
+    ensures is { box_end length width cx cy bytes.now ≡ form_seen result }
+    ensures sound { FormIsSound result }
 {
     if are_separators(bytes) {
         return Ok(box_along(length, width, cx, cy, 1, 0));
@@ -66,7 +73,8 @@ fn box_end(length: u64, width: u64, cx: i64, cy: i64, bytes: &[u8]) -> Form
 /// The form of a box: length, width, centre, and perhaps a direction.
 #[tactic(auto, unfolding(crate::specs::Forms::box_form))]
 pub fn box_form(body: &[u8]) -> Form
-    ensures { box_form body.now ≡ form_seen result }
+    ensures is { box_form body.now ≡ form_seen result }
+    ensures sound { FormIsSound result }
 {
     let (length, rest) = positive_at(after_separators(body))?;
     let (width, rest) = next_positive(rest)?;
@@ -78,7 +86,8 @@ pub fn box_form(body: &[u8]) -> Form
 /// The form of a layer: its short name.
 #[tactic(auto, unfolding(crate::specs::Forms::layer_form))]
 pub fn layer_form(body: &[u8]) -> Form
-    ensures { layer_form body.now ≡ form_seen result }
+    ensures is { layer_form body.now ≡ form_seen result }
+    ensures sound { FormIsSound result }
 {
     let (text, rest) = split_layer(after_blanks(body));
     let Some(layer) = LayerName::new(text) else {
@@ -93,7 +102,8 @@ pub fn layer_form(body: &[u8]) -> Form
 /// The form of a definition's start, behind its letters: the symbol's number, and perhaps a scale.
 #[tactic(auto, unfolding(crate::specs::Forms::start_form))]
 fn start_form(body: &[u8]) -> Form
-    ensures { start_form body.now ≡ form_seen result }
+    ensures is { start_form body.now ≡ form_seen result }
+    ensures sound { FormIsSound result }
 {
     let (n, rest) = natural_at(after_separators(body))?;
     if are_separators(rest) {
@@ -109,7 +119,8 @@ fn start_form(body: &[u8]) -> Form
 
 /// The form of a definition's finish, behind its letters.
 fn finish_form(body: &[u8]) -> Form
-    ensures { finished is_blank body.now commands.Finish ≡ form_seen result }
+    ensures is { finished is_blank body.now commands.Finish ≡ form_seen result }
+    ensures sound { FormIsSound result }
 {
     if !are_blanks(body) {
         return Err(Misfit::Malformed);
@@ -120,7 +131,8 @@ fn finish_form(body: &[u8]) -> Form
 /// The form of a definition's start or finish.
 #[tactic(auto, unfolding(crate::specs::Forms::definition_form))]
 pub fn definition_form(body: &[u8]) -> Form
-    ensures { definition_form body.now ≡ form_seen result }
+    ensures is { definition_form body.now ≡ form_seen result }
+    ensures sound { FormIsSound result }
 {
     let Some((letter, rest)) = after_blanks(body).split_first() else {
         return Err(Misfit::Malformed);
@@ -142,7 +154,8 @@ fn user_command(alloc: Global, kind: UserKind, text: &[u8]) -> Result<Command, A
 
 /// A user command that names something needs a name. The one error is want of memory.
 fn naming(alloc: Global, kind: UserKind, text: &[u8]) -> Result<Form, AllocError>
-    ensures { IfOk result (λ form. naming kind text.now ≡ form_seen form) }
+    ensures is { IfOk result (λ form. naming kind text.now ≡ form_seen form) }
+    ensures sound { IfOk result FormIsSound }
 {
     if text.is_empty() {
         return Ok(Err(Misfit::Malformed));
@@ -168,7 +181,8 @@ fn user_kind(first: u8, digits: &[u8]) -> UserKind
 /// The form of a user command that begins with this digit. The one error is want of memory.
 #[tactic(auto, unfolding(crate::specs::Forms::user_form))]
 pub fn user_form(alloc: Global, first: u8, body: &[u8]) -> Result<Form, AllocError>
-    ensures { IfOk result (λ form. user_form first body.now ≡ form_seen form) }
+    ensures is { IfOk result (λ form. user_form first body.now ≡ form_seen form) }
+    ensures sound { IfOk result FormIsSound }
 {
     let (digits, rest) = split_digits(body);
     let text = without_white(rest);

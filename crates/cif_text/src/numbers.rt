@@ -1,7 +1,7 @@
 ghost use Rattle.cif_text.specs.Answers.{Finds};
 ghost use Rattle.cif_text.specs.Bytes.{is_blank, is_separator};
 ghost use Rattle.cif_text.specs.Numbers.{apart, greatest, natural, number, positive, value_of};
-ghost use Rattle.cif_text.specs.Printable.{IsNear};
+ghost use Rattle.cif_text.specs.Printable.{IsNear, IsPart};
 ghost use Rattle.std.specs.Char.{is_ascii_digit};
 ghost use Rattle.std.specs.List.{list_all};
 ghost use Rattle.std.specs.Prelude.{◌≡◌, ◌<◌, ◌≤◌, if◌then◌else◌, None, Some, length, nat_le, true, IfOk, IfSome};
@@ -63,7 +63,7 @@ pub fn natural_at(bytes: &[u8]) -> Result<(u64, &[u8]), Misfit>
 #[tactic(auto, unfolding(crate::specs::Numbers::positive))]
 pub fn positive_at(bytes: &[u8]) -> Result<(u64, &[u8]), Misfit>
     ensures gives { Finds (λ x. (x.0, x.1.now)) result (positive bytes.now) }
-    ensures near { IfOk result (λ x. x.0 ≤ greatest) }
+    ensures near { IfOk result (λ x. IsPart x.0) }
 {
     let (n, rest) = natural_at(bytes)?;
     if n == 0 {
@@ -93,7 +93,7 @@ pub fn number_at(bytes: &[u8]) -> Result<(i64, &[u8]), Misfit>
 /// The number above 0 behind one separator or more, and what stands behind it. Takes no memory.
 pub fn next_positive(bytes: &[u8]) -> Result<(u64, &[u8]), Misfit>
     ensures gives { Finds (λ x. (x.0, x.1.now)) result (apart is_separator positive bytes.now) }
-    ensures near { IfOk result (λ x. x.0 ≤ greatest) }
+    ensures near { IfOk result (λ x. IsPart x.0) }
 {
     if !begins_with_separator(bytes) {
         return Err(Misfit::Malformed);

@@ -1,8 +1,9 @@
 ghost use Rattle.cif_text.specs.Answers.{Gives, Reads, commands_of};
 ghost use Rattle.cif_text.specs.Bytes.{is_ascii_byte, span};
 ghost use Rattle.cif_text.specs.CifReads.{cif_reads, is_end, is_open_behind};
+ghost use Rattle.cif_text.specs.Sound.{AreSound};
 ghost use Rattle.std.specs.List.{list_all, prefix_len};
-ghost use Rattle.std.specs.Prelude.{◌≡◌, MatchOption, false, length, true};
+ghost use Rattle.std.specs.Prelude.{◌≡◌, ◌≤◌, IfOk, MatchOption, false, length, true};
 
 use crate::bytes::after_between;
 use crate::command::Command;
@@ -33,7 +34,9 @@ fn is_open_behind(inside: bool, command: &Command) -> bool
 
 /// The commands of a text, up to its end command.
 fn commands_in(alloc: Global, bytes: &[u8]) -> Result<Vec<Command>, Stop>
-    ensures { Gives (λ found. found.items) result (commands_of false bytes.now) }
+    ensures gives { Gives (λ found. found.items) result (commands_of false bytes.now) }
+    ensures sound { IfOk result (λ found. AreSound false found.items) }
+    ensures short { IfOk result (λ found. length found.items ≤ length bytes.now) }
 {
     let mut found = Vec::new(alloc);
     let mut inside = false;
@@ -68,10 +71,13 @@ fn first_foreign(bytes: &[u8]) -> Option<usize>
 }
 
 /// Reads a CIF text (Mead and Conway's CIF 2.0): its commands exactly where it has a reading, else the kind and the place of its
-/// fault, or want of memory. The text is read once, from the front to its end command.
+/// fault, or want of memory. Their numbers are in range, their definitions are not nested, they end with the end command, and there are
+/// no more of them than bytes. The text is read once, from the front to its end command.
 #[tactic(auto, unfolding(crate::specs::CifReads::cif_reads))]
 pub fn read_commands(alloc: Global, bytes: &[u8]) -> Result<Vec<Command>, CifFault>
-    ensures { Reads (λ found. found.items) result (cif_reads bytes.now) }
+    ensures reads { Reads (λ found. found.items) result (cif_reads bytes.now) }
+    ensures sound { IfOk result (λ found. AreSound false found.items) }
+    ensures short { IfOk result (λ found. length found.items ≤ length bytes.now) }
 {
     if let Some(at) = first_foreign(bytes) {
         return Err(CifFault::Bad {

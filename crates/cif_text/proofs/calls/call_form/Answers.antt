@@ -2,11 +2,11 @@ use Rattle.std.proofs.Common.{rules, ◌∙◌}
 use Rattle.cif_text.proofs.MoveLaws.{call-moves}
 use Rattle.cif_text.proofs.calls.call_form.Goals as goal
 
-pub returns-in_err-n : goal.returns-in_err-n
-returns-in_err-n c = call-moves c.args.body.now ∙ search rules
+pub returns-in_err-n-clause-is : goal.returns-in_err-n-clause-is
+returns-in_err-n-clause-is c = call-moves c.args.body.now ∙ search rules
 
-pub returns-in_err-whole : goal.returns-in_err-whole
-returns-in_err-whole c = call-moves c.args.body.now ∙ search rules
+pub returns-in_err-whole-clause-is : goal.returns-in_err-whole-clause-is
+returns-in_err-whole-clause-is c = call-moves c.args.body.now ∙ search rules
 
-pub returns : goal.returns
-returns c = call-moves c.args.body.now ∙ search rules
+pub returns-clause-is : goal.returns-clause-is
+returns-clause-is c = call-moves c.args.body.now ∙ search rules
