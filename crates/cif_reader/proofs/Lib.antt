@@ -1,0 +1,4 @@
+-- whole texts, and the layout or the refusal of each
+pub mod Samples
+-- what commands give is what they mean
+pub mod AgreementLaws
