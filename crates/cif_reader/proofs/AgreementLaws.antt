@@ -52,7 +52,7 @@ limited view i None r meant h more = more
 abbrev state_of : Progress → State
 state_of p = p.state
 
-progress-state : (p : Progress) (c : Command) (t : State) → (progress_to p c t).state ≡ t
+pub progress-state : (p : Progress) (c : Command) (t : State) → (progress_to p c t).state ≡ t
 progress-state p (commands.Start n a b) t = refl
 progress-state p commands.Finish t = refl
 progress-state p (commands.Box long wide cx cy upright) t = refl

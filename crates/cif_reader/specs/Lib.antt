@@ -4,3 +4,5 @@ pub mod Limits
 pub mod Expansion
 -- it is what they mean, within the limits
 pub mod Agreement
+-- what every layout keeps that commands give
+pub mod Within
