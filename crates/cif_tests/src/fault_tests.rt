@@ -4,7 +4,7 @@ use crate::shown::are_shown;
 use std::test::Fail;
 
 /// Texts, and the kind and the place of the fault of each.
-const FAULTS: [(&str, &str); 65] = [
+const FAULTS: [(&str, &str); 67] = [
     // each fault
     ("", "NoEnd 0"),
     (" ;\n", "NoEnd 3"),
@@ -25,6 +25,7 @@ const FAULTS: [(&str, &str); 65] = [
     ("C 1 R 0 0;E", "Turned 0"),
     // the earlier fault of a command decides
     ("(\u{e9}", "NotAscii 1"),
+    ("(a", "Unclosed 0"),
     ("(a;E", "Unclosed 0"),
     ("P 1", "NoEnd 3"),
     ("B 2000000000000", "NoEnd 15"),
@@ -43,6 +44,7 @@ const FAULTS: [(&str, &str); 65] = [
     // where a number is called for
     ("B 0 2000000000000 0 0;E", "BadCommand 0"),
     ("B 2000000000000 0 0 0;E", "Number 2"),
+    ("B 1 1 0 0 2000000000000;E", "Number 10"),
     ("B 1 1 0 0-2000000000000;E", "BadCommand 0"),
     ("B 1 1 -1000000000001 0;E", "Number 6"),
     ("B 1 -2000000000000 0 0;E", "BadCommand 0"),
