@@ -13,6 +13,12 @@ pub mod Calls
 pub mod Commands
 -- the reading of a whole text
 pub mod CifReads
+-- the commands that a text can give
+pub mod Sound
+-- what a program that reads answers
+pub mod Answers
+-- the whole of a call's steps, as a program has it
+pub mod Transforms
 -- the commands whose printed text reads as they are
 pub mod Printable
 -- the numbers of boxes and calls at a scale
@@ -21,6 +27,8 @@ pub mod Scales
 pub mod Symbols
 -- the layout that commands mean
 pub mod Meaning
+-- the shapes that commands draw
+pub mod Bodies
 -- the layout that a text reads as
 pub mod ReadsAs
 -- the commands of a written layout, and what they mean

@@ -2,10 +2,20 @@
 //! (Mead and Conway, Introduction to VLSI Systems, 1980: CIF 2.0).
 #![tactic(auto)]
 
+mod bytes;
+mod calls;
 mod command;
+mod commands;
+mod directions;
 mod fault;
+mod forms;
+mod numbers;
 mod print;
+mod reading;
+mod stop;
+mod transform;
 
 pub use command::{Command, UserKind};
 pub use fault::{CifFault, CifKind};
 pub use print::print_command;
+pub use reading::read_commands;

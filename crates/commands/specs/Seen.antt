@@ -8,7 +8,7 @@ use Rattle.commands.specs.declared.command.WordsFault.TheVariants.{Usage, Memory
 
 -- a command as its names and its rows
 abbrev pub seen : Route → Names
-seen route = record { design = route.design.now; rules = route.rules.now; out = route.out.now; rows = route.rows }
+seen names = record { design = names.design.now; rules = names.rules.now; out = names.out.now; rows = names.rows }
 
 abbrev pub command_seen : asked.Command → Command
 command_seen (commands.Route names) = route (seen names)

@@ -118,7 +118,7 @@ impl Prepared {
     /// WriteFault, which comes only where the file's write count rose, and then the file holds what it held before, or a front of the text.
     #[tactic(auto, unfolding(crate::specs::Text::job_text))]
     pub fn write<S: Shelf>(&self, alloc: Global, shelf: &mut S, out: &str) -> Result<(), Stop>
-        ensures ends { Ends {Job} result (Ok self.now) }
+        ensures ends { Ends {Y = Job} result (Ok self.now) }
         ensures whole { OnOk result (Refines (S.holds shelf.new out.now) (Some (job_text self.now))) }
         ensures good { IsGoodText self.now.rules self.now.design (job_text self.now) }
         ensures front { ending_status result ≡ 9 → HoldsFront (job_text self.now) (S.holds shelf.old out.now) (S.holds shelf.new out.now) }

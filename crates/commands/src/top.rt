@@ -3,7 +3,7 @@
 ghost use Rattle.commands.specs.Answers.{Ends};
 ghost use Rattle.commands.specs.Causes.{IsQuiet, ReadFails, WriteFails};
 ghost use Rattle.commands.specs.Command as asked;
-ghost use Rattle.commands.specs.Command.{Command, Names, command_of, writes_of};
+ghost use Rattle.commands.specs.Command.{Names, command_of, writes_of};
 ghost use Rattle.commands.specs.Gains.{Gains};
 ghost use Rattle.commands.specs.Headline.{Headline};
 ghost use Rattle.commands.specs.Outcome.{ending_line, EndsAs, Holds, HoldsFront};
@@ -92,7 +92,7 @@ pub fn run<S: Shelf, K: Sink>(alloc: Global, words: &[Word], shelf: &mut S, out:
         (K.written out.old) (K.written out.new) (K.faults out.old) (K.faults out.new) }
 
     // Status 0: the file that the command writes, where the shelf tells it, holds exactly the text of the job.
-    ensures written { (command : Command) (said : _) (file : List ℕ) → Comes words.now (S.holds shelf.old) command said → writes_of command ≡ Some file
+    ensures written { (command : asked.Command) (said : _) (file : List ℕ) → Comes words.now (S.holds shelf.old) command said → writes_of command ≡ Some file
         → result.status ≡ 0 → Holds said (S.holds shelf.new file) }
 
     // The headline: what `route` writes reads as a layout that is good for the design under the rules.
@@ -101,24 +101,24 @@ pub fn run<S: Shelf, K: Sink>(alloc: Global, words: &[Word], shelf: &mut S, out:
         → result.status ≡ 0 → S.holds shelf.new names.out ≡ Some held → Headline stated bytes held }
 
     // Status 9: there is a job, and the file to write holds what it held, or a front of the job's text.
-    ensures front { (command : Command) (said : _) (file : List ℕ) → Comes words.now (S.holds shelf.old) command said → writes_of command ≡ Some file
+    ensures front { (command : asked.Command) (said : _) (file : List ℕ) → Comes words.now (S.holds shelf.old) command said → writes_of command ≡ Some file
         → result.status ≡ 9 → HoldsFront said (S.holds shelf.old file) (S.holds shelf.new file) }
 
     // Status 8 and 9 come only where a count rose, and where it rose they come.
-    ensures read_cause { (command : Command) → command_of words.now ≡ Some command → result.status ≡ 8
+    ensures read_cause { (command : asked.Command) → command_of words.now ≡ Some command → result.status ≡ 8
         → ReadFails command (S.holds shelf.old) (S.read_faults shelf.old) (S.read_faults shelf.new) }
-    ensures write_cause { (command : Command) → command_of words.now ≡ Some command → result.status ≡ 9
+    ensures write_cause { (command : asked.Command) → command_of words.now ≡ Some command → result.status ≡ 9
         → WriteFails command (S.write_faults shelf.old) (S.write_faults shelf.new) }
     ensures reads { result.status ≢ 8 → S.read_faults shelf.new ≡ S.read_faults shelf.old }
     ensures writes { result.status ≢ 9 → S.write_faults shelf.new ≡ S.write_faults shelf.old }
 
     // Nothing is lost.
     ensures untouched { result.status ≢ 0 → result.status ≢ 9 → S.holds shelf.new ≡ S.holds shelf.old }
-    ensures others { (command : Command) (other : List ℕ) → command_of words.now ≡ Some command
+    ensures others { (command : asked.Command) (other : List ℕ) → command_of words.now ≡ Some command
         → writes_of command ≢ Some other → S.holds shelf.new other ≡ S.holds shelf.old other }
 
     // Where nothing fails the status is the verdict's, want of memory aside.
-    ensures complete { (command : Command) (said : _) → Comes words.now (S.holds shelf.old) command said
+    ensures complete { (command : asked.Command) (said : _) → Comes words.now (S.holds shelf.old) command said
         → IsQuiet command (S.read_faults shelf.old) (S.read_faults shelf.new) (S.write_faults shelf.old) (S.write_faults shelf.new)
         → (result.status ≡ verdict_status said) ⊎ (result.status ≡ 10) }
 

@@ -1,7 +1,7 @@
 use Rattle.std.proofs.Common.{rules, ◌≡◌, ◌-◌, ℕ, List, length, take, drop, arith, length-drop, ap, refl}
 use Rattle.std.proofs.lemmas.List.{take_all}
 use Rattle.std.proofs.Math.Seq.{take-add}
-use Rattle.commands.proofs.Puts.{both-whole}
+use Rattle.shelf_io.proofs.Appends.{both-whole}
 use Rattle.commands.proofs.line.put_bytes.Goals as goal
 
 -- what the call appends to what has been put is the next front of the bytes

@@ -1,5 +1,6 @@
 use Rattle.std.proofs.Common.{refl}
-use Rattle.commands.proofs.Puts.{first-front, on-err, on-err-weaker, second-front}
+use Rattle.std.proofs.lemmas.Result.{on_err_weaker}
+use Rattle.shelf_io.proofs.Appends.{first-front, on-err, second-front}
 use Rattle.commands.proofs.line.put_three.Goals as goal
 
 pub returns-in_err-put_both-clause-front : goal.returns-in_err-put_both-clause-front
@@ -8,4 +9,4 @@ returns-in_err-put_both-clause-front g c =
 
 pub returns-clause-front : goal.returns-clause-front
 returns-clause-front g c =
-    on-err-weaker c.put_two.result _ _ (second-front _ _ _ _ _ _ refl c.in_ok-put_both.ensures.whole) c.put_two.ensures.front
+    on_err_weaker c.put_two.result (second-front _ _ _ _ _ _ refl c.in_ok-put_both.ensures.whole) c.put_two.ensures.front

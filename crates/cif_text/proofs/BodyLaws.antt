@@ -1,0 +1,146 @@
+use Rattle.std.proofs.Common.{◌≡◌, refl, ap, sym, ◌∙◌, append_assoc, ℕ, List, [], ◌∷◌, ◌++◌, Bool, true, false, Option, Some, None, Result, Ok, Err}
+use Rattle.std.specs.List.{list_all}
+use Rattle.std.specs.Prelude.{◌==◌, ◌&&◌, if◌then◌else◌}
+use Rattle.geom_core.specs.declared.layout.Shape.{Shape}
+use Rattle.cif_text.specs.declared.command.Command.{Command}
+use Rattle.cif_text.specs.declared.command.Command.TheVariants as commands
+use Rattle.cif_text.specs.InOrder.{◌>>=◌}
+use Rattle.cif_text.specs.Symbols.{Symbol, symbol_of}
+use Rattle.cif_text.specs.CifReads.{is_open_behind}
+use Rattle.cif_text.specs.Meaning.{Unmeant, undefined, found, called}
+use Rattle.cif_text.specs.Bodies.{layer_behind, name_behind, drawn_by, drawn_by_all, last_layer, last_name, outside, finishes_none, IsDefined}
+
+-- a step that gives something gives it from what the step before gave
+pub given : {A B x : Type 0} (r : Result A x) (f : A → Result B x) (y : B) → (r >>= f) ≡ Ok y → (a : A) × (r ≡ Ok a) × (f a ≡ Ok y)
+given (Ok a) f y h = (a, refl, h)
+given (Err e) f y h = cc
+
+-- one command more
+pub layer-push : (layer : Option (List ℕ)) (xs : List Command) (c : Command) → last_layer layer (xs ++ (c ∷ [])) ≡ layer_behind (last_layer layer xs) c
+layer-push layer [] c = refl
+layer-push layer (x ∷ xs) c = layer-push (layer_behind layer x) xs c
+
+pub name-push : (name : Option (List ℕ)) (xs : List Command) (c : Command) → last_name name (xs ++ (c ∷ [])) ≡ name_behind (last_name name xs) c
+name-push name [] c = refl
+name-push name (x ∷ xs) c = name-push (name_behind name x) xs c
+
+pub closed-push : (xs : List Command) (c : Command) → list_all finishes_none xs ≡ true → finishes_none c ≡ true → list_all finishes_none (xs ++ (c ∷ [])) ≡ true
+closed-push [] c all last = rw last refl
+closed-push (x ∷ xs) c all last = by (finishes_none x) all (λ others. closed-push xs c others last)
+  where
+    by : (b : Bool) → (b && list_all finishes_none xs) ≡ true → (list_all finishes_none xs ≡ true → list_all finishes_none (xs ++ (c ∷ [])) ≡ true)
+        → (b && list_all finishes_none (xs ++ (c ∷ []))) ≡ true
+    by true h more = more h
+    by false h more = cc
+
+pub layer-join : (layer : Option (List ℕ)) (xs ys : List Command) → last_layer layer (xs ++ ys) ≡ last_layer (last_layer layer xs) ys
+layer-join layer [] ys = refl
+layer-join layer (x ∷ xs) ys = layer-join (layer_behind layer x) xs ys
+
+-- what commands draw, in two parts
+pub draws-join : (symbols : List Symbol) (a b : ℕ) (layer : Option (List ℕ)) (xs ys : List Command) (shapes more : List Shape)
+    → drawn_by_all symbols a b layer xs ≡ Ok shapes → drawn_by_all symbols a b (last_layer layer xs) ys ≡ Ok more
+    → drawn_by_all symbols a b layer (xs ++ ys) ≡ Ok (shapes ++ more)
+draws-join symbols a b layer [] ys shapes more h last =
+    let none : [] ≡ shapes = cc in
+    last ∙ ap (λ (ss : List Shape). Ok (ss ++ more)) none
+draws-join symbols a b layer (x ∷ xs) ys shapes more h last =
+    let first = given (drawn_by symbols a b layer x) _ shapes h in
+    let others = given (drawn_by_all symbols a b (layer_behind layer x) xs) _ shapes first.2 in
+    let longer = draws-join symbols a b (layer_behind layer x) xs ys others.0 more others.1 last in
+    let whole : first.0 ++ others.0 ≡ shapes = cc others.2 in
+    rw (first.1, longer) (ap Ok (sym (append_assoc first.0 others.0 more) ∙ ap (λ (ss : List Shape). ss ++ more) whole))
+
+-- where more symbols have ended
+symbol-more : (n : ℕ) (symbols later : List Symbol) (y : Symbol) → symbol_of n symbols ≡ Some y → symbol_of n (symbols ++ later) ≡ Some y
+symbol-more n [] later y h = cc
+symbol-more n (s ∷ ss) later y h = by (s.number == n) h (symbol-more n ss later y)
+  where
+    by : (b : Bool) → (if b then Some s else symbol_of n ss) ≡ Some y → (symbol_of n ss ≡ Some y → symbol_of n (ss ++ later) ≡ Some y)
+        → (if b then Some s else symbol_of n (ss ++ later)) ≡ Some y
+    by true here more = here
+    by false here more = more here
+
+found-some : {A : Type 0} (fault : Unmeant) (o : Option A) (y : A) → found fault o ≡ Ok y → o ≡ Some y
+found-some fault (Some y) z h = cc
+found-some fault None z h = cc
+
+drawn-more : (symbols later : List Symbol) (a b : ℕ) (layer : Option (List ℕ)) (c : Command) (shapes : List Shape)
+    → drawn_by symbols a b layer c ≡ Ok shapes → drawn_by (symbols ++ later) a b layer c ≡ Ok shapes
+drawn-more symbols later a b layer (commands.Call n flip quarters dx dy) shapes h =
+    let call = given (called a b symbols n flip quarters dx dy) _ shapes h in
+    let symbol = given (found (undefined n) (symbol_of n symbols)) _ call.0 call.1 in
+    let there = symbol-more n symbols later symbol.0 (found-some (undefined n) (symbol_of n symbols) symbol.0 symbol.1) in
+    rw (there, symbol.2) call.2
+drawn-more symbols later a b layer (commands.Box long wide cx cy upright) shapes h = h
+drawn-more symbols later a b layer (commands.Layer name) shapes h = h
+drawn-more symbols later a b layer (commands.Start n x y) shapes h = h
+drawn-more symbols later a b layer commands.Finish shapes h = h
+drawn-more symbols later a b layer commands.Comment shapes h = h
+drawn-more symbols later a b layer (commands.User kind text) shapes h = h
+drawn-more symbols later a b layer commands.End shapes h = h
+
+pub draws-more : (symbols later : List Symbol) (a b : ℕ) (layer : Option (List ℕ)) (cs : List Command) (shapes : List Shape)
+    → drawn_by_all symbols a b layer cs ≡ Ok shapes → drawn_by_all (symbols ++ later) a b layer cs ≡ Ok shapes
+draws-more symbols later a b layer [] shapes h = h
+draws-more symbols later a b layer (c ∷ cs) shapes h =
+    let first = given (drawn_by symbols a b layer c) _ shapes h in
+    let others = given (drawn_by_all symbols a b (layer_behind layer c) cs) _ shapes first.2 in
+    rw (drawn-more symbols later a b layer c first.0 first.1, draws-more symbols later a b (layer_behind layer c) cs others.0 others.1) others.2
+
+-- whether a definition is open behind commands
+abbrev pub is_open : Bool → List Command → Bool
+is_open b [] = b
+is_open b (c ∷ cs) = is_open (is_open_behind b c) cs
+
+pub open-push : (b : Bool) (xs : List Command) (c : Command) → is_open b (xs ++ (c ∷ [])) ≡ is_open_behind (is_open b xs) c
+open-push b [] c = refl
+open-push b (x ∷ xs) c = open-push (is_open_behind b x) xs c
+
+pub outside-push : (b : Bool) (xs : List Command) (c : Command) → outside b (xs ++ (c ∷ [])) ≡ outside b xs ++ outside (is_open b xs) (c ∷ [])
+outside-push b [] c = refl
+outside-push b (commands.Start n x y ∷ xs) c = outside-push true xs c
+outside-push b (commands.Finish ∷ xs) c = outside-push false xs c
+outside-push true (commands.Box long wide cx cy upright ∷ xs) c = outside-push true xs c
+outside-push true (commands.Layer name ∷ xs) c = outside-push true xs c
+outside-push true (commands.Call n flip quarters dx dy ∷ xs) c = outside-push true xs c
+outside-push true (commands.Comment ∷ xs) c = outside-push true xs c
+outside-push true (commands.User kind text ∷ xs) c = outside-push true xs c
+outside-push true (commands.End ∷ xs) c = outside-push true xs c
+outside-push false (commands.Box long wide cx cy upright ∷ xs) c = ap (λ (cs : List Command). commands.Box long wide cx cy upright ∷ cs) (outside-push false xs c)
+outside-push false (commands.Layer name ∷ xs) c = ap (λ (cs : List Command). commands.Layer name ∷ cs) (outside-push false xs c)
+outside-push false (commands.Call n flip quarters dx dy ∷ xs) c = ap (λ (cs : List Command). commands.Call n flip quarters dx dy ∷ cs) (outside-push false xs c)
+outside-push false (commands.Comment ∷ xs) c = ap (λ (cs : List Command). commands.Comment ∷ cs) (outside-push false xs c)
+outside-push false (commands.User kind text ∷ xs) c = ap (λ (cs : List Command). commands.User kind text ∷ cs) (outside-push false xs c)
+outside-push false (commands.End ∷ xs) c = ap (λ (cs : List Command). commands.End ∷ cs) (outside-push false xs c)
+
+-- a symbol that is defined stays so
+pub defined-push : (done : List Command) (c : Command) (earlier : List Symbol) (y : Symbol) → IsDefined done earlier y → IsDefined (done ++ (c ∷ [])) earlier y
+defined-push done c earlier y h = record {
+  before = h.before;
+  a = h.a;
+  b = h.b;
+  body = h.body;
+  behind = h.behind ++ (c ∷ []);
+  stands = ap (λ (cs : List Command). cs ++ (c ∷ [])) h.stands
+      ∙ append_assoc h.before (commands.Start y.number h.a h.b ∷ (h.body ++ (commands.Finish ∷ h.behind))) (c ∷ [])
+      ∙ ap (λ (cs : List Command). h.before ++ (commands.Start y.number h.a h.b ∷ cs)) (append_assoc h.body (commands.Finish ∷ h.behind) (c ∷ []));
+  closed = h.closed;
+  draws = h.draws;
+  named = h.named;
+}
+
+-- a list with one member more, in two parts
+pub snoc-parts : {A : Type 0} (xs earlier later : List A) (x y : A) → xs ++ (x ∷ []) ≡ earlier ++ (y ∷ later)
+    → (P : Type 0) → (xs ≡ earlier → x ≡ y → P) → ((fewer : List A) → xs ≡ earlier ++ (y ∷ fewer) → P) → P
+snoc-parts [] [] [] x y h p here there = here refl cc
+snoc-parts [] [] (z ∷ later) x y h p here there = cc
+snoc-parts [] (z ∷ []) later x y h p here there = cc
+snoc-parts [] (z ∷ w ∷ earlier) later x y h p here there = cc
+snoc-parts (v ∷ xs) [] later x y h p here there = there xs cc
+snoc-parts (v ∷ xs) (z ∷ earlier) later x y h p here there =
+    let first : v ≡ z = cc in
+    let rest : xs ++ (x ∷ []) ≡ earlier ++ (y ∷ later) = cc in
+    snoc-parts xs earlier later x y rest p
+    (λ same last. here (rw (first, same) refl) last)
+    (λ fewer same. there fewer (rw (first, same) refl))

@@ -1,0 +1,14 @@
+use Rattle.std.proofs.Common.{sym}
+use Rattle.std.proofs.lemmas.List.Sums.{prefix_len-le-length}
+use Rattle.std.specs.Char.{is_ascii_digit}
+use Rattle.cif_text.proofs.ScanLemmas.{span-parts, front-all}
+use Rattle.cif_text.proofs.bytes.split_digits.Goals as goal
+
+pub split_at-requires : goal.split_at-requires
+split_at-requires c = rw c.digits_len.ensures (prefix_len-le-length is_ascii_digit c.args.bytes.now)
+
+pub returns-clause-parts : goal.returns-clause-parts
+returns-clause-parts c = rw (c.split_at.ensures.front, c.split_at.ensures.back, c.digits_len.ensures) (sym (span-parts is_ascii_digit c.args.bytes.now))
+
+pub returns-clause-digits : goal.returns-clause-digits
+returns-clause-digits c = rw (c.split_at.ensures.front, c.digits_len.ensures) (front-all is_ascii_digit c.args.bytes.now)

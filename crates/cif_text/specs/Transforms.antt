@@ -1,0 +1,54 @@
+use Rattle.std.specs.Prelude.{ℕ, ◌≤◌, nat_abs, List, length, Result, Ok}
+use Rattle.geom_core.specs.Turning.{Turning}
+use Rattle.cif_text.specs.declared.transform.Step.{Step as Move}
+use Rattle.cif_text.specs.declared.transform.Step.TheVariants as moves
+use Rattle.cif_text.specs.declared.command.Command.{Command}
+use Rattle.cif_text.specs.declared.fault.CifKind.{CifKind}
+use Rattle.cif_text.specs.Bytes.{is_blank, is_separator, skip}
+use Rattle.cif_text.specs.Calls.{Step, translate, mirror_x, mirror_y, rotate, steps_of, after, after_all, at_rest, call_of}
+use Rattle.cif_text.specs.Forms.{Form}
+use Rattle.cif_text.specs.InOrder.{◌>>=◌}
+use Rattle.cif_text.specs.Numbers.{Wrong, natural}
+use Rattle.cif_text.specs.Printable.{IsNear}
+
+-- a step, as a program has it
+abbrev pub step_seen : Move → Step
+step_seen (moves.Translate x y) = translate x y
+step_seen moves.MirrorX = mirror_x
+step_seen moves.MirrorY = mirror_y
+step_seen (moves.Rotate a b) = rotate a b
+
+-- the numbers of a step can be read
+abbrev pub IsNearStep : Move → Type 0
+IsNearStep (moves.Translate x y) = IsNear x × IsNear y
+IsNearStep moves.MirrorX = Unit {0}
+IsNearStep moves.MirrorY = Unit {0}
+IsNearStep (moves.Rotate a b) = IsNear a × IsNear b
+
+-- an offset has at most this magnitude
+pub record IsWithin (most : ℕ) (t : Turning) : Type 0 where
+  pub across : nat_abs t.dx ≤ most
+  pub up : nat_abs t.dy ≤ most
+
+-- a step behind others
+abbrev pub followed : Result Turning CifKind → Step → Result Turning CifKind
+followed so_far step = so_far >>= after step
+
+-- what further steps of a call do behind others
+abbrev pub moves_from : Result Turning CifKind → List ℕ → Result (Result Turning CifKind) Wrong
+moves_from so_far bytes = steps_of (length bytes) bytes >>= λ steps. Ok (so_far >>= after_all steps)
+
+-- what the steps of a call do together
+abbrev pub moves_of : List ℕ → Result (Result Turning CifKind) Wrong
+moves_of bytes = steps_of (length bytes) bytes >>= λ steps. Ok (after_all steps at_rest)
+
+-- the call of a symbol under what its steps do together
+abbrev pub call_under : ℕ → Result Turning CifKind → Result Command CifKind
+call_under n whole = whole >>= call_of n
+
+-- the form of a call, by what its steps do together
+abbrev pub call_by_moves : List ℕ → Form
+call_by_moves body = do
+  n ← natural (skip is_separator body)
+  whole ← moves_of (skip is_blank n.1)
+  Ok (call_under n.0 whole)

@@ -1,0 +1,131 @@
+ghost use Rattle.cif_text.specs.Answers.{Finds, form_seen};
+ghost use Rattle.cif_text.specs.Calls.{Step as SpecStep, call_form, call_of, mirror_of, point_of, rotate, step_of, translate};
+ghost use Rattle.cif_text.specs.Numbers.{greatest};
+ghost use Rattle.cif_text.specs.Printable.{IsNear};
+ghost use Rattle.cif_text.specs.Sound.{FormIsSound, IsFormed};
+ghost use Rattle.cif_text.specs.Transforms.{IsNearStep, IsWithin, call_under, followed, moves_of, step_seen};
+ghost use Rattle.std.specs.Prelude.{◌≡◌, ◌≤◌, ◌+◌, ◌^◌, ℕ, ℤ, IfOk};
+
+use crate::bytes::{after_blanks, after_separators};
+use crate::command::Command;
+use crate::fault::CifKind;
+use crate::forms::Form;
+use crate::numbers::{natural_at, next_among_blanks, number_at};
+use crate::stop::Misfit;
+use crate::transform::{Step, Transform, after, at_rest};
+
+/// The greatest magnitude of a whole offset.
+const GREATEST: u128 = 1_000_000_000_000;
+
+/// Two numbers among blanks, and what stands behind them. Takes no memory.
+fn point_at(bytes: &[u8]) -> Result<((i64, i64), &[u8]), Misfit>
+    ensures gives { (step : ℤ → ℤ → SpecStep) → Finds (λ x. (step x.0.0 x.0.1, x.1.now)) result (point_of step bytes.now) }
+    ensures across { IfOk result (λ x. IsNear x.0.0) }
+    ensures up { IfOk result (λ x. IsNear x.0.1) }
+{
+    let (x, rest) = number_at(after_blanks(bytes))?;
+    let (y, rest) = next_among_blanks(rest)?;
+    Ok(((x, y), rest))
+}
+
+/// The axis that a mirroring negates, and what stands behind it. Takes no memory.
+fn mirror_at(bytes: &[u8]) -> Result<(Step, &[u8]), Misfit>
+    ensures gives { Finds (λ x. (step_seen x.0, x.1.now)) result (mirror_of bytes.now) }
+    ensures near { IfOk result (λ x. IsNearStep x.0) }
+{
+    let Some((letter, rest)) = bytes.split_first() else {
+        return Err(Misfit::Malformed);
+    };
+    match *letter {
+        b'X' => Ok((Step::MirrorX, rest)),
+        b'Y' => Ok((Step::MirrorY, rest)),
+        _ => Err(Misfit::Malformed),
+    }
+}
+
+/// The step that begins with this letter, and what stands behind it. Takes no memory.
+#[tactic(auto, unfolding(crate::specs::Calls::step_of))]
+fn step_at(letter: u8, bytes: &[u8]) -> Result<(Step, &[u8]), Misfit>
+    ensures gives { Finds (λ x. (step_seen x.0, x.1.now)) result (step_of letter bytes.now) }
+    ensures near { IfOk result (λ x. IsNearStep x.0) }
+{
+    if letter == b'T' {
+        let ((x, y), rest) = point_at(bytes)?;
+        return Ok((Step::Translate(x, y), rest));
+    }
+    if letter == b'M' {
+        return mirror_at(after_blanks(bytes));
+    }
+    if letter == b'R' {
+        let ((a, b), rest) = point_at(bytes)?;
+        return Ok((Step::Rotate(a, b), rest));
+    }
+    Err(Misfit::Malformed)
+}
+
+/// What a step does behind others, where none of their directions was at fault.
+fn followed(so_far: Result<Transform, CifKind>, step: Step) -> Result<Transform, CifKind>
+    requires near { IsNearStep step }
+    requires reach { IfOk so_far (IsWithin (2 ^ 120)) }
+    ensures is { result ≡ followed so_far (step_seen step) }
+    ensures within { (most : ℕ) → IfOk so_far (IsWithin most) → IfOk result (IsWithin (most + greatest)) }
+{
+    match so_far {
+        Ok(t) => after(step, t),
+        Err(kind) => Err(kind),
+    }
+}
+
+/// What the steps of a call do together, or the fault of the first direction that is not along an axis. Takes no memory.
+fn moves_at(bytes: &[u8]) -> Result<Result<Transform, CifKind>, Misfit>
+    ensures { Finds (λ x. x) result (moves_of bytes.now) }
+{
+    let mut whole = Ok(at_rest());
+    let mut rest = bytes;
+    while let Some((letter, after)) = rest.split_first() {
+        let (step, after) = step_at(*letter, after)?;
+        whole = followed(whole, step);
+        rest = after_blanks(after);
+    }
+    Ok(whole)
+}
+
+/// The call of a symbol, where its whole offset has the magnitude of a number.
+fn call_of(n: u64, t: Transform) -> Result<Command, CifKind>
+    requires { n ≤ greatest }
+    ensures is { result ≡ call_of n t }
+    ensures sound { IfOk result IsFormed }
+{
+    if t.dx.unsigned_abs() > GREATEST || t.dy.unsigned_abs() > GREATEST {
+        return Err(CifKind::Number);
+    }
+    Ok(Command::Call {
+        n,
+        flip: t.flip,
+        quarters: t.quarters,
+        dx: t.dx as i64,
+        dy: t.dy as i64,
+    })
+}
+
+/// The call of a symbol under what its steps do together.
+fn call_under(n: u64, whole: Result<Transform, CifKind>) -> Result<Command, CifKind>
+    requires { n ≤ greatest }
+    ensures is { result ≡ call_under n whole }
+    ensures sound { IfOk result IsFormed }
+{
+    match whole {
+        Ok(t) => call_of(n, t),
+        Err(kind) => Err(kind),
+    }
+}
+
+/// The form of a call: the symbol's number and the transformation.
+pub fn call_form(body: &[u8]) -> Form
+    ensures is { call_form body.now ≡ form_seen result }
+    ensures sound { FormIsSound result }
+{
+    let (n, rest) = natural_at(after_separators(body))?;
+    let whole = moves_at(after_blanks(rest))?;
+    Ok(call_under(n, whole))
+}

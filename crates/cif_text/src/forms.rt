@@ -1,0 +1,196 @@
+ghost use Rattle.cif_text.specs.Answers.{form_seen, user_kind_of};
+ghost use Rattle.cif_text.specs.Bytes.{is_blank};
+ghost use Rattle.cif_text.specs.Forms.{axis_of, box_along, box_end, box_form, definition_form, finished, layer_form, naming, start_form, user_form};
+ghost use Rattle.cif_text.specs.Printable.{IsNear, IsPart};
+ghost use Rattle.cif_text.specs.Sound.{FormIsSound, IsFormed};
+ghost use Rattle.cif_text.specs.declared.command.Command.TheVariants as commands;
+ghost use Rattle.std.specs.Prelude.{◌≡◌, IfOk};
+
+use crate::bytes::{
+    after_blanks, after_separators, are_blanks, are_separators, split_digits, split_layer,
+    without_white,
+};
+use crate::command::{Command, UserKind};
+use crate::directions::is_upright;
+use crate::fault::CifKind;
+use crate::numbers::{natural_at, next_number, next_positive, positive_at};
+use crate::stop::Misfit;
+use geom_core::{LayerName, Name};
+use std::alloc::{AllocError, Global};
+
+/// What the bytes of a command read as: none of its forms, or a form, which is a command or has a fault of its own.
+pub type Form = Result<Result<Command, CifKind>, Misfit>;
+
+/// A box whose length lies along a direction.
+fn box_along(
+    length: u64,
+    width: u64,
+    cx: i64,
+    cy: i64,
+    dx: i64,
+    dy: i64,
+) -> Result<Command, CifKind>
+    requires length { IsPart length }
+    requires width { IsPart width }
+    requires across { IsNear cx }
+    requires up { IsNear cy }
+    ensures is { result ≡ box_along length width cx cy (axis_of dx dy) }
+    ensures sound { IfOk result IsFormed }
+{
+    let Some(upright) = is_upright(dx, dy) else {
+        return Err(CifKind::Turned);
+    };
+    Ok(Command::Box {
+        length: length as i64,
+        width: width as i64,
+        cx,
+        cy,
+        upright,
+    })
+}
+
+/// What stands behind a box's centre: perhaps a direction, else the length lies along x.
+#[tactic(auto, unfolding(crate::specs::Forms::box_end))]
+fn box_end(length: u64, width: u64, cx: i64, cy: i64, bytes: &[u8]) -> Form
+    requires length { IsPart length }
+    requires width { IsPart width }
+    requires across { IsNear cx }
+    requires up { IsNear cy }
+    ensures is { box_end length width cx cy bytes.now ≡ form_seen result }
+    ensures sound { FormIsSound result }
+{
+    if are_separators(bytes) {
+        return Ok(box_along(length, width, cx, cy, 1, 0));
+    }
+    let (dx, rest) = next_number(bytes)?;
+    let (dy, rest) = next_number(rest)?;
+    if !are_separators(rest) {
+        return Err(Misfit::Malformed);
+    }
+    Ok(box_along(length, width, cx, cy, dx, dy))
+}
+
+/// The form of a box: length, width, centre, and perhaps a direction.
+#[tactic(auto, unfolding(crate::specs::Forms::box_form))]
+pub fn box_form(body: &[u8]) -> Form
+    ensures is { box_form body.now ≡ form_seen result }
+    ensures sound { FormIsSound result }
+{
+    let (length, rest) = positive_at(after_separators(body))?;
+    let (width, rest) = next_positive(rest)?;
+    let (cx, rest) = next_number(rest)?;
+    let (cy, rest) = next_number(rest)?;
+    box_end(length, width, cx, cy, rest)
+}
+
+/// The form of a layer: its short name.
+#[tactic(auto, unfolding(crate::specs::Forms::layer_form))]
+pub fn layer_form(body: &[u8]) -> Form
+    ensures is { layer_form body.now ≡ form_seen result }
+    ensures sound { FormIsSound result }
+{
+    let (text, rest) = split_layer(after_blanks(body));
+    let Some(layer) = LayerName::new(text) else {
+        return Err(Misfit::Malformed);
+    };
+    if !are_blanks(rest) {
+        return Err(Misfit::Malformed);
+    }
+    Ok(Ok(Command::Layer(layer)))
+}
+
+/// The form of a definition's start, behind its letters: the symbol's number, and perhaps a scale.
+#[tactic(auto, unfolding(crate::specs::Forms::start_form))]
+fn start_form(body: &[u8]) -> Form
+    ensures is { start_form body.now ≡ form_seen result }
+    ensures sound { FormIsSound result }
+{
+    let (n, rest) = natural_at(after_separators(body))?;
+    if are_separators(rest) {
+        return Ok(Ok(Command::Start { n, a: 1, b: 1 }));
+    }
+    let (a, rest) = next_positive(rest)?;
+    let (b, rest) = next_positive(rest)?;
+    if !are_separators(rest) {
+        return Err(Misfit::Malformed);
+    }
+    Ok(Ok(Command::Start { n, a, b }))
+}
+
+/// The form of a definition's finish, behind its letters.
+fn finish_form(body: &[u8]) -> Form
+    ensures is { finished is_blank body.now commands.Finish ≡ form_seen result }
+    ensures sound { FormIsSound result }
+{
+    if !are_blanks(body) {
+        return Err(Misfit::Malformed);
+    }
+    Ok(Ok(Command::Finish))
+}
+
+/// The form of a definition's start or finish.
+#[tactic(auto, unfolding(crate::specs::Forms::definition_form))]
+pub fn definition_form(body: &[u8]) -> Form
+    ensures is { definition_form body.now ≡ form_seen result }
+    ensures sound { FormIsSound result }
+{
+    let Some((letter, rest)) = after_blanks(body).split_first() else {
+        return Err(Misfit::Malformed);
+    };
+    match *letter {
+        b'S' => start_form(rest),
+        b'F' => finish_form(rest),
+        _ => Err(Misfit::Malformed),
+    }
+}
+
+/// A user command of a text in memory of its own. The one error is want of memory.
+fn user_command(alloc: Global, kind: UserKind, text: &[u8]) -> Result<Command, AllocError>
+    ensures { IfOk result (λ command. command ≡ commands.User kind text.now) }
+{
+    let text = Name::new(text.to_vec(alloc)?);
+    Ok(Command::User { kind, text })
+}
+
+/// A user command that names something needs a name. The one error is want of memory.
+fn naming(alloc: Global, kind: UserKind, text: &[u8]) -> Result<Form, AllocError>
+    ensures is { IfOk result (λ form. naming kind text.now ≡ form_seen form) }
+    ensures sound { IfOk result FormIsSound }
+{
+    if text.is_empty() {
+        return Ok(Err(Misfit::Malformed));
+    }
+    let command = user_command(alloc, kind, text)?;
+    Ok(Ok(Ok(command)))
+}
+
+/// What a user command is for, by its first digit and those that follow it.
+fn user_kind(first: u8, digits: &[u8]) -> UserKind
+    ensures { result ≡ user_kind_of first digits.now }
+{
+    if first != b'9' {
+        return UserKind::Other;
+    }
+    match digits {
+        [] => UserKind::SymbolName,
+        [b'1'] => UserKind::InstanceName,
+        _ => UserKind::Other,
+    }
+}
+
+/// The form of a user command that begins with this digit. The one error is want of memory.
+#[tactic(auto, unfolding(crate::specs::Forms::user_form))]
+pub fn user_form(alloc: Global, first: u8, body: &[u8]) -> Result<Form, AllocError>
+    ensures is { IfOk result (λ form. user_form first body.now ≡ form_seen form) }
+    ensures sound { IfOk result FormIsSound }
+{
+    let (digits, rest) = split_digits(body);
+    let text = without_white(rest);
+    match user_kind(first, digits) {
+        UserKind::Other => {
+            let command = user_command(alloc, UserKind::Other, text)?;
+            Ok(Ok(Ok(command)))
+        }
+        kind => naming(alloc, kind, text),
+    }
+}

@@ -1,0 +1,124 @@
+ghost use Rattle.cif_text.specs.Answers.{Finds};
+ghost use Rattle.cif_text.specs.Bytes.{is_blank, is_separator};
+ghost use Rattle.cif_text.specs.Numbers.{apart, greatest, natural, number, positive, value_of};
+ghost use Rattle.cif_text.specs.Printable.{IsNear, IsPart};
+ghost use Rattle.std.specs.Char.{is_ascii_digit};
+ghost use Rattle.std.specs.List.{list_all};
+ghost use Rattle.std.specs.Prelude.{◌≡◌, ◌<◌, ◌≤◌, if◌then◌else◌, None, Some, length, nat_le, true, IfOk, IfSome};
+ghost use Rattle.std.specs.Str.Parse.{digits_value};
+
+use crate::bytes::{
+    after_blanks, after_separators, begins_with_blank, begins_with_separator, split_digits,
+};
+use crate::stop::Misfit;
+
+/// The greatest magnitude of a number.
+const GREATEST: u64 = 1_000_000_000_000;
+
+/// What these digits make, or None where it is above the greatest.
+fn value_within(digits: &[u8]) -> Option<u64>
+    requires { list_all is_ascii_digit digits.now ≡ true }
+    ensures value { result ≡ (if nat_le (digits_value 10 digits.now) greatest then Some (digits_value 10 digits.now) else None) }
+    ensures near { IfSome result (λ n. n ≤ greatest) }
+{
+    let mut n: u64 = 0;
+    let mut rest = digits;
+    while let Some((byte, after)) = rest.split_first() {
+        n = 10 * n + u64::from(*byte - b'0');
+        if n > GREATEST {
+            return None;
+        }
+        rest = after;
+    }
+    Some(n)
+}
+
+/// The number of some digits that begin at a place, and what stands behind them.
+fn value_at<'a>(place: usize, digits: &'a [u8], rest: &'a [u8]) -> Result<(u64, &'a [u8]), Misfit>
+    requires { list_all is_ascii_digit digits.now ≡ true }
+    ensures gives { Finds (λ x. (x.0, x.1.now)) result (value_of place digits.entry.now rest.entry.now) }
+    ensures near { IfOk result (λ x. x.0 ≤ greatest) }
+    ensures rest { IfOk result (λ x. x.1.now ≡ rest.entry.now) }
+{
+    if digits.is_empty() {
+        return Err(Misfit::Malformed);
+    }
+    match value_within(digits) {
+        Some(n) => Ok((n, rest)),
+        None => Err(Misfit::TooGreat(place)),
+    }
+}
+
+/// The number without a sign that stands first, and what stands behind it. Takes no memory.
+#[tactic(auto, unfolding(crate::specs::Numbers::natural))]
+pub fn natural_at(bytes: &[u8]) -> Result<(u64, &[u8]), Misfit>
+    ensures gives { Finds (λ x. (x.0, x.1.now)) result (natural bytes.now) }
+    ensures near { IfOk result (λ x. x.0 ≤ greatest) }
+{
+    let (digits, rest) = split_digits(bytes);
+    value_at(bytes.len(), digits, rest)
+}
+
+/// The number above 0 that stands first, and what stands behind it. Takes no memory.
+#[tactic(auto, unfolding(crate::specs::Numbers::positive))]
+pub fn positive_at(bytes: &[u8]) -> Result<(u64, &[u8]), Misfit>
+    ensures gives { Finds (λ x. (x.0, x.1.now)) result (positive bytes.now) }
+    ensures near { IfOk result (λ x. IsPart x.0) }
+{
+    let (n, rest) = natural_at(bytes)?;
+    if n == 0 {
+        return Err(Misfit::Malformed);
+    }
+    Ok((n, rest))
+}
+
+/// The number that stands first, perhaps behind a minus sign, and what stands behind it. Takes no memory.
+#[tactic(auto, unfolding(crate::specs::Numbers::number))]
+pub fn number_at(bytes: &[u8]) -> Result<(i64, &[u8]), Misfit>
+    ensures gives { Finds (λ x. (x.0, x.1.now)) result (number bytes.now) }
+    ensures near { IfOk result (λ x. IsNear x.0) }
+{
+    let Some((first, after)) = bytes.split_first() else {
+        return Err(Misfit::Malformed);
+    };
+    if *first == b'-' {
+        let (digits, rest) = split_digits(after);
+        let (n, rest) = value_at(bytes.len(), digits, rest)?;
+        return Ok((-(n as i64), rest));
+    }
+    let (n, rest) = natural_at(bytes)?;
+    Ok((n as i64, rest))
+}
+
+/// The number above 0 behind one separator or more, and what stands behind it. Takes no memory.
+pub fn next_positive(bytes: &[u8]) -> Result<(u64, &[u8]), Misfit>
+    ensures gives { Finds (λ x. (x.0, x.1.now)) result (apart is_separator positive bytes.now) }
+    ensures near { IfOk result (λ x. IsPart x.0) }
+{
+    if !begins_with_separator(bytes) {
+        return Err(Misfit::Malformed);
+    }
+    positive_at(after_separators(bytes))
+}
+
+/// The number behind one separator or more, and what stands behind it. Takes no memory.
+pub fn next_number(bytes: &[u8]) -> Result<(i64, &[u8]), Misfit>
+    ensures gives { Finds (λ x. (x.0, x.1.now)) result (apart is_separator number bytes.now) }
+    ensures near { IfOk result (λ x. IsNear x.0) }
+{
+    if !begins_with_separator(bytes) {
+        return Err(Misfit::Malformed);
+    }
+    number_at(after_separators(bytes))
+}
+
+/// The number behind one blank or more, and what stands behind it. Takes no memory.
+pub fn next_among_blanks(bytes: &[u8]) -> Result<(i64, &[u8]), Misfit>
+    ensures gives { Finds (λ x. (x.0, x.1.now)) result (apart is_blank number bytes.now) }
+    ensures near { IfOk result (λ x. IsNear x.0) }
+{
+    if !begins_with_blank(bytes) {
+        return Err(Misfit::Malformed);
+    }
+    number_at(after_blanks(bytes))
+}
