@@ -1,7 +1,6 @@
 use Rattle.std.proofs.Common.{◌≡◌, append_assoc, ap, sym, ◌∙◌, ℕ, zero, suc, ◌+◌, List, [], ◌∷◌, ◌++◌, length, map, take, drop, Some, inl, inr, arith}
 use Rattle.std.proofs.Math.Seq.{drop-append_seam, take-append_seam}
 use Rattle.std.proofs.lemmas.List.{length-append, length-map, map-append}
-use Rattle.std.proofs.lemmas.Option.{none-some}
 use Rattle.std.specs.Prelude.{slice_get, ◌⊎◌}
 use Rattle.wire_geom.proofs.ListLaws.{get-before, get-behind}
 

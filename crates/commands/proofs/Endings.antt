@@ -29,7 +29,7 @@ pub ends-stopped : {X : Type 0} (view : X → Job) (result : Result (Unit {0}) S
 ends-stopped view (Ok done) stop said is found = absurd is
 ends-stopped view (Err other) stop said is found = subst (λ s. Ends (Err s) said) (sym is) (stopped view stop said found)
 
-rose-still : (old new : ℕ) → Rose old new → Still old new → ⊥
+pub rose-still : (old new : ℕ) → Rose old new → Still old new → ⊥
 rose-still old new rose still = let more : old < new = rose still.open_ended in absurd (omega (arith, more, still.same))
 
 same-status : (refusal : Refusal) (said : Result Job Refusal) → said ≡ Err refusal

@@ -10,3 +10,5 @@ pub mod Endings
 pub mod Arguments
 -- plain wirings connect the channels of rows with feeds, within the bound
 pub mod RoutedLaws
+-- from the files of a job to the headline
+pub mod HeadlineLaws

@@ -1,10 +1,9 @@
-use Rattle.std.proofs.Common.{◌≡◌, ◌<◌, ◌+◌, ◌++◌, ◌∙◌, ℕ, List, Option, Some, None, Result, Ok, Err, OnOk, OnErr, length, take, min, refl, sym, ap, arith, append_assoc}
+use Rattle.std.proofs.Common.{◌<◌, ◌∙◌, ℕ, List, Option, Result, Ok, Err, OnOk, OnErr, length, ap, arith}
 use Rattle.shelf_io.specs.Count.{Rose}
 use Rattle.shelf_io.specs.Told.{EndsWithin, Refines, appended}
 use Rattle.shelf_io.specs.declared.traits.Failed.{Failed}
 use Rattle.commands.specs.Gains.{Gains}
-use Rattle.std.proofs.lemmas.List.{take-append-le, take_all, take_min}
-use Rattle.std.proofs.Math.Seq.{take-append-add}
+use Rattle.std.proofs.lemmas.List.{take_all}
 
 -- what was gained by a text that was put, whole or not
 pub gained : (result : Result (Unit {0}) Failed) (text : List ℕ) (before after : Option (List ℕ)) (old new : ℕ)

@@ -1,6 +1,4 @@
-use Rattle.std.specs.Prelude.{◌≡◌, ◌⊎◌, ℕ, List, Option, Some, Result, Ok, Err, is_ok, true}
-use Rattle.shelf_io.specs.Count.{Rose}
-use Rattle.commands.specs.Verdict.{rules_verdict}
+use Rattle.std.specs.Prelude.{◌≡◌, Result, Ok, Err}
 use Rattle.commands.specs.declared.refusal.Refusal.{Refusal}
 use Rattle.commands.specs.declared.refusal.Refusal.TheVariants as refusals
 use Rattle.commands.specs.declared.stop.Stop.{Stop}

@@ -3,8 +3,10 @@
 ghost use Rattle.commands.specs.Answers.{Answers, Ends};
 ghost use Rattle.commands.specs.Headline.{IsGoodText};
 ghost use Rattle.commands.specs.Job.{Job};
+ghost use Rattle.commands.specs.Limits.{size_refusal};
+ghost use Rattle.commands.specs.Refusing.{unless};
 ghost use Rattle.commands.specs.Status.{ending_status, refusal_status};
-ghost use Rattle.commands.specs.Text.{job_text, wirings_in_use};
+ghost use Rattle.commands.specs.Text.{bound_for, job_text, rows_with_feeds, wirings_in_use};
 ghost use Rattle.commands.specs.Verdict.{rows_verdict};
 ghost use Rattle.channel_stack.specs.Routed.{AreWired, IsRouted};
 ghost use Rattle.cif_writer.specs.LayoutText.{HoldsFront};
@@ -14,7 +16,7 @@ ghost use Rattle.feed_cells.specs.Placement.{placement_of};
 ghost use Rattle.pin_assign.specs.Bounds as pins;
 ghost use Rattle.shelf_io.specs.Count.{Rose};
 ghost use Rattle.shelf_io.specs.Told.{Refines};
-ghost use Rattle.std.specs.Prelude.{◌≡◌, ◌≢◌, ◌≤◌, List, ℕ, Ok, Some, IfErr, IfOk, OnOk};
+ghost use Rattle.std.specs.Prelude.{◌≡◌, ◌≢◌, ◌⊎◌, ◌≤◌, List, ℕ, Ok, Some, IfErr, IfOk};
 
 use crate::limits::size_refusal;
 use crate::refusal::Refusal;
@@ -49,6 +51,8 @@ pub struct Prepared {
 
 impl Model for Prepared {
     ghost use Rattle.commands.specs.Job.{Job};
+    ghost use Rattle.commands.specs.Limits.{size_refusal};
+    ghost use Rattle.commands.specs.Refusing.{unless};
     ghost use Rattle.commands.specs.PreparedView.{job_in, IsPrepared};
 
     ghost Value = { Job };
@@ -77,11 +81,64 @@ fn wired(
     ensures routed { IfOk result (λ wirings. IsRouted rules.now design.now fed.now wirings.items) }
 {
     let channels = channels(alloc, design, fed, placement)?;
-    route_channels(alloc, channels.as_slice())
+    let wirings = route_channels(alloc, channels.as_slice())?;
+    Ok(wirings)
+}
+
+// Rows with feeds, and by what placement.
+#[derive(Drop)]
+struct FedDesign {
+    placement: Placement,
+    fed: FedRows,
+}
+
+// The rows with feeds of a design in so many rows.
+fn feed_rows(alloc: Global, design: &Design, rows: u32) -> Result<FedDesign, AllocError>
+    requires some { 1 ≤ rows }
+    requires few { rows ≤ 512 }
+    ensures is { IfOk result (λ made. made.fed ≡ rows_with_feeds design.now rows) }
+    ensures fed { IfOk result (λ made. IsFed design.now made.fed) }
+    ensures placement { IfOk result (λ made. made.placement ≡ placement_of design.now (cells_in made.fed.rows)) }
+{
+    let seats = start(alloc, design, rows)?;
+    let placement = place(alloc, design, &seats)?;
+    let fed = insert_feeds(alloc, design, &seats, &placement)?;
+    Ok(FedDesign { placement, fed })
+}
+
+// Rows with feeds, and the wirings of the channels between them.
+#[derive(Drop)]
+struct Routed {
+    fed: FedRows,
+    wirings: Vec<Wiring>,
+}
+
+// A design in so many rows with feeds, routed, if its layout is within the limits.
+#[tactic(auto, unfolding(crate::specs::Text::bound_for))]
+fn route_rows(alloc: Global, design: &Design, rules: &Rules, rows: u32) -> Result<Routed, Refusal>
+    requires some { 1 ≤ rows }
+    requires few { rows ≤ 512 }
+    ensures made { Answers (λ routed. rows) result (unless (size_refusal (bound_for rules.now design.now rows)) (Ok rows)) }
+    ensures is { IfOk result (λ made. made.fed ≡ rows_with_feeds design.now rows) }
+    ensures fed { IfOk result (λ made. IsFed design.now made.fed) }
+    ensures stated { IfOk result (λ made. made.wirings.items ≡ wirings_in_use design.now made.fed) }
+    ensures wired { IfOk result (λ made. AreWired design.now made.fed made.wirings.items) }
+    ensures routed { IfOk result (λ made. IsRouted rules.now design.now made.fed made.wirings.items) }
+    ensures command { IfErr result (λ refusal. refusal_status refusal ≢ 2) }
+{
+    let made = feed_rows(alloc, design, rows)?;
+    if let Some(refusal) = size_refusal(bound_of(design, &made.fed, rules)) {
+        return Err(refusal);
+    }
+    let wirings = wired(alloc, design, &made.fed, &made.placement, rules)?;
+    Ok(Routed {
+        fed: made.fed,
+        wirings,
+    })
 }
 
 /// A design laid out in so many rows and routed, if that is built and within the limits. Each cell has room for its pins.
-#[tactic(auto, unfolding(crate::specs::Verdict::rows_verdict, crate::specs::Text::bound_for))]
+#[tactic(auto, unfolding(crate::specs::Verdict::rows_verdict))]
 pub fn lay_out(alloc: Global, design: Design, rules: Rules, rows: u32) -> Result<Prepared, Refusal>
     requires high { HasRoom rules design }
     requires some { 1 ≤ rows }
@@ -93,21 +150,16 @@ pub fn lay_out(alloc: Global, design: Design, rules: Rules, rows: u32) -> Result
     if is_unbuilt(&design, &rules) {
         return Err(Refusal::Unbuilt);
     }
-    let seats = start(alloc, &design, rows)?;
-    let placement = place(alloc, &design, &seats)?;
-    let fed = insert_feeds(alloc, &design, &seats, &placement)?;
-    if let Some(refusal) = size_refusal(bound_of(&design, &fed, &rules)) {
-        return Err(refusal);
-    }
-    let wirings = wired(alloc, &design, &fed, &placement, &rules)?;
-    let laid = lay(alloc, &design, &fed, wirings.as_slice(), &rules)?;
-    let symbols = symbol_drawings(alloc, &design, &fed, &rules)?;
+    let routed = route_rows(alloc, &design, &rules, rows)?;
+    let wirings = routed.wirings.as_slice();
+    let laid = lay(alloc, &design, &routed.fed, wirings, &rules)?;
+    let symbols = symbol_drawings(alloc, &design, &routed.fed, &rules)?;
     Ok(Prepared {
         rules,
         design,
         rows,
-        fed,
-        wirings,
+        fed: routed.fed,
+        wirings: routed.wirings,
         laid,
         symbols,
     })
@@ -119,11 +171,11 @@ impl Prepared {
     #[tactic(auto, unfolding(crate::specs::Text::job_text))]
     pub fn write<S: Shelf>(&self, alloc: Global, shelf: &mut S, out: &str) -> Result<(), Stop>
         ensures ends { Ends {Y = Job} result (Ok self.now) }
-        ensures whole { OnOk result (Refines (S.holds shelf.new out.now) (Some (job_text self.now))) }
+        ensures whole { ending_status result ≡ 0 → Refines (S.holds shelf.new out.now) (Some (job_text self.now)) }
         ensures good { IsGoodText self.now.rules self.now.design (job_text self.now) }
         ensures front { ending_status result ≡ 9 → HoldsFront (job_text self.now) (S.holds shelf.old out.now) (S.holds shelf.new out.now) }
-        ensures memory { ending_status result ≡ 10 → shelf.new ≡ shelf.old }
-        ensures listed { ending_status result ≢ 8 }
+        ensures untouched { ending_status result ≢ 0 → ending_status result ≢ 9 → shelf.new ≡ shelf.old }
+        ensures listed { (ending_status result ≡ 0) ⊎ ((ending_status result ≡ 9) ⊎ (ending_status result ≡ 10)) }
         ensures command { ending_status result ≢ 2 }
         ensures others { (other : List ℕ) → other ≢ out.now → S.holds shelf.new other ≡ S.holds shelf.old other }
         ensures reads { S.read_faults shelf.new ≡ S.read_faults shelf.old }

@@ -24,12 +24,48 @@ struct Case {
 
 const CASES: [Case; 6] = [
     // A text of 4,096 bytes goes out in one put: call 2 would be a second one.
-    Case { last: 17, most: 5000, fail: 2, whole: true, held: 4096 },
-    Case { last: 18, most: 5000, fail: 2, whole: false, held: 4096 },
-    Case { last: 18, most: 5000, fail: 3, whole: true, held: 4097 },
-    Case { last: 18, most: 100, fail: 3, whole: false, held: 200 },
-    Case { last: 16, most: 5000, fail: 1, whole: false, held: 0 },
-    Case { last: 16, most: 5000, fail: 2, whole: true, held: 4095 },
+    Case {
+        last: 17,
+        most: 5000,
+        fail: 2,
+        whole: true,
+        held: 4096,
+    },
+    Case {
+        last: 18,
+        most: 5000,
+        fail: 2,
+        whole: false,
+        held: 4096,
+    },
+    Case {
+        last: 18,
+        most: 5000,
+        fail: 3,
+        whole: true,
+        held: 4097,
+    },
+    Case {
+        last: 18,
+        most: 100,
+        fail: 3,
+        whole: false,
+        held: 200,
+    },
+    Case {
+        last: 16,
+        most: 5000,
+        fail: 1,
+        whole: false,
+        held: 0,
+    },
+    Case {
+        last: 16,
+        most: 5000,
+        fail: 2,
+        whole: true,
+        held: 4095,
+    },
 ];
 
 /// Writes the copies, and ends the text.

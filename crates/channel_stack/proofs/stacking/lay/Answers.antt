@@ -1,18 +1,11 @@
-use Rattle.std.proofs.Common.{rules as all_rules, ◌≡◌, ◌<◌, ◌≤◌, ◌^◌, ◌*◌, ℕ, List, Some, arith, subst, sym, ap}
+use Rattle.std.proofs.Common.{rules as all_rules, ◌≡◌, ◌<◌, ◌≤◌, ◌^◌, ◌*◌, List, arith, subst, sym, ap}
 use Rattle.std.proofs.Math.Nat.{mul-le-mul}
-use Rattle.std.specs.List.{All, AllByRecursion, slice_get}
-use Rattle.channel_model.specs.Elements.{elements}
-use Rattle.channel_model.specs.Wired.{IsOnGrid}
-use Rattle.channel_model.specs.declared.wiring.Wiring.{Wiring}
+use Rattle.std.specs.List.{AllByRecursion}
 use Rattle.feed_cells.specs.Fed.{items_width}
 use Rattle.feed_cells.specs.declared.fed.Item.{Item}
-use Rattle.list_facts.proofs.Every.{every-from-get}
 use Rattle.design_model.specs.Netlist.{Netlist, IsNetlist}
 use Rattle.tech_rules.specs.Rules.{ValidRules}
-use Rattle.design_model.specs.Good.{Good}
-use Rattle.channel_stack.specs.Layouts.{layout_of}
-use Rattle.channel_stack.specs.Routed.{IsWithin}
-use Rattle.channel_stack.specs.Stack.{Stacked, stack_of, stack_top}
+use Rattle.channel_stack.specs.Stack.{stack_of, stack_top}
 use Rattle.channel_stack.proofs.GoodStack.{stack-good}
 use Rattle.channel_stack.proofs.Heights.{rows-fit, stack-within, top-fits}
 use Rattle.channel_stack.proofs.stacking.lay.Goals as goal

@@ -1,5 +1,5 @@
 use Rattle.std.proofs.Common.{rules as all_rules, ◌≡◌, ℕ, Some, sym, subst}
-use Rattle.std.specs.List.{All, AllByRecursion, slice_get}
+use Rattle.std.specs.List.{All, slice_get}
 use Rattle.channel_model.specs.Elements.{elements}
 use Rattle.channel_model.specs.Wired.{IsOnGrid}
 use Rattle.channel_model.specs.declared.wiring.Wiring.{Wiring}

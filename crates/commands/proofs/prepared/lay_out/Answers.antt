@@ -1,24 +1,16 @@
-use Rattle.std.proofs.Common.{◌≡◌, None, ap, sym, ◌∙◌, arith}
-use Rattle.pin_assign.specs.Bounds.{bound_of}
-use Rattle.commands.specs.Limits.{size_refusal}
-use Rattle.commands.proofs.Points.{unrefused-within}
 use Rattle.commands.proofs.prepared.lay_out.Goals as goal
 
-pub wired-requires-clause-narrow : goal.wired-requires-clause-narrow
-wired-requires-clause-narrow c =
-    let small : size_refusal c.bound_of.result ≡ None = sym c.size_refusal.ensures.is ∙ c.in_default.is in
-    let within = (unrefused-within c.bound_of.result small).0 in
-    let wide = c.bound_of.ensures.wide in
-    omega arith
-
-pub wired-requires-clause-width : goal.wired-requires-clause-width
-wired-requires-clause-width c =
-    let bound = bound_of c.args.rules c.args.design c.in_ok-fed.fed in
-    let small : size_refusal bound ≡ None = ap size_refusal (sym c.bound_of.ensures.is) ∙ sym c.size_refusal.ensures.is ∙ c.in_default.is in
-    (unrefused-within bound small).1.0
-
-pub wired-requires-clause-height : goal.wired-requires-clause-height
-wired-requires-clause-height c =
-    let bound = bound_of c.args.rules c.args.design c.in_ok-fed.fed in
-    let small : size_refusal bound ≡ None = ap size_refusal (sym c.bound_of.ensures.is) ∙ sym c.size_refusal.ensures.is ∙ c.in_default.is in
-    (unrefused-within bound small).1.1
+pub invariant_of-result : goal.invariant_of-result
+invariant_of-result c =
+    let slice = c.as_slice-wirings.ensures.value in
+    record {
+      valid = c.if-is_unbuilt.ensures.valid;
+      high = c.requires.high;
+      fed = c.in_ok-routed.ensures.fed;
+      fed_is = c.in_ok-routed.ensures.is;
+      wirings_are = c.in_ok-routed.ensures.stated;
+      routed = c.in_ok-routed.ensures.routed;
+      laid = rw slice at c.in_ok-laid.ensures.laid;
+      good = (rw slice at c.in_ok-laid.ensures.good) c.requires.high c.in_ok-routed.ensures.wired;
+      symbols = c.in_ok-symbols.ensures;
+    }

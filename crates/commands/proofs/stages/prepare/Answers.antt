@@ -18,9 +18,9 @@ returns-clause-told g c = λ said is.
 
 pub returns-clause-is : goal.returns-clause-is
 returns-clause-is g c = IfOk-weaker c.load_design.result _ _ (λ job is. λ stated bytes states told.
-  let from = is bytes (ap (λ holds. holds c.args.design.now) c.in_ok-stated.ensures.files ∙ told) in
-  let rules = from.is.rules_are in
-  record {
-    states = states-rules stated c.in_ok-stated.stated (c.in_ok-stated.ensures.told stated states) ∙ ap Ok (sym rules);
-    is = subst (λ (r : RuleValues). IsJobOf r bytes job) (sym rules) from;
-  }) c.load_design.ensures.is
+    let from = is bytes (ap (λ holds. holds c.args.design.now) c.in_ok-stated.ensures.files ∙ told) in
+    let rules = from.is.rules_are in
+    record {
+      states = states-rules stated c.in_ok-stated.stated (c.in_ok-stated.ensures.told stated states) ∙ ap Ok (sym rules);
+      is = subst (λ (r : RuleValues). IsJobOf r bytes job) (sym rules) from;
+    }) c.load_design.ensures.is

@@ -1,5 +1,13 @@
+use Rattle.std.proofs.Common.{◌≡◌, ◌∙◌, ℕ, List, Option, Ok, ap, inl, inr, subst, sym}
+use Rattle.std.proofs.lemmas.Option.{same_Some}
+use Rattle.shelf_io.specs.Count.{Rose}
+use Rattle.cif_writer.specs.LayoutText as written
 use Rattle.commands.specs.Job.{Job}
-use Rattle.commands.proofs.Endings.{complete-stopped, ends-stopped}
+use Rattle.commands.specs.Outcome.{Holds, HoldsFront}
+use Rattle.commands.specs.Status.{verdict_status}
+use Rattle.commands.specs.Text.{job_text}
+use Rattle.commands.proofs.Endings.{complete-stopped, ends-stopped, rose-still}
+use Rattle.commands.proofs.HeadlineLaws.{headline-from}
 use Rattle.commands.proofs.top.route.Goals as goal
 
 pub returns-in_err-prepared-clause-told : goal.returns-in_err-prepared-clause-told
@@ -10,3 +18,37 @@ pub returns-in_err-prepared-clause-complete : goal.returns-in_err-prepared-claus
 returns-in_err-prepared-clause-complete g c = λ said is quiet.
     complete-stopped (λ (j : Job). j) c.from_residual.result _ said _ _ _ _ _ c.from_residual.ensures.1
     (c.in_err-prepared.ensures.told said is) c.in_err-prepared.ensures.cause quiet.reads.0 quiet.reads.1.0
+
+pub returns-clause-written : goal.returns-clause-written
+returns-clause-written g c = λ said is zero.
+    let accepted : said ≡ Ok c.in_ok-prepared.prepared = c.in_ok-prepared.ensures.told said is in
+    subst (λ s. Holds s (g.S.Shelf.holds c.write.new.shelf c.args.names.now.out.now)) (sym accepted) (c.write.ensures.whole zero)
+
+pub returns-clause-headline : goal.returns-clause-headline
+returns-clause-headline g c = λ stated bytes held rules design zero told.
+    headline-from stated bytes held c.in_ok-prepared.prepared (c.in_ok-prepared.ensures.is stated bytes rules design) c.write.ensures.good
+    (same_Some (job_text c.in_ok-prepared.prepared) held (c.write.ensures.whole zero held told))
+
+pub returns-clause-front : goal.returns-clause-front
+returns-clause-front g c = λ said is nine.
+    let accepted : said ≡ Ok c.in_ok-prepared.prepared = c.in_ok-prepared.ensures.told said is in
+    subst (λ s. HoldsFront s (g.S.Shelf.holds c.args.shelf.now c.args.names.now.out.now) (g.S.Shelf.holds c.write.new.shelf c.args.names.now.out.now)) (sym accepted)
+    (subst (λ (h : List ℕ → Option (List ℕ)). written.HoldsFront (job_text c.in_ok-prepared.prepared) (h c.args.names.now.out.now)
+    (g.S.Shelf.holds c.write.new.shelf c.args.names.now.out.now)) c.in_ok-prepared.ensures.files (c.write.ensures.front nine))
+
+pub returns-clause-untouched : goal.returns-clause-untouched
+returns-clause-untouched g c = λ some other.
+    ap g.S.Shelf.holds (c.write.ensures.untouched some other) ∙ c.in_ok-prepared.ensures.files
+
+pub returns-clause-complete : goal.returns-clause-complete
+returns-clause-complete g c = λ said is quiet.
+    let accepted : said ≡ Ok c.in_ok-prepared.prepared = c.in_ok-prepared.ensures.told said is in
+    elim c.write.ensures.listed [
+      | inl zero ↦ inl (zero ∙ sym (ap verdict_status accepted))
+      | inr failed ↦ elim failed [
+        | inl nine ↦
+            let old = ap (λ (f : List ℕ → ℕ). f c.args.names.now.out.now) c.in_ok-prepared.ensures.writes in
+            absurd (rose-still _ _ (subst (λ (n : ℕ). Rose n (g.S.Shelf.write_faults c.write.new.shelf c.args.names.now.out.now)) old (c.write.ensures.cause nine)) quiet.writes)
+        | inr ten ↦ inr ten
+      ]
+    ]

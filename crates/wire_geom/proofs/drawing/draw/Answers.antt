@@ -1,4 +1,4 @@
-use Rattle.std.proofs.Common.{◌≡◌, ◌≤◌, ◌∙◌, arith, length, sym}
+use Rattle.std.proofs.Common.{◌≡◌, ◌∙◌, arith, length, sym}
 use Rattle.std.proofs.lemmas.List.{take_all}
 use Rattle.wire_geom.proofs.DrawingLaws.{drawing_wide, drawing_apart, drawing_columns, drawing_contact, drawing_edges, drawing_entries}
 use Rattle.wire_geom.proofs.ListLaws.{take-get}
@@ -13,7 +13,7 @@ loop-k-preserved c =
 pub returns-clause-drawn : goal.returns-clause-drawn
 returns-clause-drawn c =
     let long : length (drawing c.args.rules.now c.args.base c.args.wiring.now) ≡ c.shapes-k-end.result =
-      c.shapes-k-end.ensures.drawn c.args.rules.now c.args.base in
+    c.shapes-k-end.ensures.drawn c.args.rules.now c.args.base in
     c.loop-k.invariant
     ∙ take_all c.loop-k.k (drawing c.args.rules.now c.args.base c.args.wiring.now) (omega (arith, long, c.loop-k-test.false))
 

@@ -1,8 +1,7 @@
-use Rattle.std.proofs.Common.{◌≡◌, ◌∙◌, ◌+◌, ◌*◌, ◌-◌, ◌/◌, ◌%◌, ◌<◌, ap, arith, sym, length, Some}
+use Rattle.std.proofs.Common.{◌≡◌, ◌∙◌, ◌-◌, ◌/◌, ◌%◌, ◌<◌, ap, arith, sym, length, Some}
 use Rattle.std.proofs.lemmas.Option.{slice_get-get_or}
 use Rattle.channel_model.specs.Wired.{IsOnGrid}
 use Rattle.channel_model.specs.declared.wiring.Segment.TheVariants.{Across}
-use Rattle.channel_model.specs.declared.wiring.Via.{Via}
 use Rattle.wire_geom.proofs.DrawingPlaces.{segment-on, segment-place, via-place}
 use Rattle.wire_geom.specs.declared.drawn.Drawn.{Drawn}
 use Rattle.wire_geom.proofs.drawing.shape_at.Goals as goal
