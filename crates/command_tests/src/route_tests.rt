@@ -120,6 +120,87 @@ fn fails_at(
     )
 }
 
+/// A design whose text is put at most `most` bytes at a time, and how many bytes OUT holds where this put of it fails; the first is put 0.
+struct Cut {
+    modules: &'static str,
+    calls: &'static str,
+    text: &'static str,
+    most: usize,
+    put: u64,
+    held: usize,
+}
+
+const CUTS: [Cut; 6] = [
+    // Texts of 110, 132 and 362 bytes.
+    Cut {
+        modules: INVERTER,
+        calls: "u1 INV n1;\n",
+        text: ONE_INVERTER,
+        most: 50,
+        put: 2,
+        held: 100,
+    },
+    Cut {
+        modules: INVERTER,
+        calls: "u1 INV n1;\nu2 INV n2;\n",
+        text: TWO_INVERTERS,
+        most: 64,
+        put: 2,
+        held: 128,
+    },
+    Cut {
+        modules: INVERTER,
+        calls: "u1 INV n1;\nu2 INV n2;\n",
+        text: TWO_INVERTERS,
+        most: 64,
+        put: 3,
+        held: 132,
+    },
+    Cut {
+        modules: BUFFER,
+        calls: "u1 BUF n1;\nu2 BUF n1;\n",
+        text: TWO_JOINED,
+        most: 100,
+        put: 3,
+        held: 300,
+    },
+    Cut {
+        modules: BUFFER,
+        calls: "u1 BUF n1;\nu2 BUF n1;\n",
+        text: TWO_JOINED,
+        most: 100,
+        put: 4,
+        held: 362,
+    },
+    Cut {
+        modules: BUFFER,
+        calls: "u1 BUF n1;\nu2 BUF n1;\n",
+        text: TWO_JOINED,
+        most: 361,
+        put: 1,
+        held: 361,
+    },
+];
+
+// Whether a text is so cut: the shelf's calls before the puts are two takes of the rules, two of the design, and `begin`.
+fn is_cut(alloc: Global, case: &Cut) -> Result<bool, AllocError> {
+    let mut shelf = shelf_of(alloc, RULES, case.modules, case.calls)?;
+    shelf.most(case.most);
+    shelf.fail_at(5 + case.put)?;
+    let whole = case.held == case.text.len();
+    let (status, line) = if whole { (0, "") } else { (9, "write fault\n") };
+    let ended = is_ended(alloc, ROUTE, &mut shelf, status, line)?;
+    Ok(ended && shelf.get("o") == Some(&case.text.as_bytes()[..case.held]))
+}
+
+#[test]
+fn texts_are_put_piece_by_piece(rt: HostRuntime) -> Result<(), Fail> {
+    for case in &CUTS {
+        assert!(rt; is_cut(rt.alloc(), case)?, "{} {}", case.most, case.put);
+    }
+    Ok(())
+}
+
 #[test]
 fn each_failure_of_the_shelf(rt: HostRuntime) -> Result<(), Fail> {
     // Two takes of the rules, two of the design, `begin`, and two pieces.
