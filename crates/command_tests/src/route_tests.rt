@@ -185,7 +185,7 @@ const CUTS: [Cut; 6] = [
 // Whether a text is so cut: the shelf's calls before the puts are two takes of the rules, two of the design, and `begin`.
 fn is_cut(alloc: Global, case: &Cut) -> Result<bool, AllocError> {
     let mut shelf = shelf_of(alloc, RULES, case.modules, case.calls)?;
-    shelf.most(case.most);
+    shelf.most(case.most.max(1));
     shelf.fail_at(5 + case.put)?;
     let whole = case.held == case.text.len();
     let (status, line) = if whole { (0, "") } else { (9, "write fault\n") };

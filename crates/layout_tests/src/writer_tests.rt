@@ -88,7 +88,7 @@ fn is_so(alloc: Global, case: &Case) -> Result<bool, AllocError> {
     let short = Name::new("a".as_bytes().to_vec(alloc)?);
     let long = Name::new(vec![in alloc; 98; case.last]?);
     let mut shelf = MemShelf::new(alloc)?;
-    shelf.most(case.most);
+    shelf.most(case.most.max(1));
     shelf.fail_at(case.fail)?;
     let Ok(writer) = Writer::start(alloc, &mut shelf, "out") else {
         return Ok(false);
