@@ -120,13 +120,14 @@ fn fails_at(
     )
 }
 
-/// A design whose text is put at most `most` bytes at a time, and how many bytes OUT holds where this put of it fails; the first is put 0.
+/// A design whose text is put at most `most` bytes at a time, and how many bytes OUT holds where this call of the shelf fails. Before the puts stand two takes of
+/// the rules, two of the design, and `begin`, so that call 5 is the first put.
 struct Cut {
     modules: &'static str,
     calls: &'static str,
     text: &'static str,
     most: usize,
-    put: u64,
+    call: u64,
     held: usize,
 }
 
@@ -137,7 +138,7 @@ const CUTS: [Cut; 6] = [
         calls: "u1 INV n1;\n",
         text: ONE_INVERTER,
         most: 50,
-        put: 2,
+        call: 7,
         held: 100,
     },
     Cut {
@@ -145,7 +146,7 @@ const CUTS: [Cut; 6] = [
         calls: "u1 INV n1;\nu2 INV n2;\n",
         text: TWO_INVERTERS,
         most: 64,
-        put: 2,
+        call: 7,
         held: 128,
     },
     Cut {
@@ -153,7 +154,7 @@ const CUTS: [Cut; 6] = [
         calls: "u1 INV n1;\nu2 INV n2;\n",
         text: TWO_INVERTERS,
         most: 64,
-        put: 3,
+        call: 8,
         held: 132,
     },
     Cut {
@@ -161,7 +162,7 @@ const CUTS: [Cut; 6] = [
         calls: "u1 BUF n1;\nu2 BUF n1;\n",
         text: TWO_JOINED,
         most: 100,
-        put: 3,
+        call: 8,
         held: 300,
     },
     Cut {
@@ -169,7 +170,7 @@ const CUTS: [Cut; 6] = [
         calls: "u1 BUF n1;\nu2 BUF n1;\n",
         text: TWO_JOINED,
         most: 100,
-        put: 4,
+        call: 9,
         held: 362,
     },
     Cut {
@@ -177,26 +178,27 @@ const CUTS: [Cut; 6] = [
         calls: "u1 BUF n1;\nu2 BUF n1;\n",
         text: TWO_JOINED,
         most: 361,
-        put: 1,
+        call: 6,
         held: 361,
     },
 ];
 
-// Whether a text is so cut: the shelf's calls before the puts are two takes of the rules, two of the design, and `begin`.
+// Whether a text is so cut.
 fn is_cut(alloc: Global, case: &Cut) -> Result<bool, AllocError> {
     let mut shelf = shelf_of(alloc, RULES, case.modules, case.calls)?;
     shelf.most(case.most.max(1));
-    shelf.fail_at(5 + case.put)?;
-    let whole = case.held == case.text.len();
+    shelf.fail_at(case.call)?;
+    let text = case.text.as_bytes();
+    let whole = case.held == text.len();
     let (status, line) = if whole { (0, "") } else { (9, "write fault\n") };
     let ended = is_ended(alloc, ROUTE, &mut shelf, status, line)?;
-    Ok(ended && shelf.get("o") == Some(&case.text.as_bytes()[..case.held]))
+    Ok(ended && shelf.get("o") == Some(&text[..case.held.min(text.len())]))
 }
 
 #[test]
 fn texts_are_put_piece_by_piece(rt: HostRuntime) -> Result<(), Fail> {
     for case in &CUTS {
-        assert!(rt; is_cut(rt.alloc(), case)?, "{} {}", case.most, case.put);
+        assert!(rt; is_cut(rt.alloc(), case)?, "{} {}", case.most, case.call);
     }
     Ok(())
 }
