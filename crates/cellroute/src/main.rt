@@ -1,7 +1,13 @@
 //! `cellroute`: from a design of standard cells in YAL and the rules of a process to a layout in CIF.
 #![tactic(auto)]
 
+ghost use Rattle.choose_core.specs.Answers.{IsAsked};
+ghost use Rattle.choose_core.specs.Styles.{IsFirstLeast, IsLean, gap_of};
+ghost use Rattle.std.specs.Prelude.{◌≡◌, ◌+◌, ◌<◌, length};
+
+use choose_core::{Candidate, Choice, Chooser, high, lean, near};
 use commands::{Word, run};
+use geom_core::Name;
 use shelf_io::{HostShelf, HostSink};
 use std::alloc::AllocError;
 use std::process::ExitCode;
@@ -11,12 +17,48 @@ use std::{env, io};
 const MEMORY: u8 = 10;
 
 fn main(rt: HostRuntime) -> ExitCode {
-    let Ok(words) = words(&rt) else {
-        return ExitCode::from(MEMORY);
-    };
-    let mut out = HostSink::new(&rt);
-    let mut shelf = HostShelf::new(&rt);
-    ExitCode::from(run(rt.alloc(), words.as_slice(), &mut shelf, &mut out).status)
+    match done(&rt) {
+        Ok(status) => ExitCode::from(status),
+        Err(AllocError) => ExitCode::from(MEMORY),
+    }
+}
+
+// Does what the words ask for, with the styles `near`, `lean` and `high`, and gives the status.
+fn done(rt: &HostRuntime) -> Result<u8, AllocError> {
+    let alloc = rt.alloc();
+    let words = words(rt)?;
+    let near_choice: Choice = Box::new(
+        alloc,
+        |list: &[Candidate]| -> usize
+            requires { IsAsked list.now }
+            ensures near { IsFirstLeast gap_of list.entry.now result }
+            ensures within { result < length list.entry.now }
+        { near(list) },
+    )?;
+    let lean_choice: Choice = Box::new(
+        alloc,
+        |list: &[Candidate]| -> usize
+            requires { IsAsked list.now }
+            ensures lean { IsLean list.entry.now result }
+            ensures within { result < length list.entry.now }
+        { lean(list) },
+    )?;
+    let high_choice: Choice = Box::new(
+        alloc,
+        |list: &[Candidate]| -> usize
+            requires { IsAsked list.now }
+            ensures high { result + 1 ≡ length list.entry.now }
+            ensures within { result < length list.entry.now }
+        { high(list) },
+    )?;
+    let styles = [
+        Chooser::new(Name::new(b"near".to_vec(alloc)?), near_choice),
+        Chooser::new(Name::new(b"lean".to_vec(alloc)?), lean_choice),
+        Chooser::new(Name::new(b"high".to_vec(alloc)?), high_choice),
+    ];
+    let mut out = HostSink::new(rt);
+    let mut shelf = HostShelf::new(rt);
+    Ok(run(alloc, words.as_slice(), &mut shelf, &mut out, &styles).status)
 }
 
 // The words after the program's name. Where one is no UTF-8 there are none, which make no command.

@@ -7,7 +7,7 @@ use channel_model::{Segment, Via, Wiring};
 use geom_core::{Items, Name};
 use std::alloc::{AllocError, Global};
 use std::test::Fail;
-use tech_rules::Rules;
+use tech_rules::{Rules, StartBy};
 use wire_geom::{Drawn, draw};
 
 // Two pins side by side, joined on the one track above them.
@@ -87,6 +87,7 @@ fn tight_rules(alloc: Global) -> Result<Rules, AllocError> {
         anneal_moves: 0,
         anneal_row_cost: 0,
         anneal_length_cost: 0,
+        anneal_start: StartBy::Width,
     })
 }
 

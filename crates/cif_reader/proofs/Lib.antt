@@ -4,3 +4,25 @@ pub mod Samples
 pub mod AgreementLaws
 -- a layout that commands give is within the limits
 pub mod WithinLaws
+-- what a command gives its level is what the expansion says
+pub mod LevelLaws
+-- numbers at a scale
+pub mod ScaleLemmas
+-- tables of symbols
+pub mod TableLemmas
+-- the place of a symbol
+pub mod PlaceLemmas
+-- rectangles around shapes
+pub mod BoundLemmas
+-- calls of symbols of a table
+pub mod CallLemmas
+-- refusals that are handed on
+pub mod RefusalLemmas
+-- symbols that draw more
+pub mod GrowingLemmas
+-- what stands behind a command
+pub mod StandingLemmas
+-- what stands behind a command, as the program keeps it
+pub mod BehindLemmas
+-- all commands, one after another
+pub mod ExpandLemmas

@@ -31,14 +31,14 @@ both P [] ys first second = second
 both P (x ∷ xs) ys first second = (first.0, both P xs ys first.1 second)
 
 -- numbers of which none is far
-near-first : (z : ℤ) (zs : List ℤ) → first_far (z ∷ zs) ≡ None → IsNotFar z × (first_far zs ≡ None)
+pub near-first : (z : ℤ) (zs : List ℤ) → first_far (z ∷ zs) ≡ None → IsNotFar z × (first_far zs ≡ None)
 near-first z zs none = by (nat_lt farthest (nat_abs z)) refl none
   where
     by : (b : Bool) → nat_lt farthest (nat_abs z) ≡ b → (if b then Some z else first_far zs) ≡ None → IsNotFar z × (first_far zs ≡ None)
     by true test none = cc
     by false test none = (grind (arith, nat_tests), none)
 
-near-shape : (layer : List ℕ) (e : Extent) (zs : List ℤ) → first_far (e.x0 ∷ e.y0 ∷ e.x1 ∷ e.y1 ∷ zs) ≡ None
+pub near-shape : (layer : List ℕ) (e : Extent) (zs : List ℤ) → first_far (e.x0 ∷ e.y0 ∷ e.x1 ∷ e.y1 ∷ zs) ≡ None
     → IsShapeWithin (record { layer = layer; rect = e }) × (first_far zs ≡ None)
 near-shape layer e zs none =
     let a = near-first e.x0 (e.y0 ∷ e.x1 ∷ e.y1 ∷ zs) none in
@@ -47,16 +47,16 @@ near-shape layer e zs none =
     let d = near-first e.y1 zs c.1 in
     (record { x0 = a.0; y0 = b.0; x1 = c.0; y1 = d.0 }, d.1)
 
-near-shapes : (ss : List Shape) → first_far (coordinates_of ss) ≡ None → AllByRecursion IsShapeWithin ss
+pub near-shapes : (ss : List Shape) → first_far (coordinates_of ss) ≡ None → AllByRecursion IsShapeWithin ss
 near-shapes [] none = tt
 near-shapes (s ∷ ss) none = let first = near-shape s.layer s.rect (coordinates_of ss) none in (first.0, near-shapes ss first.1)
 
 -- no limit is passed
-far-none : (far : Option ℤ) (many : Option ExpandKind) → far_or_many far many ≡ None → (far ≡ None) × (many ≡ None)
+pub far-none : (far : Option ℤ) (many : Option ExpandKind) → far_or_many far many ≡ None → (far ≡ None) × (many ≡ None)
 far-none (Some z) many none = cc
 far-none None many none = (refl, none)
 
-few-none : (b : Bool) (kind : ExpandKind) → (if b then Some kind else None) ≡ None → b ≡ false
+pub few-none : (b : Bool) (kind : ExpandKind) → (if b then Some kind else None) ≡ None → b ≡ false
 few-none true kind none = cc
 few-none false kind none = refl
 

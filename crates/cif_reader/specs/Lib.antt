@@ -6,3 +6,21 @@ pub mod Expansion
 pub mod Agreement
 -- what every layout keeps that commands give
 pub mod Within
+-- what a command gives the level in which it stands
+pub mod Levels
+-- rectangles that are small, proper or near
+pub mod Sides
+-- how a program answers that refuses commands
+pub mod Refusals
+-- the table of symbols, which keeps what each draws, and not its shapes
+pub mod Table
+-- rectangles around others
+pub mod Bounds
+-- a symbol that draws more
+pub mod Growing
+-- what stands behind some commands, as the program keeps it
+pub mod Standing
+-- the progress that the program keeps
+pub mod Behind
+-- how commands are expanded
+pub mod Expanding

@@ -1,8 +1,22 @@
 //! From the commands of a CIF text to the layout that they mean, within the limits of the reader.
 //!
-//! The crate has the kinds of refusals, and states which commands give which layout or refusal (`expansion`).
+//! Of each definition it keeps what it draws and calls, how many shapes that makes, a rectangle around them and its depth, so that
+//! what passes a limit is refused, and what is not called is left, without being drawn. `expansion` of `specs` states which commands
+//! give which layout or refusal.
 #![tactic(auto)]
 
+mod bounds;
+mod calls;
+mod expanding;
 mod fault;
+mod growing;
+mod inside;
+mod limits;
+mod outside;
+mod refusal;
+mod scales;
+mod standing;
+mod table;
 
+pub use expanding::expand;
 pub use fault::{ExpandFault, ExpandKind};

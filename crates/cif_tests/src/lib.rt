@@ -1,10 +1,12 @@
-//! Tests of the reading of CIF.
+//! Tests of the reading of CIF, and of the layouts that it gives.
 #![tactic(auto)]
 
 #[cfg(test)]
 mod command_tests;
 #[cfg(test)]
 mod cut_tests;
+#[cfg(test)]
+mod expansion_tests;
 #[cfg(test)]
 mod fault_tests;
 #[cfg(test)]

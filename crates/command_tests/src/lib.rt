@@ -10,6 +10,8 @@ mod route_tests;
 #[cfg(test)]
 mod size_tests;
 #[cfg(test)]
+mod style_tests;
+#[cfg(test)]
 mod support;
 #[cfg(test)]
 mod word_tests;

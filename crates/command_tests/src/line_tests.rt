@@ -2,7 +2,6 @@
 
 use crate::support::{
     ROUTE, is_ended_in, is_refused, is_refused_in, is_routed, rules_with, shelf_of, shelf_with,
-    wide,
 };
 use samples::{INVERTER, RING, RULES, THROUGH, design_text};
 use shelf_io::{MemShelf, MemSink};
@@ -108,16 +107,30 @@ fn texts_that_are_no_yal(rt: HostRuntime) -> Result<(), Fail> {
     Ok(())
 }
 
-/// Sample rules that ask for annealing.
+/// Sample rules that ask for so much annealing that 51 instances pass the limit of changes.
 fn annealed(alloc: Global) -> Result<String, AllocError> {
-    rules_with(alloc, "stages = 0", "stages = 1")
+    rules_with(
+        alloc,
+        "stages = 0\nmoves = 4",
+        "stages = 1000\nmoves = 1000",
+    )
+}
+
+/// The calls of so many inverters.
+fn inverters(alloc: Global, count: u32) -> Result<String, AllocError> {
+    let mut calls = String::new(alloc);
+    for n in 0..count {
+        write!(calls, "u{n} INV n{n};\n")?;
+    }
+    Ok(calls)
 }
 
 #[test]
-fn what_is_not_built_yet(rt: HostRuntime) -> Result<(), Fail> {
+fn a_limit_of_changes(rt: HostRuntime) -> Result<(), Fail> {
     let rules = annealed(rt.alloc())?;
-    let mut shelf = shelf_of(rt.alloc(), rules.as_str(), INVERTER, "u1 INV n1;\n")?;
-    assert!(rt; is_refused_in(rt.alloc(), ROUTE, &mut shelf, 11, "unbuilt\n")?);
+    let calls = inverters(rt.alloc(), 51)?;
+    let mut shelf = shelf_of(rt.alloc(), rules.as_str(), INVERTER, calls.as_str())?;
+    assert!(rt; is_refused_in(rt.alloc(), ROUTE, &mut shelf, 6, "limit Moves 51000000\n")?);
     // Without instances there is nothing to anneal.
     let mut shelf = shelf_of(rt.alloc(), rules.as_str(), "", "")?;
     assert!(rt; is_routed(rt.alloc(), &mut shelf)?);
@@ -146,12 +159,40 @@ fn the_first_cause_is_said(rt: HostRuntime) -> Result<(), Fail> {
     Ok(())
 }
 
-/// What is not built yet goes before the limits of layouts.
+/// The design of 51 cells, each as wide as a layout may not be.
+fn wide_cells(alloc: Global) -> Result<String, AllocError> {
+    let module =
+        "MODULE W;\nTYPE STANDARD;\nDIMENSIONS 0 0 10000008 0 10000008 40 0 40;\nIOLIST;\na I 4 0 3 POLY;\nENDIOLIST;\nENDMODULE;\n";
+    let mut calls = String::new(alloc);
+    for n in 0..51u32 {
+        write!(calls, "u{n} W n{n};\n")?;
+    }
+    design_text(alloc, module, calls.as_str())
+}
+
+/// The limit of changes goes before the limits of layouts.
 #[test]
-fn annealing_is_said_before_a_limit(rt: HostRuntime) -> Result<(), Fail> {
+fn changes_are_limited_before_layouts(rt: HostRuntime) -> Result<(), Fail> {
     let rules = annealed(rt.alloc())?;
-    let text = wide(rt.alloc(), 10_000_008)?;
-    assert!(rt; is_refused(rt.alloc(), rules.as_str(), text.as_str(), 11, "unbuilt\n")?);
+    let text = wide_cells(rt.alloc())?;
+    assert!(rt;
+        is_refused(
+            rt.alloc(),
+            rules.as_str(),
+            text.as_str(),
+            6,
+            "limit Moves 51000000\n"
+        )?
+    );
+    assert!(rt;
+        is_refused(
+            rt.alloc(),
+            RULES,
+            text.as_str(),
+            6,
+            "limit Grid 510000408\n"
+        )?
+    );
     Ok(())
 }
 

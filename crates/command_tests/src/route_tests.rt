@@ -247,7 +247,7 @@ fn nets_through_rows_and_channels(rt: HostRuntime) -> Result<(), Fail> {
     let alloc = rt.alloc();
     // A net across its own row.
     let row = "u1 BUF n;\nu2 INV n;\n";
-    assert!(rt; is_threaded(alloc, "route|d|r|o|--rows|1", row, 3, "C 1 T 1600 2400;\n")?);
+    assert!(rt; is_threaded(alloc, "route|d|r|o|--rows|1", row, 3, "C 1 T 1600 1600;\n")?);
     // Two crossed nets.
     let crossed = "u1 BUF b;\nu2 BUF a;\nu3 INV a;\nu4 INV b;\n";
     assert!(rt;
@@ -256,14 +256,14 @@ fn nets_through_rows_and_channels(rt: HostRuntime) -> Result<(), Fail> {
             "route|d|r|o|--rows|2",
             crossed,
             4,
-            "C 1 T 800 8800;\n"
+            "C 1 T 800 8000;\n"
         )?
     );
     // A net through four rows.
     let rows = "u1 BUF n;\nu2 INV p;\nu3 INV q;\nu4 INV n;\n";
-    assert!(rt; is_threaded(alloc, "route|d|r|o|--rows|4", rows, 6, "C 1 T 0 20000;\n")?);
+    assert!(rt; is_threaded(alloc, "route|d|r|o|--rows|4", rows, 6, "C 1 T 0 15200;\n")?);
     // A cell that leads through.
     let led = "u1 BUF n;\nu2 THR n;\nu3 INV q;\nu4 INV n;\n";
-    assert!(rt; is_threaded(alloc, "route|d|r|o|--rows|4", led, 5, "C 1 T 0 20000;\n")?);
+    assert!(rt; is_threaded(alloc, "route|d|r|o|--rows|4", led, 5, "C 1 T 0 15200;\n")?);
     Ok(())
 }

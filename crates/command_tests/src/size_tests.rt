@@ -55,6 +55,17 @@ fn has_vias(shelf: &MemShelf, vias: usize) -> bool {
     }
 }
 
+/// Whether the layout has so many cells.
+fn has_cells(shelf: &MemShelf, cells: usize) -> bool {
+    let Some(written) = shelf.get("o") else {
+        return false;
+    };
+    match str::from_utf8(written) {
+        Ok(text) => text.matches("\n91 u").count() == cells,
+        Err(_) => false,
+    }
+}
+
 /// Whether these words route the design of these modules and calls with so many vias.
 fn is_wired(
     alloc: Global,
@@ -117,8 +128,9 @@ fn quads(alloc: Global) -> Result<String, AllocError> {
 #[test]
 fn a_large_design_of_pairs_is_wired_in_seconds(rt: HostRuntime) -> Result<(), Fail> {
     let calls = quads(rt.alloc())?;
-    // 40,000 nets of two pins, each with two vias.
-    assert!(rt; is_wired(rt.alloc(), ROUTE, QUAD, calls.as_str(), 80_000)?);
+    let mut shelf = shelf_of(rt.alloc(), RULES, QUAD, calls.as_str())?;
+    assert!(rt; is_routed(rt.alloc(), &mut shelf)?);
+    assert!(rt; has_cells(&shelf, 20_000));
     Ok(())
 }
 

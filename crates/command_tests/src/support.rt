@@ -1,6 +1,11 @@
 //! Shelves, words and designs for the tests.
 
-use commands::{Word, run};
+ghost use Rattle.choose_core.specs.Answers.{IsAsked};
+ghost use Rattle.std.specs.Prelude.{◌<◌, length};
+
+use choose_core::{Candidate, Choice, Chooser, high, lean, near};
+use commands::{Ended, Word, run};
+use geom_core::Name;
 use samples::{INVERTER, RULES, design_text};
 use shelf_io::{MemShelf, MemSink};
 use std::alloc::{AllocError, Global};
@@ -13,7 +18,7 @@ pub const ONE_INVERTER: &str =
 pub const ROUTE: &str = "route|d|r|o";
 
 /// The words of a text with strokes between them; no words where it is empty.
-fn words(alloc: Global, text: &str) -> Result<Vec<Word>, AllocError> {
+pub fn words(alloc: Global, text: &str) -> Result<Vec<Word>, AllocError> {
     let mut words = Vec::new(alloc);
     if text.is_empty() {
         return Ok(words);
@@ -54,6 +59,43 @@ pub fn inverter_shelf(alloc: Global) -> Result<MemShelf, AllocError> {
     shelf_of(alloc, RULES, INVERTER, "u1 INV n1;\n")
 }
 
+/// How these words end over this shelf and this sink, with the styles `near`, `lean` and `high`.
+pub fn ended(
+    alloc: Global,
+    text: &str,
+    shelf: &mut MemShelf,
+    out: &mut MemSink,
+) -> Result<Ended, AllocError> {
+    let near_choice: Choice = Box::new(
+        alloc,
+        |list: &[Candidate]| -> usize
+            requires { IsAsked list.now }
+            ensures { result < length list.entry.now }
+        { near(list) },
+    )?;
+    let lean_choice: Choice = Box::new(
+        alloc,
+        |list: &[Candidate]| -> usize
+            requires { IsAsked list.now }
+            ensures { result < length list.entry.now }
+        { lean(list) },
+    )?;
+    let high_choice: Choice = Box::new(
+        alloc,
+        |list: &[Candidate]| -> usize
+            requires { IsAsked list.now }
+            ensures { result < length list.entry.now }
+        { high(list) },
+    )?;
+    let styles = [
+        Chooser::new(Name::new(b"near".to_vec(alloc)?), near_choice),
+        Chooser::new(Name::new(b"lean".to_vec(alloc)?), lean_choice),
+        Chooser::new(Name::new(b"high".to_vec(alloc)?), high_choice),
+    ];
+    let words = words(alloc, text)?;
+    Ok(run(alloc, words.as_slice(), shelf, out, &styles))
+}
+
 /// Whether these words end with this status over this shelf, and the sink holds this line then.
 pub fn is_ended_in(
     alloc: Global,
@@ -63,8 +105,7 @@ pub fn is_ended_in(
     status: u8,
     line: &str,
 ) -> Result<bool, AllocError> {
-    let words = words(alloc, text)?;
-    let ended = run(alloc, words.as_slice(), shelf, out).status;
+    let ended = ended(alloc, text, shelf, out)?.status;
     Ok(ended == status && out.bytes() == line.as_bytes())
 }
 

@@ -28,7 +28,17 @@ d|route|r|o\n\
 route|--help\n\
 route|d|r|o|-h\n\
 route|d|r|o|--version\n\
-route|d|r|o|--seed|1\n\
+route|d|r|o|--seed\n\
+route|d|r|o|--seed|x\n\
+route|d|r|o|--seed|-1\n\
+route|d|r|o|--seed|18446744073709551616\n\
+route|d|r|o|--seed|000000000000000000001\n\
+route|d|r|o|--seed|1|--seed|1\n\
+route|d|r|o|--style\n\
+route|d|r|o|--style|none\n\
+route|d|r|o|--style|NEAR\n\
+route|d|r|o|--style|\n\
+route|d|r|o|--style|near|--style|near\n\
 route|d|r|-x";
 
 #[test]
@@ -59,6 +69,15 @@ fn words_of_a_command(rt: HostRuntime) -> Result<(), Fail> {
     assert!(rt; is_command(rt.alloc(), "route|d|r|--|--help", "--help")?);
     assert!(rt; is_command(rt.alloc(), "route|d|r|-", "-")?);
     assert!(rt; is_command(rt.alloc(), "route|d|r|", "")?);
+    assert!(rt; is_command(rt.alloc(), "route|d|r|o|--seed|18446744073709551615", "o")?);
+    assert!(rt;
+        is_command(
+            rt.alloc(),
+            "route|--seed=0|d|r|o|--style|lean|--rows|1",
+            "o"
+        )?
+    );
+    assert!(rt; is_command(rt.alloc(), "route|d|r|o|--style=high", "o")?);
     // An empty word names a file, which is not there.
     assert!(rt; is_lacking(rt.alloc(), "route||r|o")?);
     Ok(())

@@ -16,30 +16,30 @@ route-is-simple : is_simple route_app ≡ true
 route-is-simple = refl
 
 -- words that are taken give the names among the values
-pub taken-names : {X : Type 0} (a : App) (words : List Text) (rows : List Row) → a ≡ route_app
+pub taken-names : {X : Type 0} (styles : List Text) (a : App) (words : List Text) (rows : List Row) → a ≡ route_app
     → (is_simple_and_free a ≡ true → fault_of a (map (λ w. w) words) ≡ [])
-    → (is_simple a ≡ true → (rows ≡ matches_of a (map (λ w. w) words)) × X) → arguments_of words ≡ names_in rows
+    → (is_simple a ≡ true → (rows ≡ matches_of a (map (λ w. w) words)) × X) → arguments_of styles words ≡ names_in styles rows
 unfolding arguments_of
-taken-names a words rows is taken found =
+taken-names styles a words rows is taken found =
     let same : map (λ w. w) words ≡ words = map-id words in
     let free : fault_of a (map (λ w. w) words) ≡ [] = taken (ap is_simple_and_free is ∙ route-is-free) in
     let none : fault_of route_app words ≡ [] =
     subst (λ ws. fault_of route_app ws ≡ []) same (subst (λ b. fault_of b (map (λ w. w) words) ≡ []) is free) in
     let among : rows ≡ matches_of route_app words =
     (found (ap is_simple is ∙ route-is-simple)).0 ∙ ap (λ b. matches_of b (map (λ w. w) words)) is ∙ ap (matches_of route_app) same in
-    ap₂ unless_refused none (sym among)
+    ap₂ (unless_refused styles) none (sym among)
 
-refused : (kinds : Kinds) (rows : List Row) (e : Error) → HasKind kinds e → kind_of e ≢ OutOfMemory → unless_refused kinds rows ≡ None
-refused [] rows e (inl memory) other = absurd (other memory)
-refused [] rows e (inr none) other = absurd none
-refused (k ∷ ks) rows e has other = refl
+refused : (styles : List Text) (kinds : Kinds) (rows : List Row) (e : Error) → HasKind kinds e → kind_of e ≢ OutOfMemory → unless_refused styles kinds rows ≡ None
+refused styles [] rows e (inl memory) other = absurd (other memory)
+refused styles [] rows e (inr none) other = absurd none
+refused styles (k ∷ ks) rows e has other = refl
 
 -- words that are refused for another cause than memory give no names
-pub refused-none : (a : App) (words : List Text) (e : Error) → a ≡ route_app
-    → (is_simple_and_free a ≡ true → HasKind (fault_of a (map (λ w. w) words)) e) → kind_of e ≢ OutOfMemory → arguments_of words ≡ None
+pub refused-none : (styles : List Text) (a : App) (words : List Text) (e : Error) → a ≡ route_app
+    → (is_simple_and_free a ≡ true → HasKind (fault_of a (map (λ w. w) words)) e) → kind_of e ≢ OutOfMemory → arguments_of styles words ≡ None
 unfolding arguments_of
-refused-none a words e is fails other =
+refused-none styles a words e is fails other =
     let has : HasKind (fault_of a (map (λ w. w) words)) e = fails (ap is_simple_and_free is ∙ route-is-free) in
     let here : HasKind (fault_of route_app words) e =
     subst (λ ws. HasKind (fault_of route_app ws) e) (map-id words) (subst (λ b. HasKind (fault_of b (map (λ w. w) words)) e) is has) in
-    refused (fault_of route_app words) (matches_of route_app words) e here other
+    refused styles (fault_of route_app words) (matches_of route_app words) e here other

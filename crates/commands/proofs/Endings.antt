@@ -18,7 +18,6 @@ stopped view (Refused (refusals.Tight rule)) said found = found
 stopped view (Refused (refusals.Yal kind at)) said found = found
 stopped view (Refused (refusals.Design fault name)) said found = found
 stopped view (Refused (refusals.Limit what n)) said found = found
-stopped view (Refused refusals.Unbuilt) said found = found
 stopped view (Refused refusals.Memory) said found = tt
 stopped view ReadFault said found = tt
 stopped view WriteFault said found = absurd found
@@ -47,7 +46,6 @@ by-stop view (Refused (refusals.Tight rule)) said told r s d e found reads rules
 by-stop view (Refused (refusals.Yal kind at)) said told r s d e found reads rules design = same-status _ said found
 by-stop view (Refused (refusals.Design fault name)) said told r s d e found reads rules design = same-status _ said found
 by-stop view (Refused (refusals.Limit what n)) said told r s d e found reads rules design = same-status _ said found
-by-stop view (Refused refusals.Unbuilt) said told r s d e found reads rules design = same-status _ said found
 by-stop view (Refused refusals.Memory) said told r s d e found reads rules design = inr refl
 by-stop view ReadFault said told r s d e found reads rules design = elim (reads refl) [
   | inl rose ↦ absurd (rose-still r s rose rules)

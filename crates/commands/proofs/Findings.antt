@@ -5,7 +5,8 @@ use Rattle.commands.specs.Answers.{Answers, Finds}
 use Rattle.commands.specs.Job.{Job}
 use Rattle.commands.specs.Limits.{within_limit}
 use Rattle.commands.specs.Refusing.{◌>>=◌}
-use Rattle.commands.specs.Verdict.{design_verdict, files_verdict, rules_said, rules_verdict, stated_rules, verdict_under}
+use Rattle.commands.specs.Verdict.{files_verdict, job_verdict, rules_said, rules_verdict, stated_rules, verdict_under}
+use Rattle.commands.specs.declared.command.Wanted.{Wanted}
 use Rattle.commands.specs.declared.refusal.Limited.TheVariants as limits
 use Rattle.tech_rules.specs.RulesOf.{rules_of}
 use Rattle.tech_rules.specs.declared.fault.RulesFault.{RulesFault}
@@ -48,7 +49,6 @@ stops view seen (Refused (refusals.Tight rule)) first next found = refuses _ fir
 stops view seen (Refused (refusals.Yal kind at)) first next found = refuses _ first next found
 stops view seen (Refused (refusals.Design fault name)) first next found = refuses _ first next found
 stops view seen (Refused (refusals.Limit what n)) first next found = refuses _ first next found
-stops view seen (Refused refusals.Unbuilt) first next found = refuses _ first next found
 stops view seen (Refused refusals.Memory) first next found = tt
 stops view seen ReadFault first next found = tt
 stops view seen WriteFault first next found = found
@@ -64,7 +64,6 @@ found-refusal view (refusals.Tight rule) said answer = answer
 found-refusal view (refusals.Yal kind at) said answer = answer
 found-refusal view (refusals.Design fault name) said answer = answer
 found-refusal view (refusals.Limit what n) said answer = answer
-found-refusal view refusals.Unbuilt said answer = answer
 found-refusal view refusals.Memory said answer = tt
 
 -- the same of an error that is handed on
@@ -74,47 +73,46 @@ handed-on view (Ok x) stop said is found = absurd is
 handed-on view (Err other) stop said is found = subst (λ s. Finds view (Err s) said) (sym is) found
 
 -- what stopped the reading of rules stops the verdict on the files
-pub rules-stop : {X Z : Type 0} (view : X → RuleValues) (seen : Z → Job) (stop : Stop) (asked : Option ℕ) (rules design : Option (List ℕ))
+pub rules-stop : {X Z : Type 0} (view : X → RuleValues) (seen : Z → Job) (stop : Stop) (wanted : Wanted) (rules design : Option (List ℕ))
     (said : Result Job Refusal) → ((bytes : List ℕ) → rules ≡ Some bytes → Finds view (Err stop) (rules_verdict bytes))
-    → files_verdict asked rules design ≡ Some said → Finds seen (Err stop) said
+    → files_verdict wanted rules design ≡ Some said → Finds seen (Err stop) said
 unfolding files_verdict
-rules-stop view seen stop asked None design said found is = let none : None ≡ Some said = is in cc
-rules-stop view seen stop asked (Some bytes) design said found is = under asked view seen stop (rules_verdict bytes) design said (found bytes refl) is
+rules-stop view seen stop wanted None design said found is = let none : None ≡ Some said = is in cc
+rules-stop view seen stop wanted (Some bytes) design said found is = under wanted view seen stop (rules_verdict bytes) design said (found bytes refl) is
   where
-    refused : {Z : Type 0} (asked : Option ℕ) (seen : Z → Job) (refusal : Refusal) (first : Result RuleValues Refusal) (design : Option (List ℕ))
-        (said : Result Job Refusal) → first ≡ Err refusal → verdict_under asked first design ≡ Some said → said ≡ Err refusal
-    refused asked seen refusal first design said at is =
-        let same : Some (Err refusal) ≡ Some said = ap (λ f. verdict_under asked f design) (sym at) ∙ is in cc
+    refused : {Z : Type 0} (wanted : Wanted) (seen : Z → Job) (refusal : Refusal) (first : Result RuleValues Refusal) (design : Option (List ℕ))
+        (said : Result Job Refusal) → first ≡ Err refusal → verdict_under wanted first design ≡ Some said → said ≡ Err refusal
+    refused wanted seen refusal first design said at is =
+        let same : Some (Err refusal) ≡ Some said = ap (λ f. verdict_under wanted f design) (sym at) ∙ is in cc
 
-    under : {X Z : Type 0} (asked : Option ℕ) (view : X → RuleValues) (seen : Z → Job) (stop : Stop) (first : Result RuleValues Refusal)
+    under : {X Z : Type 0} (wanted : Wanted) (view : X → RuleValues) (seen : Z → Job) (stop : Stop) (first : Result RuleValues Refusal)
         (design : Option (List ℕ)) (said : Result Job Refusal) → Finds view (Err stop) first
-        → verdict_under asked first design ≡ Some said → Finds seen (Err stop) said
-    under asked view seen (Refused refusals.Usage) first design said found is = refused asked seen _ first design said found is
-    under asked view seen (Refused refusals.Toml) first design said found is = refused asked seen _ first design said found is
-    under asked view seen (Refused (refusals.Missing key)) first design said found is = refused asked seen _ first design said found is
-    under asked view seen (Refused (refusals.Range key)) first design said found is = refused asked seen _ first design said found is
-    under asked view seen (Refused (refusals.Tight rule)) first design said found is = refused asked seen _ first design said found is
-    under asked view seen (Refused (refusals.Yal kind at)) first design said found is = refused asked seen _ first design said found is
-    under asked view seen (Refused (refusals.Design fault name)) first design said found is = refused asked seen _ first design said found is
-    under asked view seen (Refused (refusals.Limit what n)) first design said found is = refused asked seen _ first design said found is
-    under asked view seen (Refused refusals.Unbuilt) first design said found is = refused asked seen _ first design said found is
-    under asked view seen (Refused refusals.Memory) first design said found is = tt
-    under asked view seen ReadFault first design said found is = tt
-    under asked view seen WriteFault first design said found is = found
+        → verdict_under wanted first design ≡ Some said → Finds seen (Err stop) said
+    under wanted view seen (Refused refusals.Usage) first design said found is = refused wanted seen _ first design said found is
+    under wanted view seen (Refused refusals.Toml) first design said found is = refused wanted seen _ first design said found is
+    under wanted view seen (Refused (refusals.Missing key)) first design said found is = refused wanted seen _ first design said found is
+    under wanted view seen (Refused (refusals.Range key)) first design said found is = refused wanted seen _ first design said found is
+    under wanted view seen (Refused (refusals.Tight rule)) first design said found is = refused wanted seen _ first design said found is
+    under wanted view seen (Refused (refusals.Yal kind at)) first design said found is = refused wanted seen _ first design said found is
+    under wanted view seen (Refused (refusals.Design fault name)) first design said found is = refused wanted seen _ first design said found is
+    under wanted view seen (Refused (refusals.Limit what n)) first design said found is = refused wanted seen _ first design said found is
+    under wanted view seen (Refused refusals.Memory) first design said found is = tt
+    under wanted view seen ReadFault first design said found is = tt
+    under wanted view seen WriteFault first design said found is = found
 
 -- where the rules are read, the verdict on the files is that on the design's bytes
-pub under-rules : {Z : Type 0} (seen : Z → Job) (result : Result Z Stop) (values : RuleValues) (asked : Option ℕ) (rules design : Option (List ℕ))
+pub under-rules : {Z : Type 0} (seen : Z → Job) (result : Result Z Stop) (values : RuleValues) (wanted : Wanted) (rules design : Option (List ℕ))
     (said : Result Job Refusal) → ((bytes : List ℕ) → rules ≡ Some bytes → rules_verdict bytes ≡ Ok values)
-    → ((bytes : List ℕ) → design ≡ Some bytes → Finds seen result (design_verdict values asked bytes))
-    → files_verdict asked rules design ≡ Some said → Finds seen result said
+    → ((bytes : List ℕ) → design ≡ Some bytes → Finds seen result (job_verdict values wanted bytes))
+    → files_verdict wanted rules design ≡ Some said → Finds seen result said
 unfolding files_verdict
-under-rules seen result values asked None design said states found is = let none : None ≡ Some said = is in cc
-under-rules seen result values asked (Some bytes) None said states found is =
-    let none : None ≡ Some said = ap (λ first. verdict_under asked first None) (sym (states bytes refl)) ∙ is in cc
-under-rules seen result values asked (Some bytes) (Some design) said states found is =
-    let same : Some (design_verdict values asked design) ≡ Some said =
-    ap (λ first. verdict_under asked first (Some design)) (sym (states bytes refl)) ∙ is in
-    let said_is : design_verdict values asked design ≡ said = cc in
+under-rules seen result values wanted None design said states found is = let none : None ≡ Some said = is in cc
+under-rules seen result values wanted (Some bytes) None said states found is =
+    let none : None ≡ Some said = ap (λ first. verdict_under wanted first None) (sym (states bytes refl)) ∙ is in cc
+under-rules seen result values wanted (Some bytes) (Some design) said states found is =
+    let same : Some (job_verdict values wanted design) ≡ Some said =
+    ap (λ first. verdict_under wanted first (Some design)) (sym (states bytes refl)) ∙ is in
+    let said_is : job_verdict values wanted design ≡ said = cc in
     subst (λ s. Finds seen result s) said_is (found design refl)
 
 -- what is refused of contents that were read is refused of what is told

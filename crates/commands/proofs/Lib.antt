@@ -8,7 +8,13 @@ pub mod Findings
 pub mod Endings
 -- what `clap` makes of the words of a command
 pub mod Arguments
--- plain wirings connect the channels of rows with feeds, within the bound
+-- the wirings of routed channels connect the channels of rows with feeds, within the bound
 pub mod RoutedLaws
+-- routed channels apart and together
+pub mod KeptLaws
 -- from the files of a job to the headline
 pub mod HeadlineLaws
+-- the style that words give
+pub mod StyleLaws
+-- how a command's words end
+pub mod RunLaws

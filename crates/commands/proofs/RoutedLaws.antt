@@ -1,65 +1,85 @@
-use Rattle.std.proofs.Common.{◌≡◌, ap, sym, ◌∙◌, subst, refl, ◌≤◌, ◌+◌, ◌*◌, ℕ, zero, suc, List, [], ◌∷◌, map, length, Some, All, Contains, arith}
+use Rattle.std.proofs.Common.{◌≡◌, ap, sym, ◌∙◌, subst, refl, ◌≤◌, ◌+◌, ℕ, zero, suc, List, [], ◌∷◌, length, Some, All, Contains, arith}
 use Rattle.std.proofs.lemmas.List.{length-map}
 use Rattle.std.proofs.lemmas.List.Elements.{All-weaker, All-contains_itself}
 use Rattle.std.proofs.lemmas.Option.{none-some, same_Some}
 use Rattle.std.specs.Prelude.{slice_get}
 use Rattle.channel_model.specs.Elements.{elements}
+use Rattle.channel_model.specs.Limits.{most_extra, most_tracks}
 use Rattle.channel_model.specs.Nets.{nets_of}
 use Rattle.channel_model.specs.Pins.{Pins}
 use Rattle.channel_model.specs.Wired.{Wired, IsOnGrid}
 use Rattle.channel_model.specs.declared.wiring.Wiring.{Wiring}
 use Rattle.channel_stack.specs.Routed.{AreWired, IsRouted}
-use Rattle.feed_cells.specs.Fed.{Fed}
+use Rattle.choose_core.specs.declared.candidate.Candidate.{Candidate}
 use Rattle.design_model.specs.Netlist.{Netlist}
+use Rattle.feed_cells.specs.Fed.{Fed}
+use Rattle.greedy_router.specs.Answers.{AreRouted, IsRoutedWithin}
+use Rattle.greedy_router.specs.declared.sweep.Routed.{Routed}
 use Rattle.pin_assign.specs.Bounds.{bound_of}
 use Rattle.pin_assign.specs.ChannelTables.{AreTablesFor}
 use Rattle.pin_assign.specs.Tables.{tables_of}
-use Rattle.plain_router.specs.Plain.{plain_of}
 use Rattle.tech_rules.specs.Rules.{RuleValues}
+use Rattle.commands.specs.Kept.{wirings_of}
 
--- the plain wiring at a place is that of the channel there
-plain-at : (channels : List Pins) (k : ℕ) (w : Wiring) → slice_get (map plain_of channels) k ≡ Some w → (p : Pins) × (slice_get channels k ≡ Some p) × (plain_of p ≡ w)
-plain-at [] k w at = absurd (none-some w at)
-plain-at (p ∷ channels) zero w at = (p, refl, same_Some (plain_of p) w at)
-plain-at (p ∷ channels) (suc k) w at = plain-at channels k w at
+-- the wiring at a place is that of the routed channel there
+wiring-at : (kept : List Routed) (k : ℕ) (w : Wiring) → slice_get (wirings_of kept) k ≡ Some w → (one : Routed) × (slice_get kept k ≡ Some one) × (one.wiring ≡ w)
+wiring-at [] k w at = absurd (none-some w at)
+wiring-at (one ∷ kept) zero w at = (one, refl, same_Some one.wiring w at)
+wiring-at (one ∷ kept) (suc k) w at = wiring-at kept k w at
 
--- where plain wirings connect the channels of rows with feeds
-module _ (d : Netlist) (fed : Fed) (channels : List Pins) (are : channels ≡ tables_of d fed) (tables : AreTablesFor fed channels)
-    (wired : (k : ℕ) (pins : Pins) → slice_get channels k ≡ Some pins → Wired pins (plain_of pins)) (ws : List Wiring) (stated : ws ≡ map plain_of channels) where
-  at : (k : ℕ) (w : Wiring) → slice_get ws k ≡ Some w → (p : Pins) × (slice_get channels k ≡ Some p) × (plain_of p ≡ w)
-  at k w there = plain-at channels k w (ap (λ (l : List Wiring). slice_get l k) (sym stated) ∙ there)
+-- where a list is as long as another, there is a member at each place of the other
+pins-at : (channels : List Pins) (kept : List Routed) (k : ℕ) (one : Routed) → length kept ≡ length channels → slice_get kept k ≡ Some one
+    → (pins : Pins) × (slice_get channels k ≡ Some pins)
+pins-at channels [] k one same at = absurd (none-some one at)
+pins-at [] (other ∷ kept) k one same at = absurd (omega arith)
+pins-at (pins ∷ channels) (other ∷ kept) zero one same at = (pins, refl)
+pins-at (pins ∷ channels) (other ∷ kept) (suc k) one same at = pins-at channels kept k one (omega arith) at
 
-  each : length ws ≡ length fed.rows + 1
-  each = ap length stated ∙ length-map channels plain_of ∙ tables.many
+-- the same of equal lists
+pub told-routed : (may : List Candidate → ℕ → Type 0) (channels others : List Pins) (routed kept : List Routed) → channels ≡ others → kept ≡ routed
+    → AreRouted may channels routed → AreRouted may others kept
+told-routed may channels others routed kept same is made =
+    subst (λ (l : List Pins). AreRouted may l kept) same (subst (AreRouted may channels) (sym is) made)
 
-  wired-at : (k : ℕ) (pins : Pins) (w : Wiring) → slice_get channels k ≡ Some pins → slice_get ws k ≡ Some w → Wired pins w
-  wired-at k pins w listed there =
-      let p = at k w there in
-      let same : pins ≡ p.0 = same_Some pins p.0 (sym listed ∙ p.1) in
-      subst (λ (v : Wiring). Wired pins v) (ap plain_of same ∙ p.2) (wired k pins listed)
+-- where the channels of rows with feeds are routed
+module _ (may : List Candidate → ℕ → Type 0) (d : Netlist) (fed : Fed) (tables : AreTablesFor fed (tables_of d fed)) (kept : List Routed)
+    (routed : AreRouted may (tables_of d fed) kept) where
+  each : length (wirings_of kept) ≡ length fed.rows + 1
+  each = length-map kept (λ (r : Routed). r.wiring) ∙ routed.each ∙ tables.many
 
   -- the wirings connect their channels
-  pub plain-wirings : AreWired d fed ws
-  plain-wirings = record {
+  pub routed-wired : AreWired d fed (wirings_of kept)
+  routed-wired = record {
     each = each;
-    wired = λ k pins w listed there. wired-at k pins w (ap (λ (l : List Pins). slice_get l k) are ∙ listed) there;
+    wired = λ k pins w listed there.
+        let one = wiring-at kept k w there in
+        subst (Wired pins) one.2 (routed.within k pins one.0 listed one.1).wired;
   }
 
+  at : (k : ℕ) (w : Wiring) → slice_get (wirings_of kept) k ≡ Some w
+      → (pins : Pins) × ((slice_get (tables_of d fed) k ≡ Some pins) × ((one : Routed) × ((one.wiring ≡ w) × IsRoutedWithin may pins one)))
+  at k w there =
+      let one = wiring-at kept k w there in
+      let pins = pins-at (tables_of d fed) kept k one.0 routed.each one.1 in
+      (pins.0, (pins.1, (one.0, (one.2, routed.within k pins.0 one.0 pins.1 one.1))))
+
   -- and lie within the tracks and columns of the bound
-  pub plain-routed : (r : RuleValues) → (bound_of r d fed).width ≤ 1000000000 → (bound_of r d fed).height ≤ 1000000000 → IsRouted r d fed ws
-  plain-routed r width height = record {
+  pub routed-within : (r : RuleValues) → (bound_of r d fed).width ≤ 1000000000 → (bound_of r d fed).height ≤ 1000000000 → IsRouted r d fed (wirings_of kept)
+  routed-within r width height = record {
     each = each;
-    on_grid = λ k w there. let p = at k w there in grid-of p.0 w (wired-at k p.0 w p.1 there);
+    on_grid = λ k w there. let p = at k w there in grid-of p.0 w (subst (Wired p.0) p.1.1.1.0 p.1.1.1.1.wired);
     tracks = λ k nets w there counted.
         let p = at k w there in
-        let w_is : 2 * length (nets_of p.0) ≡ w.tracks = ap (λ (v : Wiring). v.tracks) p.2 in
-        let n_is : nets ≡ length (nets_of p.0) = nets-of k nets p.0 counted p.1 in
+        let few : p.1.1.0.wiring.tracks ≤ most_tracks (length (nets_of p.0)) = p.1.1.1.1.within.tracks in
+        let w_is : p.1.1.0.wiring.tracks ≡ w.tracks = ap (λ (v : Wiring). v.tracks) p.1.1.1.0 in
+        let n_is : nets ≡ length (nets_of p.0) = nets-of k nets p.0 counted p.1.0 in
         omega arith;
     columns = λ k nets w there counted.
         let p = at k w there in
-        let w_is : length p.0.top + length (nets_of p.0) ≡ w.columns = ap (λ (v : Wiring). v.columns) p.2 in
-        let n_is : nets ≡ length (nets_of p.0) = nets-of k nets p.0 counted p.1 in
-        let long : length p.0.top ≡ fed.width = tables.wide k p.0 p.1 in
+        let few : p.1.1.0.wiring.columns ≤ length p.0.top + most_extra (length (nets_of p.0)) = p.1.1.1.1.within.columns in
+        let w_is : p.1.1.0.wiring.columns ≡ w.columns = ap (λ (v : Wiring). v.columns) p.1.1.1.0 in
+        let n_is : nets ≡ length (nets_of p.0) = nets-of k nets p.0 counted p.1.0 in
+        let long : length p.0.top ≡ fed.width = tables.wide k p.0 p.1.0 in
         omega arith;
     width = width;
     height = height;
@@ -69,5 +89,5 @@ module _ (d : Netlist) (fed : Fed) (channels : List Pins) (are : channels ≡ ta
       grid-of pins w is =
           All-weaker (Contains (elements w)) (IsOnGrid w.columns w.tracks) (λ e listed. (is.on_grid e listed).0) (elements w) (All-contains_itself (elements w))
 
-      nets-of : (k nets : ℕ) (p : Pins) → slice_get fed.nets k ≡ Some nets → slice_get channels k ≡ Some p → nets ≡ length (nets_of p)
+      nets-of : (k nets : ℕ) (p : Pins) → slice_get fed.nets k ≡ Some nets → slice_get (tables_of d fed) k ≡ Some p → nets ≡ length (nets_of p)
       nets-of k nets p counted listed = same_Some nets (length (nets_of p)) (sym counted ∙ tables.nets k p listed)

@@ -38,19 +38,18 @@ pub record Headline (stated bytes text : List ℕ) : Type 0 where
   pub states : rules_of stated ≡ Ok rules
   pub good : IsGoodOf rules bytes text
 
--- a job is what a file says under rules: the file is a design on the grid, which is the job's, and whose nets are its pins of equal signal words
-pub record IsJobFor (rules : RuleValues) (file : YalFile) (job : Job) : Type 0 where
-  pub rules_are : job.rules ≡ rules
-  pub checked : on_grid rules file ≡ Ok job.design
-  pub nets : SameNet (word_of (parent_calls file)) job.design.pins
+-- a design is what a file says under rules: the file is on the grid, and the design's nets are its pins of equal signal words
+pub record IsDesignFor (rules : RuleValues) (file : YalFile) (d : Netlist) : Type 0 where
+  pub checked : on_grid rules file ≡ Ok d
+  pub nets : SameNet (word_of (parent_calls file)) d.pins
 
--- a job is what a text of YAL says under rules
-pub record IsJobOf (rules : RuleValues) (bytes : List ℕ) (job : Job) : Type 0 where
+-- a design is what a text of YAL says under rules
+pub record IsDesignOf (rules : RuleValues) (bytes : List ℕ) (d : Netlist) : Type 0 where
   pub file : YalFile
   pub read : yal_reads bytes ≡ Ok file
-  pub is : IsJobFor rules file job
+  pub is : IsDesignFor rules file d
 
 -- a job is what the bytes of a rules file and of a design's file say
 pub record IsJobFrom (stated bytes : List ℕ) (job : Job) : Type 0 where
   pub states : rules_of stated ≡ Ok job.rules
-  pub is : IsJobOf job.rules bytes job
+  pub is : IsDesignOf job.rules bytes job.design

@@ -1,5 +1,5 @@
 -- the words of a command
-pub mod RowsWord
+pub mod NumberWord
 pub mod RowCountView
 pub mod Command
 pub mod Seen
@@ -7,11 +7,13 @@ pub mod Seen
 pub mod Rows
 pub mod Job
 pub mod Text
+-- routed channels, and their wirings apart
+pub mod Kept
+pub mod KeptView
 pub mod PreparedView
--- points that may refuse, the limits, what is not built yet, and the names in faults
+-- points that may refuse, the limits, and the names in faults
 pub mod Refusing
 pub mod Limits
-pub mod Unbuilt
 pub mod FaultName
 -- the verdict on words and files
 pub mod Verdict

@@ -1,5 +1,9 @@
 use Rattle.std.specs.Prelude.{ℕ, List, length, nat_lt, if◌then◌else◌, Option, Some, None, Result, Ok, Err}
+use Rattle.tech_rules.specs.Rules.{RuleValues}
+use Rattle.design_model.specs.Netlist.{Netlist}
+use Rattle.anneal_int.specs.Annealed.{all_changes}
 use Rattle.commands.specs.Refusing.{or_refusal}
+use Rattle.commands.specs.Rows.{schedule_of}
 use Rattle.pin_assign.specs.declared.bound.Bound.{Bound}
 use Rattle.commands.specs.declared.refusal.Limited.{Limited}
 use Rattle.commands.specs.declared.refusal.Limited.TheVariants as limits
@@ -13,6 +17,10 @@ above what most n = if nat_lt most n then Some (Limit what n) else None
 -- a file's contents, which have at most 16,777,216 bytes
 unfoldable pub within_limit : Limited → List ℕ → Result (List ℕ) Refusal
 within_limit what bytes = if nat_lt 16777216 (length bytes) then Err (Limit what 16777216) else Ok bytes
+
+-- annealing tries at most 50,000,000 changes
+unfoldable pub moves_refusal : RuleValues → Netlist → Option Refusal
+moves_refusal rules d = above limits.Moves 50000000 (all_changes d (schedule_of rules))
 
 -- the first limit that a layout of this size passes: 4,000,000 columns, and 1,000,000,000 centimicrons for the width and for the height
 unfoldable pub size_refusal : Bound → Option Refusal

@@ -8,7 +8,7 @@ use Rattle.netlist_core.specs.declared.fault.DesignFault.TheVariants as faults
 use Rattle.commands.specs.declared.refusal.Limited.{Limited}
 use Rattle.commands.specs.declared.refusal.Limited.TheVariants as limits
 use Rattle.commands.specs.declared.refusal.Refusal.{Refusal}
-use Rattle.commands.specs.declared.refusal.Refusal.TheVariants.{Usage, Toml, Missing, Range, Tight, Yal, Design, Limit, Unbuilt, Memory}
+use Rattle.commands.specs.declared.refusal.Refusal.TheVariants.{Usage, Toml, Missing, Range, Tight, Yal, Design, Limit, Memory}
 use Rattle.commands.specs.declared.stop.Stop.{Stop}
 use Rattle.commands.specs.declared.stop.Stop.TheVariants.{Refused, ReadFault, WriteFault}
 
@@ -50,6 +50,7 @@ limited_word limits.Rules = codes "Rules"
 limited_word limits.Design = codes "Design"
 limited_word limits.Instances = codes "Instances"
 limited_word limits.Pins = codes "Pins"
+limited_word limits.Moves = codes "Moves"
 limited_word limits.Grid = codes "Grid"
 limited_word limits.Width = codes "Width"
 limited_word limits.Height = codes "Height"
@@ -65,7 +66,6 @@ refusal_words (Yal kind place) = codes "yal" ∷ kind_word kind ∷ decimal plac
 refusal_words (Design fault None) = codes "design" ∷ fault_word fault ∷ []
 refusal_words (Design fault (Some name)) = codes "design" ∷ fault_word fault ∷ name ∷ []
 refusal_words (Limit what n) = codes "limit" ∷ limited_word what ∷ decimal n ∷ []
-refusal_words Unbuilt = codes "unbuilt" ∷ []
 refusal_words Memory = codes "memory" ∷ []
 
 -- the words of the line of what stopped a command

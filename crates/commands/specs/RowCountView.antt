@@ -1,5 +1,5 @@
 use Rattle.std.specs.Prelude.{ℕ, ◌≤◌}
-use Rattle.commands.specs.declared.rows_word.RowCount.TheInside.{Inside}
+use Rattle.commands.specs.declared.number_word.RowCount.TheInside.{Inside}
 
 abbrev pub count_in : Inside → ℕ
 count_in a = a.rows

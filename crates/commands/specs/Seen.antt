@@ -6,9 +6,9 @@ use Rattle.commands.specs.declared.command.Route.{Route}
 use Rattle.commands.specs.declared.command.WordsFault.{WordsFault}
 use Rattle.commands.specs.declared.command.WordsFault.TheVariants.{Usage, Memory}
 
--- a command as its names and its rows
+-- a command as its names and how the design is to be laid out
 abbrev pub seen : Route → Names
-seen names = record { design = names.design.now; rules = names.rules.now; out = names.out.now; rows = names.rows }
+seen names = record { design = names.design.now; rules = names.rules.now; out = names.out.now; wanted = names.wanted; style = names.style }
 
 abbrev pub command_seen : asked.Command → Command
 command_seen (commands.Route names) = route (seen names)

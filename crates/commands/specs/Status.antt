@@ -1,7 +1,7 @@
 use Rattle.std.specs.Prelude.{ℕ, [], ◌∷◌, Bool, ◌==◌, Result, Ok, Err}
 use Rattle.std.specs.List.{list_any}
 use Rattle.commands.specs.declared.refusal.Refusal.{Refusal}
-use Rattle.commands.specs.declared.refusal.Refusal.TheVariants.{Usage, Toml, Missing, Range, Tight, Yal, Design, Limit, Unbuilt, Memory}
+use Rattle.commands.specs.declared.refusal.Refusal.TheVariants.{Usage, Toml, Missing, Range, Tight, Yal, Design, Limit, Memory}
 use Rattle.commands.specs.declared.stop.Stop.{Stop}
 use Rattle.commands.specs.declared.stop.Stop.TheVariants.{Refused, ReadFault, WriteFault}
 
@@ -16,7 +16,6 @@ refusal_status (Tight rule) = 4
 refusal_status (Design fault name) = 5
 refusal_status (Limit what n) = 6
 refusal_status Memory = 10
-refusal_status Unbuilt = 11
 
 -- the status of what stopped a command
 abbrev pub stop_status : Stop → ℕ
@@ -36,4 +35,4 @@ verdict_status (Err refusal) = refusal_status refusal
 
 -- one of the numbers that a command ends with
 abbrev pub is_status : ℕ → Bool
-is_status n = list_any (λ status. n == status) (0 ∷ 2 ∷ 3 ∷ 4 ∷ 5 ∷ 6 ∷ 8 ∷ 9 ∷ 10 ∷ 11 ∷ [])
+is_status n = list_any (λ status. n == status) (0 ∷ 2 ∷ 3 ∷ 4 ∷ 5 ∷ 6 ∷ 8 ∷ 9 ∷ 10 ∷ [])

@@ -1,4 +1,4 @@
-use Rattle.std.specs.Prelude.{◌≡◌, ℕ, List, if◌then◌else◌, Option, Some, None, option_map, Result, Ok, Err}
+use Rattle.std.specs.Prelude.{◌≡◌, ℕ, List, Option, Some, None, option_map, Result, Ok, Err}
 use Rattle.tech_rules.specs.Rules.{RuleValues}
 use Rattle.tech_rules.specs.RulesOf.{rules_of}
 use Rattle.tech_rules.specs.declared.fault.RulesFault.{RulesFault}
@@ -14,14 +14,14 @@ use Rattle.netlist_core.specs.declared.fault.DesignFault.TheVariants as faults
 use Rattle.commands.specs.Command.{Command, command_of, route}
 use Rattle.commands.specs.Job.{Job}
 use Rattle.commands.specs.FaultName.{fault_name}
-use Rattle.commands.specs.Limits.{size_refusal, within_limit}
+use Rattle.commands.specs.Limits.{moves_refusal, size_refusal, within_limit}
 use Rattle.commands.specs.Refusing.{◌>>=◌, unless}
-use Rattle.commands.specs.Rows.{rows_for}
+use Rattle.commands.specs.Rows.{job_of}
 use Rattle.commands.specs.Text.{bound_for}
-use Rattle.commands.specs.Unbuilt.{is_unbuilt}
+use Rattle.commands.specs.declared.command.Wanted.{Wanted}
 use Rattle.commands.specs.declared.refusal.Limited.TheVariants as limits
 use Rattle.commands.specs.declared.refusal.Refusal.{Refusal}
-use Rattle.commands.specs.declared.refusal.Refusal.TheVariants.{Usage, Toml, Missing, Range, Tight, Yal, Design, Limit, Unbuilt, Memory}
+use Rattle.commands.specs.declared.refusal.Refusal.TheVariants.{Usage, Toml, Missing, Range, Tight, Yal, Design, Limit, Memory}
 
 -- a fault of the rules file as a refusal
 abbrev pub rules_refusal : RulesFault → Refusal
@@ -60,52 +60,50 @@ rules_verdict bytes = do
   whole ← within_limit limits.Rules bytes
   stated_rules whole
 
--- the job of laying a design out in so many rows: the point for what is not built yet, and the limits of the layout
-unfoldable pub rows_verdict : RuleValues → Netlist → ℕ → Result Job Refusal
-rows_verdict rules d rows =
-    if is_unbuilt rules d then Err Unbuilt
-    else unless (size_refusal (bound_for rules d rows)) (Ok (record { rules = rules; design = d; rows = rows }))
-
--- the job for what a YAL file says, with the number of rows that is asked for, if one is
-unfoldable pub file_verdict : RuleValues → Option ℕ → YalFile → Result Job Refusal
-file_verdict rules asked file = do
-  design ← design_said file (on_grid rules file)
-  rows_verdict rules design (rows_for rules design asked)
-
--- the job for what a text of YAL says
-unfoldable pub job_for : RuleValues → Option ℕ → List ℕ → Result Job Refusal
-job_for rules asked bytes = do
+-- the design that a text of YAL is
+unfoldable pub stated_design : RuleValues → List ℕ → Result Netlist Refusal
+stated_design rules bytes = do
   file ← yal_said (yal_reads bytes)
-  file_verdict rules asked file
+  design_said file (on_grid rules file)
 
--- the job for the bytes of a design's file
-unfoldable pub design_verdict : RuleValues → Option ℕ → List ℕ → Result Job Refusal
-design_verdict rules asked bytes = do
+-- the design that the bytes of a design's file state
+unfoldable pub design_verdict : RuleValues → List ℕ → Result Netlist Refusal
+design_verdict rules bytes = do
   whole ← within_limit limits.Design bytes
-  job_for rules asked whole
+  stated_design rules whole
 
-abbrev pub verdict_under : Option ℕ → Result RuleValues Refusal → Option (List ℕ) → Option (Result Job Refusal)
-verdict_under asked (Ok rules) design = option_map (design_verdict rules asked) design
-verdict_under asked (Err refusal) design = Some (Err refusal)
+-- a job that passes the limits: that of the changes of its annealing, and those of its layout
+unfoldable pub within_limits : Job → Result Job Refusal
+within_limits job = unless (moves_refusal job.rules job.design) (unless (size_refusal (bound_for job)) (Ok job))
+
+-- the job of laying out the design that the bytes of a file state
+unfoldable pub job_verdict : RuleValues → Wanted → List ℕ → Result Job Refusal
+job_verdict rules wanted bytes = do
+  design ← design_verdict rules bytes
+  within_limits (job_of rules design wanted)
+
+abbrev pub verdict_under : Wanted → Result RuleValues Refusal → Option (List ℕ) → Option (Result Job Refusal)
+verdict_under wanted (Ok rules) design = option_map (job_verdict rules wanted) design
+verdict_under wanted (Err refusal) design = Some (Err refusal)
 
 -- the verdict on the rules file and the design's file by what they are told to hold: the job to be done, or the first refusal. There
 -- is none where a file that it comes to is untold
-unfoldable pub files_verdict : Option ℕ → Option (List ℕ) → Option (List ℕ) → Option (Result Job Refusal)
-files_verdict asked None design = None
-files_verdict asked (Some rules) design = verdict_under asked (rules_verdict rules) design
+unfoldable pub files_verdict : Wanted → Option (List ℕ) → Option (List ℕ) → Option (Result Job Refusal)
+files_verdict wanted None design = None
+files_verdict wanted (Some rules) design = verdict_under wanted (rules_verdict rules) design
 
 -- the verdict on a command by what the files are told to hold, and that on a command's words
 abbrev pub command_verdict : Command → (List ℕ → Option (List ℕ)) → Option (Result Job Refusal)
-command_verdict (route names) told = files_verdict names.rows (told names.rules) (told names.design)
+command_verdict (route names) told = files_verdict names.wanted (told names.rules) (told names.design)
 
 abbrev pub asked_verdict : Option Command → (List ℕ → Option (List ℕ)) → Option (Result Job Refusal)
 asked_verdict None told = Some (Err Usage)
 asked_verdict (Some command) told = command_verdict command told
 
-abbrev pub verdict : List (List ℕ) → (List ℕ → Option (List ℕ)) → Option (Result Job Refusal)
-verdict words told = asked_verdict (command_of words) told
+abbrev pub verdict : List (List ℕ) → List (List ℕ) → (List ℕ → Option (List ℕ)) → Option (Result Job Refusal)
+verdict styles words told = asked_verdict (command_of styles words) told
 
--- words give a command, and this is the verdict on it
-pub record Comes (words : List (List ℕ)) (told : List ℕ → Option (List ℕ)) (command : Command) (said : Result Job Refusal) : Type 0 where
-  pub asked : command_of words ≡ Some command
+-- words give a command, where the styles have these names, and this is the verdict on it
+pub record Comes (styles words : List (List ℕ)) (told : List ℕ → Option (List ℕ)) (command : Command) (said : Result Job Refusal) : Type 0 where
+  pub asked : command_of styles words ≡ Some command
   pub says : command_verdict command told ≡ Some said

@@ -3,17 +3,17 @@
 
 mod command;
 mod fault_name;
+mod kept;
 mod limits;
 mod line;
+mod number_word;
 mod outcome;
+mod placing;
 mod prepared;
 mod refusal;
-mod rows_word;
 mod stages;
 mod stop;
 mod top;
-mod unbuilt;
-mod wirings;
 mod word;
 
 pub use top::{Ended, run};

@@ -60,6 +60,7 @@ fn limited_word(what: Limited) -> &'static str
         Limited::Design => "Design",
         Limited::Instances => "Instances",
         Limited::Pins => "Pins",
+        Limited::Moves => "Moves",
         Limited::Grid => "Grid",
         Limited::Width => "Width",
         Limited::Height => "Height",
@@ -157,7 +158,6 @@ fn put_refusal<K: Sink>(out: &mut K, refusal: &Refusal) -> Result<(), Failed>
             limited_word(*what).as_bytes(),
             digits.format(*number).as_bytes(),
         ),
-        Refusal::Unbuilt => put_one(out, b"unbuilt"),
         Refusal::Memory => put_one(out, b"memory"),
     }
 }

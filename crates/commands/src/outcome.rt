@@ -1,20 +1,18 @@
-//! From the bytes of the rules file and the design's file to a design that is ready to be written.
+//! From the bytes of the rules file and of the design's file to rules and a design.
 
 ghost use Rattle.commands.specs.Answers.{Answers};
-ghost use Rattle.commands.specs.Rows.{rows_for};
-ghost use Rattle.commands.specs.Headline.{IsJobFor, IsJobOf};
+ghost use Rattle.commands.specs.Headline.{IsDesignFor, IsDesignOf};
 ghost use Rattle.commands.specs.Status.{refusal_status};
-ghost use Rattle.commands.specs.Verdict.{file_verdict, job_for, stated_rules};
+ghost use Rattle.commands.specs.Verdict.{design_said, stated_design, stated_rules};
+ghost use Rattle.design_model.specs.Room.{HasRoom};
+ghost use Rattle.netlist_core.specs.OnGrid.{on_grid};
 ghost use Rattle.std.specs.Prelude.{◌≡◌, ◌≢◌, ◌≤◌, ◌-◌, ◌^◌, length, IfErr, IfOk};
 ghost use Rattle.yal_reader.specs.Kept.{HasAtMost, IsKept};
 
 use crate::fault_name::fault_name;
-use crate::prepared::{Prepared, lay_out};
 use crate::refusal::{Limited, Refusal};
-use crate::rows_word::RowCount;
 use design_model::Design;
 use netlist_core::{Count, DesignFault, to_design};
-use row_model::default_rows;
 use std::alloc::Global;
 use tech_rules::{Rules, RulesFault, read_rules};
 use yal_reader::{YalFault, YalFile, read_yal};
@@ -34,37 +32,17 @@ pub fn stated_rules(alloc: Global, bytes: &[u8]) -> Result<Rules, Refusal>
     }
 }
 
-// The number of rows of a design's layout.
-fn rows_for(design: &Design, rules: &Rules, asked: Option<RowCount>) -> u32
-    ensures is { result ≡ rows_for rules.now design.now asked }
-    ensures some { 1 ≤ result }
-    ensures few { result ≤ 512 }
-{
-    match asked {
-        None => default_rows(design, rules),
-        Some(rows) => rows.get(),
-    }
-}
-
-// What a file says, laid out and routed.
-#[tactic(auto, unfolding(crate::specs::Verdict::file_verdict))]
-fn prepared_file(
-    alloc: Global,
-    file: &YalFile,
-    rules: Rules,
-    asked: Option<RowCount>,
-) -> Result<Prepared, Refusal>
+// The design that a file says.
+fn design_in(alloc: Global, file: &YalFile, rules: &Rules) -> Result<Design, Refusal>
     requires file { IsKept file.now }
     requires few { HasAtMost (2 ^ 32 - 1) file.now }
-    ensures made { Answers (λ job. job) result (file_verdict rules asked file.now) }
-    ensures is { IfOk result (λ job. IsJobFor rules file.now job) }
+    ensures made { Answers (λ design. design) result (design_said file.now (on_grid rules.now file.now)) }
+    ensures is { IfOk result (λ design. IsDesignFor rules.now file.now design) }
+    ensures high { IfOk result (λ design. HasRoom rules.now design) }
     ensures command { IfErr result (λ refusal. refusal_status refusal ≢ 2) }
 {
-    match to_design(alloc, file, &rules) {
-        Ok(design) => {
-            let rows = rows_for(&design, &rules, asked);
-            lay_out(alloc, design, rules, rows)
-        }
+    match to_design(alloc, file, rules) {
+        Ok(design) => Ok(design),
         Err(DesignFault::Memory) => Err(Refusal::Memory),
         Err(DesignFault::Limit(Count::Instances, n)) => Err(Refusal::Limit(Limited::Instances, n)),
         Err(DesignFault::Limit(Count::Pins, n)) => Err(Refusal::Limit(Limited::Pins, n)),
@@ -72,17 +50,13 @@ fn prepared_file(
     }
 }
 
-/// What a text of YAL says, laid out and routed.
-#[tactic(auto, unfolding(crate::specs::Verdict::job_for))]
-pub fn prepared_text(
-    alloc: Global,
-    bytes: &[u8],
-    rules: Rules,
-    asked: Option<RowCount>,
-) -> Result<Prepared, Refusal>
+/// The design that a text of YAL says. The text's file is given up.
+#[tactic(auto, unfolding(crate::specs::Verdict::stated_design))]
+pub fn stated_design(alloc: Global, bytes: &[u8], rules: &Rules) -> Result<Design, Refusal>
     requires { length bytes.now ≤ 16777216 }
-    ensures made { Answers (λ job. job) result (job_for rules asked bytes.now) }
-    ensures is { IfOk result (λ job. IsJobOf rules bytes.now job) }
+    ensures made { Answers (λ design. design) result (stated_design rules.now bytes.now) }
+    ensures is { IfOk result (λ design. IsDesignOf rules.now bytes.now design) }
+    ensures high { IfOk result (λ design. HasRoom rules.now design) }
     ensures command { IfErr result (λ refusal. refusal_status refusal ≢ 2) }
 {
     let file = match read_yal(alloc, bytes) {
@@ -90,5 +64,5 @@ pub fn prepared_text(
         Err(YalFault::Memory) => return Err(Refusal::Memory),
         Err(YalFault::Bad { kind, at }) => return Err(Refusal::Yal(kind, at)),
     };
-    prepared_file(alloc, &file, rules, asked)
+    design_in(alloc, &file, rules)
 }

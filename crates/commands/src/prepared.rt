@@ -3,163 +3,175 @@
 ghost use Rattle.commands.specs.Answers.{Answers, Ends};
 ghost use Rattle.commands.specs.Headline.{IsGoodText};
 ghost use Rattle.commands.specs.Job.{Job};
-ghost use Rattle.commands.specs.Limits.{size_refusal};
-ghost use Rattle.commands.specs.Refusing.{unless};
 ghost use Rattle.commands.specs.Status.{ending_status, refusal_status};
-ghost use Rattle.commands.specs.Text.{bound_for, job_text, rows_with_feeds, wirings_in_use};
-ghost use Rattle.commands.specs.Verdict.{rows_verdict};
+ghost use Rattle.commands.specs.Rows.{job_of};
+ghost use Rattle.commands.specs.Kept.{wirings_of};
+ghost use Rattle.commands.specs.Text.{channels_of, job_text, rows_with_feeds};
+ghost use Rattle.greedy_router.specs.Answers.{AreRouted};
+ghost use Rattle.commands.specs.Verdict.{within_limits};
 ghost use Rattle.channel_stack.specs.Routed.{AreWired, IsRouted};
 ghost use Rattle.cif_writer.specs.LayoutText.{HoldsFront};
 ghost use Rattle.design_model.specs.Room.{HasRoom};
 ghost use Rattle.feed_cells.specs.Fed.{IsFed, cells_in};
 ghost use Rattle.feed_cells.specs.Placement.{placement_of};
 ghost use Rattle.pin_assign.specs.Bounds as pins;
+ghost use Rattle.pin_assign.specs.ChannelTables.{AreTablesFor};
+ghost use Rattle.pin_assign.specs.Tables.{tables_of};
 ghost use Rattle.shelf_io.specs.Count.{Rose};
 ghost use Rattle.shelf_io.specs.Told.{Refines};
 ghost use Rattle.std.specs.Prelude.{◌≡◌, ◌≢◌, ◌⊎◌, ◌≤◌, List, ℕ, Ok, Some, IfErr, IfOk};
 
+use crate::command::Wanted;
+use crate::kept::Apart;
 use crate::limits::size_refusal;
+use crate::placing::{FedDesign, feed_rows, rows_for};
 use crate::refusal::Refusal;
 use crate::stop::Stop;
-use crate::unbuilt::is_unbuilt;
-use crate::wirings::route_channels;
-use channel_model::Wiring;
+use channel_model::Channel;
 use channel_stack::{Laid, lay};
+use choose_core::{Chooser, Chooses};
 use cif_writer::{StartFault, symbol_drawings, write_layout};
 use design_model::Design;
-use feed_cells::{FedRows, Placement, insert_feeds, place};
+use feed_cells::FedRows;
 use geom_core::{Items, Shape};
+use greedy_router::{Routed, route_channels};
 use pin_assign::{bound_of, channels};
-use row_model::start;
 use shelf_io::Shelf;
 use std::alloc::{AllocError, Global};
 use std::marker::Model;
 use tech_rules::Rules;
 
-/// A design with its rules, in so many rows with feeds, with the wirings of its channels, where all of it lies, and the drawings of its symbols. Contracts see
-/// the rules, the design and the number of rows, by which all else is given.
+/// A design with its rules, in so many rows, annealed by a seed, with feeds, with its routed channels, where all of it lies, and the drawings of its symbols. Contracts
+/// see the rules, the design, the number of rows and the seed, and the routed channels, by which all else is given.
 #[derive(Drop)]
 pub struct Prepared {
     rules: Rules,
     design: Design,
     rows: u32,
+    seed: u64,
     fed: FedRows,
-    wirings: Vec<Wiring>,
+    kept: Apart,
     laid: Laid,
     symbols: Vec<Items<Shape>>,
 }
 
 impl Model for Prepared {
-    ghost use Rattle.commands.specs.Job.{Job};
-    ghost use Rattle.commands.specs.Limits.{size_refusal};
-    ghost use Rattle.commands.specs.Refusing.{unless};
-    ghost use Rattle.commands.specs.PreparedView.{job_in, IsPrepared};
+    ghost use Rattle.commands.specs.PreparedView.{RoutedJob, job_in, IsPrepared};
 
-    ghost Value = { Job };
+    ghost Value = { RoutedJob };
 
     ghost view = { job_in };
 
     ghost invariant = { IsPrepared };
 }
 
-// The wirings of the channels between rows with feeds, by the plain router. The rows with feeds are those of their cells, by which the placement is made, and the size that their layout
-// is within passes no limit.
-fn wired(
+// Rows with feeds, and the channels between them.
+#[derive(Drop)]
+struct Tabled {
+    fed: FedRows,
+    channels: Vec<Channel>,
+}
+
+// The channels between rows with feeds. The placement is given up.
+fn tables_of_channels(
     alloc: Global,
     design: &Design,
-    fed: &FedRows,
-    placement: &Placement,
+    placed: FedDesign,
+) -> Result<Tabled, AllocError>
+    requires fed { IsFed design.now placed.fed }
+    requires placement { placed.placement ≡ placement_of design.now (cells_in placed.fed.rows) }
+    requires narrow { placed.fed.width ≤ 4000000 }
+    ensures fed { IfOk result (λ made. made.fed ≡ placed.fed) }
+    ensures is { IfOk result (λ made. made.channels.items ≡ tables_of design.now made.fed) }
+    ensures tables { IfOk result (λ made. AreTablesFor made.fed made.channels.items) }
+{
+    let FedDesign { placement, fed } = placed;
+    let channels = channels(alloc, design, &fed, &placement)?;
+    Ok(Tabled { fed, channels })
+}
+
+// Rows with feeds, and the routed channels between them.
+#[derive(Drop)]
+struct RoutedRows {
+    fed: FedRows,
+    kept: Apart,
+}
+
+// The channels between rows with feeds, routed by the choices of a style. The tables of the channels are given up.
+fn route_tabled(
+    alloc: Global,
+    design: &Design,
     rules: &Rules,
-) -> Result<Vec<Wiring>, AllocError>
-    requires fed { IsFed design.now fed.now }
-    requires placement { placement.now ≡ placement_of design.now (cells_in fed.now.rows) }
-    requires narrow { fed.now.width ≤ 4000000 }
-    requires width { (pins.bound_of rules.now design.now fed.now).width ≤ 1000000000 }
-    requires height { (pins.bound_of rules.now design.now fed.now).height ≤ 1000000000 }
-    ensures stated { IfOk result (λ wirings. wirings.items ≡ wirings_in_use design.now fed.now) }
-    ensures wired { IfOk result (λ wirings. AreWired design.now fed.now wirings.items) }
-    ensures routed { IfOk result (λ wirings. IsRouted rules.now design.now fed.now wirings.items) }
+    tabled: Tabled,
+    style: &Chooser,
+) -> Result<RoutedRows, AllocError>
+    requires is { tabled.channels.items ≡ tables_of design.now tabled.fed }
+    requires tables { AreTablesFor tabled.fed tabled.channels.items }
+    requires width { (pins.bound_of rules.now design.now tabled.fed).width ≤ 1000000000 }
+    requires height { (pins.bound_of rules.now design.now tabled.fed).height ≤ 1000000000 }
+    ensures fed { IfOk result (λ made. made.fed ≡ tabled.fed) }
+    ensures kept { IfOk result (λ made. AreRouted (⟦<Chooser as Chooses>⟧.answers style.now) (tables_of design.now made.fed) made.kept) }
+    ensures wired { IfOk result (λ made. AreWired design.now made.fed (wirings_of made.kept)) }
+    ensures routed { IfOk result (λ made. IsRouted rules.now design.now made.fed (wirings_of made.kept)) }
 {
-    let channels = channels(alloc, design, fed, placement)?;
-    let wirings = route_channels(alloc, channels.as_slice())?;
-    Ok(wirings)
-}
-
-// Rows with feeds, and by what placement.
-#[derive(Drop)]
-struct FedDesign {
-    placement: Placement,
-    fed: FedRows,
-}
-
-// The rows with feeds of a design in so many rows.
-fn feed_rows(alloc: Global, design: &Design, rows: u32) -> Result<FedDesign, AllocError>
-    requires some { 1 ≤ rows }
-    requires few { rows ≤ 512 }
-    ensures is { IfOk result (λ made. made.fed ≡ rows_with_feeds design.now rows) }
-    ensures fed { IfOk result (λ made. IsFed design.now made.fed) }
-    ensures placement { IfOk result (λ made. made.placement ≡ placement_of design.now (cells_in made.fed.rows)) }
-{
-    let seats = start(alloc, design, rows)?;
-    let placement = place(alloc, design, &seats)?;
-    let fed = insert_feeds(alloc, design, &seats, &placement)?;
-    Ok(FedDesign { placement, fed })
-}
-
-// Rows with feeds, and the wirings of the channels between them.
-#[derive(Drop)]
-struct Routed {
-    fed: FedRows,
-    wirings: Vec<Wiring>,
-}
-
-// A design in so many rows with feeds, routed, if its layout is within the limits.
-#[tactic(auto, unfolding(crate::specs::Text::bound_for))]
-fn route_rows(alloc: Global, design: &Design, rules: &Rules, rows: u32) -> Result<Routed, Refusal>
-    requires some { 1 ≤ rows }
-    requires few { rows ≤ 512 }
-    ensures made { Answers (λ routed. rows) result (unless (size_refusal (bound_for rules.now design.now rows)) (Ok rows)) }
-    ensures is { IfOk result (λ made. made.fed ≡ rows_with_feeds design.now rows) }
-    ensures fed { IfOk result (λ made. IsFed design.now made.fed) }
-    ensures stated { IfOk result (λ made. made.wirings.items ≡ wirings_in_use design.now made.fed) }
-    ensures wired { IfOk result (λ made. AreWired design.now made.fed made.wirings.items) }
-    ensures routed { IfOk result (λ made. IsRouted rules.now design.now made.fed made.wirings.items) }
-    ensures command { IfErr result (λ refusal. refusal_status refusal ≢ 2) }
-{
-    let made = feed_rows(alloc, design, rows)?;
-    if let Some(refusal) = size_refusal(bound_of(design, &made.fed, rules)) {
-        return Err(refusal);
-    }
-    let wirings = wired(alloc, design, &made.fed, &made.placement, rules)?;
-    Ok(Routed {
-        fed: made.fed,
-        wirings,
+    let routed = route_channels(alloc, tabled.channels.as_slice(), style)?;
+    let kept = Apart::new(alloc, routed)?;
+    Ok(RoutedRows {
+        fed: tabled.fed,
+        kept,
     })
 }
 
-/// A design laid out in so many rows and routed, if that is built and within the limits. Each cell has room for its pins.
-#[tactic(auto, unfolding(crate::specs::Verdict::rows_verdict))]
-pub fn lay_out(alloc: Global, design: Design, rules: Rules, rows: u32) -> Result<Prepared, Refusal>
-    requires high { HasRoom rules design }
-    requires some { 1 ≤ rows }
-    requires few { rows ≤ 512 }
-    ensures made { Answers (λ job. job) result (rows_verdict rules design rows) }
-    ensures is { IfOk result (λ job. job ≡ record { rules = rules; design = design; rows = rows }) }
+// The rows of a design with feeds, routed, if annealing tries no more changes than it may and the layout is within the limits.
+#[tactic(auto, unfolding(crate::specs::Verdict::within_limits))]
+fn route_rows(
+    alloc: Global,
+    design: &Design,
+    rules: &Rules,
+    wanted: &Wanted,
+    style: &Chooser,
+) -> Result<RoutedRows, Refusal>
+    ensures made { Answers (λ routed. job_of rules.now design.now wanted.now) result (within_limits (job_of rules.now design.now wanted.now)) }
+    ensures is { IfOk result (λ made. made.fed ≡ rows_with_feeds (job_of rules.now design.now wanted.now)) }
+    ensures fed { IfOk result (λ made. IsFed design.now made.fed) }
+    ensures kept { IfOk result (λ made. AreRouted (⟦<Chooser as Chooses>⟧.answers style.now) (tables_of design.now made.fed) made.kept) }
+    ensures wired { IfOk result (λ made. AreWired design.now made.fed (wirings_of made.kept)) }
+    ensures routed { IfOk result (λ made. IsRouted rules.now design.now made.fed (wirings_of made.kept)) }
     ensures command { IfErr result (λ refusal. refusal_status refusal ≢ 2) }
 {
-    if is_unbuilt(&design, &rules) {
-        return Err(Refusal::Unbuilt);
+    let placed = feed_rows(alloc, design, rules, wanted)?;
+    if let Some(refusal) = size_refusal(bound_of(design, &placed.fed, rules)) {
+        return Err(refusal);
     }
-    let routed = route_rows(alloc, &design, &rules, rows)?;
-    let wirings = routed.wirings.as_slice();
-    let laid = lay(alloc, &design, &routed.fed, wirings, &rules)?;
-    let symbols = symbol_drawings(alloc, &design, &routed.fed, &rules)?;
+    let tabled = tables_of_channels(alloc, design, placed)?;
+    Ok(route_tabled(alloc, design, rules, tabled, style)?)
+}
+
+/// A design laid out as is wanted and routed by the choices of a style, if that is within the limits. Each cell has room for its pins.
+pub fn lay_out(
+    alloc: Global,
+    design: Design,
+    rules: Rules,
+    wanted: Wanted,
+    style: &Chooser,
+) -> Result<Prepared, Refusal>
+    requires high { HasRoom rules design }
+    ensures made { Answers (λ prepared. prepared.job) result (within_limits (job_of rules design wanted)) }
+    ensures is { IfOk result (λ prepared. prepared.job ≡ job_of rules design wanted) }
+    ensures kept { IfOk result (λ prepared. AreRouted (⟦<Chooser as Chooses>⟧.answers style.now) (channels_of prepared.job) prepared.kept) }
+    ensures command { IfErr result (λ refusal. refusal_status refusal ≢ 2) }
+{
+    let rows = rows_for(&design, &rules, wanted.rows);
+    let RoutedRows { fed, kept } = route_rows(alloc, &design, &rules, &wanted, style)?;
+    let laid = lay(alloc, &design, &fed, kept.wirings(), &rules)?;
+    let symbols = symbol_drawings(alloc, &design, &fed, &rules)?;
     Ok(Prepared {
         rules,
         design,
         rows,
-        fed: routed.fed,
-        wirings: routed.wirings,
+        seed: wanted.seed,
+        fed,
+        kept,
         laid,
         symbols,
     })
@@ -170,10 +182,10 @@ impl Prepared {
     /// WriteFault, which comes only where the file's write count rose, and then the file holds what it held before, or a front of the text.
     #[tactic(auto, unfolding(crate::specs::Text::job_text))]
     pub fn write<S: Shelf>(&self, alloc: Global, shelf: &mut S, out: &str) -> Result<(), Stop>
-        ensures ends { Ends {Y = Job} result (Ok self.now) }
-        ensures whole { ending_status result ≡ 0 → Refines (S.holds shelf.new out.now) (Some (job_text self.now)) }
-        ensures good { IsGoodText self.now.rules self.now.design (job_text self.now) }
-        ensures front { ending_status result ≡ 9 → HoldsFront (job_text self.now) (S.holds shelf.old out.now) (S.holds shelf.new out.now) }
+        ensures ends { Ends {Y = Job} result (Ok self.now.job) }
+        ensures whole { ending_status result ≡ 0 → Refines (S.holds shelf.new out.now) (Some (job_text self.now.job self.now.kept)) }
+        ensures good { IsGoodText self.now.job.rules self.now.job.design (job_text self.now.job self.now.kept) }
+        ensures front { ending_status result ≡ 9 → HoldsFront (job_text self.now.job self.now.kept) (S.holds shelf.old out.now) (S.holds shelf.new out.now) }
         ensures untouched { ending_status result ≢ 0 → ending_status result ≢ 9 → shelf.new ≡ shelf.old }
         ensures listed { (ending_status result ≡ 0) ⊎ ((ending_status result ≡ 9) ⊎ (ending_status result ≡ 10)) }
         ensures command { ending_status result ≢ 2 }
@@ -189,7 +201,7 @@ impl Prepared {
             &self.design,
             &self.fed,
             &self.laid,
-            self.wirings.as_slice(),
+            self.kept.wirings(),
             self.symbols.as_slice(),
             &self.rules,
         );
@@ -198,5 +210,13 @@ impl Prepared {
             Err(StartFault::Memory) => Err(Stop::Refused(Refusal::Memory)),
             Err(StartFault::Write) => Err(Stop::WriteFault),
         }
+    }
+
+    /// Its routed channels. Takes no memory.
+    pub fn kept(self) -> Vec<Routed>
+        ensures { result.items ≡ self.kept }
+    {
+        let Prepared { kept, .. } = self;
+        kept.together()
     }
 }

@@ -20,6 +20,8 @@ pub enum Limited {
     Instances,
     /// The pins of the design.
     Pins,
+    /// The changes that annealing tries.
+    Moves,
     /// The columns of all channels together.
     Grid,
     /// The width of the layout in centimicrons.
@@ -48,8 +50,6 @@ pub enum Refusal {
     Design(DesignFault, Option<Name>),
     /// A limit is passed. The number is the limit itself for a file, and else how many there are.
     Limit(Limited, u64),
-    /// The rules ask for annealing, which is not built.
-    Unbuilt,
     /// Memory ran out.
     Memory,
 }
@@ -76,7 +76,6 @@ impl Refusal {
             Refusal::Design(..) => 5,
             Refusal::Limit(..) => 6,
             Refusal::Memory => 10,
-            Refusal::Unbuilt => 11,
         }
     }
 }

@@ -13,7 +13,7 @@ use Rattle.greedy_column.proofs.StateLaws.{IsState-first}
 use Rattle.greedy_column.proofs.FairLaws.{Fair-from}
 
 -- the three records of the channel with bottom pins 1, 2 and top pins 2, 1: two columns and one past the end
-abbrev first_column : Column
+abbrev pub first_column : Column
 first_column = record {
   made = record { id = 1; below = 0 } ∷ (record { id = 2; below = 1 } ∷ []);
   top = 2;
@@ -24,7 +24,7 @@ first_column = record {
   moves = [];
 }
 
-abbrev second_column : Column
+abbrev pub second_column : Column
 second_column = record {
   made = record { id = 3; below = 2 } ∷ [];
   top = 3;
@@ -35,7 +35,7 @@ second_column = record {
   moves = [];
 }
 
-abbrev last_column : Column
+abbrev pub last_column : Column
 last_column = record {
   made = [];
   top = 0;

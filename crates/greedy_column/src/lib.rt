@@ -12,6 +12,7 @@ mod lines;
 mod moving;
 mod pairing;
 mod question;
+mod replays;
 mod sorted;
 mod span;
 mod stepping;
@@ -19,4 +20,8 @@ mod uses;
 
 pub use ahead::Ahead;
 pub use column::{Column, ColumnState, Made, Track};
-pub use stepping::step;
+pub use lines::line_of;
+pub use moving::held_by;
+pub use replays::{entered, left};
+pub use span::{Span, pin_spans};
+pub use stepping::{pin_in, step, step_with};

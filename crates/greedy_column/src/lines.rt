@@ -76,7 +76,7 @@ pub fn net_on(tracks: &[Track], line: u32) -> u32
     }
 }
 
-// The line of an id, one above all tracks where it has none.
+/// The line of an id, one above all tracks where it has none. Takes no memory.
 pub fn line_of(tracks: &[Track], id: u32) -> u32
     requires { length tracks.now + 1 < 2 ^ 32 }
     ensures line { result ≡ line_of (ids tracks.now) id }

@@ -151,8 +151,8 @@ pub fn carry(tracks: &mut [Track], moves: &[(u32, u32)])
     }
 }
 
-// The net that holds the track of an id, 0 where there is none.
-fn held_by(tracks: &[Track], id: u32) -> u32
+/// The net that holds the track of an id, 0 where there is none. Takes no memory.
+pub fn held_by(tracks: &[Track], id: u32) -> u32
     ensures { result ≡ held_by tracks.now id }
 {
     let mut rest = tracks;

@@ -7,7 +7,7 @@ use crate::column::Track;
 use crate::lines::line_of;
 use std::alloc::{AllocError, Global};
 
-// A piece of wire in a column, from a lower line to a higher one.
+/// A piece of wire in a column, from a lower line to a higher one.
 #[derive(Clone, Copy, Debug)]
 pub struct Span {
     pub net: u32,
@@ -49,7 +49,8 @@ impl Span {
     }
 }
 
-// The verticals of a column's pins, over the tracks that they have entered.
+/// The verticals of a column's pins on their lines: that of two equal pins, or that of the bottom pin and that of the top pin, from
+/// the nets of the pins and the ids of the tracks that they enter. The one error is want of memory.
 pub fn pin_spans(
     alloc: Global,
     tracks: &[Track],

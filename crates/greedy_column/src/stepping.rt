@@ -22,8 +22,8 @@ use choose_core::{Chooser, Chooses};
 use geom_core::Items;
 use std::alloc::{AllocError, Global};
 
-// The net of a pin in a column of an edge, 0 where there is none and past the end.
-fn pin_in(side: &[u32], column: u32) -> u32
+/// The net of a pin in a column of an edge, 0 where there is none and past the end. Takes no memory.
+pub fn pin_in(side: &[u32], column: u32) -> u32
     ensures { result ≡ slice_index side.now column }
 {
     match side.get(column as usize) {
@@ -43,7 +43,7 @@ fn pin_of(ahead: &Ahead, column: u32, net: u32) -> Pin
 }
 
 // The tracks with those that are made.
-fn with_made(alloc: Global, before: &[Track], made: &[Made]) -> Result<Vec<Track>, AllocError>
+pub fn with_made(alloc: Global, before: &[Track], made: &[Made]) -> Result<Vec<Track>, AllocError>
     requires { (fresh : ℕ) × AreMadeFrom fresh (length before.now) made.now }
     ensures tracks { IfOk result (λ tracks. tracks.items ≡ with_made before.now made.now) }
     ensures long { IfOk result (λ tracks. length tracks.items ≡ length before.now + length made.now) }
@@ -179,6 +179,29 @@ pub fn step(
     requires ahead { IsAhead channel.now ahead.now }
     ensures follows { IfOk result (λ done.
         Follows (⟦<Chooser as Chooses>⟧.answers chooser.now) channel.now column state.old.fresh state.old.order done) }
+    ensures fair { IfOk result (λ done. Fair channel.now column state.old.fresh state.old.order done) }
+    ensures replay { IfOk result (λ done. state.new.order ≡ after channel.now column done state.old.order) }
+    ensures fresh { IfOk result (λ done. state.new.fresh ≡ state.old.fresh + length done.made) }
+    ensures state { IfOk result (λ _. IsState channel.now state.new) }
+    ensures err { OnErr result (state.new ≡ state.old) }
+{
+    step_with(alloc, state, channel, ahead, column, chooser)
+}
+
+/// The same as `step`, for all that chooses.
+pub fn step_with<C: Chooses>(
+    alloc: Global,
+    state: &mut ColumnState,
+    channel: &Channel,
+    ahead: &Ahead,
+    column: u32,
+    chooser: &C,
+) -> Result<Column, AllocError>
+    requires state { IsState channel.now state.old }
+    requires few { state.old.fresh ≤ 4000000000 }
+    requires ahead { IsAhead channel.now ahead.now }
+    ensures follows { IfOk result (λ done.
+        Follows (C.answers chooser.now) channel.now column state.old.fresh state.old.order done) }
     ensures fair { IfOk result (λ done. Fair channel.now column state.old.fresh state.old.order done) }
     ensures replay { IfOk result (λ done. state.new.order ≡ after channel.now column done state.old.order) }
     ensures fresh { IfOk result (λ done. state.new.fresh ≡ state.old.fresh + length done.made) }

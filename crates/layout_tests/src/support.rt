@@ -21,7 +21,7 @@ use samples::{CELLS, SampleFault, designed};
 use shelf_io::MemShelf;
 use std::alloc::{AllocError, Global};
 use std::test::Fail;
-use tech_rules::Rules;
+use tech_rules::{Rules, StartBy};
 
 /// A cell of four columns: `a` below in the first and above in the second, `y` above in the last, and `b` below in the third.
 const LEAN: &str =
@@ -47,7 +47,7 @@ pub fn rows_of(alloc: Global, design: &Design, count: u32, mirror: bool) -> Resu
     requires few { count ≤ 512 }
     ensures { IfOk result (λ made. ArePlaced design.now made) }
 {
-    let rows = start(alloc, design, count)?;
+    let rows = start(alloc, design, count, StartBy::Width)?;
     if mirror {
         return mirrored(alloc, &rows);
     }

@@ -10,6 +10,7 @@ use row_model::{Rows, start};
 use samples::{CELLS, designed};
 use std::alloc::{AllocError, Global};
 use std::test::Fail;
+use tech_rules::StartBy;
 
 /// The crossing of a net; None where there is no such net.
 fn crossing(design: &Design, rows: &Rows, net: u32) -> Option<Crossing>
@@ -24,7 +25,7 @@ fn crossing(design: &Design, rows: &Rows, net: u32) -> Option<Crossing>
 /// The crossing of a net of these calls in four rows.
 fn crossing_of(alloc: Global, calls: &str, net: u32) -> Result<Option<Crossing>, Fail> {
     let design = designed(alloc, CELLS, calls)?;
-    let rows = start(alloc, &design, 4)?;
+    let rows = start(alloc, &design, 4, StartBy::Width)?;
     Ok(crossing(&design, &rows, net))
 }
 
@@ -67,7 +68,7 @@ fn fed_of(alloc: Global, calls: &str, count: u32) -> Result<FedRows, Fail>
     requires few { count ≤ 512 }
 {
     let design = designed(alloc, CELLS, calls)?;
-    let rows = start(alloc, &design, count)?;
+    let rows = start(alloc, &design, count, StartBy::Width)?;
     let placement = place(alloc, &design, &rows)?;
     Ok(insert_feeds(alloc, &design, &rows, &placement)?)
 }

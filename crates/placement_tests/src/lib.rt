@@ -2,6 +2,8 @@
 #![tactic(auto)]
 
 #[cfg(test)]
+mod cost_tests;
+#[cfg(test)]
 mod feed_tests;
 #[cfg(test)]
 mod pin_tests;

@@ -12,7 +12,7 @@ use row_model::start;
 use samples::{CELLS, SampleFault, designed};
 use std::alloc::{AllocError, Global};
 use std::test::Fail;
-use tech_rules::Rules;
+use tech_rules::{Rules, StartBy};
 
 /// A cell of two columns, with a pin below in the first and above in the second, and another above in the first.
 const PAIR: &str =
@@ -39,7 +39,7 @@ fn bound_with(alloc: Global, calls: &str, count: u32) -> Result<Bound, Fail>
     requires few { count ≤ 512 }
 {
     let design = designed_with(alloc, calls)?;
-    let rows = start(alloc, &design, count)?;
+    let rows = start(alloc, &design, count, StartBy::Width)?;
     let placement = place(alloc, &design, &rows)?;
     let fed = insert_feeds(alloc, &design, &rows, &placement)?;
     Ok(bound_in(alloc, &design, &fed)?)
@@ -136,7 +136,7 @@ fn is_tabled(alloc: Global, case: &Tabled) -> Result<bool, Fail> {
         return Ok(false);
     }
     let design = designed_with(alloc, case.calls)?;
-    let rows = start(alloc, &design, case.rows)?;
+    let rows = start(alloc, &design, case.rows, StartBy::Width)?;
     let placement = place(alloc, &design, &rows)?;
     let fed = insert_feeds(alloc, &design, &rows, &placement)?;
     Ok(has_channels(alloc, &design, &fed, &placement, case.channels)?)

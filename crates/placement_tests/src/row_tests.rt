@@ -10,7 +10,7 @@ use row_model::{
 use samples::{CELLS, designed};
 use std::alloc::{AllocError, Global};
 use std::test::Fail;
-use tech_rules::Rules;
+use tech_rules::{Rules, StartBy};
 
 /// A cell of 1,305,605 columns: the area of 511 by 511 rows.
 const WIDE: &str =
@@ -46,41 +46,66 @@ fn are_seats(seats: &[Seat], instances: &[u32]) -> bool {
 
 /// Calls, the rows into which they go, and the columns of their pins.
 struct Started {
+    by: StartBy,
     calls: &'static str,
     rows: &'static [&'static [u32]],
     columns: &'static [u64],
 }
 
-const STARTED: [Started; 6] = [
+const STARTED: [Started; 9] = [
     Started {
+        by: StartBy::Width,
         calls: FOUR,
         rows: &[&[0], &[1, 2], &[3], &[]],
         columns: &[0, 1, 0, 1, 0, 1],
     },
     Started {
+        by: StartBy::Width,
         calls: FOUR,
         rows: &[&[0, 1], &[2, 3]],
         columns: &[0, 1, 2, 0, 1, 2],
     },
     Started {
+        by: StartBy::Width,
         calls: FOUR,
         rows: &[&[0, 1, 2, 3]],
         columns: &[0, 1, 2, 3, 4, 5],
     },
     Started {
+        by: StartBy::Width,
         calls: "u INV x; v INV x; w INV x;",
         rows: &[&[0, 1], &[2]],
         columns: &[0, 1, 0],
     },
     Started {
+        by: StartBy::Width,
         calls: "",
         rows: &[&[]],
         columns: &[],
     },
     Started {
+        by: StartBy::Width,
         calls: "",
         rows: &[&[], &[], &[]],
         columns: &[],
+    },
+    Started {
+        by: StartBy::Count,
+        calls: "u INV x; v INV x; w INV x;",
+        rows: &[&[0], &[1, 2]],
+        columns: &[0, 0, 1],
+    },
+    Started {
+        by: StartBy::Count,
+        calls: "u INV x; v INV x; w INV x; x INV x; y INV x;",
+        rows: &[&[0], &[1, 2], &[3, 4]],
+        columns: &[0, 0, 1, 0, 1],
+    },
+    Started {
+        by: StartBy::Count,
+        calls: "u INV x;",
+        rows: &[&[], &[], &[0]],
+        columns: &[0],
     },
 ];
 
@@ -104,7 +129,7 @@ fn is_started(alloc: Global, case: &Started) -> Result<bool, Fail> {
         return Ok(false);
     }
     let design = designed(alloc, CELLS, case.calls)?;
-    let rows = start(alloc, &design, count as u32)?;
+    let rows = start(alloc, &design, count as u32, case.by)?;
     Ok(are_rows(&rows, case.rows) && are_columns(&design, &rows, case.columns))
 }
 
@@ -128,7 +153,7 @@ fn rows_take_instances_in_order(rt: HostRuntime) -> Result<(), Fail> {
         assert!(rt; is_started(rt.alloc(), case)?, "case {i}");
     }
     let design = designed(rt.alloc(), CELLS, FOUR)?;
-    assert!(rt; are_mostly_empty(&start(rt.alloc(), &design, 512)?));
+    assert!(rt; are_mostly_empty(&start(rt.alloc(), &design, 512, StartBy::Width)?));
     Ok(())
 }
 
@@ -257,7 +282,7 @@ fn are_sided(alloc: Global, count: u32, wanted: &[Place]) -> Result<bool, Fail> 
         return Ok(false);
     }
     let design = sided(alloc)?;
-    let rows = start(alloc, &design, count)?;
+    let rows = start(alloc, &design, count, StartBy::Width)?;
     Ok(are_at(alloc, &design, &rows, wanted)?)
 }
 

@@ -43,6 +43,10 @@ Range(CutEnclose): enclose = 1 => enclose = 1001|\
 good: temperature = 1000 => temperature = 1000000000|\
 Range(AnnealTemperature): temperature = 1000 => temperature = 1000000001|\
 Missing(AnnealLengthCost): length_cost = 1\n => |\
+good: length_cost = 1 => length_cost = 1\nstart = \"count\"|\
+Range(AnnealStart): length_cost = 1 => length_cost = 1\nstart = \"area\"|\
+Range(AnnealStart): length_cost = 1 => length_cost = 1\nstart = 1|\
+Range(AnnealLengthCost): length_cost = 1 => length_cost = 1001\nstart = \"area\"|\
 Tight(1): enclose = 1 => enclose = 0|\
 Tight(2): \"NP\"\nwidth = 3 => \"NP\"\nwidth = 5|\
 Tight(3): column = 8 => column = 6|\

@@ -62,7 +62,7 @@ rows-count d target zero first n = refl
 rows-count d target (suc zero) first n = refl
 rows-count d target (suc (suc more)) first n = ap suc (rows-count d target (suc more) (first + taken d target first n) (n - taken d target first n))
 
-upright-instances : (is : List ℕ) → instances_in (map upright is) ≡ is
+pub upright-instances : (is : List ℕ) → instances_in (map upright is) ≡ is
 upright-instances [] = refl
 upright-instances (i ∷ is) = ap (λ (l : List ℕ). i ∷ l) (upright-instances is)
 
@@ -74,12 +74,10 @@ rows-instances d target (suc more) first n =
     (rows-instances d target more (first + taken d target first n) (n - taken d target first n))
     ∙ range-split first (taken d target first n) n (taken-few d target first n)
 
--- the rows that a design begins with hold each instance once
-pub start-placed : (d : Netlist) (rows : ℕ) → 0 < rows → rows ≤ 512 → ArePlaced d (start_rows d rows)
-unfolding start_rows
-start-placed d zero some few = absurd (omega arith)
-start-placed d (suc more) some few =
-    let target = rounded_up (all_columns d) (suc more) in
+-- rows that are filled up to the same width hold each instance once
+pub width-placed : (d : Netlist) (target rows : ℕ) → 0 < rows → rows ≤ 512 → ArePlaced d (rows_from d target rows 0 (length d.instances))
+width-placed d target zero some few = absurd (omega arith)
+width-placed d target (suc more) some few =
     let count : length (rows_from d target (suc more) 0 (length d.instances)) ≡ suc more = rows-count d target (suc more) 0 (length d.instances) in
     record {
       some = omega arith;

@@ -1,6 +1,8 @@
 use Rattle.std.specs.Prelude.{ℕ, zero, suc, ◌+◌, ◌*◌, ◌-◌, ◌/◌, List, [], ◌∷◌, map, length, false, if◌then◌else◌, nat_le}
 use Rattle.std.specs.List.{range_with_len}
 use Rattle.tech_rules.specs.Rules.{RuleValues}
+use Rattle.tech_rules.specs.declared.rules.StartBy.{StartBy}
+use Rattle.tech_rules.specs.declared.rules.StartBy.TheVariants.{Width, Count}
 use Rattle.design_model.specs.Netlist.{Netlist}
 use Rattle.row_model.specs.Widths.{columns_of, all_columns}
 use Rattle.row_model.specs.declared.rows.Seat.{Seat}
@@ -39,6 +41,14 @@ rows_from d target (suc (suc more)) first n =
 abbrev pub rounded_up : ℕ → ℕ → ℕ
 rounded_up a b = (a + (b - 1)) / b
 
--- the rows that a design begins with
-unfoldable pub start_rows : Netlist → ℕ → List (List Seat)
-start_rows d rows = rows_from d (rounded_up (all_columns d) rows) rows 0 (length d.instances)
+-- n instances in so many rows: row r takes those from r parts of the whole on, up to r + 1 parts
+abbrev pub counted_row : ℕ → ℕ → ℕ → List Seat
+counted_row n rows r = seats_from (n * r / rows) (n * (r + 1) / rows - n * r / rows)
+
+abbrev pub counted_rows : ℕ → ℕ → List (List Seat)
+counted_rows n rows = map (counted_row n rows) (range_with_len 0 rows)
+
+-- the rows that a design begins with: filled up to the same width, or with the same number of instances
+unfoldable pub start_rows : StartBy → Netlist → ℕ → List (List Seat)
+start_rows Width d rows = rows_from d (rounded_up (all_columns d) rows) rows 0 (length d.instances)
+start_rows Count d rows = counted_rows (length d.instances) rows

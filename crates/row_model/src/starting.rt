@@ -1,5 +1,5 @@
 ghost use Rattle.row_model.specs.Rows.{ArePlaced};
-ghost use Rattle.row_model.specs.Start.{default_rows, least_rows, rows_from, seats_from, start_rows, taken};
+ghost use Rattle.row_model.specs.Start.{counted_row, counted_rows, default_rows, least_rows, rows_from, seats_from, start_rows, taken};
 ghost use Rattle.std.specs.Prelude.{◌≡◌, ◌+◌, ◌<◌, ◌≤◌, IfOk, length};
 
 use crate::rows::{Rows, Seat};
@@ -7,7 +7,7 @@ use crate::widths::{all_columns, columns_of};
 use design_model::Design;
 use geom_core::Items;
 use std::alloc::{AllocError, Global};
-use tech_rules::Rules;
+use tech_rules::{Rules, StartBy};
 
 /// As many rows as make the layout about square: the least number from 1 on whose square times the cells' height is at least
 /// the area of all instances, and 512 where that is greater. Takes no memory.
@@ -41,18 +41,64 @@ fn least_rows(area: u64, height: u32, more: u32, first: u32) -> u32
     rows
 }
 
-/// The rows that a design begins with, from 1 to 512: each row takes instances in their order until it is at least as wide as
-/// the width of all divided by the number of rows, rounded up, and the last takes the rest. No instance is mirrored. The one
-/// error is want of memory.
-#[tactic(auto, unfolding(crate::specs::Start::start_rows))]
-pub fn start(alloc: Global, design: &Design, rows: u32) -> Result<Rows, AllocError>
+/// The rows that a design begins with, from 1 to 512, which take the instances in their order. By width each row takes instances
+/// until it is at least as wide as the width of all divided by the number of rows, rounded up, and the last takes the rest. By
+/// count of n instances in K rows row r takes those from n r / K on, up to n (r + 1) / K, both rounded down. No instance is
+/// mirrored. The one error is want of memory.
+pub fn start(alloc: Global, design: &Design, rows: u32, by: StartBy) -> Result<Rows, AllocError>
     requires some { 0 < rows }
     requires few { rows ≤ 512 }
-    ensures is { IfOk result (λ made. made ≡ start_rows design.now rows) }
+    ensures is { IfOk result (λ made. made ≡ start_rows by design.now rows) }
     ensures placed { IfOk result (λ made. ArePlaced design.now made) }
 {
-    let target = (all_columns(design) + u64::from(rows - 1)) / u64::from(rows);
-    Ok(Rows::new(Items::new(rows_from(alloc, design, target, rows)?)))
+    Ok(Rows::new(Items::new(start_seats(alloc, design, rows, by)?)))
+}
+
+// The seats of these rows.
+#[tactic(auto, unfolding(crate::specs::Start::start_rows))]
+fn start_seats(
+    alloc: Global,
+    design: &Design,
+    rows: u32,
+    by: StartBy,
+) -> Result<Vec<Items<Seat>>, AllocError>
+    requires some { 0 < rows }
+    requires few { rows ≤ 512 }
+    ensures { IfOk result (λ v. v.items ≡ start_rows by design.now rows) }
+{
+    match by {
+        StartBy::Width => {
+            let target = (all_columns(design) + u64::from(rows - 1)) / u64::from(rows);
+            rows_from(alloc, design, target, rows)
+        }
+        StartBy::Count => counted_rows(alloc, design.instances.items().len() as u32, rows),
+    }
+}
+
+// So many instances in so many rows, of which each takes the same number.
+fn counted_rows(alloc: Global, count: u32, rows: u32) -> Result<Vec<Items<Seat>>, AllocError>
+    requires few { count ≤ 20000 }
+    requires some { 0 < rows }
+    requires low { rows ≤ 512 }
+    ensures { IfOk result (λ v. v.items ≡ counted_rows count rows) }
+{
+    let mut made = Vec::new(alloc);
+    for row in 0..rows {
+        made.push(counted_row(alloc, count, rows, row)?)?;
+    }
+    Ok(made)
+}
+
+// One of these rows.
+fn counted_row(alloc: Global, count: u32, rows: u32, row: u32) -> Result<Items<Seat>, AllocError>
+    requires few { count ≤ 20000 }
+    requires within { row < rows }
+    requires low { rows ≤ 512 }
+    ensures { IfOk result (λ seats. seats ≡ counted_row count rows row) }
+{
+    let first = count * row / rows;
+    let next = count * (row + 1) / rows;
+    Ok(Items::new(seats(alloc, first, next - first)?))
 }
 
 // All instances in so many rows, each but the last at least as wide as the target.

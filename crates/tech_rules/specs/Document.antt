@@ -1,5 +1,6 @@
-use Rattle.std.specs.Prelude.{ℕ, pos, List, length, Bool, ◌&&◌, ◌==◌, nat_le, if◌then◌else◌, Option, Some, None, Result, Ok, Err}
+use Rattle.std.specs.Prelude.{codes, ℕ, pos, List, length, Bool, ◌&&◌, ◌==◌, nat_le, if◌then◌else◌, Option, Some, None, Result, Ok, Err}
 use Rattle.std.specs.Option.{option_and_then}
+use Rattle.std.specs.Str.{bytes_eq}
 use Rattle.std.specs.Str.Lossy.{utf8_valid_len}
 use Rattle.toml.specs.Data.{Data, Members, integer, string, as_table, get_member}
 use Rattle.toml.specs.Parse.{parse_document}
@@ -7,6 +8,9 @@ use Rattle.tech_rules.specs.Keys.{section_of, word_of}
 use Rattle.tech_rules.specs.declared.fault.RulesFault.{RulesFault}
 use Rattle.tech_rules.specs.declared.fault.RulesFault.TheVariants.{Missing, Range}
 use Rattle.tech_rules.specs.declared.key.Key.{Key}
+use Rattle.tech_rules.specs.declared.key.Key.TheVariants.{AnnealStart}
+use Rattle.tech_rules.specs.declared.rules.StartBy.{StartBy}
+use Rattle.tech_rules.specs.declared.rules.StartBy.TheVariants.{Width, Count}
 
 -- the table of a text, if the bytes are UTF-8 and TOML has a table for them
 abbrev pub document_of : List ℕ → Option Members
@@ -46,3 +50,19 @@ number_of document key low high = or_missing key (number_within low high) (data_
 -- the text at a key
 unfoldable pub text_of : Members → Key → (List ℕ → Bool) → Result (List ℕ) RulesFault
 text_of document key test = or_missing key (text_where test) (data_of document key)
+
+-- how start rows are filled, by a text
+abbrev pub start_named : List ℕ → Option StartBy
+start_named text = if bytes_eq text (codes "width") then Some Width else if bytes_eq text (codes "count") then Some Count else None
+
+abbrev pub start_in : Data → Option StartBy
+start_in (string text) = start_named text
+start_in _ = None
+
+-- by the key that may be absent: by width where nothing stands there
+abbrev pub start_or_width : Option Data → Result StartBy RulesFault
+start_or_width (Some found) = or_range AnnealStart (start_in found)
+start_or_width None = Ok Width
+
+unfoldable pub start_of : Members → Result StartBy RulesFault
+start_of document = start_or_width (data_of document AnnealStart)

@@ -1,6 +1,6 @@
 use Rattle.std.specs.Prelude.{codes, ℕ, List, ◌++◌, Option, Some, None}
 use Rattle.tech_rules.specs.declared.key.Key.{Key}
-use Rattle.tech_rules.specs.declared.key.Key.TheVariants.{Version, Yal, GridColumn, GridTrack, GridCenti, GridPin, HorizontalLayer, HorizontalWidth, HorizontalSpace, VerticalLayer, VerticalWidth, VerticalSpace, CutLayer, CutSize, CutEnclose, CutSpace, OutlineLayer, AnnealTemperature, AnnealStages, AnnealMoves, AnnealRowCost, AnnealLengthCost}
+use Rattle.tech_rules.specs.declared.key.Key.TheVariants.{Version, Yal, GridColumn, GridTrack, GridCenti, GridPin, HorizontalLayer, HorizontalWidth, HorizontalSpace, VerticalLayer, VerticalWidth, VerticalSpace, CutLayer, CutSize, CutEnclose, CutSpace, OutlineLayer, AnnealTemperature, AnnealStages, AnnealMoves, AnnealRowCost, AnnealLengthCost, AnnealStart}
 
 -- the table that a key stands in, or none for a key at the top of the file
 abbrev pub section_of : Key → Option (List ℕ)
@@ -26,6 +26,7 @@ section_of AnnealStages = Some (codes "anneal")
 section_of AnnealMoves = Some (codes "anneal")
 section_of AnnealRowCost = Some (codes "anneal")
 section_of AnnealLengthCost = Some (codes "anneal")
+section_of AnnealStart = Some (codes "anneal")
 
 -- a key's word in its table
 abbrev pub word_of : Key → List ℕ
@@ -51,6 +52,7 @@ word_of AnnealStages = codes "stages"
 word_of AnnealMoves = codes "moves"
 word_of AnnealRowCost = codes "row_cost"
 word_of AnnealLengthCost = codes "length_cost"
+word_of AnnealStart = codes "start"
 
 -- a word in a table, with a dot between
 abbrev pub dotted : Option (List ℕ) → List ℕ → List ℕ

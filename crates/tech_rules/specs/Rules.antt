@@ -2,6 +2,7 @@ use Rattle.std.specs.Prelude.{◌≡◌, ◌≢◌, ◌≤◌, ℕ, ◌+◌, ◌
 use Rattle.std.specs.Char.{is_ascii_alphanumeric}
 use Rattle.std.specs.List.{list_all}
 use Rattle.geom_core.specs.LayerText.{is_layer_text}
+use Rattle.tech_rules.specs.declared.rules.StartBy.{StartBy}
 
 -- one value for each key of a rules file; a layer and a word are their texts
 pub record RuleValues : Type 0 where
@@ -27,6 +28,7 @@ pub record RuleValues : Type 0 where
   pub anneal_moves : ℕ
   pub anneal_row_cost : ℕ
   pub anneal_length_cost : ℕ
+  pub anneal_start : StartBy
 
 -- the side of a via's pad
 abbrev pub pad : RuleValues → ℕ

@@ -2,7 +2,7 @@ use Rattle.std.specs.Prelude.{◌≡◌, ◌⊎◌, ℕ, ◌+◌, ◌%◌, List,
 use Rattle.std.specs.Str.{bytes_eq}
 use Rattle.geom_core.specs.LayerText.{is_layer_text}
 use Rattle.toml.specs.Data.{Members}
-use Rattle.tech_rules.specs.Document.{document_of, number_of, text_of}
+use Rattle.tech_rules.specs.Document.{document_of, number_of, start_of, text_of}
 use Rattle.tech_rules.specs.Rules.{RuleValues, pad, is_yal_word}
 use Rattle.tech_rules.specs.declared.fault.RulesFault.{RulesFault}
 use Rattle.tech_rules.specs.declared.fault.RulesFault.TheVariants.{Toml, Tight, Memory}
@@ -37,6 +37,7 @@ values_in document =
     and_then (number_of document AnnealMoves 0 1000) (λ anneal_moves.
     and_then (number_of document AnnealRowCost 0 1000) (λ anneal_row_cost.
     and_then (number_of document AnnealLengthCost 0 1000) (λ anneal_length_cost.
+    and_then (start_of document) (λ anneal_start.
     Ok (record {
       version = version;
       yal = yal;
@@ -60,7 +61,8 @@ values_in document =
       anneal_moves = anneal_moves;
       anneal_row_cost = anneal_row_cost;
       anneal_length_cost = anneal_length_cost;
-    })))))))))))))))))))))))
+      anneal_start = anneal_start;
+    }))))))))))))))))))))))))
 
 -- whether the four layers have different names
 abbrev pub are_different : RuleValues → Bool

@@ -1,5 +1,6 @@
 use Rattle.std.specs.Prelude.{codes}
 use Rattle.tech_rules.specs.Rules.{RuleValues}
+use Rattle.tech_rules.specs.declared.rules.StartBy.TheVariants.{Width}
 
 -- the sample rules
 abbrev pub sample : RuleValues
@@ -26,4 +27,5 @@ sample = record {
   anneal_moves = 4;
   anneal_row_cost = 4;
   anneal_length_cost = 1;
+  anneal_start = Width;
 }

@@ -26,6 +26,7 @@ stated_values a = record {
   anneal_moves = a.anneal_moves;
   anneal_row_cost = a.anneal_row_cost;
   anneal_length_cost = a.anneal_length_cost;
+  anneal_start = a.anneal_start;
 }
 
 abbrev pub AreInRanges : Inside → Type 0

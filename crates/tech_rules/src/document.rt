@@ -4,12 +4,12 @@ ghost use Rattle.std.specs.List.{list_all};
 ghost use Rattle.std.specs.Option.{option_copied, option_map};
 ghost use Rattle.std.specs.Prelude.{◌≡◌, true, IfOk, IfSome};
 ghost use Rattle.std.specs.Result.{result_map_both};
-ghost use Rattle.tech_rules.specs.Document.{data_of, document_of, number_of, number_within, text_of, text_where};
+ghost use Rattle.tech_rules.specs.Document.{data_of, document_of, number_of, number_within, start_in, start_named, start_of, text_of, text_where};
 ghost use Rattle.tech_rules.specs.Rules.{is_yal_code, is_yal_word, IsWithin};
 ghost use Rattle.toml.specs.Data.{get_member};
 ghost use Rattle.toml.specs.View.{table_view, view};
 
-use crate::{Key, RulesFault};
+use crate::{Key, RulesFault, StartBy};
 use geom_core::LayerName;
 use std::alloc::{AllocError, Global};
 use toml::{Table, Value};
@@ -74,6 +74,36 @@ pub fn word<'t>(table: &'t Table, key: Key) -> Result<&'t [u8], RulesFault>
             None => Err(RulesFault::Range(key)),
         },
         None => Err(RulesFault::Missing(key)),
+    }
+}
+
+/// How start rows are filled: by the text at its key, "width" or "count", and by width where nothing stands there. Takes no memory.
+#[tactic(auto, unfolding(crate::specs::Document::start_of))]
+pub fn start_by(table: &Table) -> Result<StartBy, RulesFault>
+    ensures { result ≡ start_of (table_view table.now) }
+{
+    match value_at(table, Key::AnnealStart) {
+        Some(value) => match start_in(value) {
+            Some(start) => Ok(start),
+            None => Err(RulesFault::Range(Key::AnnealStart)),
+        },
+        None => Ok(StartBy::Width),
+    }
+}
+
+fn start_in(value: &Value) -> Option<StartBy>
+    ensures { result ≡ start_in (view value.now) }
+{
+    start_named(value.as_str()?)
+}
+
+fn start_named(text: &str) -> Option<StartBy>
+    ensures { result ≡ start_named text.now }
+{
+    match text {
+        "width" => Some(StartBy::Width),
+        "count" => Some(StartBy::Count),
+        _ => None,
     }
 }
 

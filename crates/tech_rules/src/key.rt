@@ -51,6 +51,8 @@ pub enum Key {
     AnnealRowCost,
     /// `anneal.length_cost`
     AnnealLengthCost,
+    /// `anneal.start`, which alone may be absent
+    AnnealStart,
 }
 
 impl Key {
@@ -71,7 +73,8 @@ impl Key {
             | Key::AnnealStages
             | Key::AnnealMoves
             | Key::AnnealRowCost
-            | Key::AnnealLengthCost => Some("anneal"),
+            | Key::AnnealLengthCost
+            | Key::AnnealStart => Some("anneal"),
         }
     }
 
@@ -97,6 +100,7 @@ impl Key {
             Key::AnnealMoves => "moves",
             Key::AnnealRowCost => "row_cost",
             Key::AnnealLengthCost => "length_cost",
+            Key::AnnealStart => "start",
         }
     }
 
@@ -127,6 +131,7 @@ impl Key {
             Key::AnnealMoves => "anneal.moves",
             Key::AnnealRowCost => "anneal.row_cost",
             Key::AnnealLengthCost => "anneal.length_cost",
+            Key::AnnealStart => "anneal.start",
         }
     }
 }

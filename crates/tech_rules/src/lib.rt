@@ -11,4 +11,4 @@ mod stated;
 pub use fault::RulesFault;
 pub use key::Key;
 pub use reading::read_rules;
-pub use rules::Rules;
+pub use rules::{Rules, StartBy};

@@ -7,6 +7,13 @@ use geom_core::{LayerName, Name};
 use std::alloc::{AllocError, Global};
 use std::marker::Model;
 
+/// How the rows that annealing begins with are filled: each up to the same width, or with the same number of instances.
+#[derive(Clone, Copy, Debug, PartialEq, Eq)]
+pub enum StartBy {
+    Width,
+    Count,
+}
+
 /// The rules of a process. Every value keeps the ranges that its fields name, and the twelve rules of `docs/RULES.md`.
 /// Lengths are in units, a unit being one step of a YAL coordinate, if nothing else is said.
 #[derive(Debug, Drop)]
@@ -55,6 +62,8 @@ pub struct Rules {
     pub anneal_row_cost: u32,
     /// The cost of a column by which a row's width differs from the target, 0 to 1,000.
     pub anneal_length_cost: u32,
+    /// How the rows that annealing begins with are filled: by width where the key is absent.
+    pub anneal_start: StartBy,
 }
 
 impl Model for Rules {
@@ -98,6 +107,7 @@ impl Rules {
             anneal_moves: 4,
             anneal_row_cost: 4,
             anneal_length_cost: 1,
+            anneal_start: StartBy::Width,
         })
     }
 

@@ -5,8 +5,8 @@ ghost use Rattle.tech_rules.specs.Rules.{AreDifferent, ValidRules};
 ghost use Rattle.tech_rules.specs.RulesOf.{are_different, broken_rule, values_in};
 ghost use Rattle.toml.specs.View.{table_view};
 
-use crate::document::{layer, number, word};
-use crate::{Key, Rules, RulesFault};
+use crate::document::{layer, number, start_by, word};
+use crate::{Key, Rules, RulesFault, StartBy};
 use geom_core::{LayerName, Name};
 use std::alloc::{AllocError, Global};
 use std::marker::Model;
@@ -37,6 +37,7 @@ pub struct Stated<'t> {
     anneal_moves: u32,
     anneal_row_cost: u32,
     anneal_length_cost: u32,
+    anneal_start: StartBy,
 }
 
 impl<'t> Model for Stated<'t> {
@@ -78,6 +79,7 @@ pub fn values_in(table: &Table) -> Result<Stated, RulesFault>
         anneal_moves: number(table, Key::AnnealMoves, 0, 1000)?,
         anneal_row_cost: number(table, Key::AnnealRowCost, 0, 1000)?,
         anneal_length_cost: number(table, Key::AnnealLengthCost, 0, 1000)?,
+        anneal_start: start_by(table)?,
     })
 }
 
@@ -168,6 +170,7 @@ impl<'t> Stated<'t> {
             anneal_moves: self.anneal_moves,
             anneal_row_cost: self.anneal_row_cost,
             anneal_length_cost: self.anneal_length_cost,
+            anneal_start: self.anneal_start,
         })
     }
 }

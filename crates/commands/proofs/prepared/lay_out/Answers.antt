@@ -1,16 +1,29 @@
+use Rattle.std.proofs.Common.{ℕ, ap, refl, subst, sym, ◌∙◌}
+use Rattle.tech_rules.specs.Rules.{ValidRules}
+use Rattle.commands.specs.Text.{rows_with_feeds}
+use Rattle.pin_assign.specs.Tables.{tables_of}
+use Rattle.commands.proofs.RoutedLaws.{told-routed}
 use Rattle.commands.proofs.prepared.lay_out.Goals as goal
 
 pub invariant_of-result : goal.invariant_of-result
-invariant_of-result c =
-    let slice = c.as_slice-wirings.ensures.value in
+invariant_of-result g c =
+    let slice = c.wirings.ensures in
     record {
-      valid = c.if-is_unbuilt.ensures.valid;
+      valid = subst ValidRules c.rules.view_is c.rules.invariant;
       high = c.requires.high;
-      fed = c.in_ok-routed.ensures.fed;
-      fed_is = c.in_ok-routed.ensures.is;
-      wirings_are = c.in_ok-routed.ensures.stated;
-      routed = c.in_ok-routed.ensures.routed;
+      fed = c.in_ok-fed.ensures.fed;
+      fed_is = c.in_ok-fed.ensures.is
+          ∙ ap (λ (n : ℕ). rows_with_feeds (record { rules = c.args.rules; design = c.args.design; rows = n; seed = c.args.wanted.seed })) (sym c.rows_for-rows.ensures.is);
+      routed = c.in_ok-fed.ensures.routed;
       laid = rw slice at c.in_ok-laid.ensures.laid;
-      good = (rw slice at c.in_ok-laid.ensures.good) c.requires.high c.in_ok-routed.ensures.wired;
+      good = (rw slice at c.in_ok-laid.ensures.good) c.requires.high c.in_ok-fed.ensures.wired;
       symbols = c.in_ok-symbols.ensures;
     }
+
+pub returns-clause-kept : goal.returns-clause-kept
+returns-clause-kept g c =
+    told-routed _ _ _ _ _
+    (ap (tables_of c.args.design)
+    (c.in_ok-fed.ensures.is
+    ∙ ap (λ (n : ℕ). rows_with_feeds (record { rules = c.args.rules; design = c.args.design; rows = n; seed = c.args.wanted.seed })) (sym c.rows_for-rows.ensures.is)))
+    refl c.in_ok-fed.ensures.kept

@@ -1,24 +1,25 @@
-use Rattle.std.proofs.Common.{◌≡◌, None, ap, sym, ◌∙◌, arith}
+use Rattle.std.proofs.Common.{◌≡◌, ◌≤◌, None, ap, subst, sym, ◌∙◌, arith}
+use Rattle.feed_cells.specs.Fed.{Fed}
 use Rattle.pin_assign.specs.Bounds.{bound_of}
 use Rattle.commands.specs.Limits.{size_refusal}
 use Rattle.commands.proofs.Points.{unrefused-within}
 use Rattle.commands.proofs.prepared.route_rows.Goals as goal
 
-pub wired-requires-clause-narrow : goal.wired-requires-clause-narrow
-wired-requires-clause-narrow c =
+pub tables_of_channels-requires-clause-narrow : goal.tables_of_channels-requires-clause-narrow
+tables_of_channels-requires-clause-narrow g c =
     let small : size_refusal c.bound_of.result ≡ None = sym c.size_refusal.ensures.is ∙ c.in_default.is in
     let within = (unrefused-within c.bound_of.result small).0 in
     let wide = c.bound_of.ensures.wide in
     omega arith
 
-pub wired-requires-clause-width : goal.wired-requires-clause-width
-wired-requires-clause-width c =
-    let bound = bound_of c.args.rules.now c.args.design.now c.in_ok-made.made.fed in
+pub route_tabled-requires-clause-width : goal.route_tabled-requires-clause-width
+route_tabled-requires-clause-width g c =
+    let bound = bound_of c.args.rules.now c.args.design.now c.in_ok-placed.placed.fed in
     let small : size_refusal bound ≡ None = ap size_refusal (sym c.bound_of.ensures.is) ∙ sym c.size_refusal.ensures.is ∙ c.in_default.is in
-    (unrefused-within bound small).1.0
+    subst (λ (f : Fed). (bound_of c.args.rules.now c.args.design.now f).width ≤ 1000000000) (sym c.in_ok-tabled.ensures.fed) (unrefused-within bound small).1.0
 
-pub wired-requires-clause-height : goal.wired-requires-clause-height
-wired-requires-clause-height c =
-    let bound = bound_of c.args.rules.now c.args.design.now c.in_ok-made.made.fed in
+pub route_tabled-requires-clause-height : goal.route_tabled-requires-clause-height
+route_tabled-requires-clause-height g c =
+    let bound = bound_of c.args.rules.now c.args.design.now c.in_ok-placed.placed.fed in
     let small : size_refusal bound ≡ None = ap size_refusal (sym c.bound_of.ensures.is) ∙ sym c.size_refusal.ensures.is ∙ c.in_default.is in
-    (unrefused-within bound small).1.1
+    subst (λ (f : Fed). (bound_of c.args.rules.now c.args.design.now f).height ≤ 1000000000) (sym c.in_ok-tabled.ensures.fed) (unrefused-within bound small).1.1

@@ -1,8 +1,8 @@
 use Rattle.std.proofs.Common.{◌∙◌, ℕ, Vec, Global, ap, subst, sym}
-use Rattle.commands.specs.Headline.{IsJobOf}
-use Rattle.commands.specs.Job.{Job}
+use Rattle.design_model.specs.Netlist.{Netlist}
+use Rattle.commands.specs.Headline.{IsDesignOf}
 use Rattle.commands.specs.Refusing.{◌>>=◌}
-use Rattle.commands.specs.Verdict.{design_verdict, job_for}
+use Rattle.commands.specs.Verdict.{design_verdict, stated_design}
 use Rattle.commands.proofs.Findings.{found-within, handed-on, is-whole, stops}
 use Rattle.commands.proofs.stages.load_design.Goals as goal
 
@@ -10,21 +10,21 @@ pub returns-in_err-bytes-clause-told : goal.returns-in_err-bytes-clause-told
 unfolding design_verdict
 returns-in_err-bytes-clause-told g c = λ bytes told.
     handed-on _ c.from_residual.result _ _ c.from_residual.ensures.1
-    (stops (λ (v : Vec ℕ Global). v.items) (λ (j : Job). j) c.in_err-bytes.field-0.0 _ (job_for c.args.rules c.args.asked) (c.in_err-bytes.ensures.told bytes told))
+    (stops (λ (v : Vec ℕ Global). v.items) (λ (d : Netlist). d) c.in_err-bytes.field-0.0 _ (stated_design c.args.rules.now) (c.in_err-bytes.ensures.told bytes told))
 
 pub returns-in-Ok-clause-told : goal.returns-in-Ok-clause-told
 unfolding design_verdict
 returns-in-Ok-clause-told g c = λ bytes told.
-    ap (λ whole. whole >>= job_for c.args.rules c.args.asked) (c.in_ok-bytes.ensures.told bytes told)
-    ∙ ap (job_for c.args.rules c.args.asked) (sym c.as_slice.ensures.value) ∙ c.in-Ok.ensures.made
+    ap (λ whole. whole >>= stated_design c.args.rules.now) (c.in_ok-bytes.ensures.told bytes told)
+    ∙ ap (stated_design c.args.rules.now) (sym c.as_slice.ensures.value) ∙ c.in-Ok.ensures.made
 
 pub returns-in-Ok-clause-is : goal.returns-in-Ok-clause-is
 returns-in-Ok-clause-is g c = λ bytes told.
     let whole = is-whole _ bytes c.in_ok-bytes.bytes.items (c.in_ok-bytes.ensures.told bytes told) in
-    subst (λ l. IsJobOf c.args.rules l c.in-Ok.prepared) (c.as_slice.ensures.value ∙ sym whole) c.in-Ok.ensures.is
+    subst (λ l. IsDesignOf c.args.rules.now l c.in-Ok.design) (c.as_slice.ensures.value ∙ sym whole) c.in-Ok.ensures.is
 
 pub returns-clause-told : goal.returns-clause-told
 unfolding design_verdict
 returns-clause-told g c = λ bytes told.
-    found-within (λ (j : Job). j) c.in-Err.refusal _ _ _ (job_for c.args.rules c.args.asked) (c.in_ok-bytes.ensures.told bytes told) c.as_slice.ensures.value
+    found-within (λ (d : Netlist). d) c.in-Err.refusal _ _ _ (stated_design c.args.rules.now) (c.in_ok-bytes.ensures.told bytes told) c.as_slice.ensures.value
     c.in-Err.ensures.made

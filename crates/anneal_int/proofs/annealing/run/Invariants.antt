@@ -1,0 +1,14 @@
+use Rattle.std.proofs.Common.{◌≡◌, ◌*◌, ◌<◌, ◌≤◌}
+use Rattle.anneal_int.specs.Annealed.{after_changes, stage_changes}
+use Rattle.anneal_int.specs.Cooling.{temperature_of}
+use Rattle.anneal_int.proofs.annealing.run.Given as goal
+
+abbrev pub invariant-loop-stage : goal.invariant-loop-stage
+invariant-loop-stage l = record {
+  rows : l.spans ≡ record l.fn.spans { rows = after_changes l.design l.schedule l.seed l.fn.spans.rows (l._stage * stage_changes l.design l.schedule) };
+  number : l.draws.number ≡ l._stage * stage_changes l.design l.schedule;
+  seed : l.draws.seed ≡ l.seed;
+  temperature : l.temperature ≡ temperature_of l.schedule.temperature l._stage;
+  warm : 0 < l.temperature;
+  hot : l.temperature ≤ 1000000000;
+}

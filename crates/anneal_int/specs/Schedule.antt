@@ -1,0 +1,16 @@
+use Rattle.std.specs.Prelude.{ℕ, ◌≤◌}
+use Rattle.row_model.specs.Weights.{Weighing}
+
+-- how rows are annealed: the temperature at first, the number of stages, the number of changes of a stage for each instance, and what the cost weighs
+pub record Annealing : Type 0 where
+  pub temperature : ℕ
+  pub stages : ℕ
+  pub moves : ℕ
+  pub weights : Weighing
+
+-- a temperature of 1 to 1,000,000,000, and at most 1,000 stages and moves
+pub record IsSchedule (s : Annealing) : Type 0 where
+  pub some : 1 ≤ s.temperature
+  pub hot : s.temperature ≤ 1000000000
+  pub stages : s.stages ≤ 1000
+  pub moves : s.moves ≤ 1000

@@ -1,0 +1,14 @@
+//! Simulated annealing of row placements by two of TimberWolf's kinds of move, interchange and mirroring.
+#![tactic(auto)]
+
+mod annealing;
+mod draws;
+mod fault;
+mod schedule;
+mod thresholds;
+
+pub use annealing::{anneal, changes};
+pub use draws::{Change, Drawn, Draws};
+pub use fault::AnnealFault;
+pub use schedule::Schedule;
+pub use thresholds::threshold;

@@ -1,0 +1,2 @@
+-- the best of the first candidates of a list
+mod Best

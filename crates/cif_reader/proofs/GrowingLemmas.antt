@@ -1,0 +1,196 @@
+use Rattle.std.proofs.Common.{◌≡◌, refl, ap, sym, ◌∙◌, subst, ℕ, suc, ◌+◌, ◌≤◌, List, [], ◌∷◌, ◌++◌, length, length-append, append-nil, take, ◌<◌, Bool, true, false, Option, Some, None, Result, Ok, Err, arith}
+use Rattle.std.proofs.lemmas.Bool.Decides.{nat_tests}
+use Rattle.std.proofs.lemmas.Int.{ints}
+use Rattle.std.proofs.lemmas.List.{length-map}
+use Rattle.std.specs.List.{AllByRecursion}
+use Rattle.std.specs.Option.{ForSome}
+use Rattle.std.specs.Prelude.{if◌then◌else◌, max, nat_lt, option_map}
+use Rattle.geom_core.specs.declared.layout.Shape.{Shape}
+use Rattle.geom_core.specs.Extent.{Extent}
+use Rattle.geom_core.specs.Moving.{moved_shape}
+use Rattle.geom_core.specs.Turning.{Turning, moved}
+use Rattle.cif_text.specs.InOrder.{◌>>=◌}
+use Rattle.cif_text.specs.Symbols.{Symbol, symbol_of, moved_shapes}
+use Rattle.cif_reader.specs.declared.fault.ExpandKind.TheVariants as kinds
+use Rattle.cif_reader.specs.declared.fault.ExpandKind.{ExpandKind}
+use Rattle.cif_reader.specs.declared.table.Item.{Item}
+use Rattle.cif_reader.specs.declared.table.Item.TheVariants as items
+use Rattle.cif_reader.specs.declared.table.Kept.{Kept}
+use Rattle.cif_reader.specs.Expansion.{unless_refused}
+use Rattle.cif_reader.specs.Growing.{HasItem, Grows}
+use Rattle.cif_reader.specs.Levels.{boxed, layered, more_than_most, call_of, far_call, call_inside, depth_above}
+use Rattle.cif_reader.specs.Limits.{deepest, most_shapes, first_far, sides_of, far_or_many, coordinates_of, depth_of}
+use Rattle.cif_reader.specs.Sides.{IsProper, IsNearTurn}
+use Rattle.cif_reader.specs.Table.{items_drawn, symbols_behind, symbol_at, IsItem, IsKeptBehind, AreAround, ReachesWithin}
+use Rattle.cif_reader.specs.Within.{IsShapeWithin}
+use Rattle.cif_reader.proofs.BoundLemmas.{all-both, around-moved, reaches-moved, around-joined, reach-joined, reach-most}
+use Rattle.cif_reader.proofs.TableLemmas.{IsCopied, behind-length, drawn-push}
+use Rattle.cif_reader.proofs.CallLemmas.{shapes-at}
+use Rattle.cif_reader.proofs.WithinLaws.{near-first, near-shape, near-shapes, far-none, few-none}
+
+-- an item more of some shapes
+pub item-grows : (symbols : List Symbol) (old new : Kept) (item : Item) (count : ℕ) (bounds : Option Extent) (depth : ℕ) (shapes : List Shape)
+    → HasItem old new item count bounds depth → IsKeptBehind symbols old → items_drawn symbols (item ∷ []) ≡ shapes → count ≡ length shapes
+    → IsItem (length symbols) item → AllByRecursion IsShapeWithin shapes → AreAround bounds shapes → ForSome bounds (ReachesWithin depth) → depth ≤ deepest
+    → old.count + count ≤ most_shapes → Grows symbols old new shapes depth
+item-grows symbols old new item count bounds depth shapes has kept is_drawn is_count fits near around reach deep few =
+    let drawn : items_drawn symbols new.items.items ≡ items_drawn symbols old.items.items ++ shapes =
+    ap (items_drawn symbols) has.items ∙ drawn-push symbols old.items.items item ∙ ap (λ (ss : List Shape). items_drawn symbols old.items.items ++ ss) is_drawn in
+    let old_count : old.count ≡ length (items_drawn symbols old.items.items) = kept.count in
+    let new_count : new.count ≡ old.count + count = has.count_is in
+    let more : length (items_drawn symbols old.items.items ++ shapes) ≡ length (items_drawn symbols old.items.items) + length shapes =
+    length-append (items_drawn symbols old.items.items) shapes in
+    let new_depth : new.depth ≡ max old.depth depth = has.depth_is in
+    let old_deep : old.depth ≤ deepest = kept.deep in
+    record {
+      number = has.number;
+      name = has.name;
+      drawn = drawn;
+      depth_is = has.depth_is;
+      is = record {
+        items = rw has.items (all-both (IsItem (length symbols)) old.items.items (item ∷ []) kept.items (fits, tt));
+        count = rw drawn (omega arith);
+        few = omega arith;
+        near = rw drawn (all-both IsShapeWithin (items_drawn symbols old.items.items) shapes kept.near near);
+        around = rw (drawn, has.bounds_are) (around-joined old.bounds bounds (items_drawn symbols old.items.items) shapes kept.around around);
+        reach = rw has.bounds_are (reach-joined new.depth old.bounds bounds
+            (reach-most old.depth new.depth old.bounds (omega arith) kept.reach) (reach-most depth new.depth bounds (omega arith) reach));
+        deep = omega arith;
+      };
+    }
+
+-- a shape of its own
+own-around : (shape : Shape) → IsProper shape.rect → AreAround (Some shape.rect) (shape ∷ [])
+own-around shape proper = (
+  record {
+    x0 = omega (arith, ints);
+    x0_below = omega (arith, ints, proper.across);
+    x1 = omega (arith, ints, proper.across);
+    x1_below = omega (arith, ints);
+    y0 = omega (arith, ints);
+    y0_below = omega (arith, ints, proper.up);
+    y1 = omega (arith, ints, proper.up);
+    y1_below = omega (arith, ints);
+  },
+  tt,
+)
+
+own-reach : (shape : Shape) → IsShapeWithin shape → ForSome (Some shape.rect) (ReachesWithin 1)
+own-reach shape near = λ e is.
+    let same : shape.rect ≡ e = cc in
+    subst (ReachesWithin 1) same (record { x0 = omega (arith, near.x0); y0 = omega (arith, near.y0); x1 = omega (arith, near.x1); y1 = omega (arith, near.y1) })
+
+pub own-grows : (symbols : List Symbol) (old new : Kept) (shape : Shape) → HasItem old new (items.Own shape) 1 (Some shape.rect) 1 → IsKeptBehind symbols old
+    → IsShapeWithin shape → IsProper shape.rect → old.count + 1 ≤ most_shapes → Grows symbols old new (shape ∷ []) 1
+unfolding items_drawn
+own-grows symbols old new shape has kept near proper few =
+    item-grows symbols old new (items.Own shape) 1 (Some shape.rect) 1 (shape ∷ []) has kept refl refl tt (near, tt) (own-around shape proper) (own-reach shape near)
+    (omega arith) few
+
+-- the shape of a box that is not refused
+unless-ok : {A : Type 0} (limit : Option ExpandKind) (r : Result A ExpandKind) (a : A) → unless_refused limit r ≡ Ok a → (limit ≡ None) × (r ≡ Ok a)
+unless-ok (Some kind) r a is = cc
+unless-ok None r a is = (refl, is)
+
+pub record IsBoxed (before : ℕ) (shape : Shape) : Type 0 where
+  pub near : IsShapeWithin shape
+  pub proper : IsProper shape.rect
+  pub few : before + 1 ≤ most_shapes
+
+layered-ok : (layer : Option (List ℕ)) (rect : Extent) (shape : Shape) → layered layer rect ≡ Ok shape → (name : List ℕ) × (record { layer = name; rect = rect } ≡ shape)
+layered-ok None rect shape is = cc
+layered-ok (Some name) rect shape is = (name, cc)
+
+few-given : (before given : ℕ) → more_than_most before given ≡ None → before + given ≤ most_shapes
+few-given before given none =
+    let few : nat_lt most_shapes (before + given) ≡ false = few-none (nat_lt most_shapes (before + given)) _ none in grind (arith, nat_tests)
+
+pub boxed-ok : (layer : Option (List ℕ)) (before : ℕ) (rect : Option Extent) (shape : Shape) → ForSome rect IsProper → boxed layer before rect ≡ Ok shape
+    → IsBoxed before shape
+unfolding boxed
+boxed-ok layer before None shape proper is = cc
+boxed-ok layer before (Some rect) shape proper is =
+    let parts = unless-ok (far_or_many (first_far (sides_of rect)) (more_than_most before 1)) (layered layer rect) shape is in
+    let none = far-none (first_far (sides_of rect)) (more_than_most before 1) parts.0 in
+    let name = layered-ok layer rect shape parts.1 in
+    let near = near-shape name.0 rect [] none.0 in
+    subst (IsBoxed before) name.1 (record { near = near.0; proper = proper rect refl; few = few-given before 1 none.1 })
+
+-- a call that is not refused
+pub record IsAllowed (before : ℕ) (call : Symbol × Turning) : Type 0 where
+  pub near : AllByRecursion IsShapeWithin (moved_shapes call.1 call.0.shapes)
+  pub few : before + length call.0.shapes ≤ most_shapes
+
+pub call-ok : (n before : ℕ) (symbol : Option Symbol) (turn : Option Turning) (call : Symbol × Turning) → call_of n before symbol turn ≡ Ok call → IsAllowed before call
+unfolding call_of
+call-ok n before None turn call is = cc
+call-ok n before (Some symbol) None call is = cc
+call-ok n before (Some symbol) (Some turn) call is =
+    let parts = unless-ok (far_or_many (far_call turn symbol.shapes) (more_than_most before (length symbol.shapes))) (Ok (symbol, turn)) call is in
+    let none = far-none (far_call turn symbol.shapes) (more_than_most before (length symbol.shapes)) parts.0 in
+    let across = near-first turn.dx (turn.dy ∷ coordinates_of (moved_shapes turn symbol.shapes)) none.0 in
+    let up = near-first turn.dy (coordinates_of (moved_shapes turn symbol.shapes)) across.1 in
+    let same : (symbol, turn) ≡ call = cc (parts.1) in
+    subst (IsAllowed before) same (record { near = near-shapes (moved_shapes turn symbol.shapes) up.1; few = few-given before (length symbol.shapes) none.1 })
+
+-- a copy of a symbol of the table
+pub copy-grows : (table : List Kept) (of : ℕ) (kept old new : Kept) (turn : Turning) (bounds : Option Extent) (depth : ℕ) → IsCopied table of kept → IsNearTurn turn
+    → HasItem old new (items.Copied of turn) kept.count bounds depth → bounds ≡ option_map (moved turn) kept.bounds → depth ≡ suc kept.depth
+    → IsKeptBehind (symbols_behind [] table) old → IsAllowed old.count (symbol_at (symbols_behind [] table) of, turn) → suc kept.depth ≤ deepest
+    → Grows (symbols_behind [] table) old new (moved_shapes turn (symbol_at (symbols_behind [] table) of).shapes) depth
+unfolding items_drawn
+copy-grows table of kept old new turn bounds depth there near has bounds_are depth_is is allowed deep =
+    let symbols : List Symbol = symbols_behind [] table in
+    let shapes : List Shape = (symbol_at symbols of).shapes in
+    let drawn : shapes ≡ items_drawn (symbols_behind [] (take of table)) kept.items.items = shapes-at table of kept there in
+    let count : kept.count ≡ length shapes = there.is.count ∙ ap length (sym drawn) in
+    let places : length symbols ≡ 0 + length table = behind-length [] table in
+    let below : of < length table = there.below in
+    let few : old.count + length shapes ≤ most_shapes = allowed.few in
+    item-grows symbols old new (items.Copied of turn) kept.count bounds depth (moved_shapes turn shapes) has is
+    (append-nil (moved_shapes turn shapes)) (count ∙ sym (length-map shapes (moved_shape turn))) (omega arith, near.across, near.up) allowed.near
+    (rw (bounds_are, drawn) (around-moved turn kept.bounds (items_drawn (symbols_behind [] (take of table)) kept.items.items) there.is.around))
+    (rw (bounds_are, depth_is) (reaches-moved kept.depth turn kept.bounds near.across near.up there.is.reach)) (rw depth_is deep) (omega arith)
+
+-- a call inside a definition, by the depth of its symbol
+pub inside-call : (n before : ℕ) (symbols : List Symbol) (depths : List ℕ) (turn : Option Turning) (call : Symbol × Turning) (depth : ℕ)
+    → call_of n before (symbol_of n symbols) turn ≡ Ok call → depth_of n symbols depths ≡ depth
+    → call_inside n before symbols depths turn ≡ (depth_above depth >>= λ d. Ok (call, d))
+inside-call n before symbols depths turn call depth is deep = rw (is, deep) refl
+
+pub above-ok : (depth given : ℕ) → depth_above depth ≡ Ok given → (given ≡ suc depth) × (suc depth ≤ deepest)
+above-ok depth given is = by (nat_lt deepest (suc depth)) refl is
+  where
+    by : (b : Bool) → nat_lt deepest (suc depth) ≡ b → (if b then Err kinds.TooDeep else Ok (suc depth)) ≡ Ok given → (given ≡ suc depth) × (suc depth ≤ deepest)
+    by true test is = cc
+    by false test is = (cc, grind (arith, nat_tests))
+
+none-of : {A : Type 0} (xs : List A) → length xs ≡ 0 → xs ≡ []
+none-of [] h = refl
+none-of (x ∷ xs) h = absurd (omega arith)
+
+-- a copy of a symbol without shapes
+pub empty-grows : (table : List Kept) (of : ℕ) (kept old : Kept) (turn : Turning) (depth : ℕ) → IsCopied table of kept → kept.count ≡ 0
+    → depth ≡ suc kept.depth → IsKeptBehind (symbols_behind [] table) old → suc kept.depth ≤ deepest
+    → Grows (symbols_behind [] table) old (record old { depth = max old.depth depth }) (moved_shapes turn (symbol_at (symbols_behind [] table) of).shapes) depth
+empty-grows table of kept old turn depth there none depth_is is deep =
+    let symbols : List Symbol = symbols_behind [] table in
+    let shapes : List Shape = (symbol_at symbols of).shapes in
+    let count : kept.count ≡ length shapes = there.is.count ∙ ap length (sym (shapes-at table of kept there)) in
+    let nothing : shapes ≡ [] = none-of shapes (sym count ∙ none) in
+    let old_deep : old.depth ≤ deepest = is.deep in
+    record {
+      number = refl;
+      name = refl;
+      drawn = sym (append-nil (items_drawn symbols old.items.items)) ∙ ap (λ (ss : List Shape). items_drawn symbols old.items.items ++ moved_shapes turn ss) (sym nothing);
+      depth_is = refl;
+      is = record {
+        items = is.items;
+        count = is.count;
+        few = is.few;
+        near = is.near;
+        around = is.around;
+        reach = reach-most old.depth (max old.depth depth) old.bounds (omega arith) is.reach;
+        deep = omega arith;
+      };
+    }

@@ -1,0 +1,87 @@
+ghost use Rattle.cif_reader.specs.Bounds.{around_both, joined};
+ghost use Rattle.cif_reader.specs.Sides.{IsNear};
+ghost use Rattle.cif_reader.specs.Table.{ReachesWithin};
+ghost use Rattle.cif_reader.specs.Within.{IsNotFar};
+ghost use Rattle.geom_core.specs.Turning.{moved};
+ghost use Rattle.std.specs.Bool.{OnTrue};
+ghost use Rattle.std.specs.Int.{int_max, int_min};
+ghost use Rattle.std.specs.Option.{ForSome};
+ghost use Rattle.std.specs.Prelude.{◌≡◌, ◌≤ℤ◌, ◌<ℤ◌, option_map};
+
+use crate::limits::{far_side, wide};
+use geom_core::{Rect, Turn, moved};
+
+#[tactic(auto, using(crate::proofs::ScaleLemmas::read_back))]
+fn lesser(a: i64, b: i64) -> i64
+    ensures is { result ≡ int_min a b }
+    ensures first { result ≤ℤ a }
+    ensures second { result ≤ℤ b }
+{
+    a.min(b)
+}
+
+#[tactic(auto, using(crate::proofs::ScaleLemmas::read_back))]
+fn greater(a: i64, b: i64) -> i64
+    ensures is { result ≡ int_max a b }
+    ensures first { a ≤ℤ result }
+    ensures second { b ≤ℤ result }
+{
+    a.max(b)
+}
+
+#[tactic(auto, using(crate::proofs::ScaleLemmas::read_back))]
+fn rect_of(x0: i64, y0: i64, x1: i64, y1: i64) -> Rect
+    requires across { x0 <ℤ x1 }
+    requires up { y0 <ℤ y1 }
+    ensures { result ≡ record { x0 = x0; y0 = y0; x1 = x1; y1 = y1 } }
+{
+    Rect { x0, y0, x1, y1 }
+}
+
+#[tactic(auto, using(crate::proofs::ScaleLemmas::read_back))]
+fn around_both(a: Rect, b: Rect) -> Rect
+    ensures { result ≡ around_both a b }
+{
+    rect_of(
+        lesser(a.x0, b.x0),
+        lesser(a.y0, b.y0),
+        greater(a.x1, b.x1),
+        greater(a.y1, b.y1),
+    )
+}
+
+/// The rectangle around two, where there are such.
+pub fn joined(a: Option<Rect>, b: Option<Rect>) -> Option<Rect>
+    ensures { result ≡ joined a b }
+{
+    match a {
+        Some(a) => match b {
+            Some(b) => Some(around_both(a, b)),
+            None => Some(a),
+        },
+        None => b,
+    }
+}
+
+/// The rectangle under a turn, where there is one.
+pub fn moved_bounds(bounds: Option<Rect>, turn: &Turn) -> Option<Rect>
+    requires reach { ForSome bounds (ReachesWithin 64) }
+    requires across { IsNotFar turn.now.dx }
+    requires up { IsNotFar turn.now.dy }
+    ensures { result ≡ option_map (moved turn.now) bounds }
+{
+    match bounds {
+        Some(rect) => Some(moved(&rect, turn)),
+        None => None,
+    }
+}
+
+/// Whether no side of the rectangle is too far, where there is one.
+pub fn are_near(bounds: Option<Rect>) -> bool
+    ensures { OnTrue result (ForSome bounds IsNear) }
+{
+    match bounds {
+        Some(rect) => far_side(&wide(&rect)).is_none(),
+        None => true,
+    }
+}

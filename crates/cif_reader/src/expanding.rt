@@ -1,0 +1,55 @@
+ghost use Rattle.cif_reader.specs.Expanding.{Expands, fault_of};
+ghost use Rattle.cif_reader.specs.Expansion.{expansion};
+ghost use Rattle.cif_reader.specs.Within.{IsLayoutWithin};
+ghost use Rattle.cif_text.specs.Sound.{AreSound};
+ghost use Rattle.std.specs.Prelude.{◌≡◌, ◌^◌, ◌<◌, false, length, IfOk};
+
+use crate::fault::ExpandFault;
+use crate::refusal::Refusal;
+use crate::standing::{Standing, at_first, step};
+use cif_text::Command;
+use geom_core::{Items, Layout};
+use std::alloc::Global;
+
+fn fault_at(refusal: Refusal, at: u32) -> ExpandFault
+    ensures { result ≡ fault_of refusal at }
+{
+    match refusal {
+        Refusal::Because(kind) => ExpandFault::Bad { kind, at },
+        Refusal::Memory => ExpandFault::Memory,
+    }
+}
+
+fn layout_of(standing: Standing) -> Layout
+    ensures { result ≡ record { cells = standing.main.cells.items; shapes = standing.main.shapes.items } }
+{
+    Layout {
+        cells: Items::new(standing.main.cells),
+        shapes: Items::new(standing.main.shapes),
+    }
+}
+
+/// The layout that commands of CIF give within the limits of the reader, in half centimicrons (Mead and Conway's CIF 2.0). The commands
+/// are sound, as those that `read_commands` of `cif_text` gives, and fewer than 2^32. Bad comes exactly where a command is
+/// refused, with the number of the first such command and the first reason that applies to it; want of memory may come at any
+/// time. The layout has at most 4,000,000 shapes, of which none lies farther than 4,000,000,000 half centimicrons from 0. Only
+/// what the main level shows is drawn, so nested calls of however many shapes are refused at once.
+pub fn expand(alloc: Global, commands: &[Command]) -> Result<Layout, ExpandFault>
+    requires sound { AreSound false commands.now }
+    requires few { length commands.now < 2 ^ 32 }
+    ensures expands { Expands result (expansion commands.now) }
+    ensures within { IfOk result (λ layout. IsLayoutWithin (length commands.now) layout) }
+{
+    let mut standing = at_first(alloc);
+    let mut at: u32 = 0;
+    let mut rest = commands;
+    while let Some((command, after)) = rest.split_first() {
+        match step(alloc, &mut standing, command) {
+            Ok(()) => {}
+            Err(refusal) => return Err(fault_at(refusal, at)),
+        }
+        at += 1;
+        rest = after;
+    }
+    Ok(layout_of(standing))
+}

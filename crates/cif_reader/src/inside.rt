@@ -1,0 +1,102 @@
+ghost use Rattle.cif_reader.specs.Levels.{given_inside};
+ghost use Rattle.cif_reader.specs.Refusals.{Takes};
+ghost use Rattle.cif_reader.specs.Standing.{IsInsideBehind, IsOpen, definition_seen};
+ghost use Rattle.cif_reader.specs.Table.{AreKept, depth_kept, symbols_of};
+ghost use Rattle.cif_text.specs.Sound.{IsSound};
+ghost use Rattle.cif_text.specs.Symbols.{Symbol};
+ghost use Rattle.std.specs.Prelude.{◌≡◌, ℕ, List, map, OnOk};
+
+use crate::growing::{push_box, push_call};
+use crate::refusal::Refusal;
+use crate::scales::{box_around, scaled_extent, scaled_turning};
+use crate::table::Kept;
+use cif_text::{Command, UserKind};
+use geom_core::{LayerName, Name};
+use std::alloc::{AllocError, Global};
+
+/// A definition that is open: its symbol so far, its scale, and its present layer.
+#[derive(Debug, Drop)]
+pub struct Open {
+    pub kept: Kept,
+    pub a: u64,
+    pub b: u64,
+    pub layer: Option<LayerName>,
+}
+
+fn rename(alloc: Global, definition: &mut Open, text: &Name) -> Result<(), AllocError>
+    ensures { OnOk result (definition.new ≡ record definition.old { kept = record definition.old.kept { name = Some text.now } }) }
+{
+    let name = text.copied(alloc)?;
+    definition.kept.name = Some(name);
+    Ok(())
+}
+
+#[tactic(auto, unfolding(crate::specs::Levels::given_inside))]
+fn user_inside(
+    alloc: Global,
+    definition: &mut Open,
+    kind: UserKind,
+    text: &Name,
+) -> Result<(), Refusal>
+    ensures { (symbols : List Symbol) → (depths : List ℕ) → IsOpen symbols definition.old
+        → Takes result (given_inside symbols depths (definition_seen symbols definition.old) (Command.User kind text.now))
+        (IsInsideBehind symbols definition.old definition.new) }
+{
+    match kind {
+        UserKind::SymbolName => match rename(alloc, definition, text) {
+            Ok(()) => Ok(()),
+            Err(_) => Err(Refusal::Memory),
+        },
+        UserKind::InstanceName => Ok(()),
+        UserKind::Other => Ok(()),
+    }
+}
+
+/// A command inside the definition that is open.
+#[tactic(auto, unfolding(crate::specs::Levels::given_inside))]
+pub fn step_inside(
+    alloc: Global,
+    table: &[Kept],
+    definition: &mut Open,
+    command: &Command,
+) -> Result<(), Refusal>
+    requires table { AreKept table.now }
+    requires definition { IsOpen (symbols_of table.now) definition.old }
+    requires sound { IsSound command.now }
+    ensures { Takes result
+        (given_inside (symbols_of table.now) (map depth_kept table.now) (definition_seen (symbols_of table.now) definition.old) command.now)
+        (IsInsideBehind (symbols_of table.now) definition.old definition.new) }
+{
+    match command {
+        Command::Box {
+            length,
+            width,
+            cx,
+            cy,
+            upright,
+        } => {
+            let sides = box_around(*length, *width, *cx, *cy, *upright);
+            push_box(
+                &mut definition.kept,
+                definition.layer,
+                scaled_extent(definition.a, definition.b, sides),
+            )
+        }
+        Command::Layer(layer) => {
+            definition.layer = Some(*layer);
+            Ok(())
+        }
+        Command::Call {
+            n,
+            flip,
+            quarters,
+            dx,
+            dy,
+        } => {
+            let turn = scaled_turning(definition.a, definition.b, *flip, *quarters, *dx, *dy);
+            push_call(alloc, table, &mut definition.kept, *n, turn)
+        }
+        Command::User { kind, text } => user_inside(alloc, definition, *kind, text),
+        Command::Start { .. } | Command::Finish | Command::Comment | Command::End => Ok(()),
+    }
+}

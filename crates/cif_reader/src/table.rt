@@ -1,0 +1,82 @@
+ghost use Rattle.cif_reader.specs.Table.{AreKept, IsItem, items_drawn, symbols_of};
+ghost use Rattle.cif_reader.specs.Within.{IsNotFar, IsShapeWithin};
+ghost use Rattle.cif_text.specs.Symbols.{moved_shapes};
+ghost use Rattle.geom_core.specs.Moving.{moved_shape};
+ghost use Rattle.std.specs.List.{AllByRecursion};
+ghost use Rattle.std.specs.Prelude.{◌≡◌, ◌==◌, ◌++◌, length, position, IfOk, OnOk};
+
+use geom_core::{Name, Rect, Shape, Turn, moved};
+use std::alloc::{AllocError, Global};
+
+/// What a definition draws: a shape of its own, or the shapes of an earlier symbol, by its place in the table, under a turn.
+#[derive(Clone, Copy, Debug)]
+pub enum Item {
+    Own(Shape),
+    Copied { of: usize, turn: Turn },
+}
+
+/// A symbol as it is kept: what it draws, how many shapes that is, a rectangle around them if there are any, and its depth.
+#[derive(Debug, Drop)]
+pub struct Kept {
+    pub number: u64,
+    pub name: Option<Name>,
+    pub items: Vec<Item>,
+    pub count: u32,
+    pub bounds: Option<Rect>,
+    pub depth: u32,
+}
+
+/// The place of the symbol of this number.
+pub fn place_of(table: &[Kept], n: u64) -> Option<usize>
+    ensures { result ≡ position (λ k. k.number == n) table.now }
+{
+    table.iter().position(|kept| kept.number == n)
+}
+
+fn moved_shape(shape: &Shape, turn: &Turn) -> Shape
+    requires shape { IsShapeWithin shape.now }
+    requires across { IsNotFar turn.now.dx }
+    requires up { IsNotFar turn.now.dy }
+    ensures { result ≡ moved_shape turn.now shape.now }
+{
+    Shape {
+        layer: shape.layer,
+        rect: moved(&shape.rect, turn),
+    }
+}
+
+/// Puts shapes under a turn behind others.
+pub fn push_moved(into: &mut Vec<Shape>, shapes: &[Shape], turn: &Turn) -> Result<(), AllocError>
+    requires shapes { AllByRecursion IsShapeWithin shapes.now }
+    requires across { IsNotFar turn.now.dx }
+    requires up { IsNotFar turn.now.dy }
+    ensures { OnOk result (into.new.items ≡ into.old.items ++ moved_shapes turn.now shapes.now) }
+{
+    let mut rest = shapes;
+    while let Some((shape, after)) = rest.split_first() {
+        into.push(moved_shape(shape, turn))?;
+        rest = after;
+    }
+    Ok(())
+}
+
+/// The shapes that items draw, which copy the symbols of this table.
+pub fn drawn(alloc: Global, table: &[Kept], items: &[Item]) -> Result<Vec<Shape>, AllocError>
+    requires table { AreKept table.now }
+    requires items { AllByRecursion (IsItem (length table.now)) items.now }
+    ensures { IfOk result (λ shapes. shapes.items ≡ items_drawn (symbols_of table.now) items.now) }
+{
+    let mut shapes = Vec::new(alloc);
+    let mut rest = items;
+    while let Some((item, after)) = rest.split_first() {
+        match item {
+            Item::Own(shape) => shapes.push(*shape)?,
+            Item::Copied { of, turn } => {
+                let copied = drawn(alloc, &table[..*of], table[*of].items.as_slice())?;
+                push_moved(&mut shapes, copied.as_slice(), turn)?;
+            }
+        }
+        rest = after;
+    }
+    Ok(shapes)
+}

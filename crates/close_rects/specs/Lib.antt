@@ -1,0 +1,11 @@
+-- numbered rectangles
+pub mod Items
+-- bounds round blocks of them, and the first that meets a window
+pub mod Blocks
+-- taking out of a set of rectangles
+pub mod RectSets
+pub mod RectSetView
+-- pairs of close rectangles, and those that a scan has still to give
+pub mod ClosePairs
+pub mod Rests
+pub mod ScanView

@@ -1,0 +1,37 @@
+use Rattle.std.proofs.Common.{rules, ◌∙◌, ◌+◌, ap, arith, get_or, ℕ, List, length}
+use Rattle.channel_model.specs.Pins.{IsChannel}
+use Rattle.greedy_column.specs.declared.column.Made.{Made}
+use Rattle.greedy_column.specs.declared.column.Track.{Track}
+use Rattle.greedy_column.specs.Uses.{next_after}
+use Rattle.greedy_column.proofs.FairLaws.{Fair-from}
+use Rattle.greedy_column.proofs.StateLaws.{AreNumbered-few, Follows-from_copy, IsState-from_copy}
+use Rattle.greedy_column.proofs.stepping.step_with.Goals as goal
+
+pub column_of-requires-clause-few : goal.column_of-requires-clause-few
+column_of-requires-clause-few g c =
+    omega (
+      arith,
+      ap (λ (l : List Track). length l) c.items-3.ensures,
+      AreNumbered-few c.args.state.now.fresh c.args.state.now.order c.requires.state.numbered,
+      c.requires.few,
+    )
+
+pub returns-clause-follows : goal.returns-clause-follows
+returns-clause-follows g c =
+    Follows-from_copy _ (next_after c.args.ahead.now.uses.items c.args.column) c.args.channel.now c.args.column c.args.state.now.fresh c.args.state.now.order
+    c.items-3.result.now _ c.pin_in-top.result c.pin_in-bottom.result c.items-3.ensures
+    (c.pin_in-top.ensures ∙ ap (λ (l : List ℕ). get_or l c.args.column 0) (cc)) (c.pin_in-bottom.ensures ∙ ap (λ (l : List ℕ). get_or l c.args.column 0) (cc))
+    (λ net. c.requires.ahead c.args.column net) c.in_ok-taken.ensures.straight c.in_ok-taken.ensures.enters c.in_ok-taken.ensures.follows
+
+pub returns-clause-fair : goal.returns-clause-fair
+returns-clause-fair g c =
+    let is : IsChannel c.args.channel.now = search rules in
+    Fair-from _ c.args.channel.now c.args.column c.args.state.now.fresh c.args.state.now.order _ is.matched c.requires.state.numbered (returns-clause-follows g c)
+
+pub returns-clause-state : goal.returns-clause-state
+returns-clause-state g c =
+    IsState-from_copy c.args.channel.now c.args.column c.args.state.now.fresh c.args.state.now.order c.items-3.result.now c.in_ok-taken.taken.done
+    c.pin_in-top.result c.pin_in-bottom.result c.items-3.ensures
+    (c.pin_in-top.ensures ∙ ap (λ (l : List ℕ). get_or l c.args.column 0) (cc)) (c.pin_in-bottom.ensures ∙ ap (λ (l : List ℕ). get_or l c.args.column 0) (cc))
+    c.requires.state.numbered c.requires.state.standing (returns-clause-fair g c).lawful.made c.in_ok-taken.taken.tracks _ c.in_ok-taken.ensures.tracks
+    (ap (λ (l : List Made). c.args.state.now.fresh + length l) c.items-4.ensures)

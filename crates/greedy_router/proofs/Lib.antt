@@ -1,0 +1,49 @@
+-- the order of the tracks at a moment and in the end
+pub mod OrderLaws
+-- how many tracks are made
+pub mod CountLaws
+-- who holds a track once a column's pins have entered
+pub mod EnteredLaws
+-- who holds a track after the column
+pub mod MovedLaws
+pub mod LeftLaws
+-- a sweep, column by column
+pub mod CourseLaws
+-- the elements of a sweep's wiring, column by column
+pub mod PartLaws
+-- the verticals of a column
+pub mod VerticalLaws
+-- the vias of a column
+pub mod ViaLaws
+-- the wires along the tracks
+pub mod RunLaws
+-- what is linked in a sweep's wiring
+pub mod LinkLaws
+-- elements that are linked to a track of their net
+pub mod TiedLaws
+-- the pieces of a net are tied to its tracks, or are one
+pub mod PieceLaws
+-- elements are on the grid, keep the edges, and are apart where their nets are
+pub mod SoundLaws
+-- how many tracks are held
+pub mod HeldCount
+-- the wiring of a sweep that has ended connects its channel
+pub mod WiredLaws
+-- past a channel's end each column leaves fewer tracks held
+pub mod EndsLaws
+pub mod FewerLaws
+-- tables tell what the wiring is made of
+pub mod TellLaws
+-- the tracks after some columns
+pub mod ReplayLaws
+-- the wiring, column by column
+pub mod WiringLaws
+-- a sweep, record by record
+pub mod SweepLaws
+pub mod ListLaws
+pub mod GoingLaws
+pub mod FewLaws
+-- how a sweep ends
+pub mod EndedLaws
+-- the wiring of a worked sweep
+pub mod Worked

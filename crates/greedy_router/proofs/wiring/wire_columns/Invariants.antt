@@ -1,0 +1,25 @@
+use Rattle.std.proofs.Common.{◌≡◌, ◌<◌, ◌+◌, ◌++◌, ℕ, [], get_or, length, All, Contains}
+use Rattle.std.specs.List.Sorted.{IsNonDecreasing}
+use Rattle.greedy_column.specs.declared.column.Column.{Column}
+use Rattle.greedy_column.specs.Tracks.{ids}
+use Rattle.greedy_column.specs.Replay.{replay_from}
+use Rattle.greedy_column.specs.Fair.{AllFair}
+use Rattle.greedy_router.specs.SweepWiring.{segments_from, vias_from}
+use Rattle.greedy_router.proofs.wiring.wire_columns.Given as goal
+
+abbrev pub invariant-loop-done : goal.invariant-loop-done
+invariant-loop-done l = record {
+  counted : l.column + length l.rest ≡ length l.columns;
+  fair : (fresh : ℕ) × AllFair l.channel l.column fresh l.before.items l.rest;
+  ascending : All (λ (done : Column). IsNonDecreasing done.ended) l.rest;
+  replay : l.order ≡ replay_from l.channel l.column l.before.items l.rest;
+  below : (id : ℕ) → Contains (ids l.order) id → id < length l.since;
+  segments : l.wires.segments.items
+      ++ segments_from (ids l.order) l.channel l.column l.before.items (λ id. get_or l.since id 0) l.rest
+      ≡ segments_from (ids l.order) l.channel 0 [] (λ id. 0) l.columns;
+  vias : l.wires.vias.items ++ vias_from (ids l.order) l.channel l.column l.before.items l.rest
+      ≡ vias_from (ids l.order) l.channel 0 [] l.columns;
+}
+
+abbrev pub decreases-loop-done : goal.decreases-loop-done
+decreases-loop-done l = length l.rest

@@ -1,0 +1,12 @@
+-- the tracks after each column of a sweep, and how many of them are held
+pub mod Moments
+-- the records that a sweep is of, and when it has ended or passes its limits
+pub mod Sweeps
+-- the wiring of a sweep that has ended
+pub mod SweepWiring
+-- what the calls answer
+pub mod Answers
+-- the same wiring, from tables by ids
+pub mod Tables
+-- the records of a sweep that goes on
+pub mod Running

@@ -1,0 +1,35 @@
+use channel_model::Wiring;
+use geom_core::Items;
+use greedy_column::Column;
+
+/// A sweep of a channel: the records of its columns, from the left, and the ids of its tracks after the last of them, from bottom
+/// to top.
+#[derive(Debug, Drop)]
+pub struct Sweep {
+    pub columns: Items<Column>,
+    pub order: Items<u32>,
+}
+
+/// How a sweep ended.
+#[derive(Debug, Drop)]
+pub enum Swept {
+    /// All nets are connected, by this wiring.
+    Finished { sweep: Sweep, wiring: Wiring },
+    /// It has too many tracks, or took all the columns that it may take and a net still holds a track.
+    Over { sweep: Sweep },
+}
+
+/// Which router a wiring is of.
+#[derive(Clone, Copy, Debug, PartialEq, Eq)]
+pub enum By {
+    Greedy,
+    Plain,
+}
+
+/// A routed channel: its wiring, which router that is of, and the sweep that was made in either case.
+#[derive(Debug, Drop)]
+pub struct Routed {
+    pub by: By,
+    pub wiring: Wiring,
+    pub sweep: Sweep,
+}

@@ -1,0 +1,171 @@
+//! What rows cost, and how that changes.
+
+ghost use Rattle.std.specs.Prelude.{◌≡◌, ◌<◌, ◌≤◌, length};
+
+use design_model::Design;
+use row_model::{Spans, Weights, cost, start};
+use samples::{CELLS, designed};
+use std::alloc::{AllocError, Global};
+use std::test::Fail;
+use tech_rules::StartBy;
+
+const WEIGHTS: Weights = Weights {
+    row_cost: 4,
+    length_cost: 1,
+};
+
+/// Calls, how many rows they go into, two instances, and what the rows cost at first, after a swap of the two, and after one more.
+struct Costed {
+    calls: &'static str,
+    rows: u32,
+    swapped: (u32, u32),
+    costs: [u64; 3],
+}
+
+const COSTED: [Costed; 4] = [
+    Costed {
+        calls: "u1 BUF b; u2 BUF a; u3 INV a; u4 INV b;",
+        rows: 2,
+        swapped: (2, 3),
+        costs: [10, 8, 10],
+    },
+    Costed {
+        calls: "u1 BUF n; u2 BUF p; u3 BUF n;",
+        rows: 1,
+        swapped: (1, 2),
+        costs: [2, 1, 2],
+    },
+    // A cell of two columns and one of one exchange their places: all between moves.
+    Costed {
+        calls: "u1 DRV VDD x n; u2 INV x; u3 BUF m; u4 INV m; u5 INV n;",
+        rows: 1,
+        swapped: (0, 4),
+        costs: [7, 9, 7],
+    },
+    // The rows have 3 and 2 columns, and then 2 and 3; the target is 3.
+    Costed {
+        calls: "u1 DRV VDD x n; u2 INV x; u3 BUF m; u4 INV n;",
+        rows: 2,
+        swapped: (0, 3),
+        costs: [7, 11, 7],
+    },
+];
+
+/// What the rows of a case cost at first, after its swap, and after one more, each time by the sum and by the tables.
+fn costs_of(alloc: Global, case: &Costed) -> Result<Option<[[u64; 2]; 3]>, Fail> {
+    if case.rows == 0 || case.rows > 512 {
+        return Ok(None);
+    }
+    let design = designed(alloc, CELLS, case.calls)?;
+    let rows = start(alloc, &design, case.rows, StartBy::Width)?;
+    let count = design.instances.items().len();
+    let (a, b) = case.swapped;
+    if a as usize >= count || b as usize >= count {
+        return Ok(None);
+    }
+    let mut spans = Spans::new(alloc, &design, rows, WEIGHTS)?;
+    let first = both_costs(alloc, &design, &spans)?;
+    spans.swap(a, b);
+    let second = both_costs(alloc, &design, &spans)?;
+    spans.swap(a, b);
+    let third = both_costs(alloc, &design, &spans)?;
+    Ok(Some([first, second, third]))
+}
+
+/// What rows cost by the sum and by the tables.
+fn both_costs(alloc: Global, design: &Design, spans: &Spans) -> Result<[u64; 2], AllocError>
+    requires { spans.now.design ≡ design.now }
+{
+    let summed = cost(alloc, design, spans.rows(), WEIGHTS)?;
+    Ok([summed, spans.cost()])
+}
+
+#[test]
+fn rows_cost_what_their_nets_and_lengths_do(rt: HostRuntime) -> Result<(), Fail> {
+    for (i, case) in COSTED.iter().enumerate() {
+        let [first, second, third] = case.costs;
+        let wanted = Some([[first, first], [second, second], [third, third]]);
+        assert!(rt; costs_of(rt.alloc(), case)? == wanted, "case {i}");
+    }
+    Ok(())
+}
+
+/// The next of numbers that go on by a rule without pattern.
+fn next(word: u32) -> u32 {
+    word.wrapping_mul(1_664_525).wrapping_add(1_013_904_223)
+}
+
+/// The calls of 60 cells of one and two columns, with nets by such numbers.
+fn varied(alloc: Global) -> Result<String, AllocError> {
+    let mut calls = String::new(alloc);
+    let mut word = 7;
+    for i in 0..60 {
+        word = next(word);
+        let net = word >> 27;
+        let other = (word >> 20) % 32;
+        let call = match i % 4 {
+            0 => format!(in alloc; "c{i} DRV VDD n{net} n{other};")?,
+            1 => format!(in alloc; "c{i} INV n{net};")?,
+            2 => format!(in alloc; "c{i} BUF n{net};")?,
+            _ => format!(in alloc; "c{i} THR n{net};")?,
+        };
+        calls.push_str(&call)?;
+    }
+    Ok(calls)
+}
+
+/// Makes a change by two such numbers: a swap or a mirroring.
+fn change(spans: &mut Spans, count: u32, one: u32, two: u32)
+    requires some { 0 < count }
+    requires count { count ≤ length spans.old.design.instances }
+    ensures { spans.new.design ≡ spans.old.design }
+{
+    let a = (one >> 8) % count;
+    if two >> 29 == 0 {
+        spans.mirror(a);
+    } else {
+        spans.swap(a, (two >> 8) % count);
+    }
+}
+
+/// Whether the cost by the tables is that by the sum after each of so many changes.
+fn are_told(
+    alloc: Global,
+    design: &Design,
+    spans: &mut Spans,
+    changes: u32,
+) -> Result<bool, AllocError>
+    requires some { 0 < length design.now.instances }
+    requires same { spans.old.design ≡ design.now }
+{
+    let count = design.instances.items().len() as u32;
+    let mut word = 1;
+    for _change in 0..changes {
+        let one = next(word);
+        word = next(one);
+        change(spans, count, one, word);
+        let [summed, kept] = both_costs(alloc, design, spans)?;
+        if summed != kept {
+            return Ok(false);
+        }
+    }
+    Ok(true)
+}
+
+/// Whether that is so of a varied design in three rows.
+fn are_told_of_varied(alloc: Global, changes: u32) -> Result<bool, Fail> {
+    let calls = varied(alloc)?;
+    let design = designed(alloc, CELLS, calls.as_str())?;
+    if design.instances.items().is_empty() {
+        return Ok(false);
+    }
+    let rows = start(alloc, &design, 3, StartBy::Width)?;
+    let mut spans = Spans::new(alloc, &design, rows, WEIGHTS)?;
+    Ok(are_told(alloc, &design, &mut spans, changes)?)
+}
+
+#[test]
+fn tables_tell_the_cost_after_each_of_a_thousand_changes(rt: HostRuntime) -> Result<(), Fail> {
+    assert!(rt; are_told_of_varied(rt.alloc(), 1_000)?);
+    Ok(())
+}

@@ -1,0 +1,6 @@
+use Rattle.std.specs.Prelude.{ℕ, List}
+
+-- the widths of rows, and the width that each should have
+pub record Lengths : Type 0 where
+  pub widths : List ℕ
+  pub target : ℕ
