@@ -27,7 +27,7 @@ use Rattle.row_model.proofs.PlaceLaws.{row-short, width-few}
 use Rattle.row_model.proofs.PutLaws.{get-put-other, list-same, width-set}
 
 -- the width of a row after a seat is put into it
-width-whole : (d : Netlist) (row place : ℕ) (seat old : Seat) (number : ℕ) (seats : List Seat) → (number ≡ row → slice_get seats place ≡ Some old)
+pub width-whole : (d : Netlist) (row place : ℕ) (seat old : Seat) (number : ℕ) (seats : List Seat) → (number ≡ row → slice_get seats place ≡ Some old)
     → row_width d (put_in row place seat number seats) ≡ cond (nat_eq number row) (row_width d seats + columns_of d seat.instance - columns_of d old.instance) (row_width d seats)
 width-whole d row place seat old number seats at = by (nat_eq number row) refl
   where

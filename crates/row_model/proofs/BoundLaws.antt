@@ -108,7 +108,7 @@ sum-two f g (n ∷ ns) =
     let rest = sum-two f g ns in
     omega (arith, rest, sum_by-cons (λ (n : ℕ). n) (f n + g n) (map (λ (n : ℕ). f n + g n) ns), sum_by-cons (λ (n : ℕ). n) (f n) (map f ns), sum_by-cons (λ (n : ℕ). n) (g n) (map g ns))
 
-sum-none : (f : ℕ → ℕ) (a n : ℕ) → ((k : ℕ) → a ≤ k → f k ≡ 0) → sum (map f (range_with_len a n)) ≡ 0
+pub sum-none : (f : ℕ → ℕ) (a n : ℕ) → ((k : ℕ) → a ≤ k → f k ≡ 0) → sum (map f (range_with_len a n)) ≡ 0
 sum-none f a zero none = refl
 sum-none f a (suc n) none =
     let rest = sum-none f (a + 1) n (λ k low. none k (omega arith)) in

@@ -63,7 +63,7 @@ net-right d rows w standings pins good placed entered are net within =
     (λ p below. row-told d rows standings p (told d rows standings p.instance placed entered below)) (pins_of_net d net) (net-pins-within d good net))
 
 -- tables that tell the same of a net's pins measure it the same
-measured-same : (row_cost : ℕ) (old new : List Standing) (pins : List NetPin) → AllByRecursion (λ (p : NetPin). standing_of new p.instance ≡ standing_of old p.instance) pins
+pub measured-same : (row_cost : ℕ) (old new : List Standing) (pins : List NetPin) → AllByRecursion (λ (p : NetPin). standing_of new p.instance ≡ standing_of old p.instance) pins
     → measured row_cost old pins ≡ measured row_cost new pins
 unfolding measured
 measured-same row_cost old new pins same =
@@ -76,7 +76,7 @@ itself : (n : ℕ) → nat_eq n n ≡ true
 itself n = grind (arith, nat_tests)
 
 -- the net of a pin is one of the nets of its instance
-net-listed : (d : Netlist) (nets : List (List ℕ)) → AreNets d nets → (p : Pin) (net : ℕ) → p.instance < length d.instances → Contains (pins_of_net d net) p
+pub net-listed : (d : Netlist) (nets : List (List ℕ)) → AreNets d nets → (p : Pin) (net : ℕ) → p.instance < length d.instances → Contains (pins_of_net d net) p
     → has_net (list_there (slice_get nets p.instance)) net ≡ true
 net-listed d nets are p net within has =
     let from = filter-from (λ (q : Pin). nat_eq q.net net) d.pins p has in

@@ -40,3 +40,10 @@ pub mod TurnLaws
 pub mod TotalLaws
 -- how much rows cost at most
 pub mod BoundLaws
+-- what a swap shifts, and how much rows then cost at least
+pub mod ShiftLaws
+pub mod ShareLaws
+pub mod NearLaws
+pub mod TrialLaws
+pub mod UnevenLaws
+pub mod TradeLaws

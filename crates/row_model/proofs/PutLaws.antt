@@ -1,4 +1,4 @@
-use Rattle.std.proofs.Common.{◌≡◌, ◌≢◌, ◌<◌, ◌≤◌, ◌⊎◌, inl, inr, ℕ, zero, suc, ◌+◌, List, [], ◌∷◌, length, map, take, set, Bool, true, false, cond, ◌&&◌, Option, None, Some, refl, ap, ap₂, sym, ◌∙◌, arith}
+use Rattle.std.proofs.Common.{◌≡◌, ◌≢◌, ◌<◌, ◌≤◌, ◌⊎◌, inl, inr, ℕ, zero, suc, ◌+◌, List, [], ◌∷◌, length, map, take, set, Bool, true, false, cond, ◌&&◌, Option, None, Some, refl, ap, ap₂, sym, ◌∙◌, subst, arith}
 use Rattle.std.proofs.lemmas.Bool.Decides.{nat_tests}
 use Rattle.std.proofs.lemmas.List.{length-set, take-set-le}
 use Rattle.std.proofs.lemmas.Option.{none-some, same_Some, slice_get-map, slice_get_past, slice_get_within}
@@ -9,7 +9,7 @@ use Rattle.std.specs.Option.{option_map}
 use Rattle.std.specs.Prelude.{nat_eq, nat_lt}
 use Rattle.design_model.specs.Netlist.{Netlist}
 use Rattle.row_model.specs.Changes.{exchanged, seat_of, swapped, with_exchanged}
-use Rattle.row_model.specs.Moving.{IsAt}
+use Rattle.row_model.specs.Moving.{ArePut, IsAt}
 use Rattle.row_model.specs.Rows.{AreRows}
 use Rattle.row_model.specs.Standings.{put_in}
 use Rattle.row_model.specs.Widths.{columns_of, row_width}
@@ -201,3 +201,29 @@ unfolding swapped
 puts-swap d rows rows1 rows2 ra pa rb pb a b different at_a at_b first second =
     puts-exchange d rows rows1 rows2 ra pa rb pb a b different at_a at_b first second
     ∙ sym (ap₂ (λ (o p : Option Seat). with_exchanged o p rows) (seat-there rows ra pa a different at_a) (seat-there rows rb pb b different at_b))
+
+-- a list with each item changed by its number
+abbrev numbered : {X : Type 0} → (ℕ → X → X) → List X → List X
+numbered f [] = []
+numbered {X} f (x ∷ xs) = f 0 x ∷ numbered (λ (n : ℕ). f (suc n)) xs
+
+numbered-at : {X : Type 0} (f : ℕ → X → X) (xs : List X) (r : ℕ) → slice_get (numbered f xs) r ≡ option_map (f r) (slice_get xs r)
+numbered-at f [] r = refl
+numbered-at f (x ∷ xs) zero = refl
+numbered-at {X} f (x ∷ xs) (suc r) = numbered-at (λ (n : ℕ). f (suc n)) xs r
+
+twice : (f g : List Seat → List Seat) (o : Option (List Seat)) → option_map g (option_map f o) ≡ option_map (λ (l : List Seat). g (f l)) o
+twice f g None = refl
+twice f g (Some l) = refl
+
+-- where two instances stand in rows, the rows after their swap have each other's seats there
+pub swap-puts : (d : Netlist) (rows : List (List Seat)) (ra pa rb pb : ℕ) (a b : Seat) → AreRows rows → IsAt rows ra pa a → IsAt rows rb pb b
+    → ArePut ra pa b rb pb a rows (swapped a.instance b.instance rows)
+swap-puts d rows ra pa rb pb a b different at_a at_b =
+    subst (ArePut ra pa b rb pb a rows)
+    (puts-swap d rows (numbered (put_in ra pa b) rows) (numbered (put_in rb pb a) (numbered (put_in ra pa b) rows)) ra pa rb pb a b different at_a at_b
+    (λ r. numbered-at (put_in ra pa b) rows r) (λ r. numbered-at (put_in rb pb a) (numbered (put_in ra pa b) rows) r))
+    (record {
+      each = λ r. numbered-at (put_in rb pb a) (numbered (put_in ra pa b) rows) r ∙ ap (option_map (put_in rb pb a r)) (numbered-at (put_in ra pa b) rows r)
+          ∙ twice (put_in ra pa b r) (put_in rb pb a r) (slice_get rows r);
+    })

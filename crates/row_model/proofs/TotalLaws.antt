@@ -39,7 +39,7 @@ unfolding net_cost
 net-none d rows w good =
     ap (λ (ps : List Pin). spread (map (column_of d rows) ps) + w.row_cost * spread (map (λ (p : Pin). row_of d rows p.instance) ps)) (no-pins d good) ∙ omega arith
 
-nets-sum : (d : Netlist) (rows : List (List Seat)) (w : Weighing) → IsNetlist d → sum (net_costs d rows w) ≡ sum (map (net_cost d rows w) (range_with_len 1 (length d.nets)))
+pub nets-sum : (d : Netlist) (rows : List (List Seat)) (w : Weighing) → IsNetlist d → sum (net_costs d rows w) ≡ sum (map (net_cost d rows w) (range_with_len 1 (length d.nets)))
 nets-sum d rows w good =
     ap (λ (n : ℕ). sum (map (net_cost d rows w) (range_with_len 0 n))) (add-one (length d.nets))
     ∙ sum_by-cons (λ (n : ℕ). n) (net_cost d rows w 0) (map (net_cost d rows w) (range_with_len 1 (length d.nets)))

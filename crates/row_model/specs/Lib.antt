@@ -37,3 +37,5 @@ pub mod RowLengths
 pub mod RowLengthsView
 -- all tables of weighed rows
 pub mod Board
+-- two instances that take each other's place while no other is shifted
+pub mod Trial

@@ -17,6 +17,7 @@ mod standings;
 mod stands;
 mod starting;
 mod summed;
+mod trial;
 mod weights;
 mod widths;
 

@@ -25,8 +25,8 @@ impl Model for RowLengths {
     ghost invariant = { AreLengths };
 }
 
-// The difference of two numbers, without sign.
-fn difference(a: u64, b: u64) -> u64
+/// The difference of two numbers, without sign.
+pub fn difference(a: u64, b: u64) -> u64
     ensures { result ≡ difference a b }
 {
     if a < b { b - a } else { a - b }

@@ -1,7 +1,9 @@
 use crate::board::{mirror_on_board, swap_on_board};
 use crate::building::{Board, board_of, total_of};
 use crate::rows::Rows;
+use crate::trial::is_too_dear;
 use crate::weights::Weights;
+use crate::widths::columns_of;
 use design_model::Design;
 use std::alloc::{AllocError, Global};
 use std::marker::Model;
@@ -115,6 +117,31 @@ impl<'d> Spans<'d> {
         );
     }
 
+    // Whether the rows surely cost more than so much more than before after a swap of two instances, of which one is wider. All stays as it is.
+    fn is_too_dear(&mut self, a: u32, b: u32, most: u64) -> bool
+        requires a { a < length self.old.design.instances }
+        requires b { b < length self.old.design.instances }
+        ensures dear { OnTrue result (cost_of self.old.design self.old.rows self.old.weights + most < cost_of self.old.design (swapped a b self.old.rows) self.old.weights) }
+        ensures left { self.new ≡ self.old }
+    {
+        // Where both are of one width, a swap shifts no other and is soon taken back.
+        if columns_of(self.design, a) == columns_of(self.design, b) {
+            return false;
+        }
+        is_too_dear(
+            self.design,
+            self.rows.rows.items(),
+            self.weights,
+            &self.board.tables,
+            self.board.standings.as_mut_slice(),
+            &mut self.board.costs,
+            &self.board.lengths,
+            a,
+            b,
+            most,
+        )
+    }
+
     /// Two instances exchange their places, each with its mirror, exactly where the rows then cost at most so much more than before. Whether
     /// they did. Takes no memory.
     pub fn swap_within(&mut self, a: u32, b: u32, most: u64) -> bool
@@ -126,6 +153,9 @@ impl<'d> Spans<'d> {
     {
         // What every value keeps is known once a field is read.
         let _rows = &self.rows;
+        if self.is_too_dear(a, b, most) {
+            return false;
+        }
         let limit = self.cost().saturating_add(most);
         self.swap(a, b);
         if self.cost() <= limit {
