@@ -190,7 +190,7 @@ fn changes_are_limited_before_layouts(rt: HostRuntime) -> Result<(), Fail> {
             RULES,
             text.as_str(),
             6,
-            "limit Grid 510000408\n"
+            "limit Grid 641250513\n"
         )?
     );
     Ok(())

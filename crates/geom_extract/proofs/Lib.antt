@@ -1,0 +1,18 @@
+-- one shape reached, and what it leaves
+pub mod Reached
+-- that a walk which has come to its end leaves classes settled
+pub mod Settled
+-- layers at different heights
+pub mod Heights
+-- what stands at one place of two lists
+pub mod Together
+-- layers that conduct to one another
+pub mod Conducting
+-- what leads to a shape in a web
+pub mod WebSides
+-- the links of a web of shapes
+pub mod Links
+-- that the classes of a web of shapes are those of its chains
+pub mod ShapeWebs
+-- that chains over the ties of a layout are those of joined shapes
+pub mod JoinedShapes

@@ -1,0 +1,10 @@
+-- links between shapes by rectangles that meet, and chains of them
+pub mod Webs
+-- a walk along such chains
+pub mod Walks
+-- layers at different heights
+pub mod Planes
+-- shapes that touch or are tied, and their web
+pub mod Touching
+-- the ties of a layout
+pub mod Ties

@@ -1,0 +1,49 @@
+use Rattle.std.specs.Prelude.{◌≡◌, ℕ, pos, ◌+◌, List, [], ◌∷◌, ◌++◌, map, length, Some, slice_get, Contains}
+use Rattle.std.specs.List.{range_with_len}
+use Rattle.geom_core.specs.Extent.{Extent}
+use Rattle.geom_core.specs.declared.layout.Shape.{Shape}
+use Rattle.tech_rules.specs.Rules.{RuleValues}
+use Rattle.design_model.specs.Joined.{Touch}
+use Rattle.geom_extract.specs.Planes.{height_of, plane_of, raised, tie_at}
+use Rattle.geom_extract.specs.declared.plane.Plane.{Plane}
+use Rattle.geom_extract.specs.declared.plane.Plane.TheVariants.{Horizontal, Vertical, Cut, Other}
+use Rattle.geom_extract.specs.declared.web.Asks.{Asks}
+use Rattle.geom_extract.specs.declared.web.Web.{Web}
+
+-- two shapes touch, or they are tied
+pub data Beside (r : RuleValues) (shapes : List Shape) (ties : List (ℕ × ℕ)) (i j : ℕ) : Type 0 where
+  touching : (s t : Shape) → slice_get shapes i ≡ Some s → slice_get shapes j ≡ Some t → Touch r s t → Beside r shapes ties i j
+  tied : Contains ties (i, j) → Beside r shapes ties i j
+  tied_back : Contains ties (j, i) → Beside r shapes ties i j
+
+-- two shapes are the same, or a chain leads from one to the other in which each is beside the next
+pub data Connected (r : RuleValues) (shapes : List Shape) (ties : List (ℕ × ℕ)) (from : ℕ) : ℕ → Type 0 where
+  here : Connected r shapes ties from from
+  step : {x : ℕ} (y : ℕ) → Connected r shapes ties from x → Beside r shapes ties x y → Connected r shapes ties from y
+
+-- a shape's rectangle at the height of its layer
+abbrev pub rect_of : RuleValues → Shape → Extent
+rect_of r s = raised (height_of (plane_of r s.layer)) s.rect
+
+-- what a shape of a layer asks with: its own rectangle at the heights of the layers to which it conducts, and its place among ties
+abbrev pub asks_of : Plane → Extent → ℕ → Asks
+asks_of Horizontal e n = record { first = raised (pos 0) e; second = raised (pos 8000000000000000) e; third = tie_at n }
+asks_of Vertical e n = record { first = raised (pos 4000000000000000) e; second = raised (pos 8000000000000000) e; third = tie_at n }
+asks_of Cut e n = record { first = raised (pos 0) e; second = raised (pos 4000000000000000) e; third = tie_at n }
+asks_of Other e n = record { first = tie_at n; second = tie_at n; third = tie_at n }
+
+abbrev pub asks_from : RuleValues → ℕ → List Shape → List Asks
+asks_from r n [] = []
+asks_from r n (s ∷ shapes) = asks_of (plane_of r s.layer) s.rect n ∷ asks_from r (n + 1) shapes
+
+abbrev pub firsts : List (ℕ × ℕ) → List ℕ
+firsts ties = map (λ (t : ℕ × ℕ). t.0) ties
+
+abbrev pub seconds : List (ℕ × ℕ) → List ℕ
+seconds ties = map (λ (t : ℕ × ℕ). t.1) ties
+
+-- the web of shapes and ties: each shape is led to by its rectangle, and each of two that are tied by the other's place among ties
+pub record IsWebOf (r : RuleValues) (shapes : List Shape) (ties : List (ℕ × ℕ)) (web : Web) : Type 0 where
+  pub rects : web.rects.items ≡ map (rect_of r) shapes ++ (map tie_at (firsts ties) ++ map tie_at (seconds ties))
+  pub ends : web.ends.items ≡ range_with_len 0 (length shapes) ++ (seconds ties ++ firsts ties)
+  pub asks : web.asks.items ≡ asks_from r 0 shapes
