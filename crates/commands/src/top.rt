@@ -112,7 +112,7 @@ fn end<K: Sink>(out: &mut K, ending: &Result<(), Stop>) -> u8
 /// What may refuse comes in this order: the words, reading RULES, the rules, reading DESIGN, YAL, the design, the
 /// limits of moves, grid, width and height, writing OUT. Where the shelf tells the files that it comes to, the status is that of the
 /// verdict on them, unless it is 8 and a read count rose, 9 and OUT's write count rose, or 10. On 0 OUT holds the text of the
-/// verdict. Every status but 0 and 9 leaves all files as they were; after 9 OUT holds what it held, or a front of the text. 10 may come for
+/// job with the wirings that are kept. Every status but 0 and 9 leaves all files as they were; after 9 OUT holds what it held, or a front of the text. 10 may come for
 /// want of memory at any time before OUT is begun.
 pub fn run<S: Shelf, K: Sink>(
     alloc: Global,
