@@ -9,6 +9,7 @@ use Rattle.geom_extract.specs.Ties.{AreTies, DrawOne}
 use Rattle.geom_extract.specs.Touching.{Beside, Connected}
 use Rattle.geom_extract.specs.Touching.Beside.{touching, tied, tied_back}
 use Rattle.geom_extract.specs.Touching.Connected.{here, step}
+use Rattle.geom_extract.proofs.Chains.{connected-more}
 use Rattle.geom_extract.proofs.Links.{beside-sym}
 
 module _ (r : RuleValues) (d : Netlist) (l : Layout) (ties : List (ℕ × ℕ)) (are : AreTies r d l ties) where
@@ -24,10 +25,6 @@ module _ (r : RuleValues) (d : Netlist) (l : Layout) (ties : List (ℕ × ℕ)) 
   connected-joined i j (step {x = x} k chain beside) =
       further x (beside-neighbours k x (beside-sym r l.shapes ties x k beside)) (connected-joined i x chain)
 
-  connected-more : (i j k : ℕ) → Connected r l.shapes ties i j → Connected r l.shapes ties j k → Connected r l.shapes ties i k
-  connected-more i j k first here = first
-  connected-more i j k first (step {x = x} k2 chain beside) = step k2 (connected-more i j x first chain) beside
-
   neighbours-connected : (i j : ℕ) → Neighbours r d l i j → Connected r l.shapes ties j i
   neighbours-connected i j (neighbours_touch s t is there touch) =
       step i here (beside-sym r l.shapes ties i j (touching s t is there touch))
@@ -36,7 +33,7 @@ module _ (r : RuleValues) (d : Netlist) (l : Layout) (ties : List (ℕ × ℕ)) 
 
   joined-connected : (j i : ℕ) → Joined r d l j i → Connected r l.shapes ties j i
   joined-connected j i same_shape = here
-  joined-connected j i (further k next joined) = connected-more j k i (joined-connected j k joined) (neighbours-connected i k next)
+  joined-connected j i (further k next joined) = connected-more r l.shapes ties j k i (joined-connected j k joined) (neighbours-connected i k next)
 
   -- with the ties of a layout, the shapes that chains connect are those that are joined
   pub connected-is-joined : (i j : ℕ) → Connected r l.shapes ties i j ↔ Joined r d l i j

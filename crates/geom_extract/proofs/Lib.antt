@@ -16,3 +16,17 @@ pub mod Links
 pub mod ShapeWebs
 -- that chains over the ties of a layout are those of joined shapes
 pub mod JoinedShapes
+-- the first positions of terminals
+pub mod FirstPlaces
+-- lists of the ties in cells
+pub mod TieLists
+-- where cells stand among a layout's shapes
+pub mod Standing
+-- the kinds of instances, and the positions of pins
+pub mod PinPlaces
+-- chains of shapes, further and back
+pub mod Chains
+-- that the ties in all cells are those of a layout
+pub mod CellJoins
+-- that numbers by chains are those of joined shapes and pins
+pub mod Extracting

@@ -8,3 +8,7 @@ pub mod Planes
 pub mod Touching
 -- the ties of a layout
 pub mod Ties
+-- where positions are drawn, and the ties in cells
+pub mod CellTies
+-- numbers of shapes and pins
+pub mod Extracts

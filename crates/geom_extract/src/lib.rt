@@ -1,9 +1,14 @@
 //! Which shapes of a layout are joined.
 #![tactic(auto)]
 
+mod cell_ties;
+mod joined;
+mod places;
 mod plane;
 mod shapes;
+mod starts;
 mod walk;
 mod web;
 
+pub use joined::{Extract, classes};
 pub use shapes::shape_classes;

@@ -1,0 +1,2 @@
+-- cells in the order of instances
+pub mod InOrder
