@@ -18,17 +18,19 @@ use Rattle.cif_reader.specs.Behind.{seen, IsStanding, IsBehind, IsFinished, IsOp
 use Rattle.cif_reader.specs.Expansion.{Progress, advance, at_first}
 use Rattle.cif_reader.specs.Levels.{is_drawing, given_inside, given_outside}
 use Rattle.cif_reader.specs.Limits.{most_shapes}
+use Rattle.cif_reader.specs.Places.{ArePlaces}
 use Rattle.cif_reader.specs.Refusals.{Takes}
 use Rattle.cif_reader.specs.Standing.{definition_seen, main_seen, IsOpen, IsInsideBehind, IsOutsideBehind}
 use Rattle.cif_reader.specs.Table.{symbols_behind, symbols_of, symbol_kept, items_drawn, depth_kept, AreKeptBehind}
 use Rattle.cif_reader.proofs.LevelLaws.{advance-inside, advance-outside, advance-start, advance-finish}
 use Rattle.cif_reader.proofs.PlaceLemmas.{no-symbol, place-of}
+use Rattle.cif_reader.proofs.PlacesLaws.{places-push}
 use Rattle.cif_reader.proofs.StandingLemmas.{takes-next}
 use Rattle.cif_reader.proofs.TableLemmas.{behind-push, kept-push}
 
-pub first-is : (s : Standing) → s.main.shapes.items ≡ [] → s.table.items ≡ [] → s.definition ≡ None → IsStanding s
+pub first-is : (s : Standing) → s.main.shapes.items ≡ [] → s.table.items ≡ [] → ArePlaces s.places [] → s.definition ≡ None → IsStanding s
 unfolding AreKeptBehind
-first-is s shapes table definition = record { table = rw table tt; few = rw shapes (omega arith); definition_is = rw definition tt }
+first-is s shapes table places definition = record { table = rw table tt; places = rw table places; few = rw shapes (omega arith); definition_is = rw definition tt }
 
 -- a level with its symbols, its depths and its depth
 abbrev progress_at : State → List ℕ → ℕ → Progress
@@ -85,7 +87,7 @@ inside-behind old d e drawing result is there draws taken =
       is_seen = seen-inside (record old { definition = Some e }) e refl
           ∙ ap (λ (x : Definition). progress_at (with_inside (main_of old) x) depths e.kept.depth) h.seen
           ∙ ap (λ (n : ℕ). progress_at (with_inside (main_of old) r.0) depths n) h.depth_is;
-      is = record { table = is.table; few = is.few; definition_is = h.is };
+      is = record { table = is.table; places = is.places; few = is.few; definition_is = h.is };
       is_open = refl;
     }) taken)
 
@@ -106,7 +108,7 @@ outside-behind old main drawing result is there draws taken =
       is_seen = seen-outside (record old { main = main }) there
           ∙ ap (λ (x : State). progress_at x depths main.depth) h.seen
           ∙ ap (λ (n : ℕ). progress_at r.0 depths n) h.depth_is;
-      is = record { table = is.table; few = h.few; definition_is = is.definition_is };
+      is = record { table = is.table; places = is.places; few = h.few; definition_is = is.definition_is };
       is_open = rw there refl;
     }) taken)
 
@@ -143,7 +145,7 @@ start-behind old n a b d is there first second none h =
     rw (seen-outside old there, advance-start (main_of old) (map depth_kept old.table.items) old.main.depth n a b is.few, no-symbol n old.table.items none)
     (record {
       is_seen = seen-inside new d refl ∙ rw (h.number, h.name, h.items, h.a_is, h.b_is, h.layer, h.depth) refl;
-      is = record { table = is.table; few = is.few; definition_is = opened-kept (symbols_of old.table.items) n a b d h first second };
+      is = record { table = is.table; places = is.places; few = is.few; definition_is = opened-kept (symbols_of old.table.items) n a b d h first second };
       is_open = refl;
     })
 
@@ -162,6 +164,7 @@ finish-behind old new d is there h =
       is_seen = seen-outside new h.outside ∙ rw (table_is, depths_are, h.main_is) refl;
       is = record {
         table = rw h.table_is (kept-push [] old.table.items d.kept is.table open_is.kept);
+        places = rw h.table_is (places-push old.places new.places old.table.items d.kept is.places h.places_are);
         few = rw h.main_is is.few;
         definition_is = rw h.outside tt;
       };

@@ -26,3 +26,5 @@ pub mod StandingLemmas
 pub mod BehindLemmas
 -- all commands, one after another
 pub mod ExpandLemmas
+-- the places of symbols, when one more is entered
+pub mod PlacesLaws

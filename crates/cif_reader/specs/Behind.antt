@@ -5,6 +5,7 @@ use Rattle.cif_reader.specs.declared.outside.Main.{Main}
 use Rattle.cif_reader.specs.declared.standing.Standing.{Standing}
 use Rattle.cif_reader.specs.Expansion.{Progress}
 use Rattle.cif_reader.specs.Limits.{most_shapes}
+use Rattle.cif_reader.specs.Places.{ArePlaces, IsEntered}
 use Rattle.cif_reader.specs.Standing.{definition_seen, main_seen, IsOpen}
 use Rattle.cif_reader.specs.Table.{AreKept, depth_kept, symbols_of}
 
@@ -27,6 +28,7 @@ seen s = record {
 -- what is kept is so, and the main level has not too many shapes
 pub record IsStanding (s : Standing) : Type 0 where
   pub table : AreKept s.table.items
+  pub places : ArePlaces s.places s.table.items
   pub few : length s.main.shapes.items ≤ most_shapes
   pub definition_is : IfSome s.definition (IsOpen (symbols_of s.table.items))
 
@@ -40,6 +42,7 @@ pub record IsBehind (s : Standing) (inside : Bool) (p : Progress) : Type 0 where
 pub record IsFinished (old new : Standing) (definition : Open) : Type 0 where
   pub main_is : new.main ≡ record old.main { depth = definition.kept.depth }
   pub table_is : new.table.items ≡ old.table.items ++ (definition.kept ∷ [])
+  pub places_are : IsEntered old.places new.places definition.kept.number (length old.table.items)
   pub outside : new.definition ≡ None
 
 -- a definition of this number and this scale that has just started

@@ -14,6 +14,8 @@ pub mod Sides
 pub mod Refusals
 -- the table of symbols, which keeps what each draws, and not its shapes
 pub mod Table
+-- the places of symbols in the table
+pub mod Places
 -- rectangles around others
 pub mod Bounds
 -- a symbol that draws more

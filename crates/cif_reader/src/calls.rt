@@ -1,5 +1,6 @@
 ghost use Rattle.cif_reader.specs.Levels.{call_of, call_with, depth_above, far_call};
 ghost use Rattle.cif_reader.specs.Limits.{coordinates_of, deepest, first_far, most_shapes};
+ghost use Rattle.cif_reader.specs.Places.{ArePlaces};
 ghost use Rattle.cif_reader.specs.Refusals.{Gives};
 ghost use Rattle.cif_reader.specs.Sides.{IsNearTurn};
 ghost use Rattle.cif_reader.specs.Table.{AreKept, symbol_at, symbols_of};
@@ -10,9 +11,10 @@ ghost use Rattle.std.specs.Prelude.{◌≡◌, ◌==◌, ◌≤◌, ◌<◌, ◌
 use crate::bounds::{are_near, moved_bounds};
 use crate::fault::ExpandKind;
 use crate::limits::{DEEPEST, first_far, is_far, limit_passed, narrow};
+use crate::places::{Places, place_of};
 use crate::refusal::Refusal;
 use crate::scales::WideTurn;
-use crate::table::{Kept, drawn, place_of, push_moved};
+use crate::table::{Kept, drawn, push_moved};
 use geom_core::{Shape, Turn};
 use std::alloc::{AllocError, Global};
 
@@ -123,18 +125,20 @@ fn allowed_turn(
 pub fn called(
     alloc: Global,
     table: &[Kept],
+    places: &Places,
     before: u32,
     n: u64,
     turn: Option<WideTurn>,
 ) -> Result<Call, Refusal>
     requires table { AreKept table.now }
+    requires places { ArePlaces places.now table.now }
     requires before { before ≤ most_shapes }
     ensures gives { Gives (λ call. (symbol_at (symbols_of table.now) call.of, call.turn)) result
         (call_of n before (symbol_of n (symbols_of table.now)) turn) }
     ensures place { IfOk result (λ call. position (λ k. k.number == n) table.now ≡ Some call.of) }
     ensures near { IfOk result (λ call. IsNearTurn call.turn) }
 {
-    let Some(of) = place_of(table, n) else {
+    let Some(of) = place_of(places, n) else {
         return Err(Refusal::Because(ExpandKind::Undefined(n)));
     };
     let Some(turn) = turn else {

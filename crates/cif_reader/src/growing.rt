@@ -1,6 +1,7 @@
 ghost use Rattle.cif_reader.specs.Growing.{Grows, HasItem};
 ghost use Rattle.cif_reader.specs.Levels.{boxed, call_inside};
 ghost use Rattle.cif_reader.specs.Limits.{deepest, most_shapes};
+ghost use Rattle.cif_reader.specs.Places.{ArePlaces};
 ghost use Rattle.cif_reader.specs.Refusals.{Takes};
 ghost use Rattle.cif_reader.specs.Sides.{IsProper};
 ghost use Rattle.cif_reader.specs.Table.{AreKept, IsKeptBehind, depth_kept, items_drawn, symbols_of};
@@ -11,6 +12,7 @@ ghost use Rattle.std.specs.Prelude.{◌≡◌, ◌+◌, ◌≤◌, ◌∷◌, []
 use crate::bounds::{joined, moved_bounds};
 use crate::calls::{called, depth_above};
 use crate::limits::boxed;
+use crate::places::Places;
 use crate::refusal::Refusal;
 use crate::scales::{WideSides, WideTurn};
 use crate::table::{Item, Kept};
@@ -75,17 +77,19 @@ fn deepen(kept: &mut Kept, depth: u32)
 pub fn push_call(
     alloc: Global,
     table: &[Kept],
+    places: &Places,
     kept: &mut Kept,
     n: u64,
     turn: Option<WideTurn>,
 ) -> Result<(), Refusal>
     requires table { AreKept table.now }
+    requires places { ArePlaces places.now table.now }
     requires kept { IsKeptBehind (symbols_of table.now) kept.old }
     ensures { Takes result
         (call_inside n (length (items_drawn (symbols_of table.now) kept.old.items.items)) (symbols_of table.now) (map depth_kept table.now) turn)
         (λ call. Grows (symbols_of table.now) kept.old kept.new (moved_shapes call.0.1 call.0.0.shapes) call.1) }
 {
-    let call = match called(alloc, table, kept.count, n, turn) {
+    let call = match called(alloc, table, places, kept.count, n, turn) {
         Ok(call) => call,
         Err(refusal) => return Err(refusal),
     };

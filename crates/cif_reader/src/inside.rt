@@ -1,4 +1,5 @@
 ghost use Rattle.cif_reader.specs.Levels.{given_inside};
+ghost use Rattle.cif_reader.specs.Places.{ArePlaces};
 ghost use Rattle.cif_reader.specs.Refusals.{Takes};
 ghost use Rattle.cif_reader.specs.Standing.{IsInsideBehind, IsOpen, definition_seen};
 ghost use Rattle.cif_reader.specs.Table.{AreKept, depth_kept, symbols_of};
@@ -7,6 +8,7 @@ ghost use Rattle.cif_text.specs.Symbols.{Symbol};
 ghost use Rattle.std.specs.Prelude.{◌≡◌, ℕ, List, map, OnOk};
 
 use crate::growing::{push_box, push_call};
+use crate::places::Places;
 use crate::refusal::Refusal;
 use crate::scales::{box_around, scaled_extent, scaled_turning};
 use crate::table::Kept;
@@ -57,10 +59,12 @@ fn user_inside(
 pub fn step_inside(
     alloc: Global,
     table: &[Kept],
+    places: &Places,
     definition: &mut Open,
     command: &Command,
 ) -> Result<(), Refusal>
     requires table { AreKept table.now }
+    requires places { ArePlaces places.now table.now }
     requires definition { IsOpen (symbols_of table.now) definition.old }
     requires sound { IsSound command.now }
     ensures { Takes result
@@ -94,7 +98,7 @@ pub fn step_inside(
             dy,
         } => {
             let turn = scaled_turning(definition.a, definition.b, *flip, *quarters, *dx, *dy);
-            push_call(alloc, table, &mut definition.kept, *n, turn)
+            push_call(alloc, table, places, &mut definition.kept, *n, turn)
         }
         Command::User { kind, text } => user_inside(alloc, definition, *kind, text),
         Command::Start { .. } | Command::Finish | Command::Comment | Command::End => Ok(()),

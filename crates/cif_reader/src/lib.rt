@@ -13,6 +13,7 @@ mod growing;
 mod inside;
 mod limits;
 mod outside;
+mod places;
 mod refusal;
 mod scales;
 mod standing;

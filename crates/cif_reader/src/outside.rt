@@ -1,5 +1,6 @@
 ghost use Rattle.cif_reader.specs.Levels.{boxed, call_of, cells_given, given_outside};
 ghost use Rattle.cif_reader.specs.Limits.{deepest, most_shapes};
+ghost use Rattle.cif_reader.specs.Places.{ArePlaces};
 ghost use Rattle.cif_reader.specs.Refusals.{Gives, Takes};
 ghost use Rattle.cif_reader.specs.Sides.{IsNearTurn, IsProper};
 ghost use Rattle.cif_reader.specs.Standing.{IsDrawn, IsOutsideBehind, call_outside, main_seen};
@@ -12,6 +13,7 @@ ghost use Rattle.std.specs.Prelude.{◌≡◌, ◌≤◌, ◌<◌, ◌∷◌, []
 use crate::calls::{Call, called, depth_above, push_copy};
 use crate::fault::ExpandKind;
 use crate::limits::boxed;
+use crate::places::Places;
 use crate::refusal::Refusal;
 use crate::scales::{WideSides, WideTurn, box_around, scaled_extent, scaled_turning};
 use crate::table::Kept;
@@ -106,17 +108,19 @@ fn draw_call(
 fn step_call(
     alloc: Global,
     table: &[Kept],
+    places: &Places,
     main: &mut Main,
     n: u64,
     turn: Option<WideTurn>,
 ) -> Result<(), Refusal>
     requires table { AreKept table.now }
+    requires places { ArePlaces places.now table.now }
     requires few { length main.old.shapes.items ≤ most_shapes }
     ensures { Takes result (call_outside (map depth_kept table.now) (main_seen (symbols_of table.now) main.old) n turn)
         (IsOutsideBehind (symbols_of table.now) main.old main.new) }
 {
     let before = main.shapes.len() as u32;
-    let call = match called(alloc, table, before, n, turn) {
+    let call = match called(alloc, table, places, before, n, turn) {
         Ok(call) => call,
         Err(refusal) => return Err(refusal),
     };
@@ -195,10 +199,12 @@ fn user_outside(alloc: Global, main: &mut Main, kind: UserKind, text: &Name) -> 
 pub fn step_outside(
     alloc: Global,
     table: &[Kept],
+    places: &Places,
     main: &mut Main,
     command: &Command,
 ) -> Result<(), Refusal>
     requires table { AreKept table.now }
+    requires places { ArePlaces places.now table.now }
     requires few { length main.old.shapes.items ≤ most_shapes }
     requires sound { IsSound command.now }
     ensures { Takes result (given_outside (map depth_kept table.now) (main_seen (symbols_of table.now) main.old) command.now)
@@ -229,7 +235,7 @@ pub fn step_outside(
             dy,
         } => {
             let turn = scaled_turning(1, 1, *flip, *quarters, *dx, *dy);
-            step_call(alloc, table, main, *n, turn)
+            step_call(alloc, table, places, main, *n, turn)
         }
         Command::User { kind, text } => user_outside(alloc, main, *kind, text),
         Command::Start { .. } | Command::Finish | Command::Comment | Command::End => {

@@ -10,16 +10,19 @@ ghost use Rattle.std.specs.Prelude.{◌≡◌, true, false, is_some, OnOk};
 use crate::fault::ExpandKind;
 use crate::inside::{Open, step_inside};
 use crate::outside::{Main, step_outside};
+use crate::places::{Places, enter, place_of};
 use crate::refusal::Refusal;
-use crate::table::{Kept, place_of};
+use crate::table::Kept;
 use cif_text::Command;
 use std::alloc::{AllocError, Global};
 
-/// What stands behind some commands: the main level, the symbols whose definitions have ended, and the definition that is open.
+/// What stands behind some commands: the main level, the symbols whose definitions have ended, with their places there by
+/// their numbers, and the definition that is open.
 #[derive(Debug, Drop)]
 pub struct Standing {
     pub main: Main,
     pub table: Vec<Kept>,
+    pub places: Places,
     pub definition: Option<Open>,
 }
 
@@ -38,6 +41,7 @@ pub fn at_first(alloc: Global) -> Standing
             depth: 1,
         },
         table: Vec::new(alloc),
+        places: Places::new(alloc),
         definition: None,
     }
 }
@@ -47,8 +51,10 @@ fn finished(standing: &mut Standing, definition: Open) -> Result<(), AllocError>
 {
     standing.main.depth = definition.kept.depth;
     standing.definition = None;
+    let number = definition.kept.number;
+    let place = standing.table.len();
     standing.table.push(definition.kept)?;
-    Ok(())
+    enter(&mut standing.places, number, place)
 }
 
 fn step_finish(standing: &mut Standing) -> Result<(), Refusal>
@@ -90,7 +96,7 @@ fn step_start(alloc: Global, standing: &mut Standing, n: u64, a: u64, b: u64) ->
     requires b { IsPart b }
     ensures { Takes result (advance (seen standing.old) (Command.Start n a b)) (IsBehind standing.new true) }
 {
-    match place_of(standing.table.as_slice(), n) {
+    match place_of(&standing.places, n) {
         Some(_) => Err(Refusal::Because(ExpandKind::Twice(n))),
         None => {
             standing.main.waiting = None;
@@ -107,10 +113,17 @@ fn step_drawing(alloc: Global, standing: &mut Standing, command: &Command) -> Re
     ensures { Takes result (advance (seen standing.old) command.now) (IsBehind standing.new (is_some standing.old.definition)) }
 {
     match &mut standing.definition {
-        Some(definition) => step_inside(alloc, standing.table.as_slice(), definition, command),
+        Some(definition) => step_inside(
+            alloc,
+            standing.table.as_slice(),
+            &standing.places,
+            definition,
+            command,
+        ),
         None => step_outside(
             alloc,
             standing.table.as_slice(),
+            &standing.places,
             &mut standing.main,
             command,
         ),

@@ -3,7 +3,7 @@ ghost use Rattle.cif_reader.specs.Within.{IsNotFar, IsShapeWithin};
 ghost use Rattle.cif_text.specs.Symbols.{moved_shapes};
 ghost use Rattle.geom_core.specs.Moving.{moved_shape};
 ghost use Rattle.std.specs.List.{AllByRecursion};
-ghost use Rattle.std.specs.Prelude.{◌≡◌, ◌==◌, ◌++◌, length, position, IfOk, OnOk};
+ghost use Rattle.std.specs.Prelude.{◌≡◌, ◌++◌, length, IfOk, OnOk};
 
 use geom_core::{Name, Rect, Shape, Turn, moved};
 use std::alloc::{AllocError, Global};
@@ -24,13 +24,6 @@ pub struct Kept {
     pub count: u32,
     pub bounds: Option<Rect>,
     pub depth: u32,
-}
-
-/// The place of the symbol of this number.
-pub fn place_of(table: &[Kept], n: u64) -> Option<usize>
-    ensures { result ≡ position (λ k. k.number == n) table.now }
-{
-    table.iter().position(|kept| kept.number == n)
 }
 
 fn moved_shape(shape: &Shape, turn: &Turn) -> Shape

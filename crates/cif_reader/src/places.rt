@@ -1,0 +1,28 @@
+ghost use Rattle.cif_reader.specs.Places.{IsEntered};
+ghost use Rattle.std.specs.BTreeMap.{get};
+ghost use Rattle.std.specs.Ordering.{nat_cmp};
+ghost use Rattle.std.specs.Prelude.{◌≡◌, OnOk};
+
+use std::alloc::AllocError;
+use std::collections::BTreeMap;
+
+/// The places of symbols in the table, by their numbers.
+pub type Places = BTreeMap<u64, usize>;
+
+/// The place of the symbol of this number.
+pub fn place_of(places: &Places, n: u64) -> Option<usize>
+    ensures { result ≡ get nat_cmp places.now n }
+{
+    places.get(&n).copied()
+}
+
+/// Enters the place of a symbol of this number, unless there is an earlier one.
+pub fn enter(places: &mut Places, n: u64, place: usize) -> Result<(), AllocError>
+    ensures { OnOk result (IsEntered places.old places.new n place) }
+{
+    if places.contains_key(&n) {
+        return Ok(());
+    }
+    places.insert(n, place)?;
+    Ok(())
+}
