@@ -21,3 +21,11 @@ pub mod Fits
 pub mod SetLaws
 -- short rows that are decided
 pub mod Worked
+-- numbers in order
+pub mod Ascending
+-- what the kin of blocks tell
+pub mod KinLaws
+-- members that are found by their items, in order
+pub mod Placing
+-- pairs that are gathered row by row
+pub mod Gathering

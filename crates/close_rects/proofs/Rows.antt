@@ -68,7 +68,7 @@ pub rest_at-row : (reach : ℤ) (rects : List (ℕ × Extent)) (row : ℕ) → r
 rest_at-row reach rects row =
     ap (λ t. rows_from reach (drop row rects) t) (sym (drop_one rects row)) ∙ rows_from-all reach (drop row rects)
 
-drop_past : {X : Type 0} (xs : List X) (k : ℕ) → length xs ≤ k → drop k xs ≡ []
+pub drop_past : {X : Type 0} (xs : List X) (k : ℕ) → length xs ≤ k → drop k xs ≡ []
 drop_past [] zero past = refl
 drop_past [] (suc k) past = refl
 drop_past (x ∷ xs) zero past = absurd (omega arith)

@@ -9,3 +9,6 @@ pub mod RectSetView
 pub mod ClosePairs
 pub mod Rests
 pub mod ScanView
+-- members of classes that are too close, and how they are looked for
+pub mod Crowds
+pub mod Kins

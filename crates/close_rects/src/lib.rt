@@ -3,11 +3,17 @@
 
 mod blocks;
 mod bounds;
+mod crowding;
 mod item;
+mod kin;
+mod member;
 mod order;
 mod rect_set;
 mod scan;
 mod search;
+mod strangers;
 
+pub use crowding::first_pairs;
+pub use member::Member;
 pub use rect_set::RectSet;
 pub use scan::Scan;

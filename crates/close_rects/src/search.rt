@@ -27,7 +27,7 @@ pub fn first_meeting(items: &[Item], nodes: &[Node], window: &Bounds, from: usiz
 }
 
 // A place up to which no rectangle from place `at` on meets the window, by the bounds of a block that begins there.
-fn passed(items: &[Item], nodes: &[Node], window: &Bounds, at: usize) -> usize
+pub fn passed(items: &[Item], nodes: &[Node], window: &Bounds, at: usize) -> usize
     requires few { length items.now < 2 ^ 32 }
     requires within { at < length items.now }
     requires indexed { IsIndexed items.now nodes.now }
@@ -48,7 +48,7 @@ fn passed(items: &[Item], nodes: &[Node], window: &Bounds, at: usize) -> usize
 }
 
 // Whether a rectangle is left and meets the window.
-fn is_met(item: Item, window: &Bounds) -> bool
+pub fn is_met(item: Item, window: &Bounds) -> bool
     ensures { IsTrue result ↔ IsMet window.now item }
 {
     !item.taken && window.meets(&Bounds::of(&item.rect))

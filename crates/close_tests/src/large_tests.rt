@@ -9,7 +9,7 @@ use std::alloc::{AllocError, Global};
 use std::test::Fail;
 
 // Squares of a side, of which each begins a step right of and above the one before.
-fn stairs(alloc: Global, count: usize, step: u32, side: u32) -> Result<Vec<Rect>, AllocError>
+pub fn stairs(alloc: Global, count: usize, step: u32, side: u32) -> Result<Vec<Rect>, AllocError>
     requires few { count ≤ 1000000 }
     requires flat { step ≤ 1000 }
     requires some { 0 < side }
@@ -26,7 +26,7 @@ fn stairs(alloc: Global, count: usize, step: u32, side: u32) -> Result<Vec<Rect>
 }
 
 // Squares of a side in rows and columns, which begin a pitch apart.
-fn grid(
+pub fn grid(
     alloc: Global,
     rows: usize,
     columns: usize,

@@ -1,6 +1,8 @@
-//! Tests of close rectangles: a short row, and rows of a million.
+//! Tests of close rectangles: short rows, and rows of a million, of classes and of none.
 #![tactic(auto)]
 
+#[cfg(test)]
+mod crowd_tests;
 #[cfg(test)]
 mod large_tests;
 #[cfg(test)]

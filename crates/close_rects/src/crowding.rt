@@ -1,0 +1,118 @@
+ghost use Rattle.close_rects.specs.Crowds.{KeepsInReach, crowd_of, crowds_of, places_from};
+ghost use Rattle.close_rects.specs.declared.member.Member.{Member};
+ghost use Rattle.close_rects.specs.Kins.{ArePlaced, IsCrowd, is_later, numbers_of, pairs_of};
+ghost use Rattle.std.specs.List.{slice_get};
+ghost use Rattle.std.specs.Prelude.{◌≡◌, ◌+◌, [], ◌∷◌, ◌++◌, nat_lt, if◌then◌else◌, ◌<◌, ◌≤◌, ◌^◌, length, drop, take, All, IfOk, OnOk, Some};
+
+use crate::blocks::nodes_of;
+use crate::bounds::Bounds;
+use crate::item::{Item, item_at};
+use crate::kin::kins_of;
+use crate::member::{Member, member_at, placed};
+use crate::strangers::{Crowd, first_stranger};
+use std::alloc::{AllocError, Global};
+
+/// The first pairs of members of different classes of which both gaps are below the reach of the first, `most` of them at most: by
+/// their numbers, the first of which stands before the second in the list, and in the order of the list. There are fewer than
+/// 2^32 members, whose sides lie within 10^16 half centimicrons, and whose reaches are 0 to 10^16 of these. The one error is
+/// want of memory.
+/// Runs of blocks that are all of the asking class are passed over, so that members of one class may lie on each other. The time
+/// goes up with the members that crowd one after them, and not it: none where all reaches are equal.
+pub fn first_pairs(
+    alloc: Global,
+    members: &[Member],
+    most: usize,
+) -> Result<Vec<(u32, u32)>, AllocError>
+    requires few { length members.now < 2 ^ 32 }
+    requires reach { All KeepsInReach members.now }
+    ensures { IfOk result (λ v. v.items ≡ take most (crowds_of members.now)) }
+{
+    let items = placed(alloc, members)?;
+    let nodes = nodes_of(alloc, items.as_slice())?;
+    let kins = kins_of(alloc, members, items.as_slice(), nodes.as_slice())?;
+    let crowd = Crowd {
+        members,
+        items: items.as_slice(),
+        nodes: nodes.as_slice(),
+        kins: kins.as_slice(),
+    };
+    rows(alloc, &crowd, most)
+}
+
+// The pairs of each member with those after it.
+fn rows(alloc: Global, crowd: &Crowd, most: usize) -> Result<Vec<(u32, u32)>, AllocError>
+    requires crowd { IsCrowd crowd.now.members.now crowd.now.items.now crowd.now.nodes.now crowd.now.kins.now }
+    requires placed { ArePlaced crowd.now.members.now crowd.now.items.now }
+    ensures { IfOk result (λ v. v.items ≡ take most (crowds_of crowd.now.members.now)) }
+{
+    let mut pairs = Vec::new(alloc);
+    let mut row = 0;
+    while row < crowd.members.len() && pairs.len() < most {
+        let places = places_after(alloc, crowd, row)?;
+        let number = member_at(crowd.members, row).number;
+        add_pairs(&mut pairs, crowd.members, number, places.as_slice(), most)?;
+        row += 1;
+    }
+    Ok(pairs)
+}
+
+// The places in the list of the members after one of them that crowd it.
+fn places_after(alloc: Global, crowd: &Crowd, row: usize) -> Result<Vec<u32>, AllocError>
+    requires within { row < length crowd.now.members.now }
+    requires crowd { IsCrowd crowd.now.members.now crowd.now.items.now crowd.now.nodes.now crowd.now.kins.now }
+    requires placed { ArePlaced crowd.now.members.now crowd.now.items.now }
+    ensures { IfOk result (λ v. (a : Member) → slice_get crowd.now.members.now row ≡ Some a
+        → v.items ≡ places_from (row + 1) a (drop (row + 1) crowd.now.members.now)) }
+{
+    let mut places = strangers_after(alloc, crowd, row)?;
+    places.sort_unstable();
+    Ok(places)
+}
+
+// The same in the order of the items.
+fn strangers_after(alloc: Global, crowd: &Crowd, row: usize) -> Result<Vec<u32>, AllocError>
+    requires within { row < length crowd.now.members.now }
+    requires crowd { IsCrowd crowd.now.members.now crowd.now.items.now crowd.now.nodes.now crowd.now.kins.now }
+    requires placed { ArePlaced crowd.now.members.now crowd.now.items.now }
+    ensures { IfOk result (λ v. (a : Member) → slice_get crowd.now.members.now row ≡ Some a
+        → v.items ≡ numbers_of (is_later crowd.now.members.now row a) crowd.now.items.now) }
+{
+    let member = member_at(crowd.members, row);
+    let window = Bounds::near(&member.rect, member.reach);
+    let mut places = Vec::new(alloc);
+    let mut at = 0;
+    while let Some(found) = first_stranger(crowd, &window, member.class, at) {
+        push_later(&mut places, item_at(crowd.items, found).number, row)?;
+        at = found + 1;
+    }
+    Ok(places)
+}
+
+// Puts a place at the end of a list if it lies after the row.
+fn push_later(places: &mut Vec<u32>, place: u32, row: usize) -> Result<(), AllocError>
+    ensures { OnOk result (places.new.items ≡ (if nat_lt row place then places.old.items ++ place ∷ [] else places.old.items)) }
+{
+    if place as usize > row {
+        places.push(place)?;
+    }
+    Ok(())
+}
+
+// Puts the pairs of a number with those of the members at some places at the end of a list, which then has `most` at most.
+fn add_pairs(
+    pairs: &mut Vec<(u32, u32)>,
+    members: &[Member],
+    number: u32,
+    places: &[u32],
+    most: usize,
+) -> Result<(), AllocError>
+    requires within { All (λ place. place < length members.now) places.now }
+    requires room { length pairs.old.items ≤ most }
+    ensures { OnOk result (pairs.new.items ≡ take most (pairs.old.items ++ pairs_of members.now number places.now)) }
+{
+    let count = places.len().min(most - pairs.len());
+    for place in &places[..count] {
+        pairs.push((number, member_at(members, *place as usize).number))?;
+    }
+    Ok(())
+}
