@@ -9,6 +9,7 @@ mod mem_shelf;
 mod mem_sink;
 mod never;
 mod plan;
+mod printing;
 mod putting;
 mod traits;
 
@@ -17,5 +18,6 @@ pub use loading::{LoadFault, load};
 pub use mem_shelf::MemShelf;
 pub use mem_sink::MemSink;
 pub use never::{NeverShelf, NeverSink};
+pub use printing::put_whole;
 pub use putting::put_all;
 pub use traits::{Failed, Shelf, Sink};

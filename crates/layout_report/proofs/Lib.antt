@@ -1,0 +1,2 @@
+-- the random words of a seed
+pub mod WordLaws

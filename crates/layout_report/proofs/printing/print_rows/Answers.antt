@@ -1,0 +1,15 @@
+use Rattle.std.proofs.Common.{refl}
+use Rattle.std.proofs.lemmas.Result.{on_err_weaker}
+use Rattle.shelf_io.proofs.Appends.{first-front, on-err, second-front}
+use Rattle.layout_report.specs.SummaryText.{rows_text}
+use Rattle.layout_report.proofs.printing.print_rows.Goals as goal
+
+pub returns-in_err-print_count-clause-front : goal.returns-in_err-print_count-clause-front
+unfolding rows_text
+returns-in_err-print_count-clause-front g c =
+    on-err c.from_residual.result _ (first-front _ _ _ _ _ refl c.in_err-print_count.ensures.front)
+
+pub returns-clause-front : goal.returns-clause-front
+unfolding rows_text
+returns-clause-front g c =
+    on_err_weaker c.print_count-2.result (second-front _ _ _ _ _ _ refl c.in_ok-print_count.ensures.whole) c.print_count-2.ensures.front

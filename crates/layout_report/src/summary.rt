@@ -1,0 +1,24 @@
+use geom_core::Items;
+use greedy_router::By;
+
+/// A routed channel in short: its tracks, its columns past those of the placement, and the router of its wiring.
+#[derive(Clone, Copy, Debug, PartialEq, Eq)]
+pub struct ChannelLine {
+    pub tracks: u32,
+    pub extra: u32,
+    pub by: By,
+}
+
+/// A layout in short: how many cells, nets, rows and feeds it has, its channels from the lowest up, its width and height in centimicrons, and
+/// what its rows cost.
+#[derive(Debug, Drop)]
+pub struct Summary {
+    pub cells: u32,
+    pub nets: u32,
+    pub rows: u32,
+    pub feeds: u64,
+    pub channels: Items<ChannelLine>,
+    pub width: u64,
+    pub height: u64,
+    pub cost: u64,
+}

@@ -1,0 +1,106 @@
+//! Designs made from a number.
+
+use layout_report::make_design;
+use std::test::Fail;
+use tech_rules::Rules;
+
+// The design of six instances of seed 7 under the sample rules, as another program with that generator made it.
+const SIX_OF_SEVEN: &str = "/* made design */
+MODULE M0;
+TYPE STANDARD;
+DIMENSIONS 0 0 16 0 16 11 0 11;
+IOLIST;
+a I 4 0 3 POLY;
+b I 12 0 3 POLY;
+y O 4 11 3 POLY;
+z B 12 11 3 POLY;
+vdd PWR;
+vss GND;
+ENDIOLIST;
+ENDMODULE;
+MODULE M1;
+TYPE STANDARD;
+DIMENSIONS 0 0 24 0 24 11 0 11;
+IOLIST;
+a I 4 0 3 POLY;
+b I 20 0 3 POLY;
+y O 4 11 3 POLY;
+z B 12 11 3 POLY;
+vdd PWR;
+vss GND;
+ENDIOLIST;
+ENDMODULE;
+MODULE M2;
+TYPE STANDARD;
+DIMENSIONS 0 0 32 0 32 11 0 11;
+IOLIST;
+a I 4 0 3 POLY;
+b I 28 0 3 POLY;
+y O 4 11 3 POLY;
+z B 12 11 3 POLY;
+vdd PWR;
+vss GND;
+ENDIOLIST;
+ENDMODULE;
+MODULE M3;
+TYPE STANDARD;
+DIMENSIONS 0 0 40 0 40 11 0 11;
+IOLIST;
+a I 4 0 3 POLY;
+b I 36 0 3 POLY;
+y O 4 11 3 POLY;
+z B 12 11 3 POLY;
+vdd PWR;
+vss GND;
+ENDIOLIST;
+ENDMODULE;
+MODULE M4;
+TYPE STANDARD;
+DIMENSIONS 0 0 48 0 48 11 0 11;
+IOLIST;
+a I 4 0 3 POLY;
+b I 44 0 3 POLY;
+y O 4 11 3 POLY;
+z B 12 11 3 POLY;
+z B 20 0 3 POLY;
+vdd PWR;
+vss GND;
+ENDIOLIST;
+ENDMODULE;
+MODULE made;
+TYPE PARENT;
+DIMENSIONS 0 0 1 0 1 1 0 1;
+PROFILE 0 0;
+IOLIST;
+ENDIOLIST;
+NETWORK;
+c0 M0 n1 n3 n0 z0 VDD VSS;
+c1 M1 n3 n2 n1 z0 VDD VSS;
+c2 M2 n1 n3 n2 z0 VDD VSS;
+c3 M3 n2 n5 n3 z0 VDD VSS;
+c4 M4 n4 n3 n4 z1 VDD VSS;
+c5 M0 n5 n2 n5 z1 VDD VSS;
+ENDNETWORK;
+PLACEMENT;
+ENDPLACEMENT;
+ENDMODULE;
+";
+
+#[test]
+fn six_instances_of_seed_seven(rt: HostRuntime) -> Result<(), Fail> {
+    let alloc = rt.alloc();
+    let rules = Rules::sample(alloc)?;
+    let text = make_design(alloc, &rules, 7, 6)?;
+    assert!(rt; text.as_slice() == SIX_OF_SEVEN.as_bytes());
+    Ok(())
+}
+
+// The length of the text of the most instances, by another program.
+#[test]
+fn the_most_instances(rt: HostRuntime) -> Result<(), Fail> {
+    let alloc = rt.alloc();
+    let rules = Rules::sample(alloc)?;
+    let text = make_design(alloc, &rules, 1, 20_000)?;
+    assert_eq!(rt; text.len(), 872273);
+    Ok(())
+}
