@@ -116,8 +116,11 @@ fn shown_layout(alloc: Global, layout: &Layout) -> Result<Vec<u8>, AllocError> {
 }
 
 /// What the text gives, or None where it does not read as commands.
-fn expanded(alloc: Global, text: &[u8]) -> Result<Option<Result<Layout, ExpandFault>>, AllocError> {
-    if text.len() >= 1_000_000 {
+pub fn expanded(
+    alloc: Global,
+    text: &[u8],
+) -> Result<Option<Result<Layout, ExpandFault>>, AllocError> {
+    if text.len() >= 1 << 24 {
         return Ok(None);
     }
     match read_commands(alloc, text) {

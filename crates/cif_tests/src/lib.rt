@@ -10,4 +10,6 @@ mod expansion_tests;
 #[cfg(test)]
 mod fault_tests;
 #[cfg(test)]
+mod many_tests;
+#[cfg(test)]
 mod shown;

@@ -1,9 +1,8 @@
-use Rattle.std.proofs.Common.{◌≡◌, ◌<◌, ◌≤◌, ◌∙◌, ℕ, zero, suc, List, [], ◌∷◌, Some, length, map, ap, ap₂, sym, subst, refl, arith, Bool, true, false, Contains}
+use Rattle.std.proofs.Common.{◌≡◌, ◌∙◌, ℕ, suc, List, [], ◌∷◌, Some, length, map, ap, ap₂, sym, subst, refl, arith, Bool, true, false}
 use Rattle.std.specs.Bool.{OnTrue}
 use Rattle.std.specs.List.{slice_get}
 use Rattle.std.specs.List.Sorted.{IsPermutation}
 use Rattle.std.specs.Option.{option_map}
-use Rattle.std.specs.Str.{bytes_eq}
 use Rattle.std.proofs.lemmas.List.Sorted.{IsPermutation-refl}
 use Rattle.std.proofs.lemmas.Option.{slice_get-map}
 use Rattle.list_facts.proofs.Different.{place-get}
@@ -14,7 +13,7 @@ use Rattle.tech_rules.specs.Rules.{RuleValues}
 use Rattle.design_model.specs.CellsMatch.{CellsMatch, cell_names, instance_names}
 use Rattle.design_model.specs.Netlist.{IsNetlist, Netlist}
 use Rattle.design_model.specs.declared.design.Inst.{Inst}
-use Rattle.extract_tests.specs.InOrder.{AreInOrder, IsCellOf}
+use Rattle.extract_tests.specs.InOrder.{AreInOrder}
 
 same-names : (insts : List Inst) (cells : List Cell) → length cells ≡ length insts
     → ((k : ℕ) (i : Inst) (c : Cell) → slice_get insts k ≡ Some i → slice_get cells k ≡ Some c → c.name ≡ i.name)

@@ -1,11 +1,9 @@
-use Rattle.std.proofs.Common.{◌≡◌, ◌<◌, ◌+◌, ◌-◌, ◌∙◌, ℕ, List, Some, length, map, take, drop, ap, ap₂, sym, refl, rules, arith}
-use Rattle.std.specs.Bool.{OnTrue}
+use Rattle.std.proofs.Common.{◌≡◌, ◌<◌, ◌∙◌, List, Some, length, map, ap, sym, refl, rules}
 use Rattle.std.specs.List.{slice_get}
 use Rattle.std.proofs.lemmas.Option.{slice_get_read}
 use Rattle.geom_core.specs.Moving.{moved_shape}
 use Rattle.geom_core.specs.declared.layout.Shape.{Shape}
-use Rattle.design_model.specs.CellsMatch.{IsCopyOf, shapes_of}
-use Rattle.design_model.specs.Drawing.{drawing_of}
+use Rattle.design_model.specs.CellsMatch.{shapes_of}
 use Rattle.design_model.specs.Netlist.{Netlist}
 use Rattle.design_model.specs.declared.design.CellKind.{CellKind}
 use Rattle.extract_tests.specs.InOrder.{IsCellOf}
