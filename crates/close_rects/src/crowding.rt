@@ -1,4 +1,4 @@
-ghost use Rattle.close_rects.specs.Crowds.{KeepsInReach, crowd_of, crowds_of, places_from};
+ghost use Rattle.close_rects.specs.Crowds.{KeepsInReach, crowds_of, places_from};
 ghost use Rattle.close_rects.specs.declared.member.Member.{Member};
 ghost use Rattle.close_rects.specs.Kins.{ArePlaced, IsCrowd, is_later, numbers_of, pairs_of};
 ghost use Rattle.std.specs.List.{slice_get};
@@ -6,7 +6,7 @@ ghost use Rattle.std.specs.Prelude.{◌≡◌, ◌+◌, [], ◌∷◌, ◌++◌,
 
 use crate::blocks::nodes_of;
 use crate::bounds::Bounds;
-use crate::item::{Item, item_at};
+use crate::item::item_at;
 use crate::kin::kins_of;
 use crate::member::{Member, member_at, placed};
 use crate::strangers::{Crowd, first_stranger};
@@ -16,8 +16,9 @@ use std::alloc::{AllocError, Global};
 /// their numbers, the first of which stands before the second in the list, and in the order of the list. There are fewer than
 /// 2^32 members, whose sides lie within 10^16 half centimicrons, and whose reaches are 0 to 10^16 of these. The one error is
 /// want of memory.
-/// Runs of blocks that are all of the asking class are passed over, so that members of one class may lie on each other. The time
-/// goes up with the members that crowd one after them, and not it: none where all reaches are equal.
+/// Runs of blocks that are all of the asking class are passed over, so that members of one class may lie one on another. A row
+/// takes as long as there are members that crowd its own, those before it too; where all reaches are equal, these have been given
+/// as pairs already. No bound is promised.
 pub fn first_pairs(
     alloc: Global,
     members: &[Member],

@@ -1,4 +1,4 @@
-ghost use Rattle.close_rects.specs.Crowds.{KeepsInReach, area};
+ghost use Rattle.close_rects.specs.Crowds.{area};
 ghost use Rattle.close_rects.specs.Items.{fresh, HasInside};
 ghost use Rattle.close_rects.specs.Kins.{class_of};
 ghost use Rattle.close_rects.specs.declared.member.Member.{Member};

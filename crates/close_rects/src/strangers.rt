@@ -1,5 +1,5 @@
 ghost use Rattle.close_rects.specs.Kins.{AreOfClass, IsCrowd, IsFirstStranger, IsStranger, NoneStrange};
-ghost use Rattle.std.specs.Prelude.{◌≡◌, ◌<◌, ◌≤◌, ◌↔◌, ◌^◌, length, IfNone, IfSome, IsTrue};
+ghost use Rattle.std.specs.Prelude.{◌<◌, ◌≤◌, ◌↔◌, length, IfNone, IfSome, IsTrue};
 
 use crate::blocks::{BLOCK, Node, node_at};
 use crate::bounds::Bounds;

@@ -2,7 +2,7 @@
 
 ghost use Rattle.close_rects.specs.Crowds.{KeepsInReach};
 ghost use Rattle.geom_core.specs.Reach.{IsExtentInWideReach};
-ghost use Rattle.std.specs.Prelude.{◌≡◌, ◌<◌, ◌≤◌, ◌≤ℤ◌, ◌^◌, pos, length, All, IfOk};
+ghost use Rattle.std.specs.Prelude.{◌<◌, ◌≤◌, ◌≤ℤ◌, ◌^◌, pos, length, All, IfOk};
 
 use crate::large_tests::{grid, stairs};
 use close_rects::{Member, first_pairs};

@@ -1,0 +1,83 @@
+ghost use Rattle.geom_core.specs.Reach.{IsExtentInReach, IsInReach};
+ghost use Rattle.geom_core.specs.Rectangles.{grown};
+ghost use Rattle.rule_check.specs.Narrow.{has_sides, is_on, is_square};
+ghost use Rattle.std.specs.Ordering.{int_eq};
+ghost use Rattle.std.specs.Prelude.{◌≡◌, ◌≤◌, ◌≤ℤ◌, ◌+ℤ◌, int_le, pos};
+ghost use Rattle.tech_rules.specs.Lengths.{length_in};
+
+use geom_core::{LayerName, Rect, Shape};
+use tech_rules::Rules;
+
+// A length in half centimicrons.
+pub fn length_in(rules: &Rules, units: u32) -> i64
+    requires { units ≤ 1000 }
+    ensures is { result ≡ length_in rules.now units }
+    ensures low { pos 0 ≤ℤ result }
+    ensures high { result ≤ℤ pos 2000000 }
+{
+    i64::from(2 * units * rules.grid_centi)
+}
+
+pub fn is_on(layer: &LayerName, shape: &Shape) -> bool
+    ensures { result ≡ is_on layer.now shape.now }
+{
+    shape.layer.text() == layer.text()
+}
+
+// Whether both sides are at least this long.
+pub fn has_sides(side: i64, rect: &Rect) -> bool
+    requires reach { IsExtentInReach rect.now }
+    requires low { pos 0 ≤ℤ side }
+    requires high { side ≤ℤ pos 2000000 }
+    ensures { result ≡ has_sides side rect.now }
+{
+    let across = reaches(rect.x0, side, rect.x1);
+    let up = reaches(rect.y0, side, rect.y1);
+    across && up
+}
+
+pub fn is_square(side: i64, rect: &Rect) -> bool
+    requires reach { IsExtentInReach rect.now }
+    requires low { pos 0 ≤ℤ side }
+    requires high { side ≤ℤ pos 2000000 }
+    ensures { result ≡ is_square side rect.now }
+{
+    let across = fills(rect.x0, side, rect.x1);
+    let up = fills(rect.y0, side, rect.y1);
+    across && up
+}
+
+// Whether a stretch is at least this long.
+fn reaches(low: i64, length: i64, high: i64) -> bool
+    requires within { IsInReach low }
+    requires some { pos 0 ≤ℤ length }
+    requires short { length ≤ℤ pos 2000000 }
+    ensures { result ≡ int_le (low +ℤ length) high }
+{
+    low + length <= high
+}
+
+// Whether a stretch is just this long.
+fn fills(low: i64, length: i64, high: i64) -> bool
+    requires within { IsInReach low }
+    requires some { pos 0 ≤ℤ length }
+    requires short { length ≤ℤ pos 2000000 }
+    ensures { result ≡ int_eq (low +ℤ length) high }
+{
+    low + length == high
+}
+
+// A rectangle that reaches further on each side.
+pub fn grown(rect: &Rect, by: i64) -> Rect
+    requires reach { IsExtentInReach rect.now }
+    requires low { pos 0 ≤ℤ by }
+    requires high { by ≤ℤ pos 2000000 }
+    ensures { result ≡ grown by rect.now }
+{
+    Rect {
+        x0: rect.x0 - by,
+        y0: rect.y0 - by,
+        x1: rect.x1 + by,
+        y1: rect.y1 + by,
+    }
+}

@@ -1,0 +1,106 @@
+ghost use Rattle.geom_core.specs.Reach.{IsExtentInReach, IsShapeInReach};
+ghost use Rattle.rule_check.specs.Members.{height_of, layer_of, members_from, raised, space_of, wire_member};
+ghost use Rattle.std.specs.List.{zip};
+ghost use Rattle.std.specs.Prelude.{◌≡◌, ◌<◌, ◌^◌, ◌≤ℤ◌, pos, length, All, IfOk};
+
+use crate::measures::length_in;
+use crate::pairs::push_made;
+use close_rects::Member;
+use geom_core::{LayerName, Rect, Shape};
+use std::alloc::{AllocError, Global};
+use tech_rules::Rules;
+
+// A layer whose shapes keep a space.
+#[derive(Clone, Copy, Debug, PartialEq, Eq)]
+pub enum Layer {
+    Horizontal,
+    Vertical,
+    Cut,
+}
+
+// The shapes of these layers, each with its class, as members that keep their layer's space.
+pub fn wire_members(
+    alloc: Global,
+    shapes: &[Shape],
+    rules: &Rules,
+    classes: &[u32],
+) -> Result<Vec<Member>, AllocError>
+    requires few { length shapes.now < 2 ^ 32 }
+    requires reach { All IsShapeInReach shapes.now }
+    requires each { length classes.now ≡ length shapes.now }
+    ensures { IfOk result (λ v. v.items ≡ members_from (wire_member rules.now) 0 (zip classes.now shapes.now)) }
+{
+    let mut members = Vec::new(alloc);
+    for k in 0..shapes.len() {
+        let made = wire_member(rules, &shapes[k], classes[k], k as u32);
+        push_made(&mut members, made)?;
+    }
+    Ok(members)
+}
+
+fn wire_member(rules: &Rules, shape: &Shape, class: u32, number: u32) -> Option<Member>
+    requires { IsShapeInReach shape.now }
+    ensures { result ≡ wire_member rules.now number (class, shape.now) }
+{
+    let layer = layer_of(rules, &shape.layer)?;
+    Some(Member {
+        number,
+        class,
+        rect: raised(&shape.rect, height_of(layer)),
+        reach: space_of(rules, layer),
+    })
+}
+
+fn layer_of(rules: &Rules, name: &LayerName) -> Option<Layer>
+    ensures { result ≡ layer_of rules.now name.now }
+{
+    let text = name.text();
+    if text == rules.horizontal_layer.text() {
+        Some(Layer::Horizontal)
+    } else if text == rules.vertical_layer.text() {
+        Some(Layer::Vertical)
+    } else if text == rules.cut_layer.text() {
+        Some(Layer::Cut)
+    } else {
+        None
+    }
+}
+
+// How far the rectangles of a layer are raised, so that those of different layers lie far apart.
+fn height_of(layer: Layer) -> i64
+    ensures is { result ≡ height_of layer }
+    ensures low { pos 0 ≤ℤ result }
+    ensures high { result ≤ℤ pos 8000000000000000 }
+{
+    match layer {
+        Layer::Horizontal => 0,
+        Layer::Vertical => 4_000_000_000_000_000,
+        Layer::Cut => 8_000_000_000_000_000,
+    }
+}
+
+fn space_of(rules: &Rules, layer: Layer) -> i64
+    ensures is { result ≡ space_of rules.now layer }
+    ensures low { pos 0 ≤ℤ result }
+    ensures high { result ≤ℤ pos 2000000 }
+{
+    match layer {
+        Layer::Horizontal => length_in(rules, rules.horizontal_space),
+        Layer::Vertical => length_in(rules, rules.vertical_space),
+        Layer::Cut => length_in(rules, rules.cut_space),
+    }
+}
+
+fn raised(rect: &Rect, by: i64) -> Rect
+    requires reach { IsExtentInReach rect.now }
+    requires low { pos 0 ≤ℤ by }
+    requires high { by ≤ℤ pos 8000000000000000 }
+    ensures { result ≡ raised by rect.now }
+{
+    Rect {
+        x0: rect.x0,
+        y0: rect.y0 + by,
+        x1: rect.x1,
+        y1: rect.y1 + by,
+    }
+}

@@ -1,0 +1,92 @@
+//! Shapes for tests.
+
+ghost use Rattle.geom_core.specs.Reach.{IsShapeInReach};
+ghost use Rattle.std.specs.Prelude.{◌≡◌, ◌<◌, ◌≤◌, ◌^◌, length, All, IfOk};
+
+use geom_core::{LayerName, Rect, Shape};
+use std::alloc::{AllocError, Global};
+
+// A rectangle whose lower left corner is at a place.
+pub fn shape(layer: LayerName, x: u32, y: u32, width: u32, height: u32) -> Shape
+    requires across { 0 < width }
+    requires up { 0 < height }
+    ensures { IsShapeInReach result }
+{
+    Shape {
+        layer,
+        rect: Rect {
+            x0: i64::from(x),
+            y0: i64::from(y),
+            x1: i64::from(x) + i64::from(width),
+            y1: i64::from(y) + i64::from(height),
+        },
+    }
+}
+
+// So many squares, of which each begins a step right of and above the one before.
+pub fn stairs(
+    alloc: Global,
+    layer: LayerName,
+    count: usize,
+    step: u32,
+    side: u32,
+) -> Result<Vec<Shape>, AllocError>
+    requires few { count ≤ 1000000 }
+    requires flat { step ≤ 1000 }
+    requires some { 0 < side }
+    ensures len { IfOk result (λ v. length v.items ≡ count) }
+    ensures reach { IfOk result (λ v. All IsShapeInReach v.items) }
+{
+    let mut squares = Vec::with_capacity(alloc, count)?;
+    let mut at: u32 = 0;
+    for _k in 0..count {
+        squares.push(shape(layer, at, at, side, side))?;
+        at += step;
+    }
+    Ok(squares)
+}
+
+// Squares in rows and columns, which touch where their side is the pitch.
+pub fn grid(
+    alloc: Global,
+    layer: LayerName,
+    rows: usize,
+    columns: usize,
+    pitch: u32,
+    side: u32,
+) -> Result<Vec<Shape>, AllocError>
+    requires few_rows { rows ≤ 1000 }
+    requires few_columns { columns ≤ 1000 }
+    requires near { pitch ≤ 1000 }
+    requires some { 0 < side }
+    ensures len { IfOk result (λ v. length v.items < 2 ^ 32) }
+    ensures reach { IfOk result (λ v. All IsShapeInReach v.items) }
+{
+    let mut squares = Vec::new(alloc);
+    let mut y: u32 = 0;
+    for _row in 0..rows {
+        let mut x: u32 = 0;
+        for _column in 0..columns {
+            squares.push(shape(layer, x, y, side, side))?;
+            x += pitch;
+        }
+        y += pitch;
+    }
+    Ok(squares)
+}
+
+// Numbers from 0 on, of which those from place `own` on are their places and the others are 0.
+pub fn numbers(alloc: Global, count: usize, own: usize) -> Result<Vec<u32>, AllocError>
+    requires { count < 2 ^ 32 }
+    ensures { IfOk result (λ v. length v.items ≡ count) }
+{
+    let mut numbers = Vec::with_capacity(alloc, count)?;
+    for k in 0..count {
+        numbers.push(number(k as u32, own))?;
+    }
+    Ok(numbers)
+}
+
+fn number(k: u32, own: usize) -> u32 {
+    if (k as usize) < own { 0 } else { k }
+}
