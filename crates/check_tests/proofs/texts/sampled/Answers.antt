@@ -1,0 +1,6 @@
+use Rattle.tech_rules.specs.Sample.{sample}
+use Rattle.netlist_core.proofs.HighKinds.{grid-high}
+use Rattle.check_tests.proofs.texts.sampled.Goals as goal
+
+pub returns-in-Ok : goal.returns-in-Ok
+returns-in-Ok c = grid-high sample c.in-Ok.ensures.file c.in-Ok.design c.in-Ok.ensures.checked

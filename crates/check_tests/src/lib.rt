@@ -1,0 +1,13 @@
+//! Tests of what is wrong with layouts: each kind of finding alone, several in their order, and layouts of many cells.
+#![tactic(auto)]
+
+#[cfg(test)]
+mod cell_tests;
+#[cfg(test)]
+mod large_tests;
+#[cfg(test)]
+mod net_tests;
+#[cfg(test)]
+mod shape_tests;
+#[cfg(test)]
+mod texts;

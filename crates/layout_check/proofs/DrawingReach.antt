@@ -1,0 +1,68 @@
+use Rattle.std.proofs.Common.{◌+◌, ◌-◌, ◌*◌, ◌≤◌, ℕ, pos, List, Bool, true, false, map, arith}
+use Rattle.std.specs.Prelude.{All}
+use Rattle.std.proofs.lemmas.Int.{ints}
+use Rattle.std.proofs.lemmas.List.{length-map}
+use Rattle.std.proofs.lemmas.List.Elements.{All-cons, All-map, All-weaker}
+use Rattle.geom_core.specs.Reach.{IsExtentInReach, IsInReach, IsShapeInReach}
+use Rattle.geom_core.specs.declared.layout.Shape.{Shape}
+use Rattle.tech_rules.specs.Rules.{RuleValues, ValidRules}
+use Rattle.design_model.specs.Drawing.{drawing_of, extent_of, middle_of, outline_shape, pin_high, pin_low, position_shape}
+use Rattle.design_model.specs.Netlist.{IsKind, IsNetlist, IsPosition, Netlist}
+use Rattle.design_model.specs.declared.design.CellKind.{CellKind}
+use Rattle.design_model.specs.declared.design.Position.{Position}
+use Rattle.layout_check.specs.Drawings.{AreForKinds, drawings_of}
+
+product-below : (a b m n : ℕ) → a ≤ m → b ≤ n → a * b ≤ m * n
+product-below a b m n first second = grind arith
+
+-- a length in half units, in half centimicrons
+in-reach : (n centi : ℕ) → n ≤ 300000000000 → centi ≤ 1000 → IsInReach (pos (n * centi))
+in-reach n centi few small =
+    let product : n * centi ≤ 300000000000 * 1000 = product-below n centi 300000000000 1000 few small in
+    record { low = omega (arith, ints); high = omega (arith, ints) }
+
+extent-reach : (centi x0 y0 x1 y1 : ℕ) → centi ≤ 1000 → x0 ≤ 300000000000 → y0 ≤ 300000000000 → x1 ≤ 300000000000 → y1 ≤ 300000000000
+    → IsExtentInReach (extent_of centi x0 y0 x1 y1)
+extent-reach centi x0 y0 x1 y1 small x0_few y0_few x1_few y1_few =
+    record { x0 = in-reach x0 centi x0_few small; y0 = in-reach y0 centi y0_few small; x1 = in-reach x1 centi x1_few small; y1 = in-reach y1 centi y1_few small }
+
+outline-reach : (r : RuleValues) (height : ℕ) (kind : CellKind) → ValidRules r → height ≤ 200000000 → IsKind kind → IsShapeInReach (outline_shape r height kind)
+unfolding outline_shape
+outline-reach r height kind valid low good =
+    let wide : kind.columns * r.grid_column ≤ 100000000 * 1000 = product-below kind.columns r.grid_column 100000000 1000 good.few valid.ranges.grid_column.1 in
+    extent-reach r.grid_centi 0 0 (2 * (kind.columns * r.grid_column)) (2 * height) valid.ranges.grid_centi.1 (omega arith) (omega arith) (omega arith) (omega arith)
+
+position-reach : (r : RuleValues) (height : ℕ) (kind : CellKind) (p : Position) → ValidRules r → height ≤ 200000000 → IsKind kind → IsPosition kind p
+    → IsShapeInReach (position_shape r height p)
+unfolding position_shape
+position-reach r height kind p valid low good at =
+    let few : p.column ≤ 100000000 = (let below = at.column in let columns = good.few in omega arith) in
+    let middle : p.column * r.grid_column ≤ 100000000 * 1000 = product-below p.column r.grid_column 100000000 1000 few valid.ranges.grid_column.1 in
+    let pitch : r.grid_column ≤ 1000 = valid.ranges.grid_column.1 in
+    let width : r.vertical_width ≤ 1000 = valid.ranges.vertical_width.1 in
+    let pin : r.grid_pin ≤ 1000 = valid.ranges.grid_pin.1 in
+    extent-reach r.grid_centi (middle_of r.grid_column p.column - r.vertical_width) (pin_low r.grid_pin height p.top)
+    (middle_of r.grid_column p.column + r.vertical_width) (pin_high r.grid_pin height p.top) valid.ranges.grid_centi.1
+    (omega arith) (low-end p.top) (omega arith) (high-end p.top pin)
+  where
+    low-end : (top : Bool) → pin_low r.grid_pin height top ≤ 300000000000
+    low-end true = omega arith
+    low-end false = omega arith
+
+    high-end : (top : Bool) → r.grid_pin ≤ 1000 → pin_high r.grid_pin height top ≤ 300000000000
+    high-end true pin = omega arith
+    high-end false pin = omega arith
+
+drawing-reach : (r : RuleValues) (height : ℕ) (kind : CellKind) → ValidRules r → height ≤ 200000000 → IsKind kind → All IsShapeInReach (drawing_of r height kind)
+drawing-reach r height kind valid low good =
+    All-cons IsShapeInReach (outline_shape r height kind) (map (position_shape r height) kind.positions) (outline-reach r height kind valid low good)
+    (All-map IsShapeInReach (position_shape r height) kind.positions
+    (All-weaker (IsPosition kind) (λ (p : Position). IsShapeInReach (position_shape r height p)) (λ p at. position-reach r height kind p valid low good at) kind.positions good.positions))
+
+-- the drawings of all kinds
+pub drawings-reach : (r : RuleValues) (d : Netlist) → ValidRules r → IsNetlist d → AreForKinds d (drawings_of r d)
+drawings-reach r d valid good = record {
+  each = length-map d.kinds (drawing_of r d.height);
+  reach = All-map (λ (drawing : List Shape). All IsShapeInReach drawing) (drawing_of r d.height) d.kinds
+      (All-weaker IsKind (λ (kind : CellKind). All IsShapeInReach (drawing_of r d.height kind)) (λ kind is. drawing-reach r d.height kind valid good.low is) d.kinds good.kinds);
+}

@@ -1,0 +1,14 @@
+use Rattle.std.proofs.Common.{◌≡◌, not, take}
+use Rattle.std.specs.List.{find}
+use Rattle.std.specs.Str.{bytes_eq}
+use Rattle.geom_core.specs.declared.layout.Cell.{Cell}
+use Rattle.tech_rules.specs.Rules.{RuleValues}
+use Rattle.design_model.specs.declared.design.Inst.{Inst}
+use Rattle.rule_check.specs.Failing.{failing}
+use Rattle.layout_check.specs.CellFaults.{is_copy_for}
+use Rattle.layout_check.specs.Drawings.{drawings_of}
+use Rattle.layout_check.proofs.cells.misdrawn.Given as goal
+
+abbrev pub invariant-loop-k : goal.invariant-loop-k
+invariant-loop-k l = (r : RuleValues) → l.drawings ≡ drawings_of r l.design
+    → l.numbers.items ≡ failing (λ (c : Cell). not (is_copy_for r l.design l.layout (find (λ (i : Inst). bytes_eq i.name c.name) l.design.instances) c)) (take l.k l.layout.cells)

@@ -1,0 +1,13 @@
+use Rattle.std.proofs.Common.{◌++◌, ◌∙◌, List, ap, sym, subst}
+use Rattle.layout_check.specs.Findings.{Findings, bare_findings, narrow_findings, row_findings}
+use Rattle.layout_check.specs.Findings.Findings.{of_cells}
+use Rattle.layout_check.specs.declared.finding.Finding.{Finding}
+use Rattle.layout_check.proofs.checking.without_nets.Goals as goal
+
+pub returns : goal.returns
+returns c =
+    let list = c.in_ok-tell_bare.ensures
+    ∙ ap (λ (fs : List Finding). fs ++ bare_findings c.args.rules.now c.args.layout.now) (c.in_ok-tell_narrow.ensures
+    ∙ ap (λ (fs : List Finding). fs ++ narrow_findings c.args.rules.now c.args.layout.now) (c.in_ok-tell_rows.ensures
+    ∙ ap (λ (fs : List Finding). fs ++ row_findings c.args.rules.now c.args.layout.now) c.requires.cells)) in
+    subst (Findings c.args.rules.now c.args.design.now c.args.layout.now) (sym list) (of_cells c.requires.some)

@@ -1,0 +1,7 @@
+use Rattle.std.proofs.Common.{◌≡◌, drop, fold}
+use Rattle.list_facts.specs.Names.{mention, mentions}
+use Rattle.list_facts.specs.Texts.{texts}
+use Rattle.layout_check.proofs.names.different.Given as goal
+
+abbrev pub invariant-loop-name : goal.invariant-loop-name
+invariant-loop-name l = fold mention (texts l.set.keys) (texts (drop l.name-index l.names)) ≡ mentions (texts l.names)

@@ -1,0 +1,105 @@
+ghost use Rattle.design_model.specs.CellsMatch.{cell_names, instance_names};
+ghost use Rattle.layout_check.specs.NetFaults.{pairs_of_firsts};
+ghost use Rattle.list_facts.specs.Names.{mentions, place_among};
+ghost use Rattle.list_facts.specs.Texts.{texts};
+ghost use Rattle.rule_check.specs.Failing.{failing};
+ghost use Rattle.std.specs.List.{list_any, range_with_len};
+ghost use Rattle.std.specs.Prelude.{◌≡◌, ◌<◌, ◌≤◌, ◌^◌, length, map, not, true, IfOk};
+ghost use Rattle.std.specs.Str.{bytes_eq};
+
+use crate::groups::differing_pairs;
+use design_model::Design;
+use geom_core::Layout;
+use indexmap::IndexSet;
+use list_facts::{is_among, number, place_of};
+use std::alloc::{AllocError, Global};
+
+/// The names of the cells of a layout, in their order. The one error is want of memory.
+pub fn cell_names<'a>(alloc: Global, layout: &'a Layout) -> Result<Vec<&'a [u8]>, AllocError>
+    ensures { IfOk result (λ v. texts v.items ≡ cell_names layout.now) }
+{
+    let mut names = Vec::new(alloc);
+    for cell in layout.cells.items() {
+        names.push(cell.name.items())?;
+    }
+    Ok(names)
+}
+
+/// The names of the instances of a design, in their order. The one error is want of memory.
+pub fn instance_names<'a>(alloc: Global, design: &'a Design) -> Result<Vec<&'a [u8]>, AllocError>
+    ensures { IfOk result (λ v. texts v.items ≡ instance_names design.now) }
+{
+    let mut names = Vec::new(alloc);
+    for inst in design.instances.items() {
+        names.push(inst.name.items())?;
+    }
+    Ok(names)
+}
+
+/// The different names of a list. The one error is want of memory.
+pub fn different<'a>(alloc: Global, names: &[&'a [u8]]) -> Result<IndexSet<&'a [u8]>, AllocError>
+    ensures { IfOk result (λ set. texts set.keys ≡ mentions (texts names.now)) }
+{
+    let mut set = IndexSet::new(alloc);
+    for name in names {
+        number(&mut set, *name)?;
+    }
+    Ok(set)
+}
+
+/// The numbers of the names of a list that are not among others. The one error is want of memory.
+pub fn not_among(
+    alloc: Global,
+    names: &[&[u8]],
+    others: &IndexSet<&[u8]>,
+) -> Result<Vec<u32>, AllocError>
+    requires { length names.now < 2 ^ 32 }
+    ensures { IfOk result (λ v. v.items ≡ failing (λ name. not (list_any (bytes_eq name) (texts others.now.keys))) (texts names.now)) }
+{
+    let mut numbers = Vec::new(alloc);
+    for (k, name) in names.iter().enumerate() {
+        if is_among(others, *name) {
+            continue;
+        }
+        numbers.push(k as u32)?;
+    }
+    Ok(numbers)
+}
+
+/// The place of each name of a list among others, of which there are fewer than 2^32. The one error is want of memory.
+pub fn places(
+    alloc: Global,
+    names: &[&[u8]],
+    others: &IndexSet<&[u8]>,
+) -> Result<Vec<u32>, AllocError>
+    requires { length (texts others.now.keys) < 2 ^ 32 }
+    ensures { IfOk result (λ v. v.items ≡ map (place_among (texts others.now.keys)) (texts names.now)) }
+{
+    let mut numbers = Vec::with_capacity(alloc, names.len())?;
+    for name in names {
+        numbers.push(place_of(others, *name) as u32)?;
+    }
+    Ok(numbers)
+}
+
+/// The first of each name of a list with each later one of that name; the different names of the list are given. The one error is want of
+/// memory.
+pub fn repeated(
+    alloc: Global,
+    names: &[&[u8]],
+    set: &IndexSet<&[u8]>,
+) -> Result<Vec<(u32, u32)>, AllocError>
+    requires few { length names.now < 2 ^ 32 }
+    requires set { texts set.now.keys ≡ mentions (texts names.now) }
+    ensures { IfOk result (λ v. v.items ≡ pairs_of_firsts bytes_eq (λ name other. true) (texts names.now)) }
+{
+    let groups = places(alloc, names, set)?;
+    let own = numbers_below(alloc, names.len() as u32)?;
+    differing_pairs(alloc, groups.as_slice(), own.as_slice())
+}
+
+fn numbers_below(alloc: Global, count: u32) -> Result<Vec<u32>, AllocError>
+    ensures { IfOk result (λ v. v.items ≡ range_with_len 0 count) }
+{
+    (0..count).collect(alloc)
+}

@@ -1,0 +1,87 @@
+ghost use Rattle.close_rects.specs.Items.{HasInside};
+ghost use Rattle.layout_check.specs.Findings.{bare_findings, close_findings, narrow_findings, row_findings};
+ghost use Rattle.layout_check.specs.Measured.{IsMeasured};
+ghost use Rattle.std.specs.Prelude.{◌≡◌, ◌++◌, length, All, OnOk};
+
+use crate::finding::Finding;
+use crate::telling::{put_bare_cut, put_close, put_narrow, put_out_of_row, put_overlap};
+use geom_core::{Layout, Rect, Shape};
+use rule_check::{bare_cuts, close_pairs, narrow, out_of_row, overlaps};
+use std::alloc::{AllocError, Global};
+use tech_rules::Rules;
+
+/// Tells which outlines overlap, and which are out of row. The one error is want of memory.
+pub fn tell_rows(
+    alloc: Global,
+    findings: &mut Vec<Finding>,
+    layout: &Layout,
+    rules: &Rules,
+) -> Result<(), AllocError>
+    requires { IsMeasured layout.now }
+    ensures { OnOk result (findings.new.items ≡ findings.old.items ++ row_findings rules.now layout.now) }
+{
+    let shapes = layout.shapes.items();
+    let overlapping = overlaps(alloc, shapes, rules)?;
+    let uneven = out_of_row(alloc, shapes, rules)?;
+    put_overlap(findings, overlapping.list.as_slice())?;
+    put_out_of_row(findings, uneven.list.as_slice())
+}
+
+/// Tells which wires and cuts are too narrow. The one error is want of memory.
+pub fn tell_narrow(
+    alloc: Global,
+    findings: &mut Vec<Finding>,
+    layout: &Layout,
+    rules: &Rules,
+) -> Result<(), AllocError>
+    requires { IsMeasured layout.now }
+    ensures { OnOk result (findings.new.items ≡ findings.old.items ++ narrow_findings rules.now layout.now) }
+{
+    let numbers = narrow(alloc, layout.shapes.items(), rules)?;
+    put_narrow(findings, numbers.as_slice())
+}
+
+/// Tells which shapes of different classes are too close; there is a class for each shape. The one error is want of memory.
+pub fn tell_close(
+    alloc: Global,
+    findings: &mut Vec<Finding>,
+    layout: &Layout,
+    rules: &Rules,
+    classes: &[u32],
+) -> Result<(), AllocError>
+    requires measured { IsMeasured layout.now }
+    requires each { length classes.now ≡ length layout.now.shapes }
+    ensures { OnOk result (findings.new.items ≡ findings.old.items ++ close_findings rules.now layout.now classes.now) }
+{
+    let pairs = close_pairs(alloc, layout.shapes.items(), rules, classes)?;
+    put_close(findings, pairs.list.as_slice())
+}
+
+/// Tells which cuts are bare. The one error is want of memory.
+pub fn tell_bare(
+    alloc: Global,
+    findings: &mut Vec<Finding>,
+    layout: &Layout,
+    rules: &Rules,
+) -> Result<(), AllocError>
+    requires { IsMeasured layout.now }
+    ensures { OnOk result (findings.new.items ≡ findings.old.items ++ bare_findings rules.now layout.now) }
+{
+    let numbers = bare_cuts(alloc, layout.shapes.items(), rules)?;
+    put_bare_cut(findings, numbers.as_slice())
+}
+
+/// Reads a side of each shape, which tells a proof that each has an inside, as every `Rect` has.
+pub fn read_sides(shapes: &[Shape])
+    ensures { All (λ s. HasInside s.rect) shapes.now }
+{
+    for k in 0..shapes.len() {
+        read_side(&shapes[k].rect);
+    }
+}
+
+fn read_side(rect: &Rect)
+    ensures { HasInside rect.now }
+{
+    let _ = &rect.x0;
+}
