@@ -1,4 +1,5 @@
-//! `cellroute`: from a design of standard cells in YAL and the rules of a process to a layout in CIF.
+//! `cellroute`: from a design of standard cells in YAL, or one that is made, and the rules of a process to a layout in CIF; and what is wrong
+//! with a layout.
 #![tactic(auto)]
 
 ghost use Rattle.choose_core.specs.Answers.{IsAsked};

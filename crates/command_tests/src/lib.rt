@@ -2,6 +2,8 @@
 #![tactic(auto)]
 
 #[cfg(test)]
+mod check_tests;
+#[cfg(test)]
 mod limit_tests;
 #[cfg(test)]
 mod line_tests;
@@ -11,6 +13,8 @@ mod route_tests;
 mod size_tests;
 #[cfg(test)]
 mod style_tests;
+#[cfg(test)]
+mod summary_tests;
 #[cfg(test)]
 mod support;
 #[cfg(test)]

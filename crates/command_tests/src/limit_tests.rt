@@ -1,6 +1,6 @@
 //! Limits of files, designs and layouts.
 
-use crate::support::{ROUTE, is_ended, is_refused, is_refused_in, shelf_of, shelf_with, wide};
+use crate::support::{ROUTE, is_done, is_refused, is_refused_in, shelf_of, shelf_with, wide};
 use samples::{INVERTER, RULES};
 use shelf_io::MemShelf;
 use std::alloc::{AllocError, Global};
@@ -49,7 +49,7 @@ fn limits_of_widths(rt: HostRuntime) -> Result<(), Fail> {
     assert!(rt; is_too_wide(alloc, one_row, 10_000_008, "limit Width 1000000800\n")?);
     assert!(rt; is_too_wide(alloc, one_row, 16_000_008, "limit Grid 4000002\n")?);
     let mut shelf = shelf_of_wide(alloc, 10_000_000)?;
-    assert!(rt; is_ended(alloc, one_row, &mut shelf, 0, "")?);
+    assert!(rt; is_done(alloc, one_row, &mut shelf)?);
     Ok(())
 }
 

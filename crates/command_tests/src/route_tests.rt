@@ -1,7 +1,8 @@
 //! Designs and the texts of their layouts.
 
 use crate::support::{
-    ONE_INVERTER, ROUTE, inverter_shelf, is_ended, is_routed, rules_with, shelf_of, shelf_with,
+    ONE_INVERTER, ROUTE, TWO_JOINED, inverter_shelf, is_done, is_ended, is_routed, rules_with,
+    shelf_of, shelf_with,
 };
 use samples::{BUFFER, CELLS, INVERTER, POWERED, RING, RULES, THROUGH, design_text};
 use shelf_io::MemShelf;
@@ -16,9 +17,6 @@ const ONE_THROUGH: &str =
 
 const TWO_POWERED: &str =
     "(cellroute 1);\nDS 1 1 1;\n9 PWI;\nL XP;\nB 800 4000 400 2000;\nL NP;\nB 300 400 400 200;\nDF;\n91 u1;\nC 1 T 0 800;\n91 u2;\nC 1 T 800 800;\nE\n";
-
-const TWO_JOINED: &str =
-    "(cellroute 1);\nDS 1 1 1;\n9 BUF;\nL XP;\nB 800 4000 400 2000;\nL NP;\nB 300 400 400 3800;\nDF;\n91 u1;\nC 1 T 0 800;\n91 u2;\nC 1 T 800 800;\nL NP;\nB 300 1000 400 5300;\nB 300 1000 1200 5300;\nL NM;\nB 1200 300 800 5600;\nB 400 400 400 5600;\nL NP;\nB 400 400 400 5600;\nL NC;\nB 200 200 400 5600;\nL NM;\nB 400 400 1200 5600;\nL NP;\nB 400 400 1200 5600;\nL NC;\nB 200 200 1200 5600;\nE\n";
 
 /// Whether a file of the shelf has this text.
 fn is_text(shelf: &MemShelf, name: &str, text: &str) -> bool {
@@ -74,7 +72,7 @@ fn an_unused_module_changes_nothing(rt: HostRuntime) -> Result<(), Fail> {
 // Whether these words write the layout of the inverter there.
 fn is_written(alloc: Global, text: &str, out: &str) -> Result<bool, AllocError> {
     let mut shelf = inverter_shelf(alloc)?;
-    Ok(is_ended(alloc, text, &mut shelf, 0, "")? && is_text(&shelf, out, ONE_INVERTER))
+    Ok(is_done(alloc, text, &mut shelf)? && is_text(&shelf, out, ONE_INVERTER))
 }
 
 #[test]
@@ -190,8 +188,11 @@ fn is_cut(alloc: Global, case: &Cut) -> Result<bool, AllocError> {
     shelf.fail_at(case.call)?;
     let text = case.text.as_bytes();
     let whole = case.held == text.len();
-    let (status, line) = if whole { (0, "") } else { (9, "write fault\n") };
-    let ended = is_ended(alloc, ROUTE, &mut shelf, status, line)?;
+    let ended = if whole {
+        is_routed(alloc, &mut shelf)?
+    } else {
+        is_ended(alloc, ROUTE, &mut shelf, 9, "write fault\n")?
+    };
     Ok(ended && shelf.get("o") == Some(&text[..case.held.min(text.len())]))
 }
 
@@ -239,7 +240,7 @@ fn is_threaded(
     last: &str,
 ) -> Result<bool, AllocError> {
     let mut shelf = shelf_of(alloc, RULES, CELLS, calls)?;
-    Ok(is_ended(alloc, text, &mut shelf, 0, "")? && has_copies(&shelf, copies, last))
+    Ok(is_done(alloc, text, &mut shelf)? && has_copies(&shelf, copies, last))
 }
 
 #[test]

@@ -1,6 +1,6 @@
 //! Large designs, which have to be routed within the time of a test.
 
-use crate::support::{ROUTE, is_ended, is_routed, shelf_of};
+use crate::support::{is_done, is_routed, shelf_of};
 use samples::{CELLS, INVERTER, RULES};
 use shelf_io::MemShelf;
 use std::alloc::{AllocError, Global};
@@ -75,7 +75,7 @@ fn is_wired(
     vias: usize,
 ) -> Result<bool, AllocError> {
     let mut shelf = shelf_of(alloc, RULES, modules, calls)?;
-    Ok(is_ended(alloc, words, &mut shelf, 0, "")? && has_vias(&shelf, vias))
+    Ok(is_done(alloc, words, &mut shelf)? && has_vias(&shelf, vias))
 }
 
 /// The calls of 200 cells, of which each two share a net.

@@ -14,8 +14,15 @@ use std::alloc::{AllocError, Global};
 pub const ONE_INVERTER: &str =
     "(cellroute 1);\nDS 1 1 1;\n9 INV;\nL XP;\nB 800 4000 400 2000;\nL NP;\nB 300 400 400 200;\nDF;\n91 u1;\nC 1 T 0 800;\nE\n";
 
+/// The layout of two buffers, `u1` and `u2`, that are joined.
+pub const TWO_JOINED: &str =
+    "(cellroute 1);\nDS 1 1 1;\n9 BUF;\nL XP;\nB 800 4000 400 2000;\nL NP;\nB 300 400 400 3800;\nDF;\n91 u1;\nC 1 T 0 800;\n91 u2;\nC 1 T 800 800;\nL NP;\nB 300 1000 400 5300;\nB 300 1000 1200 5300;\nL NM;\nB 1200 300 800 5600;\nB 400 400 400 5600;\nL NP;\nB 400 400 400 5600;\nL NC;\nB 200 200 400 5600;\nL NM;\nB 400 400 1200 5600;\nL NP;\nB 400 400 1200 5600;\nL NC;\nB 200 200 1200 5600;\nE\n";
+
 /// The words `route d r o`, with strokes between them.
 pub const ROUTE: &str = "route|d|r|o";
+
+/// The words `check d r c`.
+pub const CHECK: &str = "check|d|r|c";
 
 /// The words of a text with strokes between them; no words where it is empty.
 pub fn words(alloc: Global, text: &str) -> Result<Vec<Word>, AllocError> {
@@ -29,10 +36,15 @@ pub fn words(alloc: Global, text: &str) -> Result<Vec<Word>, AllocError> {
     Ok(words)
 }
 
+/// A text with one piece of it replaced.
+pub fn text_with(alloc: Global, text: &str, old: &str, new: &str) -> Result<String, AllocError> {
+    let (before, after) = text.split_once(old).unwrap_or((text, ""));
+    format!(in alloc; "{before}{new}{after}")
+}
+
 /// The sample rules with one piece of their text replaced.
 pub fn rules_with(alloc: Global, old: &str, new: &str) -> Result<String, AllocError> {
-    let (before, after) = RULES.split_once(old).unwrap_or((RULES, ""));
-    format!(in alloc; "{before}{new}{after}")
+    text_with(alloc, RULES, old, new)
 }
 
 /// A shelf with the rules under `r` and the design under `d`.
@@ -121,9 +133,15 @@ pub fn is_ended(
     is_ended_in(alloc, text, shelf, &mut out, status, line)
 }
 
-/// Whether `route d r o` ends with status 0 over this shelf and prints nothing.
+/// Whether these words end with status 0 over this shelf.
+pub fn is_done(alloc: Global, text: &str, shelf: &mut MemShelf) -> Result<bool, AllocError> {
+    let mut out = MemSink::new(alloc)?;
+    Ok(ended(alloc, text, shelf, &mut out)?.status == 0)
+}
+
+/// Whether `route d r o` ends with status 0 over this shelf.
 pub fn is_routed(alloc: Global, shelf: &mut MemShelf) -> Result<bool, AllocError> {
-    is_ended(alloc, ROUTE, shelf, 0, "")
+    is_done(alloc, ROUTE, shelf)
 }
 
 /// Whether these words end with this status over this shelf, print this line and write no `o`.

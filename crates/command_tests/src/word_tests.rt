@@ -1,6 +1,6 @@
 //! Words that give a command, and words that give none.
 
-use crate::support::{inverter_shelf, is_ended, is_refused_in, shelf_of};
+use crate::support::{inverter_shelf, is_done, is_ended, is_refused_in, shelf_of};
 use samples::{INVERTER, RULES};
 use shelf_io::MemShelf;
 use std::alloc::{AllocError, Global};
@@ -18,7 +18,7 @@ route\n\
 route|d\n\
 route|d|r\n\
 route|d|r|o|x\n\
-check|d|r|o\n\
+checks|d|r|o\n\
 ROUTE|d|r|o\n\
 rout|d|r|o\n\
 |d|r|o\n\
@@ -53,7 +53,7 @@ fn other_words_are_no_command(rt: HostRuntime) -> Result<(), Fail> {
 /// Whether these words are a command that writes this file.
 fn is_command(alloc: Global, text: &str, out: &str) -> Result<bool, AllocError> {
     let mut shelf = inverter_shelf(alloc)?;
-    Ok(is_ended(alloc, text, &mut shelf, 0, "")? && shelf.get(out).is_some())
+    Ok(is_done(alloc, text, &mut shelf)? && shelf.get(out).is_some())
 }
 
 /// Whether these words read a file that is not there.
@@ -121,7 +121,7 @@ fn is_last_at(alloc: Global, shelf: &MemShelf, out: &str, place: &str) -> Result
 /// Whether words write this file over the seven cells, with the last of them here.
 fn asks_for(alloc: Global, text: &str, out: &str, place: &str) -> Result<bool, AllocError> {
     let mut shelf = seven_shelf(alloc)?;
-    Ok(is_ended(alloc, text, &mut shelf, 0, "")? && is_last_at(alloc, &shelf, out, place)?)
+    Ok(is_done(alloc, text, &mut shelf)? && is_last_at(alloc, &shelf, out, place)?)
 }
 
 /// Whether a line tells what its words ask for.

@@ -1,4 +1,4 @@
-use Rattle.std.proofs.Common.{◌≡◌, ◌≢◌, ◌∙◌, List, [], ◌∷◌, map, true, inl, inr, None, refl, sym, ap, ap₂, subst}
+use Rattle.std.proofs.Common.{◌≡◌, ◌≢◌, ◌∙◌, List, [], ◌∷◌, map, true, inl, inr, Option, None, Err, refl, sym, ap, ap₂, subst}
 use Rattle.std.proofs.lemmas.List.{map-id}
 use Rattle.clap.proofs.OnLiterals.{clap_on_literals}
 use Rattle.clap.specs.Kinds.{HasKind, Kinds}
@@ -6,40 +6,75 @@ use Rattle.clap.specs.Values.{kind_of}
 use Rattle.clap.specs.Words.{App, Row, Text, fault_of, is_simple, is_simple_and_free, matches_of}
 use Rattle.clap.specs.declared.error.Error.{Error}
 use Rattle.clap.specs.declared.error.kind.ErrorKind.TheVariants.{OutOfMemory}
-use Rattle.commands.specs.Command.{arguments_of, names_in, route_app, unless_refused}
+use Rattle.commands.specs.Command.{check_app, given_by, make_app, route_app, unless_refused}
+use Rattle.commands.specs.Seen.{Reads}
+use Rattle.commands.specs.Taken.{IsTaken}
+use Rattle.commands.specs.declared.command.WordsFault.{WordsFault}
+use Rattle.commands.specs.declared.command.WordsFault.TheVariants as faults
 
-route-is-free : is_simple_and_free route_app ≡ true
+-- the commands are simple, and none of their arguments has a rule on another
+pub route-is-free : (a : App) → a ≡ route_app → is_simple_and_free a ≡ true
 unfolding clap_on_literals
-route-is-free = refl
+route-is-free a is = let free : is_simple_and_free route_app ≡ true = refl in ap is_simple_and_free is ∙ free
 
-route-is-simple : is_simple route_app ≡ true
-route-is-simple = refl
+pub route-is-simple : (a : App) → a ≡ route_app → is_simple a ≡ true
+route-is-simple a is = let simple : is_simple route_app ≡ true = refl in ap is_simple is ∙ simple
 
--- words that are taken give the names among the values
-pub taken-names : {X : Type 0} (styles : List Text) (a : App) (words : List Text) (rows : List Row) → a ≡ route_app
+pub check-is-free : (a : App) → a ≡ check_app → is_simple_and_free a ≡ true
+unfolding clap_on_literals
+check-is-free a is = let free : is_simple_and_free check_app ≡ true = refl in ap is_simple_and_free is ∙ free
+
+pub check-is-simple : (a : App) → a ≡ check_app → is_simple a ≡ true
+check-is-simple a is = let simple : is_simple check_app ≡ true = refl in ap is_simple is ∙ simple
+
+pub make-is-free : (a : App) → a ≡ make_app → is_simple_and_free a ≡ true
+unfolding clap_on_literals
+make-is-free a is = let free : is_simple_and_free make_app ≡ true = refl in ap is_simple_and_free is ∙ free
+
+pub make-is-simple : (a : App) → a ≡ make_app → is_simple a ≡ true
+make-is-simple a is = let simple : is_simple make_app ≡ true = refl in ap is_simple is ∙ simple
+
+-- what `clap` says of words that are seen as they are
+pub taken-words : {X : Type 0} (a : App) (words : List Text) (rows : List Row) → is_simple a ≡ true → is_simple_and_free a ≡ true
     → (is_simple_and_free a ≡ true → fault_of a (map (λ w. w) words) ≡ [])
-    → (is_simple a ≡ true → (rows ≡ matches_of a (map (λ w. w) words)) × X) → arguments_of styles words ≡ names_in styles rows
-unfolding arguments_of
-taken-names styles a words rows is taken found =
+    → (is_simple a ≡ true → (rows ≡ matches_of a (map (λ w. w) words)) × X) → (fault_of a words ≡ []) × (rows ≡ matches_of a words)
+taken-words a words rows simple free taken found =
     let same : map (λ w. w) words ≡ words = map-id words in
-    let free : fault_of a (map (λ w. w) words) ≡ [] = taken (ap is_simple_and_free is ∙ route-is-free) in
-    let none : fault_of route_app words ≡ [] =
-    subst (λ ws. fault_of route_app ws ≡ []) same (subst (λ b. fault_of b (map (λ w. w) words) ≡ []) is free) in
-    let among : rows ≡ matches_of route_app words =
-    (found (ap is_simple is ∙ route-is-simple)).0 ∙ ap (λ b. matches_of b (map (λ w. w) words)) is ∙ ap (matches_of route_app) same in
-    ap₂ (unless_refused styles) none (sym among)
+    (subst (λ ws. fault_of a ws ≡ []) same (taken free), (found simple).0 ∙ ap (matches_of a) same)
 
-refused : (styles : List Text) (kinds : Kinds) (rows : List Row) (e : Error) → HasKind kinds e → kind_of e ≢ OutOfMemory → unless_refused styles kinds rows ≡ None
-refused styles [] rows e (inl memory) other = absurd (other memory)
-refused styles [] rows e (inr none) other = absurd none
-refused styles (k ∷ ks) rows e has other = refl
+some-kind : (kinds : Kinds) (e : Error) → HasKind kinds e → kind_of e ≢ OutOfMemory → kinds ≢ []
+some-kind [] e (inl memory) other = absurd (other memory)
+some-kind [] e (inr none) other = absurd none
+some-kind (k ∷ ks) e has other = λ none. cc
 
--- words that are refused for another cause than memory give no names
-pub refused-none : (styles : List Text) (a : App) (words : List Text) (e : Error) → a ≡ route_app
-    → (is_simple_and_free a ≡ true → HasKind (fault_of a (map (λ w. w) words)) e) → kind_of e ≢ OutOfMemory → arguments_of styles words ≡ None
-unfolding arguments_of
-refused-none styles a words e is fails other =
-    let has : HasKind (fault_of a (map (λ w. w) words)) e = fails (ap is_simple_and_free is ∙ route-is-free) in
-    let here : HasKind (fault_of route_app words) e =
-    subst (λ ws. HasKind (fault_of route_app ws) e) (map-id words) (subst (λ b. HasKind (fault_of b (map (λ w. w) words)) e) is has) in
-    refused styles (fault_of route_app words) (matches_of route_app words) e here other
+-- words that are refused for another cause than memory
+pub refused-words : (a : App) (words : List Text) (e : Error) → is_simple_and_free a ≡ true
+    → (is_simple_and_free a ≡ true → HasKind (fault_of a (map (λ w. w) words)) e) → kind_of e ≢ OutOfMemory → fault_of a words ≢ []
+refused-words a words e free fails other =
+    some-kind (fault_of a words) e (subst (λ ws. HasKind (fault_of a ws) e) (map-id words) (fails free)) other
+
+-- words that are taken give what the values say
+pub taken-gives : {A : Type 0} (a app : App) (given : List Row → Option A) (words : List Text) (rows : List Row) → a ≡ app
+    → (fault_of a words ≡ []) × (rows ≡ matches_of a words) → given_by app given words ≡ given rows
+unfolding given_by
+taken-gives a app given words rows is taken =
+    let none : fault_of app words ≡ [] = ap (λ b. fault_of b words) (sym is) ∙ taken.0 in
+    let among : matches_of app words ≡ rows = ap (λ b. matches_of b words) (sym is) ∙ sym taken.1 in
+    ap₂ unless_refused none (ap given among)
+
+refused : {A : Type 0} (kinds : Kinds) (given : Option A) → kinds ≢ [] → unless_refused kinds given ≡ None
+refused [] given some = absurd (some refl)
+refused (kind ∷ kinds) given some = refl
+
+-- words that are refused give nothing
+pub refused-gives : {A : Type 0} (a app : App) (given : List Row → Option A) (words : List Text) → a ≡ app → fault_of a words ≢ []
+    → given_by app given words ≡ None
+unfolding given_by
+refused-gives a app given words is some =
+    refused (fault_of app words) (given (matches_of app words)) (subst (λ b. fault_of b words ≢ []) is some)
+
+-- the same as it is read
+pub refused-reads : {M X A : Type 0} (values : M → List Row) (view : X → A) (a app : App) (given : List Row → Option A) (words : List Text) (fault : WordsFault)
+    → a ≡ app → IsTaken values a words (Err fault) → Reads view (Err fault) (given_by app given words)
+refused-reads values view a app given words faults.Usage is some = refused-gives a app given words is some
+refused-reads values view a app given words faults.Memory is some = tt

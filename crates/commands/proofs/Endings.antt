@@ -1,64 +1,149 @@
-use Rattle.std.proofs.Common.{◌≡◌, ◌⊎◌, ◌<◌, ℕ, List, Option, Result, Ok, Err, IsErrAnd, inl, inr, refl, sym, ap, subst, arith}
+use Rattle.std.proofs.Common.{◌≡◌, ◌⊎◌, ◌∙◌, ◌<◌, ◌≤◌, ℕ, List, Option, Result, Ok, Err, IfErr, IfOk, IsErrAnd, inl, inr, refl, sym, ap, subst, true, arith}
 use Rattle.shelf_io.specs.Count.{Rose, Still}
-use Rattle.commands.specs.Answers.{Ends, Finds}
-use Rattle.commands.specs.Causes.{FilesFail}
-use Rattle.commands.specs.Job.{Job}
-use Rattle.commands.specs.Status.{ending_status, refusal_status, stop_status, verdict_status}
+use Rattle.greedy_router.specs.declared.sweep.Routed.{Routed}
+use Rattle.layout_report.specs.declared.summary.Summary.{Summary}
+use Rattle.commands.specs.Answers.{Ends, Finds, IsWriting}
+use Rattle.commands.specs.Causes.{AreStill, InputsFail, ReadFails, SourceFails}
+use Rattle.commands.specs.Command.{CheckNames, Source, check, files_of, from_file, from_seed}
+use Rattle.commands.specs.Done.{IsStatusOf, routed_end}
+use Rattle.commands.specs.Job.{Accepted, Job, to_lay_out}
+use Rattle.commands.specs.Summarized.{summary_of}
+use Rattle.commands.specs.Status.{ending_status, is_status, refusal_status, stop_status}
 use Rattle.commands.specs.declared.refusal.Refusal.{Refusal}
 use Rattle.commands.specs.declared.refusal.Refusal.TheVariants as refusals
 use Rattle.commands.specs.declared.stop.Stop.{Stop}
 use Rattle.commands.specs.declared.stop.Stop.TheVariants.{Refused, ReadFault, WriteFault}
 
-stopped : {X : Type 0} (view : X → Job) (stop : Stop) (said : Result Job Refusal) → Finds view (Err stop) said → Ends (Err stop) said
-stopped view (Refused refusals.Usage) said found = found
-stopped view (Refused refusals.Toml) said found = found
-stopped view (Refused (refusals.Missing key)) said found = found
-stopped view (Refused (refusals.Range key)) said found = found
-stopped view (Refused (refusals.Tight rule)) said found = found
-stopped view (Refused (refusals.Yal kind at)) said found = found
-stopped view (Refused (refusals.Design fault name)) said found = found
-stopped view (Refused (refusals.Limit what n)) said found = found
-stopped view (Refused refusals.Memory) said found = tt
-stopped view ReadFault said found = tt
-stopped view WriteFault said found = absurd found
+-- what stopped a command before it wrote is its end
+pub stopped : {X : Type 0} (view : X → Accepted) (kept : List Routed) (stop : Stop) (said : Result Accepted Refusal) → Finds view (Err stop) said
+    → Ends kept (Err stop) said
+stopped view kept (Refused refusals.Usage) said found = found
+stopped view kept (Refused refusals.Toml) said found = found
+stopped view kept (Refused (refusals.Missing key)) said found = found
+stopped view kept (Refused (refusals.Range key)) said found = found
+stopped view kept (Refused (refusals.Tight rule)) said found = found
+stopped view kept (Refused (refusals.Yal kind at)) said found = found
+stopped view kept (Refused (refusals.Design fault name)) said found = found
+stopped view kept (Refused (refusals.Cif kind at)) said found = found
+stopped view kept (Refused (refusals.Meaning kind at)) said found = found
+stopped view kept (Refused (refusals.Limit what n)) said found = found
+stopped view kept (Refused refusals.Memory) said found = tt
+stopped view kept ReadFault said found = tt
+stopped view kept WriteFault said found = absurd found
 
--- a command that was stopped before it wrote ends as is said
-pub ends-stopped : {X : Type 0} (view : X → Job) (result : Result (Unit {0}) Stop) (stop : Stop) (said : Result Job Refusal)
-    → IsErrAnd result (λ other. other ≡ stop) → Finds view (Err stop) said → Ends result said
-ends-stopped view (Ok done) stop said is found = absurd is
-ends-stopped view (Err other) stop said is found = subst (λ s. Ends (Err s) said) (sym is) (stopped view stop said found)
+-- what kept a text from being written, or want of memory, is the end of a job
+pub writing-ends : (kept : List Routed) (stop : Stop) (job : Job) → IsWriting (Err stop) → Ends kept (Err stop) (Ok (to_lay_out job))
+writing-ends kept (Refused refusals.Usage) job writing = absurd writing
+writing-ends kept (Refused refusals.Toml) job writing = absurd writing
+writing-ends kept (Refused (refusals.Missing key)) job writing = absurd writing
+writing-ends kept (Refused (refusals.Range key)) job writing = absurd writing
+writing-ends kept (Refused (refusals.Tight rule)) job writing = absurd writing
+writing-ends kept (Refused (refusals.Yal kind at)) job writing = absurd writing
+writing-ends kept (Refused (refusals.Design fault name)) job writing = absurd writing
+writing-ends kept (Refused (refusals.Cif kind at)) job writing = absurd writing
+writing-ends kept (Refused (refusals.Meaning kind at)) job writing = absurd writing
+writing-ends kept (Refused (refusals.Limit what n)) job writing = absurd writing
+writing-ends kept (Refused refusals.Memory) job writing = tt
+writing-ends kept ReadFault job writing = absurd writing
+writing-ends kept WriteFault job writing = tt
+
+-- a job whose text was written, or could not be, ends so
+pub written-ends : (ending : Result (Unit {0}) Stop) (result : Result Summary Stop) (job : Job) (summary : Summary) (told kept : List Routed) → IsWriting ending
+    → ending_status result ≡ ending_status ending → IfOk result (λ s. s ≡ summary) → IfErr result (λ stop. ending ≡ Err stop) → summary ≡ summary_of job told
+    → ((ending_status ending ≡ 0) ⊎ (ending_status ending ≡ 9) → kept ≡ told) → Ends kept (routed_end result) (Ok (to_lay_out job))
+written-ends ending (Ok s) job summary told kept writing same is stops summary_is kept_is =
+    is ∙ summary_is ∙ ap (summary_of job) (sym (kept_is (inl (sym same))))
+written-ends ending (Err stop) job summary told kept writing same is stops summary_is kept_is =
+    writing-ends kept stop job (subst IsWriting stops writing)
+
+-- what is handed on has the same status
+pub handed-status : {X : Type 0} (result : Result X Stop) (stop : Stop) → IsErrAnd result (λ other. other ≡ stop) → ending_status result ≡ stop_status stop
+handed-status (Ok done) stop is = absurd is
+handed-status (Err other) stop is = ap stop_status is
 
 pub rose-still : (old new : ℕ) → Rose old new → Still old new → ⊥
 rose-still old new rose still = let more : old < new = rose still.open_ended in absurd (omega (arith, more, still.same))
 
-same-status : (refusal : Refusal) (said : Result Job Refusal) → said ≡ Err refusal
-    → (refusal_status refusal ≡ verdict_status said) ⊎ (refusal_status refusal ≡ 10)
-same-status refusal said is = inl (ap verdict_status (sym is))
+-- where no count rose, no reading failed
+source-still : (source : Source) (old new : List ℕ → ℕ) → AreStill (files_of source) old new → SourceFails source old new → ⊥
+source-still (from_file name) old new still fails = rose-still _ _ fails still.0
+source-still (from_seed seed count) old new still fails = fails
 
-by-stop : {X : Type 0} (view : X → Job) (stop : Stop) (said : Result Job Refusal) (told : Option (List ℕ)) (r s d e : ℕ)
-    → Finds view (Err stop) said → (stop_status stop ≡ 8 → FilesFail told r s d e) → Still r s → Still d e
-    → (stop_status stop ≡ verdict_status said) ⊎ (stop_status stop ≡ 10)
-by-stop view (Refused refusals.Usage) said told r s d e found reads rules design = same-status _ said found
-by-stop view (Refused refusals.Toml) said told r s d e found reads rules design = same-status _ said found
-by-stop view (Refused (refusals.Missing key)) said told r s d e found reads rules design = same-status _ said found
-by-stop view (Refused (refusals.Range key)) said told r s d e found reads rules design = same-status _ said found
-by-stop view (Refused (refusals.Tight rule)) said told r s d e found reads rules design = same-status _ said found
-by-stop view (Refused (refusals.Yal kind at)) said told r s d e found reads rules design = same-status _ said found
-by-stop view (Refused (refusals.Design fault name)) said told r s d e found reads rules design = same-status _ said found
-by-stop view (Refused (refusals.Limit what n)) said told r s d e found reads rules design = same-status _ said found
-by-stop view (Refused refusals.Memory) said told r s d e found reads rules design = inr refl
-by-stop view ReadFault said told r s d e found reads rules design = elim (reads refl) [
-  | inl rose ↦ absurd (rose-still r s rose rules)
-  | inr rose ↦ absurd (rose-still d e rose.0 design)
-]
-by-stop view WriteFault said told r s d e found reads rules design = absurd found
+pub inputs-still : (rules : List ℕ) (source : Source) (told : List ℕ → Option (List ℕ)) (old new : List ℕ → ℕ) → Still (old rules) (new rules)
+    → AreStill (files_of source) old new → InputsFail rules source told old new → ⊥
+inputs-still rules source told old new stated read (inl rose) = rose-still _ _ rose stated
+inputs-still rules source told old new stated read (inr failed) = source-still source old new read failed.0
 
--- where no count rose, a command that was stopped before it wrote has the status of what is said, or memory ran out
-pub complete-stopped : {X : Type 0} (view : X → Job) (result : Result (Unit {0}) Stop) (stop : Stop) (said : Result Job Refusal)
-    (told : Option (List ℕ)) (r s d e : ℕ) → IsErrAnd result (λ other. other ≡ stop) → Finds view (Err stop) said
-    → (stop_status stop ≡ 8 → FilesFail told r s d e) → Still r s → Still d e
-    → (ending_status result ≡ verdict_status said) ⊎ (ending_status result ≡ 10)
-complete-stopped view (Ok done) stop said told r s d e is found reads rules design = absurd is
-complete-stopped view (Err other) stop said told r s d e is found reads rules design =
-    subst (λ o. (stop_status o ≡ verdict_status said) ⊎ (stop_status o ≡ 10)) (sym is)
-    (by-stop view stop said told r s d e found reads rules design)
+pub check-still : (names : CheckNames) (told : List ℕ → Option (List ℕ)) (old new : List ℕ → ℕ) → Still (old names.rules) (new names.rules)
+    → Still (old names.design) (new names.design) → Still (old names.cif) (new names.cif) → ReadFails (check names) told old new → ⊥
+check-still names told old new rules design cif (inl failed) = inputs-still names.rules (from_file names.design) told old new rules (design, tt) failed
+check-still names told old new rules design cif (inr rose) = rose-still _ _ rose.0 cif
+
+same-status : (refusal : Refusal) (said : Result Accepted Refusal) → said ≡ Err refusal → IsStatusOf said (refusal_status refusal) ⊎ (refusal_status refusal ≡ 10)
+same-status refusal said is = let P : Result Accepted Refusal → Type 0 = λ s. IsStatusOf s (refusal_status refusal) in inl (subst P (sym is) refl)
+
+-- where reading did not fail, what stopped a command before it wrote has the status of what is said, or memory ran out
+pub by-stop : {X : Type 0} (view : X → Accepted) (stop : Stop) (said : Result Accepted Refusal) → Finds view (Err stop) said → (stop_status stop ≡ 8 → ⊥)
+    → IsStatusOf said (stop_status stop) ⊎ (stop_status stop ≡ 10)
+by-stop view (Refused refusals.Usage) said found reads = same-status _ said found
+by-stop view (Refused refusals.Toml) said found reads = same-status _ said found
+by-stop view (Refused (refusals.Missing key)) said found reads = same-status _ said found
+by-stop view (Refused (refusals.Range key)) said found reads = same-status _ said found
+by-stop view (Refused (refusals.Tight rule)) said found reads = same-status _ said found
+by-stop view (Refused (refusals.Yal kind at)) said found reads = same-status _ said found
+by-stop view (Refused (refusals.Design fault name)) said found reads = same-status _ said found
+by-stop view (Refused (refusals.Cif kind at)) said found reads = same-status _ said found
+by-stop view (Refused (refusals.Meaning kind at)) said found reads = same-status _ said found
+by-stop view (Refused (refusals.Limit what n)) said found reads = same-status _ said found
+by-stop view (Refused refusals.Memory) said found reads = inr refl
+by-stop view ReadFault said found reads = absurd (reads refl)
+by-stop view WriteFault said found reads = absurd found
+
+-- a text that is written has the status of a job
+pub written-status : (said : Result Accepted Refusal) (job : Job) (n : ℕ) → said ≡ Ok (to_lay_out job) → n ≡ 0 → IsStatusOf said n
+written-status said job n is zero = let P : Result Accepted Refusal → Type 0 = λ s. IsStatusOf s n in subst P (sym is) zero
+
+-- what stops a command has a status of the list, above 1
+pub stop-listed : (stop : Stop) → is_status (stop_status stop) ≡ true
+stop-listed (Refused refusals.Usage) = refl
+stop-listed (Refused refusals.Toml) = refl
+stop-listed (Refused (refusals.Missing key)) = refl
+stop-listed (Refused (refusals.Range key)) = refl
+stop-listed (Refused (refusals.Tight rule)) = refl
+stop-listed (Refused (refusals.Yal kind at)) = refl
+stop-listed (Refused (refusals.Design fault name)) = refl
+stop-listed (Refused (refusals.Cif kind at)) = refl
+stop-listed (Refused (refusals.Meaning kind at)) = refl
+stop-listed (Refused (refusals.Limit what n)) = refl
+stop-listed (Refused refusals.Memory) = refl
+stop-listed ReadFault = refl
+stop-listed WriteFault = refl
+
+pub stop-above : (stop : Stop) → 2 ≤ stop_status stop
+stop-above (Refused refusals.Usage) = omega arith
+stop-above (Refused refusals.Toml) = omega arith
+stop-above (Refused (refusals.Missing key)) = omega arith
+stop-above (Refused (refusals.Range key)) = omega arith
+stop-above (Refused (refusals.Tight rule)) = omega arith
+stop-above (Refused (refusals.Yal kind at)) = omega arith
+stop-above (Refused (refusals.Design fault name)) = omega arith
+stop-above (Refused (refusals.Cif kind at)) = omega arith
+stop-above (Refused (refusals.Meaning kind at)) = omega arith
+stop-above (Refused (refusals.Limit what n)) = omega arith
+stop-above (Refused refusals.Memory) = omega arith
+stop-above ReadFault = omega arith
+stop-above WriteFault = omega arith
+
+-- a refusal is no failure of reading
+pub refusal-unread : (refusal : Refusal) → refusal_status refusal ≡ 8 → ⊥
+refusal-unread refusals.Usage eight = absurd (omega (arith, eight))
+refusal-unread refusals.Toml eight = absurd (omega (arith, eight))
+refusal-unread (refusals.Missing key) eight = absurd (omega (arith, eight))
+refusal-unread (refusals.Range key) eight = absurd (omega (arith, eight))
+refusal-unread (refusals.Tight rule) eight = absurd (omega (arith, eight))
+refusal-unread (refusals.Yal kind at) eight = absurd (omega (arith, eight))
+refusal-unread (refusals.Design fault name) eight = absurd (omega (arith, eight))
+refusal-unread (refusals.Cif kind at) eight = absurd (omega (arith, eight))
+refusal-unread (refusals.Meaning kind at) eight = absurd (omega (arith, eight))
+refusal-unread (refusals.Limit what n) eight = absurd (omega (arith, eight))
+refusal-unread refusals.Memory eight = absurd (omega (arith, eight))

@@ -1,12 +1,12 @@
-use Rattle.std.proofs.Common.{◌≡◌, ◌≤◌, ◌<◌, ◌∙◌, ℕ, List, length, Bool, true, false, cond, Option, Some, None, Result, Ok, Err, IsErrAnd, nat_lt, refl, sym, ap, subst, arith}
+use Rattle.std.proofs.Common.{◌≡◌, ◌≤◌, ◌<◌, ◌∙◌, ℕ, List, length, Bool, true, false, cond, Option, Some, None, option_map, Result, Ok, Err, IsErrAnd, is_ok, nat_lt, refl, sym, ap, subst, arith}
 use Rattle.std.proofs.lemmas.Bool.Decides.{nat_tests}
+use Rattle.std.proofs.lemmas.Option.{none-some, same_Some}
 use Rattle.tech_rules.specs.Rules.{RuleValues}
 use Rattle.commands.specs.Answers.{Answers, Finds}
-use Rattle.commands.specs.Job.{Job}
+use Rattle.commands.specs.Causes.{IsPassed}
 use Rattle.commands.specs.Limits.{within_limit}
-use Rattle.commands.specs.Refusing.{◌>>=◌}
-use Rattle.commands.specs.Verdict.{files_verdict, job_verdict, rules_said, rules_verdict, stated_rules, verdict_under}
-use Rattle.commands.specs.declared.command.Wanted.{Wanted}
+use Rattle.commands.specs.Refusing.{◌>>=◌, told_then}
+use Rattle.commands.specs.Verdict.{rules_said, rules_verdict, stated_rules}
 use Rattle.commands.specs.declared.refusal.Limited.TheVariants as limits
 use Rattle.tech_rules.specs.RulesOf.{rules_of}
 use Rattle.tech_rules.specs.declared.fault.RulesFault.{RulesFault}
@@ -23,35 +23,35 @@ is-above : (most n : ℕ) → most < n → nat_lt most n ≡ true
 is-above most n more = grind (arith, nat_tests)
 
 -- contents that are no longer than the limit are within it
-pub within : (what : Limited) (bytes : List ℕ) → length bytes ≤ 16777216 → within_limit what bytes ≡ Ok bytes
+pub within : (what : Limited) (most : ℕ) (bytes : List ℕ) → length bytes ≤ most → within_limit what most bytes ≡ Ok bytes
 unfolding within_limit
-within what bytes short =
-    ap (λ (long : Bool). cond long (Err (refusals.Limit what 16777216)) (Ok bytes)) (not-above 16777216 (length bytes) short)
+within what most bytes short = ap (λ (long : Bool). cond long (Err (refusals.Limit what most)) (Ok bytes)) (not-above most (length bytes) short)
 
-pub beyond : (what : Limited) (bytes : List ℕ) → 16777216 < length bytes → within_limit what bytes ≡ Err (refusals.Limit what 16777216)
+pub beyond : (what : Limited) (most : ℕ) (bytes : List ℕ) → most < length bytes → within_limit what most bytes ≡ Err (refusals.Limit what most)
 unfolding within_limit
-beyond what bytes long =
-    ap (λ (longer : Bool). cond longer (Err (refusals.Limit what 16777216)) (Ok bytes)) (is-above 16777216 (length bytes) long)
+beyond what most bytes long = ap (λ (longer : Bool). cond longer (Err (refusals.Limit what most)) (Ok bytes)) (is-above most (length bytes) long)
 
--- what is said to refuse refuses what comes next, too
-refuses : {A B : Type 0} (refusal : Refusal) (first : Result A Refusal) (next : A → Result B Refusal) → first ≡ Err refusal
-    → (first >>= next) ≡ Err refusal
-refuses refusal first next is = ap (λ said. said >>= next) is
+-- what stopped a part stops the whole that refuses what the part does
+pub stops-so : {X Z A B : Type 0} (view : X → A) (seen : Z → B) (stop : Stop) (part : Result A Refusal) (whole : Result B Refusal)
+    → ((refusal : Refusal) → part ≡ Err refusal → whole ≡ Err refusal) → Finds view (Err stop) part → Finds seen (Err stop) whole
+stops-so view seen (Refused refusals.Usage) part whole refuses found = refuses _ found
+stops-so view seen (Refused refusals.Toml) part whole refuses found = refuses _ found
+stops-so view seen (Refused (refusals.Missing key)) part whole refuses found = refuses _ found
+stops-so view seen (Refused (refusals.Range key)) part whole refuses found = refuses _ found
+stops-so view seen (Refused (refusals.Tight rule)) part whole refuses found = refuses _ found
+stops-so view seen (Refused (refusals.Yal kind at)) part whole refuses found = refuses _ found
+stops-so view seen (Refused (refusals.Design fault name)) part whole refuses found = refuses _ found
+stops-so view seen (Refused (refusals.Cif kind at)) part whole refuses found = refuses _ found
+stops-so view seen (Refused (refusals.Meaning kind at)) part whole refuses found = refuses _ found
+stops-so view seen (Refused (refusals.Limit what n)) part whole refuses found = refuses _ found
+stops-so view seen (Refused refusals.Memory) part whole refuses found = tt
+stops-so view seen ReadFault part whole refuses found = tt
+stops-so view seen WriteFault part whole refuses found = found
 
 -- what stopped the first part stops the whole
 pub stops : {X Z A B : Type 0} (view : X → A) (seen : Z → B) (stop : Stop) (first : Result A Refusal) (next : A → Result B Refusal)
     → Finds view (Err stop) first → Finds seen (Err stop) (first >>= next)
-stops view seen (Refused refusals.Usage) first next found = refuses _ first next found
-stops view seen (Refused refusals.Toml) first next found = refuses _ first next found
-stops view seen (Refused (refusals.Missing key)) first next found = refuses _ first next found
-stops view seen (Refused (refusals.Range key)) first next found = refuses _ first next found
-stops view seen (Refused (refusals.Tight rule)) first next found = refuses _ first next found
-stops view seen (Refused (refusals.Yal kind at)) first next found = refuses _ first next found
-stops view seen (Refused (refusals.Design fault name)) first next found = refuses _ first next found
-stops view seen (Refused (refusals.Limit what n)) first next found = refuses _ first next found
-stops view seen (Refused refusals.Memory) first next found = tt
-stops view seen ReadFault first next found = tt
-stops view seen WriteFault first next found = found
+stops view seen stop first next found = stops-so view seen stop first (first >>= next) (λ refusal is. ap (λ said. said >>= next) is) found
 
 -- a refusal that is answered is found
 pub found-refusal : {X A : Type 0} (view : X → A) (refusal : Refusal) (said : Result A Refusal)
@@ -63,6 +63,8 @@ found-refusal view (refusals.Range key) said answer = answer
 found-refusal view (refusals.Tight rule) said answer = answer
 found-refusal view (refusals.Yal kind at) said answer = answer
 found-refusal view (refusals.Design fault name) said answer = answer
+found-refusal view (refusals.Cif kind at) said answer = answer
+found-refusal view (refusals.Meaning kind at) said answer = answer
 found-refusal view (refusals.Limit what n) said answer = answer
 found-refusal view refusals.Memory said answer = tt
 
@@ -72,66 +74,58 @@ pub handed-on : {X A : Type 0} (view : X → A) (result : Result X Stop) (stop :
 handed-on view (Ok x) stop said is found = absurd is
 handed-on view (Err other) stop said is found = subst (λ s. Finds view (Err s) said) (sym is) found
 
--- what stopped the reading of rules stops the verdict on the files
-pub rules-stop : {X Z : Type 0} (view : X → RuleValues) (seen : Z → Job) (stop : Stop) (wanted : Wanted) (rules design : Option (List ℕ))
-    (said : Result Job Refusal) → ((bytes : List ℕ) → rules ≡ Some bytes → Finds view (Err stop) (rules_verdict bytes))
-    → files_verdict wanted rules design ≡ Some said → Finds seen (Err stop) said
-unfolding files_verdict
-rules-stop view seen stop wanted None design said found is = let none : None ≡ Some said = is in cc
-rules-stop view seen stop wanted (Some bytes) design said found is = under wanted view seen stop (rules_verdict bytes) design said (found bytes refl) is
-  where
-    refused : {Z : Type 0} (wanted : Wanted) (seen : Z → Job) (refusal : Refusal) (first : Result RuleValues Refusal) (design : Option (List ℕ))
-        (said : Result Job Refusal) → first ≡ Err refusal → verdict_under wanted first design ≡ Some said → said ≡ Err refusal
-    refused wanted seen refusal first design said at is =
-        let same : Some (Err refusal) ≡ Some said = ap (λ f. verdict_under wanted f design) (sym at) ∙ is in cc
+-- what is found of a file that is told
+pub of-file : {X A : Type 0} (view : X → A) (result : Result X Stop) (point : List ℕ → Result A Refusal) (told : Option (List ℕ))
+    → ((bytes : List ℕ) → told ≡ Some bytes → Finds view result (point bytes)) → (said : Result A Refusal) → option_map point told ≡ Some said
+    → Finds view result said
+of-file view result point None found said is = absurd (none-some said is)
+of-file view result point (Some bytes) found said is = subst (Finds view result) (same_Some (point bytes) said is) (found bytes refl)
 
-    under : {X Z : Type 0} (wanted : Wanted) (view : X → RuleValues) (seen : Z → Job) (stop : Stop) (first : Result RuleValues Refusal)
-        (design : Option (List ℕ)) (said : Result Job Refusal) → Finds view (Err stop) first
-        → verdict_under wanted first design ≡ Some said → Finds seen (Err stop) said
-    under wanted view seen (Refused refusals.Usage) first design said found is = refused wanted seen _ first design said found is
-    under wanted view seen (Refused refusals.Toml) first design said found is = refused wanted seen _ first design said found is
-    under wanted view seen (Refused (refusals.Missing key)) first design said found is = refused wanted seen _ first design said found is
-    under wanted view seen (Refused (refusals.Range key)) first design said found is = refused wanted seen _ first design said found is
-    under wanted view seen (Refused (refusals.Tight rule)) first design said found is = refused wanted seen _ first design said found is
-    under wanted view seen (Refused (refusals.Yal kind at)) first design said found is = refused wanted seen _ first design said found is
-    under wanted view seen (Refused (refusals.Design fault name)) first design said found is = refused wanted seen _ first design said found is
-    under wanted view seen (Refused (refusals.Limit what n)) first design said found is = refused wanted seen _ first design said found is
-    under wanted view seen (Refused refusals.Memory) first design said found is = tt
-    under wanted view seen ReadFault first design said found is = tt
-    under wanted view seen WriteFault first design said found is = found
+-- what stopped the first part of what is said of files stops the whole
+pub told-stops : {X Z A B : Type 0} (view : X → A) (seen : Z → B) (stop : Stop) (first : Option (Result A Refusal)) (next : A → Option (Result B Refusal))
+    (said : Result B Refusal) → ((s : Result A Refusal) → first ≡ Some s → Finds view (Err stop) s) → told_then first next ≡ Some said
+    → Finds seen (Err stop) said
+told-stops view seen stop None next said found is = absurd (none-some said is)
+told-stops view seen stop (Some first) next said found is =
+    stops-so view seen stop first said
+    (λ refusal at. sym (same_Some (Err refusal) said (ap (λ f. told_then (Some f) next) (sym at) ∙ is))) (found first refl)
 
--- where the rules are read, the verdict on the files is that on the design's bytes
-pub under-rules : {Z : Type 0} (seen : Z → Job) (result : Result Z Stop) (values : RuleValues) (wanted : Wanted) (rules design : Option (List ℕ))
-    (said : Result Job Refusal) → ((bytes : List ℕ) → rules ≡ Some bytes → rules_verdict bytes ≡ Ok values)
-    → ((bytes : List ℕ) → design ≡ Some bytes → Finds seen result (job_verdict values wanted bytes))
-    → files_verdict wanted rules design ≡ Some said → Finds seen result said
-unfolding files_verdict
-under-rules seen result values wanted None design said states found is = let none : None ≡ Some said = is in cc
-under-rules seen result values wanted (Some bytes) None said states found is =
-    let none : None ≡ Some said = ap (λ first. verdict_under wanted first None) (sym (states bytes refl)) ∙ is in cc
-under-rules seen result values wanted (Some bytes) (Some design) said states found is =
-    let same : Some (job_verdict values wanted design) ≡ Some said =
-    ap (λ first. verdict_under wanted first (Some design)) (sym (states bytes refl)) ∙ is in
-    let said_is : job_verdict values wanted design ≡ said = cc in
-    subst (λ s. Finds seen result s) said_is (found design refl)
+-- where the first part gives a value, the whole is what comes next
+pub told-goes-on : {Z A B : Type 0} (seen : Z → B) (result : Result Z Stop) (first : Option (Result A Refusal)) (a : A) (next : A → Option (Result B Refusal))
+    (said : Result B Refusal) → ((s : Result A Refusal) → first ≡ Some s → s ≡ Ok a) → ((s : Result B Refusal) → next a ≡ Some s → Finds seen result s)
+    → told_then first next ≡ Some said → Finds seen result said
+told-goes-on seen result None a next said gives found is = absurd (none-some said is)
+told-goes-on seen result (Some first) a next said gives found is =
+    found said (ap (λ f. told_then (Some f) next) (sym (gives first refl)) ∙ is)
+
+-- so it is the value of the whole
+pub told-next : {A B : Type 0} (first : Option (Result A Refusal)) (a : A) (next : A → Option (Result B Refusal)) (said : Result B Refusal)
+    → ((s : Result A Refusal) → first ≡ Some s → s ≡ Ok a) → told_then first next ≡ Some said → next a ≡ Some said
+told-next None a next said gives is = absurd (none-some said is)
+told-next (Some first) a next said gives is = ap (λ f. told_then (Some f) next) (sym (gives first refl)) ∙ is
+
+-- a value is passed
+pub passed : {A : Type 0} (said : Option (Result A Refusal)) (a : A) → ((s : Result A Refusal) → said ≡ Some s → s ≡ Ok a) → IsPassed said
+passed None a gives = tt
+passed (Some s) a gives = ap is_ok (gives s refl)
 
 -- what is refused of contents that were read is refused of what is told
-pub found-within : {X A : Type 0} (view : X → A) (refusal : Refusal) (items lent : List ℕ) (first : Result (List ℕ) Refusal)
-    (next : List ℕ → Result A Refusal) → first ≡ Ok items → lent ≡ items → Answers view (Err refusal) (next lent)
+pub found-within : {X A B : Type 0} (view : X → A) (refusal : Refusal) (items lent : B) (first : Result B Refusal)
+    (next : B → Result A Refusal) → first ≡ Ok items → lent ≡ items → Answers view (Err refusal) (next lent)
     → Finds view (Err (Refused refusal)) (first >>= next)
 found-within view refusal items lent first next is same answer =
     subst (Finds view (Err (Refused refusal))) (ap next same ∙ ap (λ whole. whole >>= next) (sym is))
     (found-refusal view refusal (next lent) answer)
 
 -- contents within the limit are the whole
-pub is-whole : (what : Limited) (bytes items : List ℕ) → within_limit what bytes ≡ Ok items → bytes ≡ items
+pub is-whole : (what : Limited) (most : ℕ) (bytes items : List ℕ) → within_limit what most bytes ≡ Ok items → bytes ≡ items
 unfolding within_limit
-is-whole what bytes items is = kept (nat_lt 16777216 (length bytes)) what bytes items is
+is-whole what most bytes items is = kept (nat_lt most (length bytes)) what most bytes items is
   where
-    kept : (long : Bool) (what : Limited) (bytes items : List ℕ)
-        → cond long (Err (refusals.Limit what 16777216)) (Ok bytes) ≡ Ok items → bytes ≡ items
-    kept true what bytes items is = cc
-    kept false what bytes items is = cc
+    kept : (long : Bool) (what : Limited) (most : ℕ) (bytes items : List ℕ)
+        → cond long (Err (refusals.Limit what most)) (Ok bytes) ≡ Ok items → bytes ≡ items
+    kept true what most bytes items is = cc
+    kept false what most bytes items is = cc
 
 -- rules that contents are found to state are those of the contents
 pub states-rules : (bytes : List ℕ) (values : RuleValues) → rules_verdict bytes ≡ Ok values → rules_of bytes ≡ Ok values

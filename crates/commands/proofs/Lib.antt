@@ -16,5 +16,13 @@ pub mod KeptLaws
 pub mod HeadlineLaws
 -- the style that words give
 pub mod StyleLaws
+-- a layout in short
+pub mod SummaryLaws
 -- how a command's words end
 pub mod RunLaws
+-- texts of findings that are put to a sink
+pub mod Reports
+-- how a layout was judged
+pub mod Judgements
+-- how a layout that was written was told of
+pub mod LaidLaws

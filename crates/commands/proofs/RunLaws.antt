@@ -1,4 +1,5 @@
-use Rattle.std.proofs.Common.{◌≡◌, ◌∙◌, ◌<◌, List, length, get_or, ℕ, Option, Some, None, Result, Ok, Err, IfSome, slice_get, refl, ap, subst, sym}
+use Rattle.std.proofs.Common.{◌≡◌, ◌∙◌, ◌<◌, List, length, get_or, ℕ, Option, Some, None, Result, Ok, Err, IfSome, inr, slice_get, refl, ap, subst, sym, arith}
+use Rattle.std.proofs.lemmas.List.{take_all}
 use Rattle.std.proofs.lemmas.Option.{same_Some, slice_get-get_or}
 use Rattle.shelf_io.specs.Told.{Refines}
 use Rattle.choose_core.specs.declared.candidate.Candidate.{Candidate}
@@ -6,70 +7,126 @@ use Rattle.cif_writer.specs.LayoutText as written
 use Rattle.greedy_router.specs.Answers.{AreRouted}
 use Rattle.greedy_router.specs.declared.sweep.Routed.{Routed}
 use Rattle.commands.specs.Answers.{Ends}
-use Rattle.commands.specs.Command.{Command}
-use Rattle.commands.specs.Job.{Job}
-use Rattle.commands.specs.Outcome.{AreKept, Holds, HoldsFront, IsRoutedSo}
+use Rattle.layout_report.specs.declared.summary.Summary.{Summary}
+use Rattle.commands.specs.Command.{Command, Names, route}
+use Rattle.commands.specs.Done.{IsStatusOf, laid_out}
+use Rattle.commands.specs.Job.{Accepted, Job, to_judge, to_lay_out}
+use Rattle.commands.specs.Outcome.{AreKept, EndsAs, Holds, HoldsFront, IsRoutedSo, IsStopped}
+use Rattle.commands.specs.Refusing.{◌>>=◌}
+use Rattle.commands.specs.Rows.{job_of}
 use Rattle.commands.specs.Text.{channels_of, job_text}
-use Rattle.commands.specs.Verdict.{asked_verdict, command_verdict}
+use Rattle.commands.specs.Verdict.{asked_verdict, command_verdict, inputs_told, job_verdict, within_limits}
+use Rattle.commands.specs.declared.command.Wanted.{Wanted}
 use Rattle.commands.specs.declared.refusal.Refusal.{Refusal}
 use Rattle.commands.specs.declared.refusal.Refusal.TheVariants.{Memory, Usage}
-use Rattle.commands.specs.declared.stop.Stop.{Stop}
+use Rattle.commands.specs.declared.stages.Inputs.{Inputs}
 use Rattle.commands.specs.declared.stop.Stop.TheVariants.{Refused}
+use Rattle.commands.proofs.Findings.{told-next}
 
 -- what holds of what is said, where anything is
-if-said : (said : Option (Result Job Refusal)) (P : Result Job Refusal → Type 0) → ((s : Result Job Refusal) → said ≡ Some s → P s) → IfSome said P
+pub if-said : (said : Option (Result Accepted Refusal)) (P : Result Accepted Refusal → Type 0)
+    → ((s : Result Accepted Refusal) → said ≡ Some s → P s) → IfSome said P
 if-said None P holds = tt
 if-said (Some s) P holds = holds s refl
 
--- a command ended as is said of it
-pub asked-ends : (asked : Option Command) (command : Command) (told : List ℕ → Option (List ℕ)) (ending : Result (Unit {0}) Stop) → asked ≡ Some command
-    → ((said : Result Job Refusal) → command_verdict command told ≡ Some said → Ends ending said) → IfSome (asked_verdict asked told) (Ends ending)
-asked-ends asked command told ending is ends =
-    if-said (asked_verdict asked told) (Ends ending) (λ s says. ends s (ap (λ (a : Option Command). asked_verdict a told) (sym is) ∙ says))
+-- a command that words give ended so
+pub asked-ends : (asked : Option Command) (command : Command) (told : List ℕ → Option (List ℕ)) (kept : List Routed) (n : ℕ) (before after : Option (List ℕ)) (old new : ℕ)
+    → asked ≡ Some command → EndsAs (command_verdict command told) kept n before after old new → EndsAs (asked_verdict asked told) kept n before after old new
+asked-ends asked command told kept n before after old new is ends =
+    subst (λ (a : Option Command). EndsAs (asked_verdict a told) kept n before after old new) (sym is) ends
 
--- words that give no command
-pub usage-ends : (asked : Option Command) (told : List ℕ → Option (List ℕ)) (ending : Result (Unit {0}) Stop) → asked ≡ None → ending ≡ Err (Refused Usage)
-    → IfSome (asked_verdict asked told) (Ends ending)
-usage-ends asked told ending none is =
-    subst (λ (a : Option Command). IfSome (asked_verdict a told) (Ends ending)) (sym none)
-    (subst (λ (e : Result (Unit {0}) Stop). Ends {Y = Job} e (Err Usage)) (sym is) refl)
+-- the same of equal channels, numbers and sinks
+pub moved-ends : (said : Option (Result Accepted Refusal)) (kept then_kept : List Routed) (n m : ℕ) (before after then_after : Option (List ℕ))
+    (old new then_new : ℕ) → kept ≡ then_kept → n ≡ m → after ≡ then_after → new ≡ then_new → EndsAs said then_kept m before then_after old then_new
+    → EndsAs said kept n before after old new
+moved-ends said kept then_kept n m before after then_after old new then_new channels number written faults ends =
+    let one : EndsAs said then_kept n before then_after old then_new =
+    subst (λ (k : ℕ). EndsAs said then_kept k before then_after old then_new) (sym number) ends in
+    let two : EndsAs said then_kept n before after old then_new =
+    subst (λ (a : Option (List ℕ)). EndsAs said then_kept n before a old then_new) (sym written) one in
+    let three : EndsAs said then_kept n before after old new = subst (λ (k : ℕ). EndsAs said then_kept n before after old k) (sym faults) two in
+    subst (λ (l : List Routed). EndsAs said l n before after old new) (sym channels) three
 
--- want of memory is free
-pub memory-ends : (asked : Option Command) (told : List ℕ → Option (List ℕ)) (ending : Result (Unit {0}) Stop) → ending ≡ Err (Refused Memory)
-    → IfSome (asked_verdict asked told) (Ends ending)
-memory-ends asked told ending is =
-    if-said (asked_verdict asked told) (Ends ending) (λ s says. subst (λ (e : Result (Unit {0}) Stop). Ends e s) (sym is) tt)
+-- words that give no command, and want of memory
+pub usage-ends : (asked : Option Command) (told : List ℕ → Option (List ℕ)) (kept : List Routed) (n : ℕ) (before after : Option (List ℕ)) (old new : ℕ)
+    → asked ≡ None → IsStopped (Refused Usage) n before after old new → EndsAs (asked_verdict asked told) kept n before after old new
+usage-ends asked told kept n before after old new none stopped =
+    subst (λ (a : Option Command). EndsAs (asked_verdict a told) kept n before after old new) (sym none)
+    (record { ending = Err (Refused Usage); is = refl; tells = stopped })
+
+pub memory-ends : (said : Option (Result Accepted Refusal)) (kept : List Routed) (n : ℕ) (before after : Option (List ℕ)) (old new : ℕ)
+    → IsStopped (Refused Memory) n before after old new → EndsAs said kept n before after old new
+memory-ends said kept n before after old new stopped = record {
+  ending = Err (Refused Memory);
+  is = if-said said (Ends kept (Err (Refused Memory))) (λ s says. tt);
+  tells = stopped;
+}
 
 -- of a job that is accepted, with routed channels that are kept: how these are routed, and what the file holds
-pub routed-so : (may : List Candidate → ℕ → Type 0) (said : Result Job Refusal) (job : Job) (kept items : List Routed) → said ≡ Ok job → items ≡ kept
+pub routed-so : (may : List Candidate → ℕ → Type 0) (said : Result Accepted Refusal) (job : Job) (kept items : List Routed) → said ≡ Ok (to_lay_out job) → items ≡ kept
     → AreRouted may (channels_of job) kept → IsRoutedSo may said items
 routed-so may said job kept items accepted same routed =
-    subst (λ (s : Result Job Refusal). IsRoutedSo may s items) (sym accepted) (subst (λ (k : List Routed). AreRouted may (channels_of job) k) (sym same) routed)
+    subst (λ (s : Result Accepted Refusal). IsRoutedSo may s items) (sym accepted) (subst (λ (k : List Routed). AreRouted may (channels_of job) k) (sym same) routed)
 
-pub holds-so : (said : Result Job Refusal) (job : Job) (kept items : List Routed) (told : Option (List ℕ)) → said ≡ Ok job → items ≡ kept
+pub holds-so : (said : Result Accepted Refusal) (job : Job) (kept items : List Routed) (told : Option (List ℕ)) → said ≡ Ok (to_lay_out job) → items ≡ kept
     → Refines told (Some (job_text job kept)) → Holds said items told
 holds-so said job kept items told accepted same held =
-    subst (λ (s : Result Job Refusal). Holds s items told) (sym accepted) (subst (λ (k : List Routed). Refines told (Some (job_text job k))) (sym same) held)
+    subst (λ (s : Result Accepted Refusal). Holds s items told) (sym accepted) (subst (λ (k : List Routed). Refines told (Some (job_text job k))) (sym same) held)
 
-pub front-so : (said : Result Job Refusal) (job : Job) (kept items : List Routed) (before begun told : Option (List ℕ)) → said ≡ Ok job → items ≡ kept → begun ≡ before
+pub front-so : (said : Result Accepted Refusal) (job : Job) (kept items : List Routed) (before begun told : Option (List ℕ)) → said ≡ Ok (to_lay_out job) → items ≡ kept → begun ≡ before
     → written.HoldsFront (job_text job kept) begun told → HoldsFront said items before told
 front-so said job kept items before begun told accepted same was held =
-    subst (λ (s : Result Job Refusal). HoldsFront s items before told) (sym accepted)
+    subst (λ (s : Result Accepted Refusal). HoldsFront s items before told) (sym accepted)
     (subst (λ (b : Option (List ℕ)). written.HoldsFront (job_text job items) b told) was
     (subst (λ (k : List Routed). written.HoldsFront (job_text job k) begun told) (sym same) held))
 
--- the channels that are kept are those of the command that words give
+-- a job that passes the limits is accepted
+pub job-accepted : (wanted : Wanted) (inputs : Inputs) (job : Job) → within_limits (job_of inputs.rules inputs.design wanted) ≡ Ok job
+    → job_verdict wanted inputs ≡ Ok (to_lay_out job)
+unfolding job_verdict
+job-accepted wanted inputs job made = ap (λ (l : Result Job Refusal). l >>= (λ (j : Job). Ok (to_lay_out j))) made
+
+-- the whole of a text is a front of it
+pub whole-front : (said : Result Accepted Refusal) (kept : List Routed) (before told : Option (List ℕ)) → Holds said kept told → HoldsFront said kept before told
+whole-front (Ok (to_lay_out job)) kept before told holds = λ held at.
+    let same : job_text job kept ≡ held = same_Some (job_text job kept) held (holds held at) in
+    inr (length (job_text job kept), sym same ∙ sym (take_all (length (job_text job kept)) (job_text job kept) (omega arith)))
+whole-front (Ok (to_judge inputs layout)) kept before told holds = absurd holds
+whole-front (Err refusal) kept before told holds = absurd holds
+
+-- a layout that was written and told of has the status of its job
+pub done-status : (kept : List Routed) (summary : Summary) (said : Result Accepted Refusal) (n : ℕ) → Ends kept (Ok (laid_out summary)) said → n ≡ 0
+    → IsStatusOf said n
+done-status kept summary (Ok (to_lay_out job)) n ends zero = zero
+done-status kept summary (Ok (to_judge inputs layout)) n ends zero = absurd ends
+done-status kept summary (Err refusal) n ends zero = absurd ends
+
+-- what is said of a command to route, where the rules and the design are read
+pub job-said : (names : Names) (told : List ℕ → Option (List ℕ)) (inputs : Inputs) (said : Result Accepted Refusal)
+    → ((s : Result Inputs Refusal) → inputs_told names.rules names.design told ≡ Some s → s ≡ Ok inputs) → command_verdict (route names) told ≡ Some said
+    → said ≡ job_verdict names.wanted inputs
+unfolding command_verdict
+job-said names told inputs said gives is =
+    sym (same_Some (job_verdict names.wanted inputs) said
+    (told-next (inputs_told names.rules names.design told) inputs (λ (i : Inputs). Some (job_verdict names.wanted i)) said gives is))
+
+-- the same of what is said alike
+pub said-routed : (may : List Candidate → ℕ → Type 0) (said other : Result Accepted Refusal) (kept : List Routed) → said ≡ other → IsRoutedSo may other kept
+    → IsRoutedSo may said kept
+said-routed may said other kept same routed = subst (λ (s : Result Accepted Refusal). IsRoutedSo may s kept) (sym same) routed
+
+-- the channels that are kept are those of the command
 pub kept-so : {C : Type 0} (may : C → List Candidate → ℕ → Type 0) (styles : List C) (told : List ℕ → Option (List ℕ)) (done command : Command)
-    (said : Result Job Refusal) (kept items : List Routed) → command ≡ done → command_verdict command told ≡ Some said → kept ≡ items
-    → ((s : Result Job Refusal) → command_verdict done told ≡ Some s → AreKept may styles done s items) → AreKept may styles command said kept
-kept-so may styles told done command said kept items one says same routed =
-    subst (λ (c : Command). AreKept may styles c said kept) (sym one)
-    (subst (λ (k : List Routed). AreKept may styles done said k) (sym same) (routed said (ap (λ (c : Command). command_verdict c told) (sym one) ∙ says)))
+    (said : Result Accepted Refusal) (kept : List Routed) → command ≡ done → command_verdict command told ≡ Some said
+    → ((s : Result Accepted Refusal) → command_verdict done told ≡ Some s → AreKept may styles done s kept) → AreKept may styles command said kept
+kept-so may styles told done command said kept one says routed =
+    subst (λ (c : Command). AreKept may styles c said kept) (sym one) (routed said (ap (λ (c : Command). command_verdict c told) (sym one) ∙ says))
 
 -- so by the style that stands at its place
-pub chosen-so : {C : Type 0} (may : C → List Candidate → ℕ → Type 0) (styles : List C) (place : ℕ) (chosen d : C) (said : Result Job Refusal) (kept : List Routed)
-    → place < length styles → chosen ≡ get_or styles place d → IsRoutedSo (may chosen) said kept → (style : C) → slice_get styles place ≡ Some style
-    → IsRoutedSo (may style) said kept
-chosen-so may styles place chosen d said kept within is routed style at =
-    let same : get_or styles place d ≡ style = same_Some (get_or styles place d) style (sym (slice_get-get_or styles place d within) ∙ at) in
+pub chosen-so : {C : Type 0} (may : C → List Candidate → ℕ → Type 0) (styles : List C) (place : ℕ) (chosen d : C) (said : Result Accepted Refusal) (kept : List Routed)
+    → place < length styles → chosen ≡ get_or styles place d → IsRoutedSo (may chosen) said kept → (at_place : ℕ) (style : C) → Some place ≡ Some at_place
+    → slice_get styles at_place ≡ Some style → IsRoutedSo (may style) said kept
+chosen-so may styles place chosen d said kept within is routed at_place style placed at =
+    let here : slice_get styles place ≡ Some style = ap (slice_get styles) (same_Some place at_place placed) ∙ at in
+    let same : get_or styles place d ≡ style = same_Some (get_or styles place d) style (sym (slice_get-get_or styles place d within) ∙ here) in
     subst (λ s. IsRoutedSo (may s) said kept) (is ∙ same) routed

@@ -1,4 +1,7 @@
-use Rattle.std.specs.Prelude.{◌≡◌, Result, Ok, Err}
+use Rattle.std.specs.Prelude.{◌≡◌, List, Result, Ok, Err, IsOkAnd}
+use Rattle.greedy_router.specs.declared.sweep.Routed.{Routed}
+use Rattle.commands.specs.Done.{Does, Done, IsToLayOut}
+use Rattle.commands.specs.Job.{Accepted}
 use Rattle.commands.specs.declared.refusal.Refusal.{Refusal}
 use Rattle.commands.specs.declared.refusal.Refusal.TheVariants as refusals
 use Rattle.commands.specs.declared.stop.Stop.{Stop}
@@ -18,16 +21,19 @@ Finds view (Err (Refused refusal)) said = said ≡ Err refusal
 Finds view (Err ReadFault) said = Unit {0}
 Finds view (Err WriteFault) said = ⊥
 
--- there is a job to be done
-abbrev pub IsAccepted : {Y : Type 0} → Result Y Refusal → Type 0
-IsAccepted (Ok job) = Unit {0}
-IsAccepted (Err refusal) = ⊥
+-- a text was written, or could not be, or memory ran out before
+abbrev pub IsWriting : Result (Unit {0}) Stop → Type 0
+IsWriting (Ok written) = Unit {0}
+IsWriting (Err (Refused refusals.Memory)) = Unit {0}
+IsWriting (Err (Refused refusal)) = ⊥
+IsWriting (Err ReadFault) = ⊥
+IsWriting (Err WriteFault) = Unit {0}
 
--- a command that ended so ended as is said, unless reading failed or memory ran out; it has written, or failed to, only where there
--- is a job to be done
-abbrev pub Ends : {Y : Type 0} → Result (Unit {0}) Stop → Result Y Refusal → Type 0
-Ends (Ok done) said = IsAccepted said
-Ends (Err (Refused refusals.Memory)) said = Unit {0}
-Ends (Err (Refused refusal)) said = said ≡ Err refusal
-Ends (Err ReadFault) said = Unit {0}
-Ends (Err WriteFault) said = IsAccepted said
+-- a command that ended so and keeps these routed channels ended as is said, unless reading failed or memory ran out; it could not write a file
+-- only where there is a job to be done
+abbrev pub Ends : List Routed → Result Done Stop → Result Accepted Refusal → Type 0
+Ends kept (Ok done) said = IsOkAnd said (Does kept done)
+Ends kept (Err (Refused refusals.Memory)) said = Unit {0}
+Ends kept (Err (Refused refusal)) said = said ≡ Err refusal
+Ends kept (Err ReadFault) said = Unit {0}
+Ends kept (Err WriteFault) said = IsOkAnd said IsToLayOut

@@ -1,4 +1,4 @@
-use Rattle.std.specs.Prelude.{◌≡◌, ℕ, List, Ok}
+use Rattle.std.specs.Prelude.{◌≡◌, ℕ, List, Ok, Option, Some}
 use Rattle.geom_core.specs.declared.layout.Layout.{Layout}
 use Rattle.tech_rules.specs.Rules.{RuleValues}
 use Rattle.tech_rules.specs.RulesOf.{rules_of}
@@ -10,7 +10,10 @@ use Rattle.netlist_core.specs.OnGrid.{on_grid}
 use Rattle.design_model.specs.SameNet.{SameNet}
 use Rattle.netlist_core.specs.SignalWords.{parent_calls, word_of}
 use Rattle.cif_text.specs.ReadsAs.{ReadsAs}
+use Rattle.layout_report.specs.MadeText.{made_text}
+use Rattle.commands.specs.Command.{Source, from_file, from_seed}
 use Rattle.commands.specs.Job.{Job}
+use Rattle.commands.specs.declared.stages.Inputs.{Inputs}
 
 -- a text is a good layout of a design: it reads as commands of CIF that mean a layout, and that is good for the design and the rules
 pub record IsGoodText (rules : RuleValues) (d : Netlist) (text : List ℕ) : Type 0 where
@@ -48,6 +51,16 @@ pub record IsDesignOf (rules : RuleValues) (bytes : List ℕ) (d : Netlist) : Ty
   pub file : YalFile
   pub read : yal_reads bytes ≡ Ok file
   pub is : IsDesignFor rules file d
+
+-- the text of a design from a source is this: the bytes that a file is told to hold, or the text that is made under the rules that a text states
+abbrev pub IsSourceText : Source → (List ℕ → Option (List ℕ)) → List ℕ → List ℕ → Type 0
+IsSourceText (from_file name) told stated bytes = told name ≡ Some bytes
+IsSourceText (from_seed seed count) told stated bytes = (rules : RuleValues) → rules_of stated ≡ Ok rules → bytes ≡ made_text rules seed count
+
+-- rules and a design are what the bytes of a rules file and of a design's file say
+pub record AreInputsFrom (stated bytes : List ℕ) (inputs : Inputs) : Type 0 where
+  pub states : rules_of stated ≡ Ok inputs.rules
+  pub is : IsDesignOf inputs.rules bytes inputs.design
 
 -- a job is what the bytes of a rules file and of a design's file say
 pub record IsJobFrom (stated bytes : List ℕ) (job : Job) : Type 0 where

@@ -14,9 +14,9 @@ use Rattle.commands.specs.declared.refusal.Refusal.TheVariants.{Limit}
 abbrev pub above : Limited → ℕ → ℕ → Option Refusal
 above what most n = if nat_lt most n then Some (Limit what n) else None
 
--- a file's contents, which have at most 16,777,216 bytes
-unfoldable pub within_limit : Limited → List ℕ → Result (List ℕ) Refusal
-within_limit what bytes = if nat_lt 16777216 (length bytes) then Err (Limit what 16777216) else Ok bytes
+-- a file's contents, which have at most so many bytes
+unfoldable pub within_limit : Limited → ℕ → List ℕ → Result (List ℕ) Refusal
+within_limit what most bytes = if nat_lt most (length bytes) then Err (Limit what most) else Ok bytes
 
 -- annealing tries at most 50,000,000 changes
 unfoldable pub moves_refusal : RuleValues → Netlist → Option Refusal

@@ -5,10 +5,14 @@ use Rattle.yal_reader.specs.declared.fault.YalKind.{YalKind}
 use Rattle.yal_reader.specs.declared.fault.YalKind.TheVariants as kinds
 use Rattle.netlist_core.specs.declared.fault.DesignFault.{DesignFault}
 use Rattle.netlist_core.specs.declared.fault.DesignFault.TheVariants as faults
+use Rattle.cif_text.specs.declared.fault.CifKind.{CifKind}
+use Rattle.cif_text.specs.declared.fault.CifKind.TheVariants as texts
+use Rattle.cif_reader.specs.declared.fault.ExpandKind.{ExpandKind}
+use Rattle.cif_reader.specs.declared.fault.ExpandKind.TheVariants as meanings
 use Rattle.commands.specs.declared.refusal.Limited.{Limited}
 use Rattle.commands.specs.declared.refusal.Limited.TheVariants as limits
 use Rattle.commands.specs.declared.refusal.Refusal.{Refusal}
-use Rattle.commands.specs.declared.refusal.Refusal.TheVariants.{Usage, Toml, Missing, Range, Tight, Yal, Design, Limit, Memory}
+use Rattle.commands.specs.declared.refusal.Refusal.TheVariants.{Usage, Toml, Missing, Range, Tight, Yal, Design, Cif, Meaning, Limit, Memory}
 use Rattle.commands.specs.declared.stop.Stop.{Stop}
 use Rattle.commands.specs.declared.stop.Stop.TheVariants.{Refused, ReadFault, WriteFault}
 
@@ -45,9 +49,30 @@ fault_word (faults.WrongLayer m) = codes "WrongLayer"
 fault_word (faults.Limit count n) = codes "Limit"
 fault_word faults.Memory = codes "Memory"
 
+-- the words of a fault of a text of CIF and of its commands, without what they carry
+unfoldable pub text_word : CifKind → List ℕ
+text_word texts.NotAscii = codes "NotAscii"
+text_word texts.Unclosed = codes "Unclosed"
+text_word texts.BadCommand = codes "BadCommand"
+text_word texts.Number = codes "Number"
+text_word texts.NoEnd = codes "NoEnd"
+text_word (texts.LeftOut byte) = codes "LeftOut"
+text_word texts.Turned = codes "Turned"
+
+unfoldable pub meaning_word : ExpandKind → List ℕ
+meaning_word (meanings.Undefined n) = codes "Undefined"
+meaning_word (meanings.Twice n) = codes "Twice"
+meaning_word meanings.Inexact = codes "Inexact"
+meaning_word (meanings.TooFar z) = codes "TooFar"
+meaning_word meanings.TooMany = codes "TooMany"
+meaning_word meanings.NoLayer = codes "NoLayer"
+meaning_word meanings.NoSymbolName = codes "NoSymbolName"
+meaning_word meanings.TooDeep = codes "TooDeep"
+
 unfoldable pub limited_word : Limited → List ℕ
 limited_word limits.Rules = codes "Rules"
 limited_word limits.Design = codes "Design"
+limited_word limits.Cif = codes "Cif"
 limited_word limits.Instances = codes "Instances"
 limited_word limits.Pins = codes "Pins"
 limited_word limits.Moves = codes "Moves"
@@ -65,6 +90,8 @@ refusal_words (Tight rule) = codes "rules" ∷ codes "Tight" ∷ decimal rule �
 refusal_words (Yal kind place) = codes "yal" ∷ kind_word kind ∷ decimal place ∷ []
 refusal_words (Design fault None) = codes "design" ∷ fault_word fault ∷ []
 refusal_words (Design fault (Some name)) = codes "design" ∷ fault_word fault ∷ name ∷ []
+refusal_words (Cif kind place) = codes "cif" ∷ text_word kind ∷ decimal place ∷ []
+refusal_words (Meaning kind command) = codes "cif" ∷ meaning_word kind ∷ decimal command ∷ []
 refusal_words (Limit what n) = codes "limit" ∷ limited_word what ∷ decimal n ∷ []
 refusal_words Memory = codes "memory" ∷ []
 

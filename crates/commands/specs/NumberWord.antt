@@ -17,6 +17,15 @@ abbrev pub within_rows : Option ℕ → Option ℕ
 within_rows None = None
 within_rows (Some n) = if nat_le 1 n && nat_le n 512 then Some n else None
 
+-- a number of instances is 1 to 20,000
+abbrev pub within_count : Option ℕ → Option ℕ
+within_count None = None
+within_count (Some n) = if nat_le 1 n && nat_le n 20000 then Some n else None
+
+-- the number of instances that a text asks for
+unfoldable pub count_in : List ℕ → Option ℕ
+count_in text = within_count (number_of text)
+
 -- the number of rows that a text asks for
 unfoldable pub rows_in : List ℕ → Option ℕ
 rows_in text = within_rows (number_of text)

@@ -1,11 +1,13 @@
-use Rattle.std.specs.Prelude.{◌≡◌, ℕ, List, [], Option, Some, Result, Ok, Err, IfSome, slice_get}
-use Rattle.shelf_io.specs.Told.{Refines}
+use Rattle.std.specs.Prelude.{◌≡◌, ◌⊎◌, ◌++◌, ℕ, List, Option, Some, Result, Ok, Err, IfSome, slice_get, take}
+use Rattle.shelf_io.specs.Count.{Rose}
+use Rattle.shelf_io.specs.Told.{Refines, appended}
 use Rattle.commands.specs.Answers.{Ends}
 use Rattle.cif_writer.specs.LayoutText as written
+use Rattle.commands.specs.Done.{Done, done_status, done_text}
 use Rattle.commands.specs.Gains.{Gains}
-use Rattle.commands.specs.Job.{Job}
+use Rattle.commands.specs.Job.{Accepted, Job, to_judge, to_lay_out}
 use Rattle.commands.specs.Line.{line_of}
-use Rattle.commands.specs.Status.{ending_status}
+use Rattle.commands.specs.Status.{stop_status}
 use Rattle.choose_core.specs.declared.candidate.Candidate.{Candidate}
 use Rattle.greedy_router.specs.Answers.{AreRouted}
 use Rattle.greedy_router.specs.declared.sweep.Routed.{Routed}
@@ -13,34 +15,59 @@ use Rattle.commands.specs.Command.{Command, style_of}
 use Rattle.commands.specs.Text.{channels_of, job_text}
 use Rattle.commands.specs.declared.refusal.Refusal.{Refusal}
 use Rattle.commands.specs.declared.stop.Stop.{Stop}
+use Rattle.commands.specs.declared.stop.Stop.TheVariants.{WriteFault}
+
+-- a job to lay a design out is accepted, of which this holds
+abbrev pub IsJobAnd : Result Accepted Refusal → (Job → Type 0) → Type 0
+IsJobAnd (Ok (to_lay_out job)) P = P job
+IsJobAnd (Ok (to_judge inputs layout)) P = ⊥
+IsJobAnd (Err refusal) P = ⊥
 
 -- a file that is told holds just the text of the job that is accepted, with these routed channels; one is
-abbrev pub Holds : Result Job Refusal → List Routed → Option (List ℕ) → Type 0
-Holds (Ok job) kept told = Refines told (Some (job_text job kept))
-Holds (Err refusal) kept told = ⊥
+abbrev pub Holds : Result Accepted Refusal → List Routed → Option (List ℕ) → Type 0
+Holds said kept told = IsJobAnd said (λ job. Refines told (Some (job_text job kept)))
 
 -- a file that is told holds what it was told to hold before, or a front of the text of the job that is accepted; one is
-abbrev pub HoldsFront : Result Job Refusal → List Routed → Option (List ℕ) → Option (List ℕ) → Type 0
-HoldsFront (Ok job) kept before told = written.HoldsFront (job_text job kept) before told
-HoldsFront (Err refusal) kept before told = ⊥
+abbrev pub HoldsFront : Result Accepted Refusal → List Routed → Option (List ℕ) → Option (List ℕ) → Type 0
+HoldsFront said kept before told = IsJobAnd said (λ job. written.HoldsFront (job_text job kept) before told)
 
 -- the channels of the job that is accepted are routed so, by choices that may be made; one is
-abbrev pub IsRoutedSo : (List Candidate → ℕ → Type 0) → Result Job Refusal → List Routed → Type 0
-IsRoutedSo may (Ok job) kept = AreRouted may (channels_of job) kept
-IsRoutedSo may (Err refusal) kept = ⊥
+abbrev pub IsRoutedSo : (List Candidate → ℕ → Type 0) → Result Accepted Refusal → List Routed → Type 0
+IsRoutedSo may said kept = IsJobAnd said (λ job. AreRouted may (channels_of job) kept)
 
 -- so by the choices of a command's style
-pub record AreKept {C : Type 0} (may : C → List Candidate → ℕ → Type 0) (styles : List C) (command : Command) (said : Result Job Refusal) (kept : List Routed) : Type 0 where
-  pub by_style : (style : C) → slice_get styles (style_of command) ≡ Some style → IsRoutedSo (may style) said kept
+pub record AreKept {C : Type 0} (may : C → List Candidate → ℕ → Type 0) (styles : List C) (command : Command) (said : Result Accepted Refusal) (kept : List Routed) : Type 0 where
+  pub by_style : (place : ℕ) (style : C) → style_of command ≡ Some place → slice_get styles place ≡ Some style → IsRoutedSo (may style) said kept
 
--- the line of a command that ended so
-abbrev pub ending_line : Result (Unit {0}) Stop → List ℕ
-ending_line (Ok done) = []
-ending_line (Err stop) = line_of stop
+-- what was done is printed whole
+pub record IsPrinted (done : Done) (status : ℕ) (before after : Option (List ℕ)) (old new : ℕ) : Type 0 where
+  pub number : status ≡ done_status done
+  pub whole : Refines after (appended before (done_text done))
+  pub calm : new ≡ old
 
--- a command ended so: as is said, where anything is, with the status of that end, and with its line put to the sink
-pub record EndsAs (said : Option (Result Job Refusal)) (status : ℕ) (before after : Option (List ℕ)) (old new : ℕ) : Type 0 where
-  pub ending : Result (Unit {0}) Stop
-  pub is : IfSome said (Ends ending)
-  pub number : status ≡ ending_status ending
-  pub line : Gains (ending_line ending) before after old new
+-- a sink that is told gained a front of a text, and then a front of another
+abbrev pub GainsFronts : List ℕ → List ℕ → Option (List ℕ) → Option (List ℕ) → Type 0
+GainsFronts first second before after = (held : List ℕ) → after ≡ Some held
+    → (j : ℕ) × (k : ℕ) × (appended before (take j first ++ take k second) ≡ Some held)
+
+-- printing what was done failed, and the line of a write fault was tried
+pub record IsCutOff (done : Done) (status : ℕ) (before after : Option (List ℕ)) (old new : ℕ) : Type 0 where
+  pub number : status ≡ 9
+  pub fronts : GainsFronts (done_text done) (line_of WriteFault) before after
+  pub rose : Rose old new
+
+-- what stopped a command is printed as far as the sink takes it
+pub record IsStopped (stop : Stop) (status : ℕ) (before after : Option (List ℕ)) (old new : ℕ) : Type 0 where
+  pub number : status ≡ stop_status stop
+  pub line : Gains (line_of stop) before after old new
+
+-- a command that ended so has this status, and its lines are put to the sink
+abbrev pub Tells : Result Done Stop → ℕ → Option (List ℕ) → Option (List ℕ) → ℕ → ℕ → Type 0
+Tells (Ok done) status before after old new = IsPrinted done status before after old new ⊎ IsCutOff done status before after old new
+Tells (Err stop) status before after old new = IsStopped stop status before after old new
+
+-- a command that keeps these routed channels ended so: as is said, where anything is, with the status of that end, and with its lines put to the sink
+pub record EndsAs (said : Option (Result Accepted Refusal)) (kept : List Routed) (status : ℕ) (before after : Option (List ℕ)) (old new : ℕ) : Type 0 where
+  pub ending : Result Done Stop
+  pub is : IfSome said (Ends kept ending)
+  pub tells : Tells ending status before after old new

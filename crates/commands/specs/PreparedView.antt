@@ -10,6 +10,7 @@ use Rattle.cif_writer.specs.Symbols.{symbol_drawings}
 use Rattle.greedy_router.specs.declared.sweep.Routed.{Routed}
 use Rattle.commands.specs.Job.{Job}
 use Rattle.commands.specs.Kept.{wirings_of}
+use Rattle.commands.specs.Summarized.{summary_of}
 use Rattle.commands.specs.Text.{rows_with_feeds}
 use Rattle.commands.specs.declared.prepared.Prepared.TheInside.{Inside}
 
@@ -30,4 +31,5 @@ pub record IsPrepared (a : Inside) : Type 0 where
   pub routed : IsRouted a.rules a.design a.fed (wirings_of a.kept)
   pub laid : a.laid ≡ laid_of (stack_of a.rules a.design a.fed (wirings_of a.kept))
   pub good : Good a.rules a.design (layout_of a.rules a.design (stack_of a.rules a.design a.fed (wirings_of a.kept)))
+  pub told : a.summary ≡ summary_of (job_in a).job a.kept
   pub symbols : a.symbols.items ≡ symbol_drawings a.rules a.design a.fed

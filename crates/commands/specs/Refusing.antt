@@ -16,3 +16,9 @@ unless (Some refusal) next = Err refusal
 abbrev pub or_refusal : Option Refusal → Option Refusal → Option Refusal
 or_refusal None next = next
 or_refusal (Some refusal) next = Some refusal
+
+-- what is said of files, as far as they are told, and what comes after it
+abbrev pub told_then : {A B : Type 0} → Option (Result A Refusal) → (A → Option (Result B Refusal)) → Option (Result B Refusal)
+told_then None next = None
+told_then (Some (Ok a)) next = next a
+told_then (Some (Err refusal)) next = Some (Err refusal)

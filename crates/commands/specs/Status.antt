@@ -1,7 +1,7 @@
 use Rattle.std.specs.Prelude.{ℕ, [], ◌∷◌, Bool, ◌==◌, Result, Ok, Err}
 use Rattle.std.specs.List.{list_any}
 use Rattle.commands.specs.declared.refusal.Refusal.{Refusal}
-use Rattle.commands.specs.declared.refusal.Refusal.TheVariants.{Usage, Toml, Missing, Range, Tight, Yal, Design, Limit, Memory}
+use Rattle.commands.specs.declared.refusal.Refusal.TheVariants.{Usage, Toml, Missing, Range, Tight, Yal, Design, Cif, Meaning, Limit, Memory}
 use Rattle.commands.specs.declared.stop.Stop.{Stop}
 use Rattle.commands.specs.declared.stop.Stop.TheVariants.{Refused, ReadFault, WriteFault}
 
@@ -14,6 +14,8 @@ refusal_status (Missing key) = 4
 refusal_status (Range key) = 4
 refusal_status (Tight rule) = 4
 refusal_status (Design fault name) = 5
+refusal_status (Cif kind place) = 7
+refusal_status (Meaning kind command) = 7
 refusal_status (Limit what n) = 6
 refusal_status Memory = 10
 
@@ -28,11 +30,6 @@ abbrev pub ending_status : {A : Type 0} → Result A Stop → ℕ
 ending_status (Ok done) = 0
 ending_status (Err stop) = stop_status stop
 
--- the status of a verdict: a text, or a refusal
-abbrev pub verdict_status : {A : Type 0} → Result A Refusal → ℕ
-verdict_status (Ok text) = 0
-verdict_status (Err refusal) = refusal_status refusal
-
 -- one of the numbers that a command ends with
 abbrev pub is_status : ℕ → Bool
-is_status n = list_any (λ status. n == status) (0 ∷ 2 ∷ 3 ∷ 4 ∷ 5 ∷ 6 ∷ 8 ∷ 9 ∷ 10 ∷ [])
+is_status n = list_any (λ status. n == status) (0 ∷ 1 ∷ 2 ∷ 3 ∷ 4 ∷ 5 ∷ 6 ∷ 7 ∷ 8 ∷ 9 ∷ 10 ∷ [])

@@ -11,17 +11,25 @@ use Rattle.netlist_core.specs.OnGrid.{on_grid}
 use Rattle.netlist_core.specs.declared.fault.Count.TheVariants.{Instances, Pins}
 use Rattle.netlist_core.specs.declared.fault.DesignFault.{DesignFault}
 use Rattle.netlist_core.specs.declared.fault.DesignFault.TheVariants as faults
-use Rattle.commands.specs.Command.{Command, command_of, route}
-use Rattle.commands.specs.Job.{Job}
+use Rattle.geom_core.specs.declared.layout.Layout.{Layout}
+use Rattle.cif_text.specs.CifReads.{cif_reads}
+use Rattle.cif_text.specs.declared.command.Command as cif
+use Rattle.cif_text.specs.declared.fault.CifKind.{CifKind}
+use Rattle.cif_reader.specs.Expansion.{expansion}
+use Rattle.cif_reader.specs.declared.fault.ExpandKind.{ExpandKind}
+use Rattle.layout_report.specs.MadeText.{made_text}
+use Rattle.commands.specs.Command.{Command, Source, check, command_of, from_file, from_seed, route}
+use Rattle.commands.specs.Job.{Accepted, Job, to_judge, to_lay_out}
 use Rattle.commands.specs.FaultName.{fault_name}
 use Rattle.commands.specs.Limits.{moves_refusal, size_refusal, within_limit}
-use Rattle.commands.specs.Refusing.{◌>>=◌, unless}
+use Rattle.commands.specs.Refusing.{◌>>=◌, told_then, unless}
 use Rattle.commands.specs.Rows.{job_of}
 use Rattle.commands.specs.Text.{bound_for}
 use Rattle.commands.specs.declared.command.Wanted.{Wanted}
 use Rattle.commands.specs.declared.refusal.Limited.TheVariants as limits
 use Rattle.commands.specs.declared.refusal.Refusal.{Refusal}
-use Rattle.commands.specs.declared.refusal.Refusal.TheVariants.{Usage, Toml, Missing, Range, Tight, Yal, Design, Limit, Memory}
+use Rattle.commands.specs.declared.stages.Inputs.{Inputs}
+use Rattle.commands.specs.declared.refusal.Refusal.TheVariants.{Usage, Toml, Missing, Range, Tight, Yal, Design, Cif, Meaning, Limit, Memory}
 
 -- a fault of the rules file as a refusal
 abbrev pub rules_refusal : RulesFault → Refusal
@@ -57,7 +65,7 @@ stated_rules bytes = rules_said (rules_of bytes)
 -- the rules that the bytes of a rules file state
 unfoldable pub rules_verdict : List ℕ → Result RuleValues Refusal
 rules_verdict bytes = do
-  whole ← within_limit limits.Rules bytes
+  whole ← within_limit limits.Rules 16777216 bytes
   stated_rules whole
 
 -- the design that a text of YAL is
@@ -69,41 +77,76 @@ stated_design rules bytes = do
 -- the design that the bytes of a design's file state
 unfoldable pub design_verdict : RuleValues → List ℕ → Result Netlist Refusal
 design_verdict rules bytes = do
-  whole ← within_limit limits.Design bytes
+  whole ← within_limit limits.Design 16777216 bytes
   stated_design rules whole
 
 -- a job that passes the limits: that of the changes of its annealing, and those of its layout
 unfoldable pub within_limits : Job → Result Job Refusal
 within_limits job = unless (moves_refusal job.rules job.design) (unless (size_refusal (bound_for job)) (Ok job))
 
--- the job of laying out the design that the bytes of a file state
-unfoldable pub job_verdict : RuleValues → Wanted → List ℕ → Result Job Refusal
-job_verdict rules wanted bytes = do
+-- the rules, and the design that the bytes of a design's file state under them
+unfoldable pub inputs_under : RuleValues → List ℕ → Result Inputs Refusal
+inputs_under rules bytes = do
   design ← design_verdict rules bytes
-  within_limits (job_of rules design wanted)
+  Ok (record { rules = rules; design = design })
 
-abbrev pub verdict_under : Wanted → Result RuleValues Refusal → Option (List ℕ) → Option (Result Job Refusal)
-verdict_under wanted (Ok rules) design = option_map (job_verdict rules wanted) design
-verdict_under wanted (Err refusal) design = Some (Err refusal)
+-- the text of a design from a source, under rules: that of a file as far as it is told, or one that is made
+abbrev pub design_text : Source → (List ℕ → Option (List ℕ)) → RuleValues → Option (List ℕ)
+design_text (from_file name) told rules = told name
+design_text (from_seed seed count) told rules = Some (made_text rules seed count)
 
--- the verdict on the rules file and the design's file by what they are told to hold: the job to be done, or the first refusal. There
--- is none where a file that it comes to is untold
-unfoldable pub files_verdict : Wanted → Option (List ℕ) → Option (List ℕ) → Option (Result Job Refusal)
-files_verdict wanted None design = None
-files_verdict wanted (Some rules) design = verdict_under wanted (rules_verdict rules) design
+-- the rules that a file is told to state, and the design from a source under them
+unfoldable pub inputs_told : List ℕ → Source → (List ℕ → Option (List ℕ)) → Option (Result Inputs Refusal)
+inputs_told rules source told = told_then (option_map rules_verdict (told rules)) (λ stated. option_map (inputs_under stated) (design_text source told stated))
 
--- the verdict on a command by what the files are told to hold, and that on a command's words
-abbrev pub command_verdict : Command → (List ℕ → Option (List ℕ)) → Option (Result Job Refusal)
-command_verdict (route names) told = files_verdict names.wanted (told names.rules) (told names.design)
+-- the job of laying a design out under rules
+unfoldable pub job_verdict : Wanted → Inputs → Result Accepted Refusal
+job_verdict wanted inputs = do
+  job ← within_limits (job_of inputs.rules inputs.design wanted)
+  Ok (to_lay_out job)
 
-abbrev pub asked_verdict : Option Command → (List ℕ → Option (List ℕ)) → Option (Result Job Refusal)
+abbrev pub cif_said : Result (List cif.Command) (CifKind × ℕ) → Result (List cif.Command) Refusal
+cif_said (Ok commands) = Ok commands
+cif_said (Err bad) = Err (Cif bad.0 bad.1)
+
+abbrev pub meaning_said : Result Layout (ExpandKind × ℕ) → Result Layout Refusal
+meaning_said (Ok layout) = Ok layout
+meaning_said (Err bad) = Err (Meaning bad.0 bad.1)
+
+-- the commands that the bytes of a layout's file are
+unfoldable pub commands_verdict : List ℕ → Result (List cif.Command) Refusal
+commands_verdict bytes = do
+  whole ← within_limit limits.Cif 268435456 bytes
+  cif_said (cif_reads whole)
+
+-- the layout that they give, within the limits of the reader
+unfoldable pub layout_verdict : List ℕ → Result Layout Refusal
+layout_verdict bytes = do
+  commands ← commands_verdict bytes
+  meaning_said (expansion commands)
+
+-- the judgement of that layout for a design under rules
+unfoldable pub judgement_verdict : Inputs → List ℕ → Result Accepted Refusal
+judgement_verdict inputs bytes = do
+  layout ← layout_verdict bytes
+  Ok (to_judge inputs layout)
+
+-- the verdict on a command by what the files are told to hold: what is to be done, or the first refusal. There is none where a file that it comes to
+-- is untold
+unfoldable pub command_verdict : Command → (List ℕ → Option (List ℕ)) → Option (Result Accepted Refusal)
+command_verdict (route names) told = told_then (inputs_told names.rules names.design told) (λ inputs. Some (job_verdict names.wanted inputs))
+command_verdict (check names) told =
+    told_then (inputs_told names.rules (from_file names.design) told) (λ inputs. option_map (judgement_verdict inputs) (told names.cif))
+
+-- that on a command's words
+abbrev pub asked_verdict : Option Command → (List ℕ → Option (List ℕ)) → Option (Result Accepted Refusal)
 asked_verdict None told = Some (Err Usage)
 asked_verdict (Some command) told = command_verdict command told
 
-abbrev pub verdict : List (List ℕ) → List (List ℕ) → (List ℕ → Option (List ℕ)) → Option (Result Job Refusal)
+abbrev pub verdict : List (List ℕ) → List (List ℕ) → (List ℕ → Option (List ℕ)) → Option (Result Accepted Refusal)
 verdict styles words told = asked_verdict (command_of styles words) told
 
 -- words give a command, where the styles have these names, and this is the verdict on it
-pub record Comes (styles words : List (List ℕ)) (told : List ℕ → Option (List ℕ)) (command : Command) (said : Result Job Refusal) : Type 0 where
+pub record Comes (styles words : List (List ℕ)) (told : List ℕ → Option (List ℕ)) (command : Command) (said : Result Accepted Refusal) : Type 0 where
   pub asked : command_of styles words ≡ Some command
   pub says : command_verdict command told ≡ Some said

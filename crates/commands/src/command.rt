@@ -1,16 +1,17 @@
 //! The command that words give.
 
-ghost use Rattle.commands.specs.Command.{IsOfStyle, arguments_of, command_of, named_app, names_in, option_rule, place_of, positional_rule, route_app, rows_given, seed_given, style_given, wanted_in};
-ghost use Rattle.commands.specs.Seen.{Reads, command_seen, seen};
-ghost use Rattle.clap.specs.Words.{app_of, first_of, found_of, rows_of, rule_of, with_rule};
-ghost use Rattle.std.specs.Prelude.{◌≡◌, ◌<◌, false, length, map, option_map, IfOk};
+ghost use Rattle.clap.specs.Words.{found_of, rows_of};
+ghost use Rattle.commands.specs.Command.{IsOfStyle, check, check_app, check_in, command_of, given_by, make_app, make_in, names_in, place_of, route, route_app, rows_given, seed_given, style_given, wanted_in};
+ghost use Rattle.commands.specs.NumberWord.{count_in, number_of};
+ghost use Rattle.commands.specs.Seen.{Reads, check_seen, command_seen, seen};
+ghost use Rattle.std.specs.Prelude.{◌≡◌, ◌<◌, ℕ, length, map, option_and_then, option_map, IfOk};
 
-use crate::number_word::{RowCount, read_number, read_rows};
+use crate::number_word::{MadeCount, RowCount, read_count, read_number, read_rows};
+use crate::parser::{check_parser, make_parser, matches_in, route_parser, value_of};
 use crate::word::Word;
 use choose_core::Chooser;
-use clap::error::ErrorKind;
-use clap::{Arg, ArgMatches, Command as Parser};
-use std::alloc::{AllocError, Global};
+use clap::ArgMatches;
+use std::alloc::Global;
 
 /// How a design is to be laid out: the seed of its annealing, and the number of rows, 1 to 512, if one is asked for.
 #[derive(Clone, Copy, Debug)]
@@ -19,37 +20,41 @@ pub struct Wanted {
     pub rows: Option<RowCount>,
 }
 
-/// The command to route a design: the names of its file, of the rules file and of the file to write, how it is to be laid out, and the
-/// place of the style that chooses, from 0 on.
+/// Where a design comes from.
+#[derive(Clone, Copy, Debug)]
+pub enum Source<'a> {
+    /// The file of this name.
+    File(&'a str),
+    /// It is made from this seed, with so many instances.
+    Made(u64, MadeCount),
+}
+
+/// The command to route a design: where the design comes from, the names of the rules file and of the file to write, how it is to be laid out, and
+/// the place of the style that chooses, from 0 on.
 #[derive(Clone, Copy, Debug)]
 pub struct Route<'a> {
-    pub design: &'a str,
+    pub design: Source<'a>,
     pub rules: &'a str,
     pub out: &'a str,
     pub wanted: Wanted,
     pub style: usize,
 }
 
+/// The command to check a layout: the names of the design's file, of the rules file and of the layout's file.
+#[derive(Clone, Copy, Debug)]
+pub struct Check<'a> {
+    pub design: &'a str,
+    pub rules: &'a str,
+    pub cif: &'a str,
+}
+
 /// A command, and what its arguments are.
 #[derive(Clone, Copy, Debug)]
 pub enum Command<'a> {
-    /// To route a design.
+    /// To route a design, of a file or made.
     Route(Route<'a>),
-}
-
-impl<'a> Command<'a> {
-    ghost use Rattle.std.specs.Prelude.{◌≡◌};
-    ghost use Rattle.commands.specs.Command as asked;
-    ghost use Rattle.commands.specs.Seen.{command_seen, seen};
-
-    /// What the command says, which is one to route. Takes no memory.
-    pub fn route(&self) -> &Route<'a>
-        ensures { command_seen self.now ≡ asked.route (seen result.now) }
-    {
-        match self {
-            Command::Route(names) => names,
-        }
-    }
+    /// To check a layout.
+    Check(Check<'a>),
 }
 
 /// Why words gave no command.
@@ -59,57 +64,6 @@ pub enum WordsFault {
     Usage,
     /// Memory ran out.
     Memory,
-}
-
-// A name that a command has to be given.
-fn positional<'a>(alloc: Global, id: &'a str) -> Arg<'a>
-    ensures rule { rule_of result ≡ positional_rule id.entry.now }
-    ensures local { result.global ≡ false }
-{
-    Arg::new(alloc, id).required(true)
-}
-
-// An option that has a value.
-fn option<'a>(alloc: Global, id: &'a str) -> Arg<'a>
-    ensures rule { rule_of result ≡ option_rule id.entry.now }
-    ensures local { result.global ≡ false }
-{
-    Arg::new(alloc, id).long(id)
-}
-
-// The command with one more argument.
-fn with_arg<'a>(command: Parser<'a>, arg: Arg<'a>) -> Result<Parser<'a>, AllocError>
-    requires { arg.global ≡ false }
-    ensures { IfOk result (λ c. app_of c ≡ with_rule (app_of command.entry) (rule_of arg.entry)) }
-{
-    command.arg(arg)
-}
-
-// The command `route` with its three names.
-fn named_command<'a>(alloc: Global) -> Result<Parser<'a>, AllocError>
-    ensures { IfOk result (λ c. app_of c ≡ named_app) }
-{
-    let command = Parser::new(alloc, "route");
-    let command = with_arg(command, positional(alloc, "design"))?;
-    let command = with_arg(command, positional(alloc, "rules"))?;
-    with_arg(command, positional(alloc, "out"))
-}
-
-// The command `route` with its arguments.
-fn route_command<'a>(alloc: Global) -> Result<Parser<'a>, AllocError>
-    ensures { IfOk result (λ c. app_of c ≡ route_app) }
-{
-    let command = named_command(alloc)?;
-    let command = with_arg(command, option(alloc, "seed"))?;
-    let command = with_arg(command, option(alloc, "rows"))?;
-    with_arg(command, option(alloc, "style"))
-}
-
-// The value of an argument.
-fn value_of<'a>(matches: &ArgMatches<'a>, id: &str) -> Option<&'a str>
-    ensures { option_map (λ s. s.now) result ≡ first_of id.now (rows_of (found_of matches.now)) }
-{
-    matches.get_str(id)
 }
 
 // The rows that a value asks for.
@@ -173,7 +127,7 @@ fn route_of<'a>(styles: &[Chooser], matches: &ArgMatches<'a>) -> Option<Route<'a
     ensures { option_map seen result ≡ names_in (map (λ s. s.name) styles.now) (rows_of (found_of matches.now)) }
 {
     Some(Route {
-        design: value_of(matches, "design")?,
+        design: Source::File(value_of(matches, "design")?),
         rules: value_of(matches, "rules")?,
         out: value_of(matches, "out")?,
         wanted: wanted_of(matches)?,
@@ -181,30 +135,143 @@ fn route_of<'a>(styles: &[Chooser], matches: &ArgMatches<'a>) -> Option<Route<'a
     })
 }
 
-// The names that words give, of which the first is the command's.
-fn read_arguments<'w>(
+// What words give `route`.
+fn read_route<'w>(
     alloc: Global,
     styles: &[Chooser],
     words: &'w [Word],
 ) -> Result<Route<'w>, WordsFault>
-    ensures { Reads seen result (arguments_of (map (λ s. s.name) styles.now) words.now) }
+    ensures { Reads seen result (given_by route_app (names_in (map (λ s. s.name) styles.now)) words.now) }
 {
-    let Ok(command) = route_command(alloc) else {
+    let Ok(parser) = route_parser(alloc) else {
         return Err(WordsFault::Memory);
     };
-    match command.try_get_matches_from(words) {
+    match matches_in(parser, words) {
         Ok(matches) => match route_of(styles, &matches) {
             Some(route) => Ok(route),
             None => Err(WordsFault::Usage),
         },
-        Err(error) => match error.kind() {
-            ErrorKind::OutOfMemory => Err(WordsFault::Memory),
-            _ => Err(WordsFault::Usage),
-        },
+        Err(fault) => Err(fault),
     }
 }
 
-/// The command that the words give: `route` and what its arguments are, of which a style is the place of the first of its name. It errs
+// What accepted words give.
+fn check_of<'a>(matches: &ArgMatches<'a>) -> Option<Check<'a>>
+    ensures { option_map check_seen result ≡ check_in (rows_of (found_of matches.now)) }
+{
+    Some(Check {
+        design: value_of(matches, "design")?,
+        rules: value_of(matches, "rules")?,
+        cif: value_of(matches, "cif")?,
+    })
+}
+
+// What words give `check`.
+fn read_check<'w>(alloc: Global, words: &'w [Word]) -> Result<Check<'w>, WordsFault>
+    ensures { Reads check_seen result (given_by check_app check_in words.now) }
+{
+    let Ok(parser) = check_parser(alloc) else {
+        return Err(WordsFault::Memory);
+    };
+    match matches_in(parser, words) {
+        Ok(matches) => match check_of(&matches) {
+            Some(check) => Ok(check),
+            None => Err(WordsFault::Usage),
+        },
+        Err(fault) => Err(fault),
+    }
+}
+
+// The number that a value writes.
+fn number_given(value: Option<&str>) -> Option<u64>
+    ensures { result ≡ option_and_then number_of (option_map (λ s. s.now) value.entry) }
+{
+    match value {
+        Some(word) => read_number(word),
+        None => None,
+    }
+}
+
+// The number of instances that a value asks for.
+fn count_given(value: Option<&str>) -> Option<MadeCount>
+    ensures { result ≡ option_and_then count_in (option_map (λ s. s.now) value.entry) }
+{
+    match value {
+        Some(word) => read_count(word),
+        None => None,
+    }
+}
+
+// What accepted words of `make` give.
+fn make_of<'a>(matches: &ArgMatches<'a>) -> Option<Route<'a>>
+    ensures { option_map seen result ≡ make_in (rows_of (found_of matches.now)) }
+{
+    let seed = number_given(value_of(matches, "seed"))?;
+    let count = count_given(value_of(matches, "count"))?;
+    Some(Route {
+        design: Source::Made(seed, count),
+        rules: value_of(matches, "rules")?,
+        out: value_of(matches, "out")?,
+        wanted: Wanted { seed, rows: None },
+        style: 0,
+    })
+}
+
+// What words give `make`.
+fn read_make<'w>(alloc: Global, words: &'w [Word]) -> Result<Route<'w>, WordsFault>
+    ensures { Reads seen result (given_by make_app make_in words.now) }
+{
+    let Ok(parser) = make_parser(alloc) else {
+        return Err(WordsFault::Memory);
+    };
+    match matches_in(parser, words) {
+        Ok(matches) => match make_of(&matches) {
+            Some(route) => Ok(route),
+            None => Err(WordsFault::Usage),
+        },
+        Err(fault) => Err(fault),
+    }
+}
+
+// The command to route that words give.
+fn route_given<'w>(
+    alloc: Global,
+    styles: &[Chooser],
+    words: &'w [Word],
+) -> Result<Command<'w>, WordsFault>
+    requires { 0 < length styles.now }
+    ensures reads { Reads command_seen result (option_map route (given_by route_app (names_in (map (λ s. s.name) styles.now)) words.now)) }
+    ensures style { IfOk result (λ command. IsOfStyle (length styles.now) (command_seen command)) }
+{
+    match read_route(alloc, styles, words) {
+        Ok(names) => Ok(Command::Route(names)),
+        Err(fault) => Err(fault),
+    }
+}
+
+// The command to make a design and route it that words give.
+fn make_given<'w>(alloc: Global, words: &'w [Word]) -> Result<Command<'w>, WordsFault>
+    ensures reads { Reads command_seen result (option_map route (given_by make_app make_in words.now)) }
+    ensures style { IfOk result (λ command. (count : ℕ) → 0 < count → IsOfStyle count (command_seen command)) }
+{
+    match read_make(alloc, words) {
+        Ok(names) => Ok(Command::Route(names)),
+        Err(fault) => Err(fault),
+    }
+}
+
+// The command to check that words give.
+fn check_given<'w>(alloc: Global, words: &'w [Word]) -> Result<Command<'w>, WordsFault>
+    ensures reads { Reads command_seen result (option_map check (given_by check_app check_in words.now)) }
+    ensures style { IfOk result (λ command. (count : ℕ) → IsOfStyle count (command_seen command)) }
+{
+    match read_check(alloc, words) {
+        Ok(names) => Ok(Command::Check(names)),
+        Err(fault) => Err(fault),
+    }
+}
+
+/// The command that the words give: its name and what its arguments are, of which a style is the place of the first of its name. It errs
 /// with Usage exactly where there is none, and with Memory where memory runs out.
 #[tactic(auto, unfolding(crate::specs::Command::command_of))]
 pub fn read_command<'w>(
@@ -219,11 +286,14 @@ pub fn read_command<'w>(
     let Some(word) = words.first() else {
         return Err(WordsFault::Usage);
     };
-    if word.text() != "route" {
-        return Err(WordsFault::Usage);
+    if word.text() == "route" {
+        return route_given(alloc, styles, words);
     }
-    match read_arguments(alloc, styles, words) {
-        Ok(names) => Ok(Command::Route(names)),
-        Err(fault) => Err(fault),
+    if word.text() == "check" {
+        return check_given(alloc, words);
     }
+    if word.text() == "make" {
+        return make_given(alloc, words);
+    }
+    Err(WordsFault::Usage)
 }

@@ -7,8 +7,11 @@ ghost use Rattle.std.specs.Prelude.{◌≡◌, IfSome};
 use crate::refusal::{Limited, Refusal};
 use pin_assign::Bound;
 
-/// The most bytes that a file may have.
+/// The most bytes that a file of rules or of a design may have.
 pub const MOST_BYTES: u64 = 16_777_216;
+
+/// The most bytes that a layout's file may have.
+pub const MOST_CIF_BYTES: u64 = 268_435_456;
 
 /// The most columns that all channels together may have.
 const MOST_GRID: u64 = 4_000_000;

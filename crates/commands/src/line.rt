@@ -1,13 +1,16 @@
 //! The line that says why a command stopped.
 
 ghost use Rattle.commands.specs.Gains.{Gains};
-ghost use Rattle.commands.specs.Line.{fault_word, kind_word, limited_word, line, line_of, refusal_words, stop_words};
+ghost use Rattle.commands.specs.Line.{fault_word, kind_word, limited_word, line, line_of, meaning_word, refusal_words, stop_words, text_word};
 ghost use Rattle.shelf_io.specs.Count.{Rose};
 ghost use Rattle.shelf_io.specs.Told.{EndsWithin, Refines, appended};
-ghost use Rattle.std.specs.Prelude.{◌≡◌, ◌∷◌, ◌++◌, [], OnErr, OnOk};
+ghost use Rattle.std.specs.Prelude.{◌≡◌, ◌≤◌, OnErr, OnOk};
 
+use crate::putting::{put_one, put_three, put_two};
 use crate::refusal::{Limited, Refusal};
 use crate::stop::Stop;
+use cif_reader::ExpandKind;
+use cif_text::CifKind;
 use itoa::Buffer;
 use netlist_core::{Count, DesignFault};
 use shelf_io::{Failed, Sink};
@@ -50,6 +53,39 @@ fn fault_word(fault: DesignFault) -> &'static str
     }
 }
 
+// The word of a fault of a text of CIF.
+#[tactic(auto, unfolding(crate::specs::Line::text_word))]
+fn text_word(kind: CifKind) -> &'static str
+    ensures { result.now ≡ text_word kind }
+{
+    match kind {
+        CifKind::NotAscii => "NotAscii",
+        CifKind::Unclosed => "Unclosed",
+        CifKind::BadCommand => "BadCommand",
+        CifKind::Number => "Number",
+        CifKind::NoEnd => "NoEnd",
+        CifKind::LeftOut(_) => "LeftOut",
+        CifKind::Turned => "Turned",
+    }
+}
+
+// The word of a fault of the commands of a text.
+#[tactic(auto, unfolding(crate::specs::Line::meaning_word))]
+fn meaning_word(kind: ExpandKind) -> &'static str
+    ensures { result.now ≡ meaning_word kind }
+{
+    match kind {
+        ExpandKind::Undefined(_) => "Undefined",
+        ExpandKind::Twice(_) => "Twice",
+        ExpandKind::Inexact => "Inexact",
+        ExpandKind::TooFar(_) => "TooFar",
+        ExpandKind::TooMany => "TooMany",
+        ExpandKind::NoLayer => "NoLayer",
+        ExpandKind::NoSymbolName => "NoSymbolName",
+        ExpandKind::TooDeep => "TooDeep",
+    }
+}
+
 // The word of what may pass a limit.
 #[tactic(auto, unfolding(crate::specs::Line::limited_word))]
 fn limited_word(what: Limited) -> &'static str
@@ -58,6 +94,7 @@ fn limited_word(what: Limited) -> &'static str
     match what {
         Limited::Rules => "Rules",
         Limited::Design => "Design",
+        Limited::Cif => "Cif",
         Limited::Instances => "Instances",
         Limited::Pins => "Pins",
         Limited::Moves => "Moves",
@@ -67,63 +104,6 @@ fn limited_word(what: Limited) -> &'static str
     }
 }
 
-// Puts all of these bytes.
-fn put_bytes<K: Sink>(out: &mut K, bytes: &[u8]) -> Result<(), Failed>
-    ensures whole { OnOk result (Refines (K.written out.new) (appended (K.written out.old) bytes.now)) }
-    ensures front { OnErr result (EndsWithin (K.written out.old) bytes.now (K.written out.new)) }
-    ensures quiet { OnOk result (K.faults out.new ≡ K.faults out.old) }
-    ensures cause { OnErr result (Rose (K.faults out.old) (K.faults out.new)) }
-{
-    let mut done = 0;
-    while done < bytes.len() {
-        done += out.put(&bytes[done..])?;
-    }
-    Ok(())
-}
-
-// Puts these bytes, and then those.
-fn put_both<K: Sink>(out: &mut K, first: &[u8], second: &[u8]) -> Result<(), Failed>
-    ensures whole { OnOk result (Refines (K.written out.new) (appended (K.written out.old) (first.now ++ second.now))) }
-    ensures front { OnErr result (EndsWithin (K.written out.old) (first.now ++ second.now) (K.written out.new)) }
-    ensures quiet { OnOk result (K.faults out.new ≡ K.faults out.old) }
-    ensures cause { OnErr result (Rose (K.faults out.old) (K.faults out.new)) }
-{
-    put_bytes(out, first)?;
-    put_bytes(out, second)
-}
-
-// Puts a line of one word.
-fn put_one<K: Sink>(out: &mut K, word: &[u8]) -> Result<(), Failed>
-    ensures whole { OnOk result (Refines (K.written out.new) (appended (K.written out.old) (line (word.now ∷ [])))) }
-    ensures front { OnErr result (EndsWithin (K.written out.old) (line (word.now ∷ [])) (K.written out.new)) }
-    ensures quiet { OnOk result (K.faults out.new ≡ K.faults out.old) }
-    ensures cause { OnErr result (Rose (K.faults out.old) (K.faults out.new)) }
-{
-    put_both(out, word, b"\n")
-}
-
-// Puts a line of two words.
-fn put_two<K: Sink>(out: &mut K, first: &[u8], second: &[u8]) -> Result<(), Failed>
-    ensures whole { OnOk result (Refines (K.written out.new) (appended (K.written out.old) (line (first.now ∷ second.now ∷ [])))) }
-    ensures front { OnErr result (EndsWithin (K.written out.old) (line (first.now ∷ second.now ∷ [])) (K.written out.new)) }
-    ensures quiet { OnOk result (K.faults out.new ≡ K.faults out.old) }
-    ensures cause { OnErr result (Rose (K.faults out.old) (K.faults out.new)) }
-{
-    put_both(out, first, b" ")?;
-    put_one(out, second)
-}
-
-// Puts a line of three words.
-fn put_three<K: Sink>(out: &mut K, first: &[u8], second: &[u8], third: &[u8]) -> Result<(), Failed>
-    ensures whole { OnOk result (Refines (K.written out.new) (appended (K.written out.old) (line (first.now ∷ second.now ∷ third.now ∷ [])))) }
-    ensures front { OnErr result (EndsWithin (K.written out.old) (line (first.now ∷ second.now ∷ third.now ∷ [])) (K.written out.new)) }
-    ensures quiet { OnOk result (K.faults out.new ≡ K.faults out.old) }
-    ensures cause { OnErr result (Rose (K.faults out.old) (K.faults out.new)) }
-{
-    put_both(out, first, b" ")?;
-    put_two(out, second, third)
-}
-
 // Puts the line of a refusal.
 #[tactic(auto, unfolding(crate::specs::Line::refusal_words))]
 fn put_refusal<K: Sink>(out: &mut K, refusal: &Refusal) -> Result<(), Failed>
@@ -131,6 +111,7 @@ fn put_refusal<K: Sink>(out: &mut K, refusal: &Refusal) -> Result<(), Failed>
     ensures front { OnErr result (EndsWithin (K.written out.old) (line (refusal_words refusal.now)) (K.written out.new)) }
     ensures quiet { OnOk result (K.faults out.new ≡ K.faults out.old) }
     ensures cause { OnErr result (Rose (K.faults out.old) (K.faults out.new)) }
+    ensures later { K.faults out.old ≤ K.faults out.new }
 {
     let mut digits = Buffer::new();
     match refusal {
@@ -152,6 +133,18 @@ fn put_refusal<K: Sink>(out: &mut K, refusal: &Refusal) -> Result<(), Failed>
             fault_word(*fault).as_bytes(),
             name.items(),
         ),
+        Refusal::Cif(kind, at) => put_three(
+            out,
+            b"cif",
+            text_word(*kind).as_bytes(),
+            digits.format(*at).as_bytes(),
+        ),
+        Refusal::Meaning(kind, at) => put_three(
+            out,
+            b"cif",
+            meaning_word(*kind).as_bytes(),
+            digits.format(*at).as_bytes(),
+        ),
         Refusal::Limit(what, number) => put_three(
             out,
             b"limit",
@@ -169,6 +162,7 @@ fn put_stop<K: Sink>(out: &mut K, stop: &Stop) -> Result<(), Failed>
     ensures front { OnErr result (EndsWithin (K.written out.old) (line (stop_words stop.now)) (K.written out.new)) }
     ensures quiet { OnOk result (K.faults out.new ≡ K.faults out.old) }
     ensures cause { OnErr result (Rose (K.faults out.old) (K.faults out.new)) }
+    ensures later { K.faults out.old ≤ K.faults out.new }
 {
     match stop {
         Stop::Refused(refusal) => put_refusal(out, refusal),
@@ -179,7 +173,8 @@ fn put_stop<K: Sink>(out: &mut K, stop: &Stop) -> Result<(), Failed>
 
 /// Prints the line of what stopped a command, as far as the sink takes it. Takes no memory.
 pub fn print_line<K: Sink>(out: &mut K, stop: &Stop)
-    ensures { Gains (line_of stop.now) (K.written out.old) (K.written out.new) (K.faults out.old) (K.faults out.new) }
+    ensures line { Gains (line_of stop.now) (K.written out.old) (K.written out.new) (K.faults out.old) (K.faults out.new) }
+    ensures later { K.faults out.old ≤ K.faults out.new }
 {
     let _ = put_stop(out, stop);
 }

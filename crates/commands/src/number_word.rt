@@ -1,6 +1,6 @@
 //! The numbers that words ask for.
 
-ghost use Rattle.commands.specs.NumberWord.{is_digit, number_from, number_of, rows_in};
+ghost use Rattle.commands.specs.NumberWord.{count_in, is_digit, number_from, number_of, rows_in};
 ghost use Rattle.std.specs.Prelude.{◌≡◌, ◌+◌, ◌-◌, ◌*◌, ◌^◌, ◌≤◌, if◌then◌else◌, nat_lt, true, None, Some};
 
 use std::marker::Model;
@@ -83,4 +83,48 @@ pub fn read_rows(word: &str) -> Option<RowCount>
         return None;
     }
     Some(RowCount { rows: rows as u32 })
+}
+
+/// A number of instances, 1 to 20,000, which contracts see as the number.
+#[derive(Clone, Copy, Debug, PartialEq, Eq)]
+pub struct MadeCount {
+    instances: u32,
+}
+
+impl Model for MadeCount {
+    ghost use Rattle.std.specs.Prelude.{ℕ};
+    ghost use Rattle.commands.specs.MadeCountView.{count_in, IsCount, counted};
+
+    ghost Value = { ℕ };
+
+    ghost view = { count_in };
+
+    ghost invariant = { IsCount };
+
+    ghost inverse = { counted };
+}
+
+impl MadeCount {
+    /// The number. Takes no memory.
+    pub fn get(self) -> u32
+        ensures is { result ≡ self }
+        ensures some { 1 ≤ result }
+        ensures few { result ≤ 20000 }
+    {
+        self.instances
+    }
+}
+
+/// The number of instances, 1 to 20,000, that a word of one to twenty digits asks for. Takes no memory.
+#[tactic(auto, unfolding(crate::specs::NumberWord::count_in))]
+pub fn read_count(word: &str) -> Option<MadeCount>
+    ensures { result ≡ count_in word.now }
+{
+    let instances = read_number(word)?;
+    if instances < 1 || instances > 20_000 {
+        return None;
+    }
+    Some(MadeCount {
+        instances: instances as u32,
+    })
 }

@@ -6,6 +6,7 @@ ghost use Rattle.commands.specs.Limits.{moves_refusal};
 ghost use Rattle.commands.specs.Refusing.{unless};
 ghost use Rattle.commands.specs.Rows.{job_of, rows_for, rows_of, schedule_of};
 ghost use Rattle.commands.specs.Status.{refusal_status};
+ghost use Rattle.commands.specs.Summarized.{cost_for};
 ghost use Rattle.commands.specs.Text.{rows_with_feeds};
 ghost use Rattle.feed_cells.specs.Fed.{IsFed, cells_in};
 ghost use Rattle.feed_cells.specs.Placement.{placement_of};
@@ -18,7 +19,7 @@ use crate::refusal::{Limited, Refusal};
 use anneal_int::{AnnealFault, Schedule, anneal};
 use design_model::Design;
 use feed_cells::{FedRows, Placement, insert_feeds, place};
-use row_model::{Rows, Weights, default_rows, start};
+use row_model::{Rows, Weights, cost, default_rows, start};
 use std::alloc::Global;
 use tech_rules::Rules;
 
@@ -58,6 +59,7 @@ fn annealed_rows(
     wanted: &Wanted,
 ) -> Result<Rows, Refusal>
     ensures made { Answers (λ rows. rows) result (unless (moves_refusal rules.now design.now) (Ok (rows_of (job_of rules.now design.now wanted.now)))) }
+    ensures are { IfOk result (λ rows. rows ≡ rows_of (job_of rules.now design.now wanted.now)) }
     ensures placed { IfOk result (λ rows. ArePlaced design.now rows) }
     ensures command { IfErr result (λ refusal. refusal_status refusal ≢ 2) }
 {
@@ -71,15 +73,16 @@ fn annealed_rows(
     }
 }
 
-/// Rows with feeds, and by what placement.
+/// Rows with feeds, by what placement, and what the rows cost.
 #[derive(Drop)]
 pub struct FedDesign {
     pub placement: Placement,
     pub fed: FedRows,
+    pub cost: u64,
 }
 
 /// The rows of a design, annealed, with feeds, if annealing tries no more changes than it may.
-#[tactic(auto, unfolding(crate::specs::Text::rows_with_feeds))]
+#[tactic(auto, unfolding(crate::specs::Text::rows_with_feeds, crate::specs::Summarized::cost_for))]
 pub fn feed_rows(
     alloc: Global,
     design: &Design,
@@ -89,10 +92,16 @@ pub fn feed_rows(
     ensures made { Answers (λ made. made.fed) result (unless (moves_refusal rules.now design.now) (Ok (rows_with_feeds (job_of rules.now design.now wanted.now)))) }
     ensures fed { IfOk result (λ made. IsFed design.now made.fed) }
     ensures placement { IfOk result (λ made. made.placement ≡ placement_of design.now (cells_in made.fed.rows)) }
+    ensures cost { IfOk result (λ made. made.cost ≡ cost_for (job_of rules.now design.now wanted.now)) }
     ensures command { IfErr result (λ refusal. refusal_status refusal ≢ 2) }
 {
     let seats = annealed_rows(alloc, design, rules, wanted)?;
     let placement = place(alloc, design, &seats)?;
     let fed = insert_feeds(alloc, design, &seats, &placement)?;
-    Ok(FedDesign { placement, fed })
+    let cost = cost(alloc, design, &seats, schedule_of(rules).weights)?;
+    Ok(FedDesign {
+        placement,
+        fed,
+        cost,
+    })
 }

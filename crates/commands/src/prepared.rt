@@ -1,11 +1,11 @@
 //! A design that is laid out and routed, and ready to be written.
 
-ghost use Rattle.commands.specs.Answers.{Answers, Ends};
+ghost use Rattle.commands.specs.Answers.{Answers, IsWriting};
 ghost use Rattle.commands.specs.Headline.{IsGoodText};
-ghost use Rattle.commands.specs.Job.{Job};
 ghost use Rattle.commands.specs.Status.{ending_status, refusal_status};
 ghost use Rattle.commands.specs.Rows.{job_of};
 ghost use Rattle.commands.specs.Kept.{wirings_of};
+ghost use Rattle.commands.specs.Summarized.{cost_for, line_of_channel, summary_of};
 ghost use Rattle.commands.specs.Text.{channels_of, job_text, rows_with_feeds};
 ghost use Rattle.greedy_router.specs.Answers.{AreRouted};
 ghost use Rattle.commands.specs.Verdict.{within_limits};
@@ -19,7 +19,7 @@ ghost use Rattle.pin_assign.specs.ChannelTables.{AreTablesFor};
 ghost use Rattle.pin_assign.specs.Tables.{tables_of};
 ghost use Rattle.shelf_io.specs.Count.{Rose};
 ghost use Rattle.shelf_io.specs.Told.{Refines};
-ghost use Rattle.std.specs.Prelude.{◌≡◌, ◌≢◌, ◌⊎◌, ◌≤◌, List, ℕ, Ok, Some, IfErr, IfOk};
+ghost use Rattle.std.specs.Prelude.{◌≡◌, ◌≢◌, ◌⊎◌, ◌≤◌, List, ℕ, Some, IfErr, IfOk, map};
 
 use crate::command::Wanted;
 use crate::kept::Apart;
@@ -27,6 +27,7 @@ use crate::limits::size_refusal;
 use crate::placing::{FedDesign, feed_rows, rows_for};
 use crate::refusal::Refusal;
 use crate::stop::Stop;
+use crate::summarizing::{channel_lines, summarized};
 use channel_model::Channel;
 use channel_stack::{Laid, lay};
 use choose_core::{Chooser, Chooses};
@@ -35,13 +36,14 @@ use design_model::Design;
 use feed_cells::FedRows;
 use geom_core::{Items, Shape};
 use greedy_router::{Routed, route_channels};
+use layout_report::{ChannelLine, Summary};
 use pin_assign::{bound_of, channels};
 use shelf_io::Shelf;
 use std::alloc::{AllocError, Global};
 use std::marker::Model;
 use tech_rules::Rules;
 
-/// A design with its rules, in so many rows, annealed by a seed, with feeds, with its routed channels, where all of it lies, and the drawings of its symbols. Contracts
+/// A design with its rules, in so many rows, annealed by a seed, with feeds, with its routed channels, where all of it lies, the drawings of its symbols, and the layout in short. Contracts
 /// see the rules, the design, the number of rows and the seed, and the routed channels, by which all else is given.
 #[derive(Drop)]
 pub struct Prepared {
@@ -53,6 +55,14 @@ pub struct Prepared {
     kept: Apart,
     laid: Laid,
     symbols: Vec<Items<Shape>>,
+    summary: Summary,
+}
+
+/// The routed channels of a design that is laid out, and the layout in short.
+#[derive(Drop)]
+pub struct Told {
+    pub kept: Vec<Routed>,
+    pub summary: Summary,
 }
 
 impl Model for Prepared {
@@ -85,7 +95,7 @@ fn tables_of_channels(
     ensures is { IfOk result (λ made. made.channels.items ≡ tables_of design.now made.fed) }
     ensures tables { IfOk result (λ made. AreTablesFor made.fed made.channels.items) }
 {
-    let FedDesign { placement, fed } = placed;
+    let FedDesign { placement, fed, .. } = placed;
     let channels = channels(alloc, design, &fed, &placement)?;
     Ok(Tabled { fed, channels })
 }
@@ -94,7 +104,15 @@ fn tables_of_channels(
 #[derive(Drop)]
 struct RoutedRows {
     fed: FedRows,
+    lines: Vec<ChannelLine>,
     kept: Apart,
+}
+
+// The width of rows with feeds in columns.
+fn width_of(fed: &FedRows) -> u64
+    ensures { result ≡ fed.now.width }
+{
+    fed.width
 }
 
 // The channels between rows with feeds, routed by the choices of a style. The tables of the channels are given up.
@@ -111,15 +129,27 @@ fn route_tabled(
     requires height { (pins.bound_of rules.now design.now tabled.fed).height ≤ 1000000000 }
     ensures fed { IfOk result (λ made. made.fed ≡ tabled.fed) }
     ensures kept { IfOk result (λ made. AreRouted (⟦<Chooser as Chooses>⟧.answers style.now) (tables_of design.now made.fed) made.kept) }
+    ensures lines { IfOk result (λ made. made.lines.items ≡ map (line_of_channel made.fed.width) made.kept) }
     ensures wired { IfOk result (λ made. AreWired design.now made.fed (wirings_of made.kept)) }
     ensures routed { IfOk result (λ made. IsRouted rules.now design.now made.fed (wirings_of made.kept)) }
 {
     let routed = route_channels(alloc, tabled.channels.as_slice(), style)?;
+    let lines = channel_lines(alloc, routed.as_slice(), width_of(&tabled.fed))?;
     let kept = Apart::new(alloc, routed)?;
     Ok(RoutedRows {
         fed: tabled.fed,
+        lines,
         kept,
     })
+}
+
+// Rows with feeds, what they cost without, and the routed channels between them.
+#[derive(Drop)]
+struct CostedRows {
+    fed: FedRows,
+    cost: u64,
+    lines: Vec<ChannelLine>,
+    kept: Apart,
 }
 
 // The rows of a design with feeds, routed, if annealing tries no more changes than it may and the layout is within the limits.
@@ -130,10 +160,13 @@ fn route_rows(
     rules: &Rules,
     wanted: &Wanted,
     style: &Chooser,
-) -> Result<RoutedRows, Refusal>
+) -> Result<CostedRows, Refusal>
     ensures made { Answers (λ routed. job_of rules.now design.now wanted.now) result (within_limits (job_of rules.now design.now wanted.now)) }
     ensures is { IfOk result (λ made. made.fed ≡ rows_with_feeds (job_of rules.now design.now wanted.now)) }
     ensures fed { IfOk result (λ made. IsFed design.now made.fed) }
+    ensures narrow { IfOk result (λ made. made.fed.width ≤ 4000000) }
+    ensures cost { IfOk result (λ made. made.cost ≡ cost_for (job_of rules.now design.now wanted.now)) }
+    ensures lines { IfOk result (λ made. made.lines.items ≡ map (line_of_channel made.fed.width) made.kept) }
     ensures kept { IfOk result (λ made. AreRouted (⟦<Chooser as Chooses>⟧.answers style.now) (tables_of design.now made.fed) made.kept) }
     ensures wired { IfOk result (λ made. AreWired design.now made.fed (wirings_of made.kept)) }
     ensures routed { IfOk result (λ made. IsRouted rules.now design.now made.fed (wirings_of made.kept)) }
@@ -143,8 +176,15 @@ fn route_rows(
     if let Some(refusal) = size_refusal(bound_of(design, &placed.fed, rules)) {
         return Err(refusal);
     }
+    let cost = placed.cost;
     let tabled = tables_of_channels(alloc, design, placed)?;
-    Ok(route_tabled(alloc, design, rules, tabled, style)?)
+    let RoutedRows { fed, lines, kept } = route_tabled(alloc, design, rules, tabled, style)?;
+    Ok(CostedRows {
+        fed,
+        cost,
+        lines,
+        kept,
+    })
 }
 
 /// A design laid out as is wanted and routed by the choices of a style, if that is within the limits. Each cell has room for its pins.
@@ -162,8 +202,15 @@ pub fn lay_out(
     ensures command { IfErr result (λ refusal. refusal_status refusal ≢ 2) }
 {
     let rows = rows_for(&design, &rules, wanted.rows);
-    let RoutedRows { fed, kept } = route_rows(alloc, &design, &rules, &wanted, style)?;
+    let made = route_rows(alloc, &design, &rules, &wanted, style)?;
+    let CostedRows {
+        fed,
+        cost,
+        lines,
+        kept,
+    } = made;
     let laid = lay(alloc, &design, &fed, kept.wirings(), &rules)?;
+    let summary = summarized(&design, &fed, lines, &laid, cost);
     let symbols = symbol_drawings(alloc, &design, &fed, &rules)?;
     Ok(Prepared {
         rules,
@@ -174,6 +221,7 @@ pub fn lay_out(
         kept,
         laid,
         symbols,
+        summary,
     })
 }
 
@@ -182,7 +230,7 @@ impl Prepared {
     /// WriteFault, which comes only where the file's write count rose, and then the file holds what it held before, or a front of the text.
     #[tactic(auto, unfolding(crate::specs::Text::job_text))]
     pub fn write<S: Shelf>(&self, alloc: Global, shelf: &mut S, out: &str) -> Result<(), Stop>
-        ensures ends { Ends {Y = Job} result (Ok self.now.job) }
+        ensures ends { IsWriting result }
         ensures whole { ending_status result ≡ 0 → Refines (S.holds shelf.new out.now) (Some (job_text self.now.job self.now.kept)) }
         ensures good { IsGoodText self.now.job.rules self.now.job.design (job_text self.now.job self.now.kept) }
         ensures front { ending_status result ≡ 9 → HoldsFront (job_text self.now.job self.now.kept) (S.holds shelf.old out.now) (S.holds shelf.new out.now) }
@@ -212,11 +260,15 @@ impl Prepared {
         }
     }
 
-    /// Its routed channels. Takes no memory.
-    pub fn kept(self) -> Vec<Routed>
-        ensures { result.items ≡ self.kept }
+    /// Its routed channels, and the layout in short. Takes no memory.
+    pub fn told(self) -> Told
+        ensures kept { result.kept.items ≡ self.kept }
+        ensures summary { result.summary ≡ summary_of self.job self.kept }
     {
-        let Prepared { kept, .. } = self;
-        kept.together()
+        let Prepared { kept, summary, .. } = self;
+        Told {
+            kept: kept.together(),
+            summary,
+        }
     }
 }

@@ -3,6 +3,8 @@
 ghost use Rattle.commands.specs.Status.{refusal_status};
 ghost use Rattle.std.specs.Prelude.{◌≡◌};
 
+use cif_reader::ExpandKind;
+use cif_text::CifKind;
 use geom_core::Name;
 use netlist_core::DesignFault;
 use std::alloc::AllocError;
@@ -16,6 +18,8 @@ pub enum Limited {
     Rules,
     /// The bytes of the design's file.
     Design,
+    /// The bytes of the layout's file.
+    Cif,
     /// The instances of the design.
     Instances,
     /// The pins of the design.
@@ -30,7 +34,7 @@ pub enum Limited {
     Height,
 }
 
-/// Why there is no text to write.
+/// Why there is nothing to write or to judge.
 #[derive(Debug, Drop)]
 pub enum Refusal {
     /// The words are no command.
@@ -48,6 +52,10 @@ pub enum Refusal {
     /// The file is no design, for this reason, which is neither a limit nor want of memory; with the name of the instance or of the
     /// module that it speaks of.
     Design(DesignFault, Option<Name>),
+    /// The layout's file is no text of CIF, for this reason at this byte.
+    Cif(CifKind, u64),
+    /// Its commands give no layout, for this reason at the command of this number.
+    Meaning(ExpandKind, u32),
     /// A limit is passed. The number is the limit itself for a file, and else how many there are.
     Limit(Limited, u64),
     /// Memory ran out.
@@ -75,6 +83,7 @@ impl Refusal {
             Refusal::Toml | Refusal::Missing(_) | Refusal::Range(_) | Refusal::Tight(_) => 4,
             Refusal::Design(..) => 5,
             Refusal::Limit(..) => 6,
+            Refusal::Cif(..) | Refusal::Meaning(..) => 7,
             Refusal::Memory => 10,
         }
     }

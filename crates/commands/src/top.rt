@@ -1,22 +1,22 @@
 //! The top call: a command's words, a shelf with the files, and a sink for lines.
 
-ghost use Rattle.commands.specs.Answers.{Ends};
 ghost use Rattle.commands.specs.Causes.{IsQuiet, ReadFails, WriteFails};
 ghost use Rattle.commands.specs.Command as asked;
-ghost use Rattle.commands.specs.Command.{Names, command_of, writes_of};
-ghost use Rattle.commands.specs.Gains.{Gains};
-ghost use Rattle.commands.specs.Headline.{Headline};
-ghost use Rattle.commands.specs.Outcome.{AreKept, ending_line, EndsAs, Holds, HoldsFront};
-ghost use Rattle.commands.specs.Status.{ending_status, is_status, verdict_status};
-ghost use Rattle.commands.specs.Seen.{seen};
+ghost use Rattle.commands.specs.Command.{CheckNames, IsOfStyle, Names, command_of, writes_of};
+ghost use Rattle.commands.specs.Done.{IsStatusOf};
+ghost use Rattle.commands.specs.Headline.{Headline, IsSourceText};
+ghost use Rattle.commands.specs.Outcome.{AreKept, EndsAs, Holds, HoldsFront};
+ghost use Rattle.commands.specs.Seen.{command_seen};
+ghost use Rattle.commands.specs.Status.{is_status};
 ghost use Rattle.commands.specs.Verdict.{Comes, command_verdict, verdict};
+ghost use Rattle.shelf_io.specs.Count.{Still};
 ghost use Rattle.std.specs.Prelude.{◌≡◌, ◌≢◌, ◌⊎◌, ◌<◌, ◌≤◌, List, [], ℕ, length, map, Some, None, true};
 
-use crate::command::{Route, WordsFault, read_command};
-use crate::line::print_line;
-use crate::prepared::Prepared;
+use crate::command::{Command, WordsFault, read_command};
+use crate::judging::check_named;
 use crate::refusal::Refusal;
-use crate::stages::prepare;
+use crate::report::report_stop;
+use crate::routing::route_named;
 use crate::stop::Stop;
 use crate::word::Word;
 use choose_core::{Chooser, Chooses};
@@ -27,93 +27,95 @@ use std::alloc::Global;
 /// How a command ended.
 #[derive(Debug, Drop)]
 pub struct Ended {
-    /// 0 where the text is written; 2 where the words are no command; 3, 4 and 5 where the design's file, the rules file or the design
-    /// is refused; 6 where a limit is passed; 8 and 9 where reading and writing failed; 10 for want of memory.
+    /// 0 where the text is written, or the layout is good; 1 where the layout is not good; 2 where the words are no command; 3, 4, 5 and 7 where the
+    /// design's file, the rules file, the design or the layout's file is refused; 6 where a limit is passed; 8 and 9 where reading and
+    /// writing failed; 10 for want of memory.
     pub status: u8,
-    /// On 0 and 9 the routed channels of the layout, from the lowest up, whose wirings are those of the text; else none.
+    /// On 0 and 9 of a command to route the routed channels of the layout, from the lowest up, whose wirings are those of the text; else none.
     pub kept: Vec<Routed>,
 }
 
-// The routed channels that a command which ended so keeps: those of its layout where the file was begun, else none.
-fn kept_of(alloc: Global, prepared: Prepared, ending: &Result<(), Stop>) -> Vec<Routed>
-    ensures begun { (ending_status ending.now ≡ 0) ⊎ (ending_status ending.now ≡ 9) → result.items ≡ prepared.kept }
-    ensures none { ending_status ending.now ≢ 0 → ending_status ending.now ≢ 9 → result.items ≡ [] }
-{
-    match ending {
-        Ok(()) => prepared.kept(),
-        Err(Stop::WriteFault) => prepared.kept(),
-        Err(_) => Vec::new(alloc),
-    }
-}
-
-// Routes a design under the rules of a file into another file, by the choices of its style.
-fn route<S: Shelf>(
+// Does a command, prints what it has done or what stopped it, and gives the status.
+fn obey<S: Shelf, K: Sink>(
     alloc: Global,
     shelf: &mut S,
-    names: &Route<'_>,
+    out: &mut K,
+    command: &Command<'_>,
     styles: &[Chooser],
     kept: &mut Vec<Routed>,
-) -> Result<(), Stop>
-    requires style { names.now.style < length styles.now }
+) -> u8
+    requires style { IsOfStyle (length styles.now) (command_seen command.now) }
     requires none { kept.old.items ≡ [] }
-    ensures told { (said : _) → command_verdict (asked.route (seen names.now)) (S.holds shelf.old) ≡ Some said → Ends result said }
-    ensures written { (said : _) → command_verdict (asked.route (seen names.now)) (S.holds shelf.old) ≡ Some said
-        → ending_status result ≡ 0 → Holds said kept.new.items (S.holds shelf.new names.now.out.now) }
-    ensures kept { (said : _) → command_verdict (asked.route (seen names.now)) (S.holds shelf.old) ≡ Some said
-        → (ending_status result ≡ 0) ⊎ (ending_status result ≡ 9)
-        → AreKept ⟦<Chooser as Chooses>⟧.answers styles.now (asked.route (seen names.now)) said kept.new.items }
-    ensures none { ending_status result ≢ 0 → ending_status result ≢ 9 → kept.new.items ≡ [] }
-    ensures headline { (stated bytes held : List ℕ) → S.holds shelf.old names.now.rules.now ≡ Some stated
-        → S.holds shelf.old names.now.design.now ≡ Some bytes → ending_status result ≡ 0
-        → S.holds shelf.new names.now.out.now ≡ Some held → Headline stated bytes held }
-    ensures front { (said : _) → command_verdict (asked.route (seen names.now)) (S.holds shelf.old) ≡ Some said
-        → ending_status result ≡ 9 → HoldsFront said kept.new.items (S.holds shelf.old names.now.out.now) (S.holds shelf.new names.now.out.now) }
-    ensures read_cause { ending_status result ≡ 8
-        → ReadFails (asked.route (seen names.now)) (S.holds shelf.old) (S.read_faults shelf.old) (S.read_faults shelf.new) }
-    ensures write_cause { ending_status result ≡ 9 → WriteFails (asked.route (seen names.now)) (S.write_faults shelf.old) (S.write_faults shelf.new) }
-    ensures reads { ending_status result ≢ 8 → S.read_faults shelf.new ≡ S.read_faults shelf.old }
-    ensures writes { ending_status result ≢ 9 → S.write_faults shelf.new ≡ S.write_faults shelf.old }
-    ensures untouched { ending_status result ≢ 0 → ending_status result ≢ 9 → S.holds shelf.new ≡ S.holds shelf.old }
-    ensures others { (other : List ℕ) → other ≢ names.now.out.now → S.holds shelf.new other ≡ S.holds shelf.old other }
-    ensures command { ending_status result ≢ 2 }
-    ensures complete { (said : _) → command_verdict (asked.route (seen names.now)) (S.holds shelf.old) ≡ Some said
-        → IsQuiet (asked.route (seen names.now)) (S.read_faults shelf.old) (S.read_faults shelf.new) (S.write_faults shelf.old) (S.write_faults shelf.new)
-        → (ending_status result ≡ verdict_status said) ⊎ (ending_status result ≡ 10) }
+    ensures listed { is_status result ≡ true }
+    ensures command { result ≢ 2 }
+    ensures ends { EndsAs (command_verdict (command_seen command.now) (S.holds shelf.old)) kept.new.items result
+        (K.written out.old) (K.written out.new) (K.faults out.old) (K.faults out.new) }
+    ensures kept { (said : _) (file : List ℕ) → command_verdict (command_seen command.now) (S.holds shelf.old) ≡ Some said
+        → writes_of (command_seen command.now) ≡ Some file → (result ≡ 0) ⊎ (result ≡ 9)
+        → AreKept ⟦<Chooser as Chooses>⟧.answers styles.now (command_seen command.now) said kept.new.items }
+    ensures none { result ≢ 0 → result ≢ 9 → kept.new.items ≡ [] }
+    ensures unkept { writes_of (command_seen command.now) ≡ None → kept.new.items ≡ [] }
+    ensures written { (said : _) (file : List ℕ) → command_verdict (command_seen command.now) (S.holds shelf.old) ≡ Some said
+        → writes_of (command_seen command.now) ≡ Some file → result ≡ 0 → Holds said kept.new.items (S.holds shelf.new file) }
+    ensures whole { (said : _) (file : List ℕ) → command_verdict (command_seen command.now) (S.holds shelf.old) ≡ Some said
+        → writes_of (command_seen command.now) ≡ Some file → result ≡ 9 → Still (S.write_faults shelf.old file) (S.write_faults shelf.new file)
+        → Holds said kept.new.items (S.holds shelf.new file) }
+    ensures headline { (names : Names) (stated bytes held : List ℕ) → command_seen command.now ≡ asked.route names
+        → S.holds shelf.old names.rules ≡ Some stated → IsSourceText names.design (S.holds shelf.old) stated bytes
+        → result ≡ 0 → S.holds shelf.new names.out ≡ Some held → Headline stated bytes held }
+    ensures good { (names : CheckNames) (stated bytes text : List ℕ) → command_seen command.now ≡ asked.check names
+        → S.holds shelf.old names.rules ≡ Some stated → S.holds shelf.old names.design ≡ Some bytes → S.holds shelf.old names.cif ≡ Some text
+        → result ≡ 0 → Headline stated bytes text }
+    ensures faulty { (names : CheckNames) (stated bytes text : List ℕ) → command_seen command.now ≡ asked.check names
+        → S.holds shelf.old names.rules ≡ Some stated → S.holds shelf.old names.design ≡ Some bytes → S.holds shelf.old names.cif ≡ Some text
+        → result ≡ 1 → Headline stated bytes text → ⊥ }
+    ensures front { (said : _) (file : List ℕ) → command_verdict (command_seen command.now) (S.holds shelf.old) ≡ Some said
+        → writes_of (command_seen command.now) ≡ Some file
+        → result ≡ 9 → HoldsFront said kept.new.items (S.holds shelf.old file) (S.holds shelf.new file) }
+    ensures read_cause { result ≡ 8 → ReadFails (command_seen command.now) (S.holds shelf.old) (S.read_faults shelf.old) (S.read_faults shelf.new) }
+    ensures write_cause { result ≡ 9
+        → WriteFails (writes_of (command_seen command.now)) (S.write_faults shelf.old) (S.write_faults shelf.new) (K.faults out.old) (K.faults out.new) }
+    ensures reads { result ≢ 8 → S.read_faults shelf.new ≡ S.read_faults shelf.old }
+    ensures writes { result ≢ 9 → S.write_faults shelf.new ≡ S.write_faults shelf.old }
+    ensures untouched { result ≢ 0 → result ≢ 9 → S.holds shelf.new ≡ S.holds shelf.old }
+    ensures others { (other : List ℕ) → writes_of (command_seen command.now) ≢ Some other → S.holds shelf.new other ≡ S.holds shelf.old other }
+    ensures files { writes_of (command_seen command.now) ≡ None → S.holds shelf.new ≡ S.holds shelf.old }
+    ensures unwritten { writes_of (command_seen command.now) ≡ None → S.write_faults shelf.new ≡ S.write_faults shelf.old }
+    ensures complete { (said : _) → command_verdict (command_seen command.now) (S.holds shelf.old) ≡ Some said
+        → IsQuiet (command_seen command.now) (S.read_faults shelf.old) (S.read_faults shelf.new) (S.write_faults shelf.old) (S.write_faults shelf.new)
+        (K.faults out.old) (K.faults out.new)
+        → IsStatusOf said result ⊎ (result ≡ 10) }
+    ensures calm { (result ≡ 0) ⊎ (result ≡ 1) → K.faults out.new ≡ K.faults out.old }
 {
-    let style = &styles[names.style];
-    let prepared = prepare(alloc, shelf, names.rules, names.design, names.wanted, style)?;
-    let ending = prepared.write(alloc, shelf, names.out);
-    *kept = kept_of(alloc, prepared, &ending);
-    ending
-}
-
-// Prints the line of what stopped a command, if anything did, and gives the status.
-fn end<K: Sink>(out: &mut K, ending: &Result<(), Stop>) -> u8
-    ensures status { result ≡ ending_status ending.now }
-    ensures line { Gains (ending_line ending.now) (K.written out.old) (K.written out.new) (K.faults out.old) (K.faults out.new) }
-    ensures silent { ending_status ending.now ≡ 0 → K.written out.new ≡ K.written out.old }
-    ensures calm { ending_status ending.now ≡ 0 → K.faults out.new ≡ K.faults out.old }
-{
-    match ending {
-        Ok(()) => 0,
-        Err(stop) => {
-            print_line(out, stop);
-            stop.status()
-        }
+    match command {
+        Command::Route(names) => route_named(alloc, shelf, out, names, styles, kept),
+        Command::Check(names) => check_named(alloc, shelf, out, names),
     }
 }
 
-/// Does the command that the words give: `route DESIGN RULES OUT [--seed N] [--rows K] [--style NAME]` reads the rules from the file RULES and the design in YAL from
+/// Does the command that the words give.
+///
+/// `route DESIGN RULES OUT [--seed N] [--rows K] [--style NAME]` reads the rules from the file RULES and the design in YAL from
 /// the file DESIGN, sets its cells in K rows, from 1 to 512, or in as many as make the layout about square, anneals the rows as the rules
 /// say with the seed N, below 2^64, or 1, sets feeds where nets cross rows, joins each net by wires in the channels between the rows, by the
-/// choices of the first of the styles that has the name NAME, or of the first of all, and writes the layout in CIF into the file OUT. Every
-/// status but 0 prints one line, with the first cause, to the sink; if that fails the status stays. There are one to sixteen styles.
+/// choices of the first of the styles that has the name NAME, or of the first of all, writes the layout in CIF into the file OUT, and prints it in
+/// short. There are one to sixteen styles.
 ///
-/// What may refuse comes in this order: the words, reading RULES, the rules, reading DESIGN, YAL, the design, the
-/// limits of moves, grid, width and height, writing OUT. Where the shelf tells the files that it comes to, the status is that of the
-/// verdict on them, unless it is 8 and a read count rose, 9 and OUT's write count rose, or 10. On 0 OUT holds the text of the
-/// job with the wirings that are kept. Every status but 0 and 9 leaves all files as they were; after 9 OUT holds what it held, or a front of the text. 10 may come for
-/// want of memory at any time before OUT is begun.
+/// `make SEED N RULES OUT` does so for a design of N instances, from 1 to 20,000, that is made under the rules from SEED, which also anneals, in rows as
+/// usual and by the first of the styles.
+///
+/// `check DESIGN RULES CIF` reads the rules and the design as `route` does, and a layout from the file CIF, and prints a line for each thing that is
+/// wrong with the layout for this design under these rules, and then a line with their number: status 0 where there is none, and else 1.
+///
+/// Every status but 0 and 1 prints one line, with the first cause, to the sink; if that fails the status stays. Where printing what was done or found fails,
+/// the line `write fault` is tried and the status is 9.
+///
+/// What may refuse comes in this order: the words, reading RULES, the rules, reading DESIGN, YAL, the design, and then the
+/// limits of moves, grid, width and height, writing OUT, printing; or reading CIF, its text, its commands, checking, printing. Where the shelf tells the files that it
+/// comes to, the status is that of the verdict on them, unless it is 8 and a read count rose, 9 and OUT's write count or the sink's rose, or 10. On 0 OUT holds the text
+/// of the job with the wirings that are kept. Every status but 0 and 9 leaves all files as they were; after 9 OUT holds what it held, or a front of the
+/// text, which is all of it where its write count did not rise. `check` leaves all files as they were. 10 may come for want of memory at any time before OUT is
+/// begun, or anything is printed.
 pub fn run<S: Shelf, K: Sink>(
     alloc: Global,
     words: &[Word],
@@ -127,61 +129,76 @@ pub fn run<S: Shelf, K: Sink>(
     ensures usage { result.status ≡ 2 → command_of (map (λ s. s.name) styles.now) words.now ≡ None }
     ensures no_command { command_of (map (λ s. s.name) styles.now) words.now ≡ None → (result.status ≡ 2) ⊎ (result.status ≡ 10) }
 
-    // The status and the line: both are of one end, which is the verdict's wherever the files that it comes to are told.
-    ensures ends { EndsAs (verdict (map (λ s. s.name) styles.now) words.now (S.holds shelf.old)) result.status
+    // The status and the lines: both are of one end, which is the verdict's wherever the files that it comes to are told.
+    ensures ends { EndsAs (verdict (map (λ s. s.name) styles.now) words.now (S.holds shelf.old)) result.kept.items result.status
         (K.written out.old) (K.written out.new) (K.faults out.old) (K.faults out.new) }
 
-    // Status 0 and 9: each channel of the job is routed by the choices of the command's style; else there is none.
-    ensures kept { (command : asked.Command) (said : _) → Comes (map (λ s. s.name) styles.now) words.now (S.holds shelf.old) command said
-        → (result.status ≡ 0) ⊎ (result.status ≡ 9) → AreKept ⟦<Chooser as Chooses>⟧.answers styles.now command said result.kept.items }
+    // Status 0 and 9 of a command that writes: each channel of the job is routed by the choices of the command's style; else there is none.
+    ensures kept { (command : asked.Command) (said : _) (file : List ℕ) → Comes (map (λ s. s.name) styles.now) words.now (S.holds shelf.old) command said
+        → writes_of command ≡ Some file → (result.status ≡ 0) ⊎ (result.status ≡ 9)
+        → AreKept ⟦<Chooser as Chooses>⟧.answers styles.now command said result.kept.items }
     ensures none { result.status ≢ 0 → result.status ≢ 9 → result.kept.items ≡ [] }
+    ensures unkept { (command : asked.Command) → command_of (map (λ s. s.name) styles.now) words.now ≡ Some command
+        → writes_of command ≡ None → result.kept.items ≡ [] }
 
     // Status 0: the file that the command writes, where the shelf tells it, holds exactly the text of the job with the wirings of these channels.
     ensures written { (command : asked.Command) (said : _) (file : List ℕ) → Comes (map (λ s. s.name) styles.now) words.now (S.holds shelf.old) command said → writes_of command ≡ Some file
         → result.status ≡ 0 → Holds said result.kept.items (S.holds shelf.new file) }
 
-    // The headline: what `route` writes reads as a layout that is good for the design under the rules.
+    // The headline: what `route` writes reads as a layout that is good for the design under the rules, and so does what `make` writes for the design that
+    // it makes.
     ensures headline { (names : Names) (stated bytes held : List ℕ) → command_of (map (λ s. s.name) styles.now) words.now ≡ Some (asked.route names)
-        → S.holds shelf.old names.rules ≡ Some stated → S.holds shelf.old names.design ≡ Some bytes
+        → S.holds shelf.old names.rules ≡ Some stated → IsSourceText names.design (S.holds shelf.old) stated bytes
         → result.status ≡ 0 → S.holds shelf.new names.out ≡ Some held → Headline stated bytes held }
 
-    // Status 9: there is a job, and the file to write holds what it held, or a front of that text.
+    // What `check` says of a layout: with status 0 that it is so, with status 1 that it is not.
+    ensures good { (names : CheckNames) (stated bytes text : List ℕ) → command_of (map (λ s. s.name) styles.now) words.now ≡ Some (asked.check names)
+        → S.holds shelf.old names.rules ≡ Some stated → S.holds shelf.old names.design ≡ Some bytes → S.holds shelf.old names.cif ≡ Some text
+        → result.status ≡ 0 → Headline stated bytes text }
+    ensures faulty { (names : CheckNames) (stated bytes text : List ℕ) → command_of (map (λ s. s.name) styles.now) words.now ≡ Some (asked.check names)
+        → S.holds shelf.old names.rules ≡ Some stated → S.holds shelf.old names.design ≡ Some bytes → S.holds shelf.old names.cif ≡ Some text
+        → result.status ≡ 1 → Headline stated bytes text → ⊥ }
+
+    // Status 9 of a command that writes: there is a job, and the file to write holds what it held, or a front of that text; all of it where its count did not
+    // rise.
     ensures front { (command : asked.Command) (said : _) (file : List ℕ) → Comes (map (λ s. s.name) styles.now) words.now (S.holds shelf.old) command said → writes_of command ≡ Some file
         → result.status ≡ 9 → HoldsFront said result.kept.items (S.holds shelf.old file) (S.holds shelf.new file) }
+
+    ensures whole { (command : asked.Command) (said : _) (file : List ℕ) → Comes (map (λ s. s.name) styles.now) words.now (S.holds shelf.old) command said → writes_of command ≡ Some file
+        → result.status ≡ 9 → Still (S.write_faults shelf.old file) (S.write_faults shelf.new file)
+        → Holds said result.kept.items (S.holds shelf.new file) }
 
     // Status 8 and 9 come only where a count rose, and where it rose they come.
     ensures read_cause { (command : asked.Command) → command_of (map (λ s. s.name) styles.now) words.now ≡ Some command → result.status ≡ 8
         → ReadFails command (S.holds shelf.old) (S.read_faults shelf.old) (S.read_faults shelf.new) }
     ensures write_cause { (command : asked.Command) → command_of (map (λ s. s.name) styles.now) words.now ≡ Some command → result.status ≡ 9
-        → WriteFails command (S.write_faults shelf.old) (S.write_faults shelf.new) }
+        → WriteFails (writes_of command) (S.write_faults shelf.old) (S.write_faults shelf.new) (K.faults out.old) (K.faults out.new) }
     ensures reads { result.status ≢ 8 → S.read_faults shelf.new ≡ S.read_faults shelf.old }
     ensures writes { result.status ≢ 9 → S.write_faults shelf.new ≡ S.write_faults shelf.old }
 
-    // Nothing is lost.
+    // Nothing is lost, and a command that writes no file leaves them all as they are.
     ensures untouched { result.status ≢ 0 → result.status ≢ 9 → S.holds shelf.new ≡ S.holds shelf.old }
     ensures others { (command : asked.Command) (other : List ℕ) → command_of (map (λ s. s.name) styles.now) words.now ≡ Some command
         → writes_of command ≢ Some other → S.holds shelf.new other ≡ S.holds shelf.old other }
+    ensures files { (command : asked.Command) → command_of (map (λ s. s.name) styles.now) words.now ≡ Some command
+        → writes_of command ≡ None → S.holds shelf.new ≡ S.holds shelf.old }
+    ensures unwritten { (command : asked.Command) → command_of (map (λ s. s.name) styles.now) words.now ≡ Some command
+        → writes_of command ≡ None → S.write_faults shelf.new ≡ S.write_faults shelf.old }
 
     // Where nothing fails the status is the verdict's, want of memory aside.
     ensures complete { (command : asked.Command) (said : _) → Comes (map (λ s. s.name) styles.now) words.now (S.holds shelf.old) command said
         → IsQuiet command (S.read_faults shelf.old) (S.read_faults shelf.new) (S.write_faults shelf.old) (S.write_faults shelf.new)
-        → (result.status ≡ verdict_status said) ⊎ (result.status ≡ 10) }
+        (K.faults out.old) (K.faults out.new)
+        → IsStatusOf said result.status ⊎ (result.status ≡ 10) }
 
-    // Status 0 prints nothing.
-    ensures silent { result.status ≡ 0 → K.written out.new ≡ K.written out.old }
-    ensures calm { result.status ≡ 0 → K.faults out.new ≡ K.faults out.old }
+    // Status 0 and 1 come only where the sink took all.
+    ensures calm { (result.status ≡ 0) ⊎ (result.status ≡ 1) → K.faults out.new ≡ K.faults out.old }
 {
     let mut kept = Vec::new(alloc);
-    let ending = match read_command(alloc, styles, words) {
-        Ok(command) => {
-            let names = command.route();
-            route(alloc, shelf, names, styles, &mut kept)
-        }
-        Err(WordsFault::Usage) => Err(Stop::Refused(Refusal::Usage)),
-        Err(WordsFault::Memory) => Err(Stop::Refused(Refusal::Memory)),
+    let status = match read_command(alloc, styles, words) {
+        Ok(command) => obey(alloc, shelf, out, &command, styles, &mut kept),
+        Err(WordsFault::Usage) => report_stop(out, &Stop::Refused(Refusal::Usage)),
+        Err(WordsFault::Memory) => report_stop(out, &Stop::Refused(Refusal::Memory)),
     };
-    Ended {
-        status: end(out, &ending),
-        kept,
-    }
+    Ended { status, kept }
 }

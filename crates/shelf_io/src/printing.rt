@@ -1,6 +1,6 @@
 //! Puts the whole of some bytes to a sink.
 
-ghost use Rattle.std.specs.Prelude.{◌≡◌, OnOk, OnErr};
+ghost use Rattle.std.specs.Prelude.{◌≡◌, ◌≤◌, OnOk, OnErr};
 ghost use Rattle.shelf_io.specs.Count.{Rose};
 ghost use Rattle.shelf_io.specs.Told.{Refines, EndsWithin, appended};
 
@@ -14,6 +14,7 @@ pub fn put_whole<K: Sink>(out: &mut K, bytes: &[u8]) -> Result<(), Failed>
     ensures front { OnErr result (EndsWithin (K.written out.old) bytes.now (K.written out.new)) }
     ensures quiet { OnOk result (K.faults out.new ≡ K.faults out.old) }
     ensures cause { OnErr result (Rose (K.faults out.old) (K.faults out.new)) }
+    ensures later { K.faults out.old ≤ K.faults out.new }
 {
     let mut done = 0;
     while done < bytes.len() {

@@ -20,7 +20,7 @@ returns-in-Ok-clause-told g c = λ bytes told.
 
 pub returns-in-Ok-clause-is : goal.returns-in-Ok-clause-is
 returns-in-Ok-clause-is g c = λ bytes told.
-    let whole = is-whole _ bytes c.in_ok-bytes.bytes.items (c.in_ok-bytes.ensures.told bytes told) in
+    let whole = is-whole _ _ bytes c.in_ok-bytes.bytes.items (c.in_ok-bytes.ensures.told bytes told) in
     subst (λ l. IsDesignOf c.args.rules.now l c.in-Ok.design) (c.as_slice.ensures.value ∙ sym whole) c.in-Ok.ensures.is
 
 pub returns-clause-told : goal.returns-clause-told

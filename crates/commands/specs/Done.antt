@@ -1,0 +1,71 @@
+use Rattle.std.specs.Prelude.{◌≡◌, ◌↔◌, ◌⊎◌, ℕ, List, [], ◌∷◌, Result, Ok, Err}
+use Rattle.geom_core.specs.declared.layout.Layout.{Layout}
+use Rattle.design_model.specs.Good.{Good}
+use Rattle.layout_check.specs.Findings.{Findings}
+use Rattle.layout_check.specs.declared.finding.Finding.{Finding}
+use Rattle.greedy_router.specs.declared.sweep.Routed.{Routed}
+use Rattle.layout_report.specs.SummaryText.{summary_text}
+use Rattle.layout_report.specs.declared.summary.Summary.{Summary}
+use Rattle.commands.specs.FindingLines.{judged_text}
+use Rattle.commands.specs.Job.{Accepted, to_judge, to_lay_out}
+use Rattle.commands.specs.Status.{refusal_status}
+use Rattle.commands.specs.Summarized.{summary_of}
+use Rattle.commands.specs.declared.refusal.Refusal.{Refusal}
+use Rattle.commands.specs.declared.stages.Inputs.{Inputs}
+use Rattle.commands.specs.declared.stop.Stop.{Stop}
+
+-- what a command has done: it has laid a design out, of which this is told, or found this of a layout
+pub data Done : Type 0 where
+  laid_out : Summary → Done
+  judged : Inputs → Layout → List Finding → Done
+
+-- findings of a layout for a design under rules: there are none exactly where it is good
+pub record AreFound (inputs : Inputs) (layout : Layout) (findings : List Finding) : Type 0 where
+  pub are : Findings inputs.rules inputs.design layout findings
+  pub good : (findings ≡ []) ↔ Good inputs.rules inputs.design layout
+
+-- so of the inputs and the layout that were to be judged
+pub record IsJudged (inputs : Inputs) (layout : Layout) (findings : List Finding) (asked : Inputs) (shown : Layout) : Type 0 where
+  pub same_inputs : inputs ≡ asked
+  pub same_layout : layout ≡ shown
+  pub found : AreFound inputs layout findings
+
+-- it has done what was to be done, and keeps these routed channels
+abbrev pub Does : List Routed → Done → Accepted → Type 0
+Does kept (laid_out summary) (to_lay_out job) = summary ≡ summary_of job kept
+Does kept (laid_out summary) (to_judge inputs layout) = ⊥
+Does kept (judged inputs layout findings) (to_lay_out job) = ⊥
+Does kept (judged inputs layout findings) (to_judge asked shown) = IsJudged inputs layout findings asked shown
+
+abbrev pub IsToLayOut : Accepted → Type 0
+IsToLayOut (to_lay_out job) = Unit {0}
+IsToLayOut (to_judge inputs layout) = ⊥
+
+-- the status of a layout of which this was found
+abbrev pub findings_status : List Finding → ℕ
+findings_status [] = 0
+findings_status (finding ∷ more) = 1
+
+-- the status of what was done, and what is printed of it
+abbrev pub done_status : Done → ℕ
+done_status (laid_out summary) = 0
+done_status (judged inputs layout findings) = findings_status findings
+
+abbrev pub done_text : Done → List ℕ
+done_text (laid_out summary) = summary_text summary
+done_text (judged inputs layout findings) = judged_text inputs.design layout findings
+
+-- how a command to route ended
+abbrev pub routed_end : Result Summary Stop → Result Done Stop
+routed_end (Ok summary) = Ok (laid_out summary)
+routed_end (Err stop) = Err stop
+
+-- 0 where a layout is good, and 1 where it is not
+abbrev pub IsJudgement : Type 0 → ℕ → Type 0
+IsJudgement good n = ((n ≡ 0) × good) ⊎ ((n ≡ 1) × (good → ⊥))
+
+-- the status of a verdict, where nothing fails
+abbrev pub IsStatusOf : Result Accepted Refusal → ℕ → Type 0
+IsStatusOf (Ok (to_lay_out job)) n = n ≡ 0
+IsStatusOf (Ok (to_judge inputs layout)) n = IsJudgement (Good inputs.rules inputs.design layout) n
+IsStatusOf (Err refusal) n = n ≡ refusal_status refusal

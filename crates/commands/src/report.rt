@@ -1,0 +1,81 @@
+//! What a command prints at its end, and its status.
+
+ghost use Rattle.commands.specs.Done as done;
+ghost use Rattle.commands.specs.Done.{findings_status};
+ghost use Rattle.commands.specs.FindingLines.{judged_text};
+ghost use Rattle.commands.specs.Outcome.{IsStopped, Tells};
+ghost use Rattle.shelf_io.specs.Count.{Rose};
+ghost use Rattle.shelf_io.specs.Told.{EndsWithin, Refines, appended};
+ghost use Rattle.commands.specs.Status.{is_status};
+ghost use Rattle.std.specs.Prelude.{◌≡◌, ◌≤◌, Ok, OnErr, OnOk, true};
+
+use crate::finding_line::{put_findings, put_number};
+use crate::judging::Judged;
+use crate::line::print_line;
+use crate::stop::Stop;
+use design_model::Design;
+use geom_core::Layout;
+use layout_check::Finding;
+use layout_report::{Summary, print_summary};
+use shelf_io::{Failed, Sink};
+
+// Puts what is printed of a layout that was judged.
+fn put_judged<K: Sink>(
+    out: &mut K,
+    design: &Design,
+    layout: &Layout,
+    findings: &[Finding],
+) -> Result<(), Failed>
+    ensures whole { OnOk result (Refines (K.written out.new) (appended (K.written out.old) (judged_text design.now layout.now findings.now))) }
+    ensures front { OnErr result (EndsWithin (K.written out.old) (judged_text design.now layout.now findings.now) (K.written out.new)) }
+    ensures quiet { OnOk result (K.faults out.new ≡ K.faults out.old) }
+    ensures cause { OnErr result (Rose (K.faults out.old) (K.faults out.new)) }
+{
+    put_findings(out, design, layout, findings)?;
+    put_number(out, findings.len() as u64)
+}
+
+// The status of a layout that was judged.
+fn status_of(judged: &Judged) -> u8
+    ensures { result ≡ findings_status judged.now.findings.items }
+{
+    if judged.findings.is_empty() { 0 } else { 1 }
+}
+
+/// Prints what was found of a layout, and gives the status: 9 where the sink failed. Takes no memory.
+pub fn report_judged<K: Sink>(out: &mut K, judged: &Judged) -> u8
+    ensures { Tells (Ok (done.judged judged.now.inputs judged.now.layout judged.now.findings.items)) result
+        (K.written out.old) (K.written out.new) (K.faults out.old) (K.faults out.new) }
+{
+    let findings = judged.findings.as_slice();
+    match put_judged(out, &judged.inputs.design, &judged.layout, findings) {
+        Ok(()) => status_of(judged),
+        Err(Failed) => {
+            print_line(out, &Stop::WriteFault);
+            9
+        }
+    }
+}
+
+/// Prints a layout in short, and gives the status: 9 where the sink failed. Takes no memory.
+pub fn report_laid<K: Sink>(out: &mut K, summary: &Summary) -> u8
+    ensures { Tells (Ok (done.laid_out summary.now)) result (K.written out.old) (K.written out.new) (K.faults out.old) (K.faults out.new) }
+{
+    match print_summary(summary, out) {
+        Ok(()) => 0,
+        Err(Failed) => {
+            print_line(out, &Stop::WriteFault);
+            9
+        }
+    }
+}
+
+/// Prints the line of what stopped a command, as far as the sink takes it, and gives the status. Takes no memory.
+pub fn report_stop<K: Sink>(out: &mut K, stop: &Stop) -> u8
+    ensures tells { IsStopped stop.now result (K.written out.old) (K.written out.new) (K.faults out.old) (K.faults out.new) }
+    ensures listed { is_status result ≡ true }
+    ensures above { 2 ≤ result }
+{
+    print_line(out, stop);
+    stop.status()
+}

@@ -1,0 +1,152 @@
+//! A design that is laid out and written, and what is told of it.
+
+ghost use Rattle.cif_writer.specs.LayoutText as cif;
+ghost use Rattle.commands.specs.Answers.{Ends};
+ghost use Rattle.commands.specs.Causes.{WriteFails};
+ghost use Rattle.commands.specs.Done.{IsStatusOf, routed_end};
+ghost use Rattle.commands.specs.Headline.{AreInputsFrom, Headline, IsGoodText};
+ghost use Rattle.commands.specs.Job.{to_lay_out};
+ghost use Rattle.commands.specs.Outcome.{EndsAs, Holds, HoldsFront, IsRoutedSo};
+ghost use Rattle.commands.specs.Status.{ending_status, is_status};
+ghost use Rattle.commands.specs.Text.{job_text};
+ghost use Rattle.commands.specs.Verdict.{job_verdict};
+ghost use Rattle.design_model.specs.Room.{HasRoom};
+ghost use Rattle.shelf_io.specs.Count.{Rose, Still};
+ghost use Rattle.shelf_io.specs.Told.{Refines};
+ghost use Rattle.std.specs.Prelude.{◌≡◌, ◌≢◌, ◌⊎◌, List, [], ℕ, Err, IfErr, IfOk, Ok, Some, true};
+
+use crate::command::Wanted;
+use crate::prepared::{Prepared, Told, lay_out};
+use crate::report::{report_laid, report_stop};
+use crate::stages::Inputs;
+use crate::stop::Stop;
+use choose_core::{Chooser, Chooses};
+use greedy_router::Routed;
+use layout_report::Summary;
+use shelf_io::{Shelf, Sink};
+use std::alloc::Global;
+
+// Keeps the routed channels of a layout that was written or could not be, and gives the layout in short where it was.
+fn ended(ending: Result<(), Stop>, told: Told, kept: &mut Vec<Routed>) -> Result<Summary, Stop>
+    ensures status { ending_status result ≡ ending_status ending }
+    ensures summary { IfOk result (λ summary. summary ≡ told.summary) }
+    ensures stop { IfErr result (λ stop. ending ≡ Err stop) }
+    ensures begun { (ending_status ending ≡ 0) ⊎ (ending_status ending ≡ 9) → kept.new.items ≡ told.kept.items }
+    ensures none { ending_status ending ≢ 0 → ending_status ending ≢ 9 → kept.new.items ≡ kept.old.items }
+{
+    match ending {
+        Ok(()) => {
+            *kept = told.kept;
+            Ok(told.summary)
+        }
+        Err(Stop::WriteFault) => {
+            *kept = told.kept;
+            Err(Stop::WriteFault)
+        }
+        Err(stop) => Err(stop),
+    }
+}
+
+// Writes a design that is laid out into a file.
+fn write_prepared<S: Shelf>(
+    alloc: Global,
+    shelf: &mut S,
+    prepared: Prepared,
+    out: &str,
+    kept: &mut Vec<Routed>,
+) -> Result<Summary, Stop>
+    requires none { kept.old.items ≡ [] }
+    ensures ends { Ends kept.new.items (routed_end result) (Ok (to_lay_out prepared.job)) }
+    ensures kept { (ending_status result ≡ 0) ⊎ (ending_status result ≡ 9) → kept.new.items ≡ prepared.kept }
+    ensures none { ending_status result ≢ 0 → ending_status result ≢ 9 → kept.new.items ≡ [] }
+    ensures whole { ending_status result ≡ 0 → Refines (S.holds shelf.new out.now) (Some (job_text prepared.job prepared.kept)) }
+    ensures good { IsGoodText prepared.job.rules prepared.job.design (job_text prepared.job prepared.kept) }
+    ensures front { ending_status result ≡ 9 → cif.HoldsFront (job_text prepared.job prepared.kept) (S.holds shelf.old out.now) (S.holds shelf.new out.now) }
+    ensures untouched { ending_status result ≢ 0 → ending_status result ≢ 9 → S.holds shelf.new ≡ S.holds shelf.old }
+    ensures listed { (ending_status result ≡ 0) ⊎ ((ending_status result ≡ 9) ⊎ (ending_status result ≡ 10)) }
+    ensures others { (other : List ℕ) → other ≢ out.now → S.holds shelf.new other ≡ S.holds shelf.old other }
+    ensures reads { S.read_faults shelf.new ≡ S.read_faults shelf.old }
+    ensures writes { ending_status result ≢ 9 → S.write_faults shelf.new ≡ S.write_faults shelf.old }
+    ensures cause { ending_status result ≡ 9 → Rose (S.write_faults shelf.old out.now) (S.write_faults shelf.new out.now) }
+{
+    let ending = prepared.write(alloc, shelf, out);
+    ended(ending, prepared.told(), kept)
+}
+
+// Lays a design out as is wanted, routes it by the choices of a style, and writes it into a file.
+fn lay_and_write<S: Shelf>(
+    alloc: Global,
+    shelf: &mut S,
+    inputs: Inputs,
+    wanted: Wanted,
+    style: &Chooser,
+    out: &str,
+    kept: &mut Vec<Routed>,
+) -> Result<Summary, Stop>
+    requires high { HasRoom inputs.rules inputs.design }
+    requires none { kept.old.items ≡ [] }
+    ensures ends { Ends kept.new.items (routed_end result) (job_verdict wanted inputs) }
+    ensures kept { (ending_status result ≡ 0) ⊎ (ending_status result ≡ 9)
+        → IsRoutedSo (⟦<Chooser as Chooses>⟧.answers style.now) (job_verdict wanted inputs) kept.new.items }
+    ensures none { ending_status result ≢ 0 → ending_status result ≢ 9 → kept.new.items ≡ [] }
+    ensures written { ending_status result ≡ 0 → Holds (job_verdict wanted inputs) kept.new.items (S.holds shelf.new out.now) }
+    ensures headline { (stated bytes held : List ℕ) → AreInputsFrom stated bytes inputs → ending_status result ≡ 0
+        → S.holds shelf.new out.now ≡ Some held → Headline stated bytes held }
+    ensures front { ending_status result ≡ 9 → HoldsFront (job_verdict wanted inputs) kept.new.items (S.holds shelf.old out.now) (S.holds shelf.new out.now) }
+    ensures cause { ending_status result ≡ 9 → Rose (S.write_faults shelf.old out.now) (S.write_faults shelf.new out.now) }
+    ensures reads { S.read_faults shelf.new ≡ S.read_faults shelf.old }
+    ensures writes { ending_status result ≢ 9 → S.write_faults shelf.new ≡ S.write_faults shelf.old }
+    ensures untouched { ending_status result ≢ 0 → ending_status result ≢ 9 → S.holds shelf.new ≡ S.holds shelf.old }
+    ensures others { (other : List ℕ) → other ≢ out.now → S.holds shelf.new other ≡ S.holds shelf.old other }
+    ensures command { ending_status result ≢ 2 }
+    ensures unread { ending_status result ≢ 8 }
+    ensures complete { Still (S.write_faults shelf.old out.now) (S.write_faults shelf.new out.now)
+        → IsStatusOf (job_verdict wanted inputs) (ending_status result) ⊎ (ending_status result ≡ 10) }
+{
+    match lay_out(alloc, inputs.design, inputs.rules, wanted, style) {
+        Ok(prepared) => write_prepared(alloc, shelf, prepared, out, kept),
+        Err(refusal) => Err(Stop::Refused(refusal)),
+    }
+}
+
+/// Lays a design out as is wanted, routes it by the choices of a style, writes it into a file, prints the layout in short or the line of what stopped
+/// that, and gives the status: 0 where all is written and printed, 9 where the file or the sink failed, or that of the first refusal.
+pub fn lay_and_report<S: Shelf, K: Sink>(
+    alloc: Global,
+    shelf: &mut S,
+    sink: &mut K,
+    inputs: Inputs,
+    wanted: Wanted,
+    style: &Chooser,
+    out: &str,
+    kept: &mut Vec<Routed>,
+) -> u8
+    requires high { HasRoom inputs.rules inputs.design }
+    requires none { kept.old.items ≡ [] }
+    ensures listed { is_status result ≡ true }
+    ensures command { result ≢ 2 }
+    ensures unread { result ≢ 8 }
+    ensures ends { EndsAs (Some (job_verdict wanted inputs)) kept.new.items result
+        (K.written sink.old) (K.written sink.new) (K.faults sink.old) (K.faults sink.new) }
+    ensures kept { (result ≡ 0) ⊎ (result ≡ 9) → IsRoutedSo (⟦<Chooser as Chooses>⟧.answers style.now) (job_verdict wanted inputs) kept.new.items }
+    ensures none { result ≢ 0 → result ≢ 9 → kept.new.items ≡ [] }
+    ensures written { result ≡ 0 → Holds (job_verdict wanted inputs) kept.new.items (S.holds shelf.new out.now) }
+    ensures whole { result ≡ 9 → Still (S.write_faults shelf.old out.now) (S.write_faults shelf.new out.now)
+        → Holds (job_verdict wanted inputs) kept.new.items (S.holds shelf.new out.now) }
+    ensures headline { (stated bytes held : List ℕ) → AreInputsFrom stated bytes inputs → result ≡ 0
+        → S.holds shelf.new out.now ≡ Some held → Headline stated bytes held }
+    ensures front { result ≡ 9 → HoldsFront (job_verdict wanted inputs) kept.new.items (S.holds shelf.old out.now) (S.holds shelf.new out.now) }
+    ensures cause { result ≡ 9 → WriteFails (Some out.now) (S.write_faults shelf.old) (S.write_faults shelf.new) (K.faults sink.old) (K.faults sink.new) }
+    ensures reads { S.read_faults shelf.new ≡ S.read_faults shelf.old }
+    ensures writes { result ≢ 9 → S.write_faults shelf.new ≡ S.write_faults shelf.old }
+    ensures untouched { result ≢ 0 → result ≢ 9 → S.holds shelf.new ≡ S.holds shelf.old }
+    ensures others { (other : List ℕ) → other ≢ out.now → S.holds shelf.new other ≡ S.holds shelf.old other }
+    ensures complete { Still (S.write_faults shelf.old out.now) (S.write_faults shelf.new out.now) → Still (K.faults sink.old) (K.faults sink.new)
+        → IsStatusOf (job_verdict wanted inputs) result ⊎ (result ≡ 10) }
+    ensures calm { (result ≡ 0) ⊎ (result ≡ 1) → K.faults sink.new ≡ K.faults sink.old }
+{
+    match lay_and_write(alloc, shelf, inputs, wanted, style, out, kept) {
+        Ok(summary) => report_laid(sink, &summary),
+        Err(stop) => report_stop(sink, &stop),
+    }
+}
