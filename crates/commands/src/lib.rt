@@ -1,4 +1,4 @@
-//! The commands of `cellroute`: from a command's words, a shelf with files and a sink for lines to a layout in CIF, a status and a line.
+//! The commands of `cellroute`: from a command's words, a shelf with files and a sink for lines to a layout in CIF, a status and lines.
 #![tactic(auto)]
 
 mod command;
