@@ -1,0 +1,71 @@
+use Rattle.std.proofs.Common.{◌≡◌, ◌<◌, ◌+◌, ◌++◌, Bool, false, eqb, ℕ, zero, suc, List, [], ◌∷◌, inl, inr, refl, sym, ap, ap₂, ◌∙◌, arith, All, Contains, get_or, filter, add-one}
+use Rattle.std.proofs.lemmas.Bool.{cases_eq, eqb-false, eq-eqb, ne_eqb, cond-true, cond-false}
+use Rattle.std.proofs.lemmas.List.{append_assoc, append-nil}
+use Rattle.std.proofs.lemmas.List.Elements.{All-nil, All-cons, All-append, Contains-append_left, Contains-append_right, Contains-get_or, filter-append}
+use Rattle.std.specs.List.{IsDistinct, AllByRecursion}
+use Rattle.list_facts.proofs.Members.{member-cases}
+use Rattle.left_edge.specs.EdgeWiring.{by_column}
+
+pub All-of_one : {A : Type 0} (P : A → Type 0) (a : A) → P a → All P (a ∷ [])
+All-of_one {A} P a first = let none : List A = [] in All-cons P a none first (All-nil P)
+
+-- what holds of each member holds of all
+pub All-from_members : {A : Type 0} (P : A → Type 0) (xs : List A) → ((x : A) → Contains xs x → P x) → All P xs
+All-from_members P xs each = λ k d within. each (get_or xs k d) (Contains-get_or xs k d within)
+
+-- what holds of what is made of each column holds of all
+pub All-by_column : {A : Type 0} (P : A → Type 0) (f : ℕ → List A) (n : ℕ) → ((column : ℕ) → column < n → All P (f column)) → All P (by_column f n)
+All-by_column P f zero each = All-nil P
+All-by_column P f (suc n) each =
+    All-append P (by_column f n) (f n) (All-by_column P f n (λ column below. each column (omega arith))) (each n (omega arith))
+
+-- what is made of a column is there
+pub Contains-by_column : {A : Type 0} (f : ℕ → List A) (n column : ℕ) (a : A) → column < n → Contains (f column) a → Contains (by_column f n) a
+Contains-by_column f zero column a below there = absurd (omega arith)
+Contains-by_column f (suc n) column a below there =
+    elim (cases_eq column n) [
+      | inl same ↦ Contains-append_right (by_column f n) (f n) a (rw same at there)
+      | inr other ↦ Contains-append_left (by_column f n) (f n) a (Contains-by_column f n column a (omega arith) there)
+    ]
+
+-- where nothing of a column passes a test, nothing of all does
+pub filter-by_column : {A : Type 0} (p : A → Bool) (f : ℕ → List A) → ((column : ℕ) → filter p (f column) ≡ []) → (n : ℕ) → filter p (by_column f n) ≡ []
+filter-by_column p f none zero = refl
+filter-by_column {A} p f none (suc n) =
+    filter-append p (by_column f n) (f n) ∙ ap₂ (λ (xs ys : List A). xs ++ ys) (filter-by_column p f none n) (none n)
+
+-- a step of a loop over the columns
+pub by_column-more : {A : Type 0} (f : ℕ → List A) (n : ℕ) (start : List A) → (start ++ by_column f n) ++ f n ≡ start ++ by_column f (n + 1)
+by_column-more f n start = rw add-one (append_assoc start (by_column f n) (f n))
+
+-- of different numbers one is kept
+pub filter-one : (xs : List ℕ) (n : ℕ) → IsDistinct eqb xs → Contains xs n → filter (λ x. eqb x n) xs ≡ n ∷ []
+unfolding IsDistinct
+filter-one [] n different there = absurd (omega (arith, there.1))
+filter-one (x ∷ xs) n different there =
+    elim (cases_eq x n) [
+      | inl same ↦
+          cond-true (eqb x n) (x ∷ filter (λ y. eqb y n) xs) (filter (λ y. eqb y n) xs) (eq-eqb x n same)
+          ∙ ap₂ (λ (y : ℕ) (ys : List ℕ). y ∷ ys) same (none xs (rw same at different.0))
+      | inr other ↦
+          cond-false (eqb x n) (x ∷ filter (λ y. eqb y n) xs) (filter (λ y. eqb y n) xs) (ne_eqb x n other)
+          ∙ filter-one xs n different.1 (elim (member-cases x xs n there) [ inl same ↦ absurd (other same) | inr later ↦ later ])
+    ]
+  where
+    none : (ys : List ℕ) → AllByRecursion (λ y. eqb n y ≡ false) ys → filter (λ y. eqb y n) ys ≡ []
+    none [] all = refl
+    none (y ∷ ys) all =
+        cond-false (eqb y n) (y ∷ filter (λ z. eqb z n) ys) (filter (λ z. eqb z n) ys) (ne_eqb y n (λ same. eqb-false n y all.0 (sym same)))
+        ∙ none ys all.1
+
+-- a column of which nothing, and one of which one thing is made
+pub by_column-skip : {A : Type 0} (f : ℕ → List A) (n : ℕ) (items start : List A) → items ≡ start ++ by_column f n → f n ≡ []
+    → items ≡ start ++ by_column f (n + 1)
+by_column-skip {A} f n items start were none =
+    were ∙ sym (rw (add-one, none) (ap (λ (l : List A). start ++ l) (append-nil (by_column f n))))
+
+pub by_column-push : {A : Type 0} (f : ℕ → List A) (n : ℕ) (items start : List A) (a : A) → items ≡ start ++ by_column f n → f n ≡ a ∷ []
+    → items ++ a ∷ [] ≡ start ++ by_column f (n + 1)
+by_column-push {A} f n items start a were one =
+    let none : List A = [] in
+    rw were (ap (λ (l : List A). (start ++ by_column f n) ++ l) (sym one) ∙ by_column-more f n start)

@@ -1,0 +1,138 @@
+ghost use Rattle.channel_model.specs.Nets.{nets_of};
+ghost use Rattle.channel_model.specs.Pins.{IsChannel};
+ghost use Rattle.left_edge.specs.Columns.{IsUnconstrained};
+ghost use Rattle.left_edge.specs.Spans.{span};
+ghost use Rattle.left_edge.specs.Swept.{IsSwept};
+ghost use Rattle.left_edge.specs.Tracks.{level_of, track_count};
+ghost use Rattle.std.specs.BTreeSet.{contains};
+ghost use Rattle.std.specs.Ordering.{nat_cmp};
+ghost use Rattle.std.specs.Prelude.{◌≡◌, ◌<◌, ◌^◌, ◌+◌, ◌==◌, ◌&&◌, ◌||◌, not, Bool, false, if◌then◌else◌, ℕ, IfOk, OnOk, length, map, slice_index};
+
+use crate::columns::net_place;
+use crate::spans::{is_begin, is_end};
+use channel_model::{Channel, Reach};
+use std::alloc::{AllocError, Global};
+use std::collections::BTreeSet;
+
+/// How many tracks there are, and how many of them lie below that of each net, by place.
+#[derive(Drop)]
+pub struct Levels {
+    pub count: u32,
+    pub of_nets: Vec<u32>,
+}
+
+// The tracks as the sweep comes to a column: how many there are, which of them are free, and those of the nets that have begun. A track
+// stands for itself by the number of those below it.
+#[derive(Drop)]
+struct Sweep {
+    count: u32,
+    free: BTreeSet<u32>,
+    levels: Vec<u32>,
+}
+
+impl Sweep {
+    // Takes the lowest free track, or adds one on top.
+    fn take_lowest(&mut self) -> u32
+        requires { self.old.count + 1 < 2 ^ 32 }
+        ensures lowest { (level : ℕ) → level < result → contains nat_cmp self.old.free level ≡ false }
+        ensures full { contains nat_cmp self.old.free result ≡ false → (result ≡ self.old.count) × ((level : ℕ) → contains nat_cmp self.old.free level ≡ false) }
+        ensures count { self.new.count ≡ (if contains nat_cmp self.old.free result then self.old.count else self.old.count + 1) }
+        ensures free { (level : ℕ) → contains nat_cmp self.new.free level ≡ (contains nat_cmp self.old.free level && not (level == result)) }
+        ensures levels { self.new.levels.items ≡ self.old.levels.items }
+    {
+        match self.free.pop_first() {
+            Some(level) => level,
+            None => {
+                let level = self.count;
+                self.count += 1;
+                level
+            }
+        }
+    }
+
+    // The track of a net that has begun, by its place.
+    fn level(&self, place: usize) -> u32
+        requires { place < length self.now.levels.items }
+        ensures { result ≡ slice_index self.now.levels.items place }
+    {
+        self.levels[place]
+    }
+
+    // Frees a track.
+    fn release(&mut self, level: u32) -> Result<(), AllocError>
+        ensures free { OnOk result ((other : ℕ) → contains nat_cmp self.new.free other ≡ (other == level || contains nat_cmp self.old.free other)) }
+        ensures count { OnOk result (self.new.count ≡ self.old.count) }
+        ensures levels { OnOk result (self.new.levels.items ≡ self.old.levels.items) }
+    {
+        self.free.insert(level)?;
+        Ok(())
+    }
+
+    // Gives a track to the net that begins in this column, if one does.
+    fn enter(&mut self, channel: &Channel, nets: &[u32], spans: &[Reach], column: usize)
+        requires nets { nets.now ≡ nets_of channel.now }
+        requires spans { spans.now ≡ map (span channel.now) nets.now }
+        requires channel { IsChannel channel.now }
+        requires free { IsUnconstrained channel.now }
+        requires within { column < length channel.now.top }
+        requires swept { IsSwept channel.now column column self.old }
+        ensures { IsSwept channel.now (column + 1) column self.new }
+    {
+        if !is_begin(channel, nets, spans, column) {
+            return;
+        }
+        let level = self.take_lowest();
+        self.levels[net_place(channel, nets, column)] = level;
+    }
+
+    // Frees the track of the net that ends in this column, if one does.
+    fn leave(
+        &mut self,
+        channel: &Channel,
+        nets: &[u32],
+        spans: &[Reach],
+        column: usize,
+    ) -> Result<(), AllocError>
+        requires nets { nets.now ≡ nets_of channel.now }
+        requires spans { spans.now ≡ map (span channel.now) nets.now }
+        requires channel { IsChannel channel.now }
+        requires free { IsUnconstrained channel.now }
+        requires within { column < length channel.now.top }
+        requires swept { IsSwept channel.now (column + 1) column self.old }
+        ensures { OnOk result (IsSwept channel.now (column + 1) (column + 1) self.new) }
+    {
+        if !is_end(channel, nets, spans, column) {
+            return Ok(());
+        }
+        let level = self.level(net_place(channel, nets, column));
+        self.release(level)
+    }
+}
+
+/// Gives each net the lowest track that is free in its first column, in O(W log N) time for W columns and N nets.
+pub fn sweep_columns(
+    alloc: Global,
+    channel: &Channel,
+    nets: &[u32],
+    spans: &[Reach],
+) -> Result<Levels, AllocError>
+    requires nets { nets.now ≡ nets_of channel.now }
+    requires spans { spans.now ≡ map (span channel.now) nets.now }
+    requires free { IsUnconstrained channel.now }
+    ensures count { IfOk result (λ levels. levels.count ≡ track_count channel.now) }
+    ensures levels { IfOk result (λ levels. levels.of_nets.items ≡ map (level_of channel.now) nets.now) }
+{
+    let mut sweep = Sweep {
+        count: 0,
+        free: BTreeSet::new(alloc),
+        levels: vec![in alloc; 0u32; nets.len()]?,
+    };
+    for column in 0..channel.top.items().len() {
+        sweep.enter(channel, nets, spans, column);
+        sweep.leave(channel, nets, spans, column)?;
+    }
+    Ok(Levels {
+        count: sweep.count,
+        of_nets: sweep.levels,
+    })
+}
