@@ -9,12 +9,13 @@ use Rattle.tech_rules.specs.Lengths.{IsWire}
 use Rattle.design_model.specs.Joined.{Conducts}
 use Rattle.design_model.specs.Joined.Conducts.{on_one, cut_to_wire, wire_to_cut}
 use Rattle.geom_extract.specs.Planes.{height_of, plane_of, raised, tie_at}
-use Rattle.geom_extract.specs.Touching.{Beside, IsWebOf, asks_of, rect_of}
+use Rattle.geom_extract.specs.Touching.{Beside, IsWebOf, rect_of}
+use Rattle.geom_extract.specs.Asking.{asks_of}
 use Rattle.geom_extract.specs.Touching.Beside.{touching, tied, tied_back}
 use Rattle.geom_extract.specs.Webs.{Leads, Linked}
 use Rattle.geom_extract.specs.declared.plane.Plane.{Plane}
 use Rattle.geom_extract.specs.declared.plane.Plane.TheVariants.{Horizontal, Vertical, Cut, Other}
-use Rattle.geom_extract.specs.declared.web.Asks.{Asks}
+use Rattle.geom_extract.specs.declared.asker.Asks.{Asks}
 use Rattle.geom_extract.specs.declared.web.Web.{Web}
 use Rattle.geom_extract.proofs.Conducting.{Pass, conducts-pass, layer-is, pass-conducts}
 use Rattle.geom_extract.proofs.Conducting.Pass.{hh, hc, vv, vc, ch, cv}

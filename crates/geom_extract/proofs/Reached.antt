@@ -9,7 +9,7 @@ use Rattle.std.proofs.Math.Seq.{get_or-append_seam}
 use Rattle.geom_core.specs.Extent.{Extent}
 use Rattle.close_rects.specs.RectSets.{Takes}
 use Rattle.close_rects.proofs.SetLaws.{after-contains, before-contains, taken-contains}
-use Rattle.geom_extract.specs.declared.web.Asks.{Asks}
+use Rattle.geom_extract.specs.declared.asker.Asks.{Asks}
 use Rattle.geom_extract.specs.declared.web.Web.{Web}
 use Rattle.geom_extract.specs.Walks.{IsFree, IsGrown, IsLonger, IsOfWalk, IsQueued, IsReached, IsRest, IsWalk, free_in}
 use Rattle.geom_extract.specs.Walks.IsReached.{known, found}

@@ -8,9 +8,10 @@ use Rattle.geom_core.specs.Rectangles.{Meet}
 use Rattle.geom_core.specs.declared.layout.Shape.{Shape}
 use Rattle.tech_rules.specs.Rules.{RuleValues}
 use Rattle.geom_extract.specs.Planes.{plane_of, tie_at}
-use Rattle.geom_extract.specs.Touching.{IsWebOf, asks_from, asks_of, firsts, rect_of, seconds}
+use Rattle.geom_extract.specs.Touching.{IsWebOf, asks_from, firsts, rect_of, seconds}
+use Rattle.geom_extract.specs.Asking.{asks_of}
 use Rattle.geom_extract.specs.Webs.{Leads}
-use Rattle.geom_extract.specs.declared.web.Asks.{Asks}
+use Rattle.geom_extract.specs.declared.asker.Asks.{Asks}
 use Rattle.geom_extract.specs.declared.web.Web.{Web}
 use Rattle.geom_extract.proofs.Together.{At, At-append, At-images, At-left, At-numbered, At-right, images-At, length-map, numbered-At}
 

@@ -4,6 +4,8 @@ pub mod Webs
 pub mod Walks
 -- layers at different heights
 pub mod Planes
+-- what a shape asks for others with
+pub mod Asking
 -- shapes that touch or are tied, and their web
 pub mod Touching
 -- the ties of a layout

@@ -1,13 +1,12 @@
-use Rattle.std.specs.Prelude.{◌≡◌, ℕ, pos, ◌+◌, List, [], ◌∷◌, ◌++◌, map, length, Some, slice_get, Contains}
+use Rattle.std.specs.Prelude.{◌≡◌, ℕ, ◌+◌, List, [], ◌∷◌, ◌++◌, map, length, Some, slice_get, Contains}
 use Rattle.std.specs.List.{range_with_len}
 use Rattle.geom_core.specs.Extent.{Extent}
 use Rattle.geom_core.specs.declared.layout.Shape.{Shape}
 use Rattle.tech_rules.specs.Rules.{RuleValues}
 use Rattle.design_model.specs.Joined.{Touch}
+use Rattle.geom_extract.specs.Asking.{asks_of}
 use Rattle.geom_extract.specs.Planes.{height_of, plane_of, raised, tie_at}
-use Rattle.geom_extract.specs.declared.plane.Plane.{Plane}
-use Rattle.geom_extract.specs.declared.plane.Plane.TheVariants.{Horizontal, Vertical, Cut, Other}
-use Rattle.geom_extract.specs.declared.web.Asks.{Asks}
+use Rattle.geom_extract.specs.declared.asker.Asks.{Asks}
 use Rattle.geom_extract.specs.declared.web.Web.{Web}
 
 -- two shapes touch, or they are tied
@@ -24,13 +23,6 @@ pub data Connected (r : RuleValues) (shapes : List Shape) (ties : List (ℕ × �
 -- a shape's rectangle at the height of its layer
 abbrev pub rect_of : RuleValues → Shape → Extent
 rect_of r s = raised (height_of (plane_of r s.layer)) s.rect
-
--- what a shape of a layer asks with: its own rectangle at the heights of the layers to which it conducts, and its place among ties
-abbrev pub asks_of : Plane → Extent → ℕ → Asks
-asks_of Horizontal e n = record { first = raised (pos 0) e; second = raised (pos 8000000000000000) e; third = tie_at n }
-asks_of Vertical e n = record { first = raised (pos 4000000000000000) e; second = raised (pos 8000000000000000) e; third = tie_at n }
-asks_of Cut e n = record { first = raised (pos 0) e; second = raised (pos 4000000000000000) e; third = tie_at n }
-asks_of Other e n = record { first = tie_at n; second = tie_at n; third = tie_at n }
 
 abbrev pub asks_from : RuleValues → ℕ → List Shape → List Asks
 asks_from r n [] = []

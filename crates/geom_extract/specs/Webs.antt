@@ -1,7 +1,7 @@
 use Rattle.std.specs.Prelude.{◌≡◌, ◌⊎◌, ◌<◌, ◌^◌, ℕ, length, Some, slice_get}
 use Rattle.geom_core.specs.Extent.{Extent}
 use Rattle.geom_core.specs.Rectangles.{Meet}
-use Rattle.geom_extract.specs.declared.web.Asks.{Asks}
+use Rattle.geom_extract.specs.declared.asker.Asks.{Asks}
 use Rattle.geom_extract.specs.declared.web.Web.{Web}
 
 -- a rectangle of the web that meets this one leads to the shape

@@ -1,6 +1,7 @@
 //! Which shapes of a layout are joined.
 #![tactic(auto)]
 
+mod asker;
 mod cell_ties;
 mod joined;
 mod places;

@@ -1,12 +1,13 @@
 ghost use Rattle.geom_core.specs.Reach.{IsShapeInReach, IsExtentInReach};
 ghost use Rattle.geom_extract.specs.Planes.{plane_of};
 ghost use Rattle.geom_extract.specs.Planes.{tie_at};
-ghost use Rattle.geom_extract.specs.Touching.{Connected, IsWebOf, asks_from, asks_of, firsts, rect_of, seconds};
+ghost use Rattle.geom_extract.specs.Touching.{Connected, IsWebOf, asks_from, firsts, rect_of, seconds};
 ghost use Rattle.std.specs.List.{range_with_len};
 ghost use Rattle.std.specs.Prelude.{◌≡◌, ◌<◌, ◌↔◌, ◌^◌, ◌++◌, length, map, slice_index, All, IfOk, ℕ};
 
+use crate::asker::Asker;
 use crate::plane::{Plane, height_of, plane_of, raised, tie_at};
-use crate::web::{Asks, Web, classes_of};
+use crate::web::{Web, classes_of};
 use geom_core::{Rect, Shape};
 use std::alloc::{AllocError, Global};
 use tech_rules::Rules;
@@ -100,44 +101,14 @@ fn ends_of(alloc: Global, count: usize, ties: &[(u32, u32)]) -> Result<Vec<u32>,
     Ok(ends)
 }
 
-fn all_asks(alloc: Global, shapes: &[Shape], rules: &Rules) -> Result<Vec<Asks>, AllocError>
+fn all_asks(alloc: Global, shapes: &[Shape], rules: &Rules) -> Result<Vec<Asker>, AllocError>
     requires few { length shapes.now < 2 ^ 32 }
     requires reach { All IsShapeInReach shapes.now }
     ensures { IfOk result (λ v. v.items ≡ asks_from rules.now 0 shapes.now) }
 {
     let mut asks = Vec::with_capacity(alloc, shapes.len())?;
     for k in 0..shapes.len() {
-        asks.push(asks_of(plane_of(rules, &shapes[k].layer), &shapes[k].rect, k as u32))?;
+        asks.push(Asker::new(plane_of(rules, &shapes[k].layer), &shapes[k].rect, k as u32))?;
     }
     Ok(asks)
-}
-
-// What a shape of a layer asks with.
-fn asks_of(plane: Plane, rect: &Rect, number: u32) -> Asks
-    requires { IsExtentInReach rect.now }
-    ensures { result ≡ asks_of plane rect.now number }
-{
-    let third = tie_at(number);
-    match plane {
-        Plane::Horizontal => Asks {
-            first: raised(rect, 0),
-            second: raised(rect, height_of(Plane::Cut)),
-            third,
-        },
-        Plane::Vertical => Asks {
-            first: raised(rect, height_of(Plane::Vertical)),
-            second: raised(rect, height_of(Plane::Cut)),
-            third,
-        },
-        Plane::Cut => Asks {
-            first: raised(rect, 0),
-            second: raised(rect, height_of(Plane::Vertical)),
-            third,
-        },
-        Plane::Other => Asks {
-            first: third,
-            second: third,
-            third,
-        },
-    }
 }

@@ -60,7 +60,7 @@ fn visit(
     ensures walk { OnOk result ((before : List ℕ) → Chain web.now start x → IsWalk web.now start before classes.old queue.old.items → IsWalk web.now start before classes.new queue.new.items) }
     ensures reached { OnOk result ((y : ℕ) → Linked web.now x y → IsFree classes.new y → ⊥) }
 {
-    let asks = &web.asks[x as usize];
+    let asks = web.asks[x as usize].asks();
     take_all(web, &asks.first, start, set, classes, queue)?;
     take_all(web, &asks.second, start, set, classes, queue)?;
     take_all(web, &asks.third, start, set, classes, queue)?;

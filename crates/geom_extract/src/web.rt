@@ -2,18 +2,11 @@ ghost use Rattle.geom_extract.specs.Walks.{IsSettled};
 ghost use Rattle.geom_extract.specs.Webs.{Chain, IsWeb};
 ghost use Rattle.std.specs.Prelude.{◌≡◌, ◌<◌, ◌↔◌, length, slice_index, IfOk, OnOk, ℕ};
 
+use crate::asker::Asker;
 use crate::walk::{NONE, walk};
 use close_rects::RectSet;
 use geom_core::Rect;
 use std::alloc::{AllocError, Global};
-
-// The three rectangles with which a shape asks for others.
-#[derive(Clone, Copy)]
-pub struct Asks {
-    pub first: Rect,
-    pub second: Rect,
-    pub third: Rect,
-}
 
 // Rectangles, each of which leads to a shape, and what each shape asks for: it is linked to the shapes to which those lead that
 // meet a rectangle of its own.
@@ -21,7 +14,7 @@ pub struct Asks {
 pub struct Web {
     pub rects: Vec<Rect>,
     pub ends: Vec<u32>,
-    pub asks: Vec<Asks>,
+    pub asks: Vec<Asker>,
 }
 
 // A number for each shape of a web whose links go both ways: two shapes have equal numbers exactly where a chain of links leads

@@ -27,7 +27,7 @@ lasts pins zero = []
 lasts pins (suc column) =
     if begins pins column then with_net (is_past pins column) (net_at pins column) (lasts pins column) else lasts pins column
 
--- how many tracks lie below that of a net: all those in its first column whose last nets are not past, up to the first one that is
+-- how many tracks lie below that of a net: in its first column, those below the lowest whose last net is past, or all of them
 unfoldable pub level_of : Pins → ℕ → ℕ
 level_of pins net = position_or_len (is_past pins (span pins net).first) (lasts pins (span pins net).first)
 

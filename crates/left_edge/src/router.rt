@@ -32,10 +32,10 @@ pub struct Edge {
 
 /// The wiring of a channel in as many tracks as its density, with no column added, in O(W log W) time for W columns.
 ///
-/// The nets are taken by their first pin columns, in which no two of them begin. Each goes to the lowest track whose last net has its last pin
-/// in an earlier column, or else to a new track on top, and lies there from its first to its last pin column. An Across joins each pin to its
-/// net's track, and has a via there, which the two pins of a column share. The segments are the Acrosses of the bottom pins and those of the
-/// top pins, each by column, and then the Alongs by net; the vias follow the Acrosses.
+/// The nets are taken by their first pin columns, no two of which are one. Each goes to the lowest track whose last net has its last pin in an
+/// earlier column, or else to a new track on top, and lies there from its first to its last pin column. An Across joins each pin to its net's
+/// track, and has a via there, which the two pins of a column share. The segments are the Acrosses of the bottom pins and those of the top pins,
+/// each by column, and then the Alongs by net; the vias follow the Acrosses.
 ///
 /// `Constrained` exactly where a column has pins of two different nets, with the first such column; else the one fault is want of memory. No
 /// wiring of the channel in which each net has one Along, from its first to its last pin column, has fewer tracks: all nets of `nets` cross

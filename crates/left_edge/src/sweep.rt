@@ -21,8 +21,8 @@ pub struct Levels {
     pub of_nets: Vec<u32>,
 }
 
-// The tracks as the sweep comes to a column: how many there are, which of them are free, and those of the nets that have begun. A track
-// stands for itself by the number of those below it.
+// The tracks as the sweep comes to a column: how many there are, which of them are free, and those of the nets that have begun. A track is
+// told by how many lie below it.
 #[derive(Drop)]
 struct Sweep {
     count: u32,

@@ -1,0 +1,91 @@
+//! What a shape asks for others with.
+
+ghost use Rattle.geom_core.specs.Reach.{IsExtentInReach};
+ghost use Rattle.geom_extract.specs.Asking.{asks_of};
+ghost use Rattle.std.specs.Prelude.{◌≡◌};
+
+use crate::plane::{Plane, height_of, raised, tie_at};
+use geom_core::Rect;
+use std::marker::Model;
+
+// The three rectangles with which a shape asks for others.
+#[derive(Clone, Copy)]
+pub struct Asks {
+    pub first: Rect,
+    pub second: Rect,
+    pub third: Rect,
+}
+
+// The same in short: a shape's rectangle, its layer and its number. Contracts see the three rectangles.
+#[derive(Drop)]
+pub struct Asker {
+    rect: Rect,
+    plane: Plane,
+    number: u32,
+}
+
+impl Model for Asker {
+    ghost use Rattle.geom_extract.specs.Asking.{asks_in, IsAsker};
+    ghost use Rattle.geom_extract.specs.declared.asker.Asks.{Asks as Asked};
+
+    ghost Value = { Asked };
+
+    ghost view = { asks_in };
+
+    ghost invariant = { IsAsker };
+}
+
+impl Asker {
+    ghost use Rattle.geom_core.specs.Reach.{IsExtentInReach};
+    ghost use Rattle.geom_extract.specs.Asking.{asks_of};
+    ghost use Rattle.std.specs.Prelude.{◌≡◌};
+
+    // A shape of this rectangle, layer and number.
+    pub fn new(plane: Plane, rect: &Rect, number: u32) -> Asker
+        requires { IsExtentInReach rect.now }
+        ensures { result ≡ asks_of plane rect.now number }
+    {
+        Asker {
+            rect: *rect,
+            plane,
+            number,
+        }
+    }
+
+    // What it asks with.
+    pub fn asks(&self) -> Asks
+        ensures { result ≡ self.now }
+    {
+        asks_of(self.plane, &self.rect, self.number)
+    }
+}
+
+// What a shape of a layer asks with.
+fn asks_of(plane: Plane, rect: &Rect, number: u32) -> Asks
+    requires { IsExtentInReach rect.now }
+    ensures { result ≡ asks_of plane rect.now number }
+{
+    let third = tie_at(number);
+    match plane {
+        Plane::Horizontal => Asks {
+            first: raised(rect, 0),
+            second: raised(rect, height_of(Plane::Cut)),
+            third,
+        },
+        Plane::Vertical => Asks {
+            first: raised(rect, height_of(Plane::Vertical)),
+            second: raised(rect, height_of(Plane::Cut)),
+            third,
+        },
+        Plane::Cut => Asks {
+            first: raised(rect, 0),
+            second: raised(rect, height_of(Plane::Vertical)),
+            third,
+        },
+        Plane::Other => Asks {
+            first: third,
+            second: third,
+            third,
+        },
+    }
+}
