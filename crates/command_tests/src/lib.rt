@@ -8,6 +8,8 @@ mod limit_tests;
 #[cfg(test)]
 mod line_tests;
 #[cfg(test)]
+mod many_tests;
+#[cfg(test)]
 mod route_tests;
 #[cfg(test)]
 mod size_tests;
