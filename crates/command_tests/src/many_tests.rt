@@ -1,6 +1,8 @@
 //! Layouts with many findings or none, of files as large as they may be, and names of any bytes.
 
-use crate::support::{CHECK, TWO_JOINED, ended, is_done, is_ended, shelf_of, text_with};
+use crate::support::{
+    CHECK, TWO_JOINED, ended, is_done, is_ended, rules_with, shelf_of, text_with,
+};
 use layout_report::make_design;
 use samples::{BUFFER, CELLS, RULES};
 use shelf_io::{MemShelf, MemSink};
@@ -115,5 +117,25 @@ fn a_layout_of_too_many_bytes(rt: HostRuntime) -> Result<(), Fail> {
     let blanks = vec![in alloc; b' '; 268_435_457]?;
     shelf.set("c", blanks.as_slice())?;
     assert!(rt; is_ended(alloc, CHECK, &mut shelf, 6, "limit Cif 268435456\n")?);
+    Ok(())
+}
+
+/// A made design, routed twice with one seed: it is clean, and the texts are the same.
+#[test]
+fn a_made_design_in_three_rows(rt: HostRuntime) -> Result<(), Fail> {
+    let alloc = rt.alloc();
+    let rules = rules_with(alloc, "stages = 0", "stages = 20")?;
+    let design = make_design(alloc, &Rules::sample(alloc)?, 7, 60)?;
+    let mut shelf = MemShelf::new(alloc)?;
+    shelf.set("r", rules.as_bytes())?;
+    shelf.set("d", design.as_slice())?;
+    let mut out = MemSink::new(alloc)?;
+    let words = "route|d|r|c|--rows|3|--seed|7";
+    let status = ended(alloc, words, &mut shelf, &mut out)?.status;
+    assert!(rt; status == 0);
+    assert!(rt; out.bytes().starts_with(b"cells 60\nnets 75\nrows 3\n"));
+    assert!(rt; is_ended(alloc, CHECK, &mut shelf, 0, "findings 0\n")?);
+    assert!(rt; is_done(alloc, "route|d|r|o|--rows|3|--seed|7", &mut shelf)?);
+    assert!(rt; shelf.get("o") == shelf.get("c"));
     Ok(())
 }
