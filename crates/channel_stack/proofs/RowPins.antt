@@ -16,7 +16,7 @@ use Rattle.feed_cells.specs.declared.fed.Item.{Item}
 use Rattle.feed_cells.specs.declared.fed.Item.TheVariants.{Cell, Feed}
 use Rattle.feed_cells.proofs.CrossingLaws.{fed-across}
 use Rattle.feed_cells.proofs.FedLaws.{cells-fed, fed-row-some, item-stands}
-use Rattle.feed_cells.proofs.NetLaws.{across-over, across-under}
+use Rattle.feed_cells.proofs.NetLaws.{across-beside}
 use Rattle.pin_assign.specs.Entering.{enters}
 use Rattle.pin_assign.specs.Places.{TablePlace, StandsAt, channel_facing, entry_at}
 use Rattle.pin_assign.specs.Sources.{Source, of_feed, of_pin, source_net, IsOver}
@@ -85,8 +85,7 @@ module _ (d : Netlist) (good : IsNetlist d) (rows : List (List Seat)) where
   -- a net stands in each channel in which it has an entry
   beside-inside : (net row channel : ℕ) (upper : Bool) → channel ≡ channel_facing row upper → is_across (crossing_of d rows net) row ≡ true
       → is_in (crossing_of d rows net) channel ≡ true
-  beside-inside net row channel true at across = subst (λ (n : ℕ). is_in (crossing_of d rows net) n ≡ true) (sym at) (across-under (crossing_of d rows net) row across)
-  beside-inside net row channel false at across = subst (λ (n : ℕ). is_in (crossing_of d rows net) n ≡ true) (sym at) (across-over (crossing_of d rows net) row across)
+  beside-inside net row channel upper at across = rw at (across-beside (crossing_of d rows net) (not upper) row across)
 
   source-inside : (channel : ℕ) (place : TablePlace) (cause : Source) → StandsAt d (fed_rows d rows) channel cause place → is_in (crossing_of d rows (source_net cause)) channel ≡ true
   source-inside channel place (of_pin p) h =

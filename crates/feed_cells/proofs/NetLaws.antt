@@ -1,7 +1,7 @@
-use Rattle.std.proofs.Common.{◌≡◌, ◌≢◌, ◌<◌, ◌≤◌, ◌+◌, ℕ, inl, inr, refl, sym, subst, ◌∙◌, arith, List, [], ◌∷◌, true, false, Contains, length}
-use Rattle.std.proofs.lemmas.Bool.{both_ways}
+use Rattle.std.proofs.Common.{◌≡◌, ◌≢◌, ◌<◌, ◌≤◌, ℕ, refl, arith, List, [], ◌∷◌, Bool, true, Contains, length}
+use Rattle.std.proofs.lemmas.Bool.Decides.{nat_tests}
 use Rattle.std.proofs.lemmas.List.Elements.{All-contains}
-use Rattle.list_facts.proofs.Members.{member-cases, member-head}
+use Rattle.list_facts.proofs.Members.{member-head}
 use Rattle.design_model.specs.Netlist.{IsNetlist, Netlist}
 use Rattle.design_model.specs.declared.design.Pin.{Pin}
 use Rattle.row_model.specs.Rows.{ArePlaced}
@@ -11,32 +11,22 @@ use Rattle.feed_cells.specs.Fed.{fed_row}
 use Rattle.feed_cells.specs.Feeds.{is_fed}
 use Rattle.feed_cells.specs.Standing.{IsFeed}
 use Rattle.feed_cells.specs.declared.crossing.Crossing.{Crossing}
-use Rattle.feed_cells.specs.declared.crossing.Crossing.TheVariants.{Alone, One, Many}
+use Rattle.feed_cells.specs.declared.crossing.Crossing.TheVariants.{Alone}
 use Rattle.feed_cells.specs.declared.fed.Item.TheVariants.{Feed}
-use Rattle.feed_cells.proofs.CrossingLaws.{across-range, channels-within, fed-across, from-range, in-net, of-net, stands-in}
+use Rattle.feed_cells.specs.Touching.{channel_beside}
+use Rattle.feed_cells.proofs.CrossingLaws.{across-range, channels-within, fed-across, in-net, of-net}
 use Rattle.feed_cells.proofs.FedLaws.{feed-there}
 
 -- a net that stands in a channel, or crosses a row, is not alone
 pub inside-stands : (c : Crossing) (channel : ℕ) → is_in c channel ≡ true → c ≢ Alone
-inside-stands Alone channel inside = absurd (both_ways false refl inside)
-inside-stands (One b) channel inside = λ (e : One b ≡ Alone). cc
-inside-stands (Many lo hi) channel inside = λ (e : Many lo hi ≡ Alone). cc
+inside-stands c channel inside is = grind arith
 
 pub across-stands : (c : Crossing) (row : ℕ) → is_across c row ≡ true → c ≢ Alone
-across-stands Alone row across = absurd (both_ways false refl across)
-across-stands (One b) row across = absurd (both_ways false refl across)
-across-stands (Many lo hi) row across = λ (e : Many lo hi ≡ Alone). cc
+across-stands c row across is = grind arith
 
 -- and stands in the channels on both sides of the row
-pub across-under : (c : Crossing) (row : ℕ) → is_across c row ≡ true → is_in c row ≡ true
-across-under c row across =
-    let range = across-range c row across in
-    from-range c row (across-stands c row across) range.0 (omega (arith, range.1))
-
-pub across-over : (c : Crossing) (row : ℕ) → is_across c row ≡ true → is_in c (row + 1) ≡ true
-across-over c row across =
-    let range = across-range c row across in
-    from-range c (row + 1) (across-stands c row across) (omega (arith, range.0)) (omega (arith, range.1))
+pub across-beside : (c : Crossing) (top : Bool) (row : ℕ) → is_across c row ≡ true → is_in c (channel_beside top row) ≡ true
+across-beside c top row across = grind (arith, nat_tests)
 
 -- the row that a net crosses is one of the rows
 pub across-within : (d : Netlist) (rows : List (List Seat)) → IsNetlist d → ArePlaced d rows → (net row : ℕ) → is_across (crossing_of d rows net) row ≡ true
@@ -74,19 +64,9 @@ pub alone-same : (d : Netlist) (rows : List (List Seat)) (net : ℕ) → crossin
     → Contains d.pins q → q.net ≡ net → p ≡ q
 unfolding crossing_of
 alone-same d rows net alone p q first of_first second of_second =
-    by (pins_of d net) refl (in-net d net p first of_first) (in-net d net q second of_second)
+    by (pins_of d net) alone (in-net d net p first of_first) (in-net d net q second of_second)
   where
-    more : (pins : List Pin) → 2 ≤ length pins → pins_of d net ≡ pins → ⊥
-    more pins two is = stands-in d rows net (subst (λ (l : List Pin). 2 ≤ length l) (sym is) two) alone
-
-    only : (a x : Pin) → Contains (a ∷ []) x → a ≡ x
-    only a x member =
-        elim (member-cases a [] x member) [
-          | inl same ↦ same
-          | inr none ↦ absurd (omega (arith, none.1))
-        ]
-
-    by : (pins : List Pin) → pins_of d net ≡ pins → Contains pins p → Contains pins q → p ≡ q
+    by : (pins : List Pin) → crossing_of_pins d rows pins ≡ Alone → Contains pins p → Contains pins q → p ≡ q
     by [] is one other = absurd (omega (arith, one.1))
-    by (a ∷ []) is one other = sym (only a p one) ∙ only a q other
-    by (a ∷ b ∷ ps) is one other = absurd (more (a ∷ b ∷ ps) (omega arith) is)
+    by (a ∷ []) is one other = grind (arith, one, other)
+    by (a ∷ b ∷ ps) is one other = absurd (grind (arith, nat_tests))

@@ -1,19 +1,20 @@
 use Rattle.std.specs.List.{range_with_len}
 use Rattle.std.specs.List.Sorted.{IsNonDecreasingBy}
-use Rattle.std.proofs.Common.{◌≡◌, ℕ, ◌+◌, ◌<◌, ◌≤◌, ◌==◌, ◌&&◌, get_or, zero, suc, List, [], ◌∷◌, ◌++◌, map, filter, length, Bool, true, false, Option, Some, slice_get, arith, refl, ap, ap₂, ◌∙◌, cond, fold, max, sym, subst}
+use Rattle.std.proofs.Common.{◌≡◌, ℕ, ◌+◌, ◌<◌, ◌≤◌, ◌==◌, ◌&&◌, get_or, zero, suc, List, [], ◌∷◌, ◌++◌, map, filter, length, Bool, Option, Some, slice_get, arith, refl, ap, ap₂, ◌∙◌, cond, sym, subst}
+use Rattle.std.proofs.Math.Path.{fun_ext}
 use Rattle.std.proofs.lemmas.List.FromFn.{length-map-range_with_len}
 use Rattle.list_facts.specs.Lists.{list_there}
 use Rattle.list_facts.proofs.Counts.{length-filter-map}
-use Rattle.design_model.specs.Netlist.{Netlist, IsNetlist}
+use Rattle.design_model.specs.Netlist.{Netlist}
 use Rattle.design_model.proofs.DesignPins.{nets-few}
 use Rattle.row_model.specs.Widths.{columns_of}
 use Rattle.row_model.specs.declared.rows.Seat.{Seat}
 use Rattle.row_model.specs.Rows.{ArePlaced}
 use Rattle.feed_cells.specs.Crossings.{all_nets, is_in}
-use Rattle.feed_cells.specs.Fed.{fed_row, items_from, Fed, IsFed, cells_in, fed_from, fed_rows, items_width, nets_in}
+use Rattle.feed_cells.specs.Fed.{fed_row, items_from, Fed, IsFed, cells_in, fed_rows, nets_in}
 use Rattle.feed_cells.specs.Feeds.{feed_place, is_fed, lefts_of}
 use Rattle.feed_cells.specs.Placement.{net_place}
-use Rattle.feed_cells.specs.RowFeeds.{is_at_place, laid, middle_at, nets_fed, place_among}
+use Rattle.feed_cells.specs.RowFeeds.{is_at_place, laid, nets_fed}
 use Rattle.feed_cells.specs.declared.fed.Item.{Item}
 use Rattle.feed_cells.specs.declared.fed.Item.TheVariants.{Cell, Feed}
 use Rattle.feed_cells.specs.declared.net_places.NetPlace.{NetPlace}
@@ -27,10 +28,7 @@ fed-nets d rows row net zero = refl
 fed-nets d rows row net (suc n) = ap₂ (λ (b : Bool) (nets : List ℕ). cond b (net ∷ nets) nets) (fed-as d rows net row) (fed-nets d rows row (net + 1) n)
 
 pub nets-fed : (d : Netlist) (rows : List (List Seat)) (row : ℕ) → nets_fed row 1 (map (net_place d rows) (all_nets d)) ≡ filter (is_fed d rows row) (all_nets d)
-nets-fed d rows row = first (length d.nets)
-  where
-    first : (n : ℕ) → nets_fed row 1 (map (net_place d rows) (range_with_len 1 n)) ≡ filter (is_fed d rows row) (range_with_len 1 n)
-    first n = fed-nets d rows row 1 n
+nets-fed d rows row = fed-nets d rows row 1 (length d.nets)
 
 abbrev feeds_there : Option (List ℕ) → List Item
 feeds_there o = map Feed (list_there o)
@@ -51,22 +49,7 @@ placed-across : (d : Netlist) (rows : List (List Seat)) (row : ℕ) (seats : Lis
     ≡ filter (λ (m : ℕ). is_fed d rows row m && feed_place d rows seats m == place) (range_with_len net n)
 placed-across d rows row seats place net zero some within = refl
 placed-across d rows row seats place net (suc n) some within =
-    by (is_fed d rows row net) (placed-across d rows row seats place (net + 1) n (omega arith) (omega arith))
-  where
-    at : is_at_place (map (net_place d rows) (all_nets d)) (lefts_of d 0 seats) place net ≡ (feed_place d rows seats net == place)
-    at =
-        ap (λ (o : Option NetPlace). place_among (lefts_of d 0 seats) (middle_at o) == place)
-        (at_net-image (net_place d rows) (length d.nets) net some (omega arith))
-
-    by : (b : Bool)
-        → filter (is_at_place (map (net_place d rows) (all_nets d)) (lefts_of d 0 seats) place) (filter (is_fed d rows row) (range_with_len (net + 1) n))
-        ≡ filter (λ (m : ℕ). is_fed d rows row m && feed_place d rows seats m == place) (range_with_len (net + 1) n)
-        → filter (is_at_place (map (net_place d rows) (all_nets d)) (lefts_of d 0 seats) place)
-        (cond b (net ∷ filter (is_fed d rows row) (range_with_len (net + 1) n)) (filter (is_fed d rows row) (range_with_len (net + 1) n)))
-        ≡ cond (b && feed_place d rows seats net == place) (net ∷ filter (λ (m : ℕ). is_fed d rows row m && feed_place d rows seats m == place) (range_with_len (net + 1) n))
-        (filter (λ (m : ℕ). is_fed d rows row m && feed_place d rows seats m == place) (range_with_len (net + 1) n))
-    by true more = ap₂ (λ (c : Bool) (nets : List ℕ). cond c (net ∷ nets) nets) at more
-    by false more = more
+    grind (arith, placed-across d rows row seats place (net + 1) n (omega arith) (omega arith), at_net-image (net_place d rows) (length d.nets) net some (omega arith))
 
 -- a row that is laid by tables is the row with its feeds
 pub row-fed : (d : Netlist) (rows : List (List Seat)) (row : ℕ) (seats : List Seat) (across : List ℕ) (nets : List NetPlace) (lefts : List ℕ) (table : List (List ℕ))
@@ -86,55 +69,27 @@ row-fed d rows row seats across nets lefts table nets_are across_are lefts_are h
 lefts-above : (d : Netlist) (left : ℕ) (seats : List Seat) (j e : ℕ) → j < length (lefts_of d left seats) → left ≤ get_or (lefts_of d left seats) j e
 lefts-above d left [] j e below = absurd (omega arith)
 lefts-above d left (s ∷ seats) zero e below = omega arith
-lefts-above d left (s ∷ seats) (suc j) e below =
-    let rest : left + columns_of d s.instance ≤ get_or (lefts_of d (left + columns_of d s.instance) seats) j e =
-    lefts-above d (left + columns_of d s.instance) seats j e (omega arith) in
-    omega arith
+lefts-above d left (s ∷ seats) (suc j) e below = omega (arith, lefts-above d (left + columns_of d s.instance) seats j e (omega arith))
 
 -- and do not fall
 pub lefts-rise : (d : Netlist) (left : ℕ) (seats : List Seat) → IsNonDecreasingBy (λ (n : ℕ). n) (lefts_of d left seats)
 lefts-rise d left [] i j e order below = absurd (omega arith)
 lefts-rise d left (s ∷ seats) zero zero e order below = omega arith
-lefts-rise d left (s ∷ seats) zero (suc j) e order below =
-    let rest : left + columns_of d s.instance ≤ get_or (lefts_of d (left + columns_of d s.instance) seats) j e =
-    lefts-above d (left + columns_of d s.instance) seats j e (omega arith) in
-    omega arith
+lefts-rise d left (s ∷ seats) zero (suc j) e order below = lefts-above d left (s ∷ seats) (suc j) e below
 lefts-rise d left (s ∷ seats) (suc i) zero e order below = absurd (omega arith)
 lefts-rise d left (s ∷ seats) (suc i) (suc j) e order below = lefts-rise d (left + columns_of d s.instance) seats i j e (omega arith) (omega arith)
 
--- a design has at most 200,000 nets
-pub places-few : (d : Netlist) (rows : List (List Seat)) (nets : List NetPlace) → IsNetlist d → nets ≡ map (net_place d rows) (all_nets d) → length nets ≤ 200000
-places-few d rows nets is are =
-    let many : length nets ≡ length d.nets = ap length are ∙ length-map-range_with_len (net_place d rows) 1 (length d.nets) in
-    omega (arith, nets-few d is)
-
 -- the nets of each channel are those that stand in it
-counts-nets : (d : Netlist) (rows : List (List Seat)) (channels : List ℕ) → map (count_in (map (net_place d rows) (all_nets d))) channels ≡ map (λ (c : ℕ). length (nets_in d rows c)) channels
-counts-nets d rows [] = refl
-counts-nets d rows (channel ∷ channels) =
-    ap₂ (λ (m : ℕ) (ms : List ℕ). m ∷ ms) (length-filter-map (net_place d rows) (λ (place : NetPlace). is_in place.crossing channel) (all_nets d)) (counts-nets d rows channels)
-
-abbrev fed_with : List (List Item) → ℕ → List ℕ → Fed
-fed_with items width nets = record { rows = items; width = width; nets = nets }
-
--- rows with feeds, their width and their nets are the answer
-pub fed-is : (d : Netlist) (rows : List (List Seat)) (places : List NetPlace) (items : List (List Item)) (width : ℕ) (nets : List ℕ)
-    → places ≡ map (net_place d rows) (all_nets d)
-    → items ≡ fed_from d rows 0 rows → width ≡ fold max 0 (map (items_width d) (fed_from d rows 0 rows)) → nets ≡ map (count_in places) (range_with_len 0 (length rows + 1))
-    → fed_with items width nets ≡ fed_rows d rows
-unfolding fed_rows
-fed-is d rows places items width nets are items_are width_is nets_are =
-    let counted : nets ≡ map (λ (channel : ℕ). length (nets_in d rows channel)) (range_with_len 0 (length rows + 1)) =
-    nets_are ∙ ap (λ (ps : List NetPlace). map (count_in ps) (range_with_len 0 (length rows + 1))) are ∙ counts-nets d rows (range_with_len 0 (length rows + 1)) in
-    ap₂ (λ (r : List (List Item)) (w : ℕ). fed_with r w nets) items_are width_is
-    ∙ ap (λ (n : List ℕ). fed_with (fed_from d rows 0 rows) (fold max 0 (map (items_width d) (fed_from d rows 0 rows))) n) counted
-
--- the cells of rows with their feeds are the rows
-pub fed-cells : (d : Netlist) (rows : List (List Seat)) (fed : Fed) → fed ≡ fed_rows d rows → cells_in fed.rows ≡ rows
-fed-cells d rows fed is = ap (λ (f : Fed). cells_in f.rows) is ∙ cells-fed d rows
+pub counts-nets : (d : Netlist) (rows : List (List Seat)) (channels : List ℕ) → map (count_in (map (net_place d rows) (all_nets d))) channels ≡ map (λ (c : ℕ). length (nets_in d rows c)) channels
+counts-nets d rows channels =
+    ap (λ (f : ℕ → ℕ). map f channels) (fun_ext (λ channel. length-filter-map (net_place d rows) (λ (place : NetPlace). is_in place.crossing channel) (all_nets d)))
 
 -- placed rows with their feeds are the rows with feeds of their cells
 pub fed-from : (d : Netlist) (rows : List (List Seat)) (fed : Fed) → ArePlaced d rows → fed ≡ fed_rows d rows → IsFed d fed
 fed-from d rows fed placed is =
-    let cells : cells_in fed.rows ≡ rows = fed-cells d rows fed is in
+    let cells : cells_in fed.rows ≡ rows = ap (λ (f : Fed). cells_in f.rows) is ∙ cells-fed d rows in
     record { placed = subst (ArePlaced d) (sym cells) placed; is = is ∙ ap (fed_rows d) (sym cells) }
+
+pub ruleset fed_laws = (nets-few, length-map-range_with_len)
+
+pub ruleset row_laws = (lefts-long, lefts-rise, row-fed)

@@ -43,6 +43,7 @@ pub fn fed_rows(
 }
 
 // A row of a design in rows with the feeds of these nets.
+#[tactic(auto, using(crate::proofs::RowFeedLaws::row_laws))]
 fn fed_row(
     alloc: Global,
     design: &Design,

@@ -16,6 +16,7 @@ use std::alloc::{AllocError, Global};
 /// The rows with a feed wherever a net crosses a row in which it has no through pin, by where the pins and nets of the design stand: before the first
 /// cell that does not begin left of the middle of the net's pins, or behind the last; feeds at one place in the order of their nets. Then the width of the
 /// widest row, and how many nets stand in each channel. The cells stand as before. The one error is want of memory.
+#[tactic(auto, using(crate::proofs::RowFeedLaws::fed_laws), unfolding(crate::specs::Placement::placement_of))]
 pub fn insert_feeds(
     alloc: Global,
     design: &Design,

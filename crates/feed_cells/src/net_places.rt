@@ -46,6 +46,7 @@ pub fn net_place(alloc: Global, pins: &[PinPlace]) -> Result<NetPlace, AllocErro
 }
 
 // The first of a net's pins that passes each row that the net crosses.
+#[tactic(auto, using(crate::proofs::PlacementLaws::range_laws))]
 fn through_pins(
     alloc: Global,
     pins: &[PinPlace],

@@ -30,6 +30,7 @@ pub struct Placement {
 
 /// Where the pins and nets of a design in rows stand. The one error is want of memory; steps as the number of pins, positions, cells and nets, and for each
 /// pin as the number of rows that its net crosses.
+#[tactic(auto, using(crate::proofs::PlacementLaws::placed_laws), unfolding(crate::specs::Placement::placement_of))]
 pub fn place(alloc: Global, design: &Design, rows: &Rows) -> Result<Placement, AllocError>
     requires { ArePlaced design.now rows.now }
     ensures { IfOk result (λ placement. placement ≡ placement_of design.now rows.now) }
@@ -47,6 +48,7 @@ pub fn place(alloc: Global, design: &Design, rows: &Rows) -> Result<Placement, A
 }
 
 // Where so many nets stand, by where all pins do.
+#[tactic(auto, using(crate::proofs::PlacementLaws::range_laws))]
 fn net_places(alloc: Global, count: usize, pins: &[PinPlace]) -> Result<Vec<NetPlace>, AllocError>
     requires { count ≤ 200000 }
     ensures { IfOk result (λ v. v.items ≡ nets_among pins.now count) }

@@ -29,6 +29,7 @@ pub fn feeds_by_row(alloc: Global, rows: usize, nets: &[NetPlace]) -> Result<Lis
 }
 
 // Puts a net into the rows that it crosses by a feed.
+#[tactic(auto, using(std::proofs::lemmas::Bool::Decides::nat_tests))]
 fn feed_net(feeds: &mut Lists<u32>, net: u32, place: &NetPlace) -> Result<(), AllocError>
     ensures { OnOk result ((row : ℕ) → slice_get feeds.new row ≡ option_map (with_item (is_fed_by place.now row) net) (slice_get feeds.old row)) }
 {

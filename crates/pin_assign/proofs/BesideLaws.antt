@@ -1,8 +1,8 @@
 use Rattle.std.specs.List.{slice_get}
-use Rattle.std.specs.Option.{is_some, option_map}
-use Rattle.std.proofs.Common.{◌≡◌, ℕ, ◌+◌, List, [], ◌∷◌, Bool, Some, refl, ap, sym, ◌∙◌, inl, inr, arith, Contains, zero, suc, true, false, not, Option, None, subst}
-use Rattle.std.proofs.lemmas.Option.{none-some, same_Some, slice_get-map}
-use Rattle.list_facts.proofs.Members.{member-cases, member-tail}
+use Rattle.std.specs.Option.{option_map}
+use Rattle.std.proofs.Common.{◌≡◌, ℕ, ◌+◌, List, [], ◌∷◌, Bool, Some, refl, ap, sym, ◌∙◌, inl, inr, arith, Contains, suc, true, false, not, Option, subst}
+use Rattle.std.proofs.lemmas.Option.{slice_get-map}
+use Rattle.list_facts.proofs.Members.{member-cases, member-head, member-tail}
 use Rattle.design_model.specs.Netlist.{Netlist}
 use Rattle.design_model.specs.declared.design.Pin.{Pin}
 use Rattle.row_model.specs.Stands.{edge_column, turned_column}
@@ -12,7 +12,7 @@ use Rattle.feed_cells.specs.Fed.{item_width, seats_in, Fed, cells_in}
 use Rattle.feed_cells.specs.declared.fed.Item.{Item}
 use Rattle.feed_cells.specs.declared.fed.Item.TheVariants.{Cell, Feed}
 use Rattle.feed_cells.specs.Crossings.{has_edge}
-use Rattle.pin_assign.specs.Sources.{Source, IsOver, StandsOver, first_over, later_over, of_feed, of_pin, SourceEnters}
+use Rattle.pin_assign.specs.Sources.{Source, StandsOver, first_over, later_over, of_feed, of_pin, SourceEnters}
 use Rattle.pin_assign.specs.Entering.{enters}
 use Rattle.pin_assign.specs.Places.{HasOver, TablePlace, StandsAt, channel_facing, row_beside}
 use Rattle.pin_assign.specs.Tables.{row_below}
@@ -50,23 +50,15 @@ pub feed-stands : (d : Netlist) (net : ℕ) (items : List Item) (left : ℕ) →
 feed-stands d net [] left listed = absurd (omega (arith, listed.1))
 feed-stands d net (item ∷ items) left listed =
     elim (member-cases item items (Feed net) listed) [
-      | inl here ↦ record { column = left; stands = λ (top : Bool). first_over (feed-over top item here) }
+      | inl here ↦ record { column = left; stands = λ (top : Bool). first_over (rw here (refl, refl)) }
       | inr there ↦
           let more = feed-stands d net items (left + item_width d item) there in
           record { column = more.column; stands = λ (top : Bool). later_over (more.stands top) }
     ]
-  where
-    feed-over : (top : Bool) (item : Item) → item ≡ Feed net → IsOver d top (of_feed net) item left left
-    feed-over top (Cell s) same = absurd (cc)
-    feed-over top (Feed own) same = let e : own ≡ net = cc in (e, refl)
 
--- where a feed stands on an edge, it is one of the row's, and stands there on the other edge too
-listed-here : (d : Netlist) (top : Bool) (net : ℕ) (item : Item) (items : List Item) (left column : ℕ) → IsOver d top (of_feed net) item left column → Contains (item ∷ items) (Feed net)
-listed-here d top net (Cell s) items left column h = absurd h
-listed-here d top net (Feed own) items left column h = (0, omega arith, ap (λ (n : ℕ). Feed n) h.0)
-
+-- where a feed stands on an edge, it is one of the row's
 pub feed-listed : (d : Netlist) (top : Bool) (net : ℕ) (items : List Item) (left column : ℕ) → StandsOver d top (of_feed net) items left column → Contains items (Feed net)
-feed-listed d top net items left column (first_over {item = item} {items = rest} h) = listed-here d top net item rest left column h
+feed-listed d top net items left column (first_over {item = item} {items = rest} h) = rw (let same : Feed net ≡ item = grind (arith, h) in same) (member-head item rest)
 feed-listed d top net items left column (later_over {item = item} {items = rest} h) =
     member-tail item rest (Feed net) (feed-listed d top net rest (left + item_width d item) column h)
 
@@ -85,20 +77,13 @@ pub record FedRow (rows : List (List Item)) (row : ℕ) (seats : List Seat) : Ty
   pub cells : seats_in items ≡ seats
 
 pub cells-row : (rows : List (List Item)) (row : ℕ) (seats : List Seat) → slice_get (cells_in rows) row ≡ Some seats → FedRow rows row seats
-cells-row rows row seats is = by (slice_get rows row) refl
-  where
-    by : (o : Option (List Item)) → slice_get rows row ≡ o → FedRow rows row seats
-    by None at = absurd (none-some seats (sym (slice_get-map seats_in rows row ∙ ap (option_map seats_in) at) ∙ is))
-    by (Some items) at =
-        record { items = items; is_row = at; cells = same_Some (seats_in items) seats (sym (row-cells rows row items at) ∙ is) }
+cells-row rows row seats is =
+    let found : (items : List Item) × (slice_get rows row ≡ Some items) × (seats_in items ≡ seats) = grind (arith, slice_get-map seats_in rows row) in
+    record { items = found.0; is_row = found.1; cells = found.2 }
 
 -- a pin with an edge has a first position there
 pub edge-own : (d : Netlist) (top : Bool) (p : Pin) → has_edge d top p ≡ true → (own : ℕ) × (edge_column d top p ≡ Some own)
-edge-own d top p has = by (edge_column d top p) refl has
-  where
-    by : (o : Option ℕ) → edge_column d top p ≡ o → is_some o ≡ true → (own : ℕ) × (edge_column d top p ≡ Some own)
-    by None is has = absurd (cc)
-    by (Some own) is has = (own, is)
+edge-own d top p has = grind arith
 
 -- a cause that stands on one side of a channel
 pub record StandsBeside (d : Netlist) (fed : Fed) (channel : ℕ) (upper : Bool) (cause : Source) : Type 0 where
@@ -141,17 +126,10 @@ pub record RowOf (d : Netlist) (fed : Fed) (channel : ℕ) (cause : Source) (pla
   pub over : StandsOver d (not place.upper) cause items 0 place.column
 
 pub row-of_stand : (d : Netlist) (fed : Fed) (channel : ℕ) (cause : Source) (place : TablePlace) → StandsAt d fed channel cause place → RowOf d fed channel cause place
-row-of_stand d fed channel cause place h = by place.upper channel (row_beside fed.rows channel place.upper) refl h.over refl refl
-  where
-    by : (upper : Bool) (c : ℕ) (o : Option (List Item)) → row_beside fed.rows c upper ≡ o → HasOver d (not place.upper) cause o place.column → c ≡ channel → upper ≡ place.upper
-        → RowOf d fed channel cause place
-    by upper c None is over at side = absurd over
-    by true c (Some items) is over at side =
-        record { row = c; items = items; beside = sym at ∙ ap (λ (u : Bool). channel_facing c u) side; is_row = is; over = over }
-    by false zero (Some items) is over at side = absurd (none-some items is)
-    by false (suc row) (Some items) is over at side =
-        let next : suc row ≡ row + 1 = omega arith in
-        record { row = row; items = items; beside = sym at ∙ next ∙ ap (λ (u : Bool). channel_facing row u) side; is_row = is; over = over }
+row-of_stand d fed channel cause place h =
+    let found : (row : ℕ) × (items : List Item) × (channel ≡ channel_facing row place.upper) × (slice_get fed.rows row ≡ Some items) × StandsOver d (not place.upper) cause items 0 place.column =
+    grind (arith, h.over) in
+    record { row = found.0; items = found.1; beside = found.2; is_row = found.3; over = found.4 }
 
 -- a feed at a place of a table is one of the row there
 pub feed-item : (d : Netlist) (fed : Fed) (channel net : ℕ) (place : TablePlace) (r : RowOf d fed channel (of_feed net) place) → Contains r.items (Feed net)

@@ -2,7 +2,6 @@ use Rattle.std.proofs.Common.{◌≡◌, ◌<◌, ◌≤◌, ◌⊎◌, ℕ, ◌
 use Rattle.design_model.proofs.DesignPins.{same-pin}
 use Rattle.design_model.specs.Netlist.{Netlist, IsNetlist}
 use Rattle.design_model.specs.declared.design.Pin.{Pin}
-use Rattle.row_model.specs.Stands.{turned_column}
 use Rattle.row_model.specs.Widths.{columns_of}
 use Rattle.row_model.specs.declared.rows.Seat.{Seat}
 use Rattle.feed_cells.specs.Fed.{item_width, items_width}
@@ -24,51 +23,40 @@ over-one d top cause items left column (later_over h) = inr h
 
 module _ (d : Netlist) (good : IsNetlist d) (top : Bool) where
   -- the column of a pin over a seated cell, from the cell's left
-  own-turned : (p : Pin) (s : Seat) (left column : ℕ) (h : IsPinOver d top p s left column) → h.own < columns_of d s.instance
+  pub own-turned : (p : Pin) (s : Seat) (left column : ℕ) (h : IsPinOver d top p s left column) → h.own < columns_of d s.instance
   own-turned p s left column h = subst (λ (n : ℕ). h.own < columns_of d n) h.instance (own-within d good top p h.own h.edge)
 
   -- a cause over an item stands in one of the item's columns
   pub over-within : (cause : Source) (item : Item) (left column : ℕ) → IsOver d top cause item left column → (left ≤ column) × (column < left + item_width d item)
   over-within (of_pin p) (Cell s) left column h =
-      let own = own-turned p s left column h in
-      let within = turned-within s.mirror (columns_of d s.instance) h.own own in
-      let place = h.place in
-      (omega arith, omega arith)
+      let within = turned-within s.mirror (columns_of d s.instance) h.own (own-turned p s left column h) in
+      (omega (arith, h.place), omega (arith, h.place))
   over-within (of_pin p) (Feed own) left column h = absurd h
   over-within (of_feed net) (Cell s) left column h = absurd h
-  over-within (of_feed net) (Feed own) left column h = let place = h.1 in (omega arith, omega arith)
+  over-within (of_feed net) (Feed own) left column h = (omega (arith, h.1), omega (arith, h.1))
 
   -- a cause along items stands in one of their columns
   pub stands-within : (cause : Source) (items : List Item) (left column : ℕ) → StandsOver d top cause items left column → (left ≤ column) × (column < left + items_width d items)
   stands-within cause items left column (first_over {item = item} {items = rest} h) =
       let e = over-within cause item left column h in
-      let low = e.0 in
-      let high = e.1 in
-      let width = width-cons d item rest in
-      (low, omega arith)
+      (e.0, omega (arith, e.1, width-cons d item rest))
   stands-within cause items left column (later_over {item = item} {items = rest} h) =
       let e = stands-within cause rest (left + item_width d item) column h in
-      let low = e.0 in
-      let high = e.1 in
-      let width = width-cons d item rest in
-      (omega arith, omega arith)
+      (omega (arith, e.0), omega (arith, e.1, width-cons d item rest))
 
   -- over one item, different causes stand in different columns
-  over-once : (a b : Source) (item : Item) (left column : ℕ) → IsOver d top a item left column → IsOver d top b item left column → a ≡ b
+  pub over-once : (a b : Source) (item : Item) (left column : ℕ) → IsOver d top a item left column → IsOver d top b item left column → a ≡ b
   over-once (of_pin p) (of_pin q) (Cell s) left column first second =
-      let turned : turned_column s.mirror (columns_of d s.instance) second.own ≡ turned_column s.mirror (columns_of d s.instance) first.own =
-      (let e = first.place in let f = second.place in omega arith) in
       let own : second.own ≡ first.own =
-      turned-once s.mirror (columns_of d s.instance) second.own first.own (own-turned q s left column second) (own-turned p s left column first) turned in
+      turned-once s.mirror (columns_of d s.instance) second.own first.own (own-turned q s left column second) (own-turned p s left column first)
+      (omega (arith, first.place, second.place)) in
       let instance : p.instance ≡ q.instance = first.instance ∙ sym second.instance in
       let terminal : p.terminal ≡ q.terminal = same-terminal d good top p q first.own instance first.edge (second.edge ∙ ap (λ (n : ℕ). Some n) own) in
       ap (λ (x : Pin). of_pin x) (same-pin d good p q first.listed second.listed instance terminal)
-  over-once (of_pin p) (of_pin q) (Feed own) left column first second = absurd first
+  over-once (of_pin p) b (Feed own) left column first second = absurd first
   over-once (of_pin p) (of_feed m) (Cell s) left column first second = absurd second
-  over-once (of_pin p) (of_feed m) (Feed own) left column first second = absurd first
-  over-once (of_feed n) (of_pin q) (Cell s) left column first second = absurd first
+  over-once (of_feed n) b (Cell s) left column first second = absurd first
   over-once (of_feed n) (of_pin q) (Feed own) left column first second = absurd second
-  over-once (of_feed n) (of_feed m) (Cell s) left column first second = absurd first
   over-once (of_feed n) (of_feed m) (Feed own) left column first second = ap (λ (x : ℕ). of_feed x) (sym first.0 ∙ second.0)
 
   -- along items side by side, two causes in one column are one
@@ -78,16 +66,10 @@ module _ (d : Netlist) (good : IsNetlist d) (top : Bool) where
       elim (over-one d top a (item ∷ items) left column first) [
         | inl here ↦ elim (over-one d top b (item ∷ items) left column second) [
           | inl there ↦ over-once a b item left column here there
-          | inr further ↦
-              let within = (over-within a item left column here).1 in
-              let behind = (stands-within b items (left + item_width d item) column further).0 in
-              absurd (omega arith)
+          | inr further ↦ absurd (omega (arith, (over-within a item left column here).1, (stands-within b items (left + item_width d item) column further).0))
         ]
         | inr here ↦ elim (over-one d top b (item ∷ items) left column second) [
-          | inl there ↦
-              let within = (over-within b item left column there).1 in
-              let behind = (stands-within a items (left + item_width d item) column here).0 in
-              absurd (omega arith)
+          | inl there ↦ absurd (omega (arith, (over-within b item left column there).1, (stands-within a items (left + item_width d item) column here).0))
           | inr further ↦ cause-once a b items (left + item_width d item) column here further
         ]
       ]

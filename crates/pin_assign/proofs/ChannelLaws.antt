@@ -1,12 +1,11 @@
 use Rattle.std.specs.List.Sorted.{IsStrictlyIncreasing}
-use Rattle.std.specs.List.{slice_get, slice_index}
 use Rattle.std.specs.Option.{option_map}
-use Rattle.std.proofs.Common.{◌≡◌, ◌<◌, ◌≤◌, ℕ, List, length, true, arith, Contains, ◌≢◌, ◌⊎◌, ◌+◌, ◌∷◌, ◌++◌, Bool, false, not, refl, ap, sym, ◌∙◌, subst, inl, inr}
+use Rattle.std.proofs.Common.{◌≡◌, ◌<◌, ◌≤◌, ℕ, List, length, true, arith, Contains, ◌≢◌, ◌+◌, ◌∷◌, ◌++◌, Bool, Option, false, not, refl, ap, sym, ◌∙◌, subst, inl, inr}
 use Rattle.std.proofs.lemmas.List.Kept.{IsStrictlyIncreasing-filter}
 use Rattle.std.proofs.lemmas.Option.{slice_get_within}
 use Rattle.std.proofs.lemmas.List.Elements.{Contains-append_right}
 use Rattle.list_facts.proofs.Ranges.{range-increasing}
-use Rattle.list_facts.proofs.Members.{contains-range, filter-from, filter-member, range-contains, contains-get, member-head}
+use Rattle.list_facts.proofs.Members.{filter-from, filter-member, range-contains, contains-get, member-head}
 use Rattle.list_facts.proofs.Places.{at-place}
 use Rattle.channel_model.specs.Nets.{AreNets, StandsIn}
 use Rattle.channel_model.specs.Pins.{IsChannel, Pins}
@@ -15,21 +14,21 @@ use Rattle.design_model.specs.declared.design.Pin.{Pin}
 use Rattle.design_model.proofs.DesignPins.{pin-within}
 use Rattle.row_model.specs.declared.rows.Seat.{Seat}
 use Rattle.row_model.specs.Rows.{ArePlaced}
-use Rattle.row_model.specs.Stands.{row_in, row_of}
+use Rattle.row_model.specs.Stands.{row_in}
+use Rattle.row_model.specs.declared.stands.Stand.{Stand}
 use Rattle.row_model.proofs.StandLaws.{stand-is, stand-there}
-use Rattle.feed_cells.specs.Crossings.{all_nets, crossing_of, is_in, has_edge}
+use Rattle.feed_cells.specs.Crossings.{all_nets, crossing_of, is_in}
 use Rattle.feed_cells.specs.Fed.{nets_in, Fed, fed_row, fed_rows, item_width}
 use Rattle.feed_cells.specs.Feeds.{is_fed}
 use Rattle.feed_cells.specs.Standing.{Stands, feeding, seated}
 use Rattle.feed_cells.specs.Touching.{channel_beside}
 use Rattle.feed_cells.specs.declared.fed.Item.{Item}
-use Rattle.feed_cells.specs.declared.fed.Item.TheVariants.{Cell, Feed}
+use Rattle.feed_cells.specs.declared.fed.Item.TheVariants.{Feed}
 use Rattle.feed_cells.proofs.FedLaws.{cells-fed, fed-long, fed-row, fed-row-some, item-stands}
 use Rattle.feed_cells.proofs.NetLaws.{fed-stands, inside-stands, net-range}
 use Rattle.pin_assign.specs.Causes.{AreDifferent, Cause, EntersBy, EntersTwice, FeedsBy, by_both, by_feed, by_pin, by_pins, over_both}
-use Rattle.pin_assign.specs.Entering.{enters}
 use Rattle.pin_assign.specs.Places.{TablePlace, StandsAt, entry_at}
-use Rattle.pin_assign.specs.Sources.{IsOver, Source, StandsOver, first_over, later_over, of_feed, of_pin, source_net}
+use Rattle.pin_assign.specs.Sources.{Source, StandsOver, first_over, later_over, of_feed, of_pin, source_net}
 use Rattle.pin_assign.specs.Tables.{table_of}
 use Rattle.pin_assign.proofs.BesideLaws.{StandsBeside, cells-row, feed-beside, feed-item, pin-beside, row-of_stand}
 use Rattle.pin_assign.proofs.EnteringLaws.{entered-is}
@@ -43,41 +42,21 @@ pub nets-increasing : (d : Netlist) (rows : List (List Seat)) (channel : ℕ) �
 nets-increasing d rows channel =
     IsStrictlyIncreasing-filter (λ (net : ℕ). is_in (crossing_of d rows net) channel) (all_nets d) (range-increasing 1 (length d.nets))
 
--- they are the design's nets that stand in it
-pub nets-from : (d : Netlist) (rows : List (List Seat)) (channel net : ℕ) → 0 < net → net ≤ length d.nets → is_in (crossing_of d rows net) channel ≡ true
-    → Contains (nets_in d rows channel) net
-nets-from d rows channel net some few is =
-    filter-member (λ (n : ℕ). is_in (crossing_of d rows n) channel) (all_nets d) net (range-contains 1 (length d.nets) net some (omega arith)) is
-
 -- a net of a channel is one of the design's, and stands in the channel
 pub record IsNetIn (d : Netlist) (rows : List (List Seat)) (channel net : ℕ) : Type 0 where
   pub some : 0 < net
   pub few : net ≤ length d.nets
   pub stands : is_in (crossing_of d rows net) channel ≡ true
 
-pub nets-are : (d : Netlist) (rows : List (List Seat)) (channel net : ℕ) → Contains (nets_in d rows channel) net → IsNetIn d rows channel net
-nets-are d rows channel net h =
-    let kept = filter-from (λ (n : ℕ). is_in (crossing_of d rows n) channel) (all_nets d) net h in
-    let range = contains-range 1 (length d.nets) net kept.0 in
-    let low = range.0 in
-    let high = range.1 in
-    record { some = omega arith; few = omega arith; stands = kept.1 }
-
 -- a pin that stands along items is one of the design's
 listed-along : (d : Netlist) (top : Bool) (p : Pin) (items : List Item) (left column : ℕ) → StandsOver d top (of_pin p) items left column → Contains d.pins p
-listed-along d top p items left column (first_over {item = item} h) = by item h
-  where
-    by : (item : Item) → IsOver d top (of_pin p) item left column → Contains d.pins p
-    by (Cell s) h = h.listed
-    by (Feed net) h = absurd h
+listed-along d top p items left column (first_over {item = item} h) = grind (arith, h)
 listed-along d top p items left column (later_over {item = item} {items = rest} h) = listed-along d top p rest (left + item_width d item) column h
 
 -- an item that is a feed is one of a net that crosses the row by it
 feed-of : (d : Netlist) (rows : List (List Seat)) (row net : ℕ) (seats : List Seat) → Stands d rows row seats (Feed net) → is_fed d rows row net ≡ true
 feed-of d rows row net seats (seated s member is) = absurd (cc)
-feed-of d rows row net seats (feeding own feed is) =
-    let same : net ≡ own = cc in
-    subst (λ (n : ℕ). is_fed d rows row n ≡ true) (sym same) feed.fed
+feed-of d rows row net seats (feeding own feed is) = rw (let same : net ≡ own = cc in same) feed.fed
 
 module _ (d : Netlist) (good : IsNetlist d) (rows : List (List Seat)) (placed : ArePlaced d rows) (channel : ℕ) where
   abbrev fed : Fed
@@ -90,51 +69,43 @@ module _ (d : Netlist) (good : IsNetlist d) (rows : List (List Seat)) (placed : 
   net-in : (net : ℕ) → is_in (crossing_of d rows net) channel ≡ true → IsNetIn d rows channel net
   net-in net inside =
       let range = net-range d rows good net (inside-stands (crossing_of d rows net) channel inside) in
-      record { some = omega (arith, range.0); few = range.1; stands = inside }
+      record { some = range.0; few = range.1; stands = inside }
 
   -- a cause at a place of the channel's table is of a net that stands in the channel
   cause-net : (place : TablePlace) (cause : Source) → StandsAt d fed channel cause place → IsNetIn d rows channel (source_net cause)
   cause-net place (of_pin p) h =
       let r = row-of_stand d fed channel (of_pin p) place h in
       let listed = listed-along d (not place.upper) p r.items 0 place.column r.over in
-      net-in p.net (entered-is d rows good p listed channel (subst (λ (cells : List (List Seat)). enters d cells p channel ≡ true) (cells-fed d rows) h.entering)).inside
+      net-in p.net (entered-is d rows good p listed channel (rw (sym (cells-fed d rows)) h.entering)).inside
   cause-net place (of_feed net) h =
       let r = row-of_stand d fed channel (of_feed net) place h in
       let found = fed-row-some d rows r.row r.items r.is_row in
       let stands = item-stands d rows r.row found.0 (Feed net) (subst (λ (items : List Item). Contains items (Feed net)) found.2 (feed-item d fed channel net place r)) in
-      let long = fed-long d rows in
-      let under = slice_get_within fed.rows r.row r.items r.is_row in
+      let within : r.row < length rows = omega (arith, fed-long d rows, slice_get_within fed.rows r.row r.items r.is_row) in
       net-in net
-      (cause-inside d rows good net channel (not place.upper)
-      (by_feed r.row (record { within = omega arith; beside = r.beside; fed = feed-of d rows r.row net found.0 stands })))
+      (cause-inside d rows good net channel (not place.upper) (by_feed r.row (record { within = within; beside = r.beside; fed = feed-of d rows r.row net found.0 stands })))
 
   -- a net of the table stands in the channel
   place-net : (net : ℕ) (place : TablePlace) → 0 < net → entry_at table place ≡ net → IsNetIn d rows channel net
   place-net net place some is =
       let c = place-cause d fed channel place net some is in
-      subst (λ (n : ℕ). IsNetIn d rows channel n) c.of_net (cause-net place c.cause c.stands)
+      rw (sym c.of_net) (cause-net place c.cause c.stands)
 
   -- a pin that enters the channel over an edge of its cell stands beside the channel
-  pin-at : (net : ℕ) (top upper : Bool) (p : Pin) → not upper ≡ top → EntersBy d rows net channel top p → StandsBeside d fed channel upper (of_pin p)
-  pin-at net top upper p side h =
-      let within = pin-within d good h.listed.0 p (contains-get d.pins p h.listed) in
-      let there = stand-there d rows p.instance placed within in
+  pin-at : (net : ℕ) (upper : Bool) (p : Pin) → EntersBy d rows net channel (not upper) p → StandsBeside d fed channel upper (of_pin p)
+  pin-at net upper p h =
+      let there = stand-there d rows p.instance placed (pin-within d good h.listed.0 p (contains-get d.pins p h.listed)) in
       let is = stand-is d rows p.instance there.0 there.1 in
-      let row = cells-row fed.rows there.0.row (is.front ++ is.seat ∷ is.back)
-      (ap (λ (cells : List (List Seat)). slice_get cells there.0.row) (cells-fed d rows) ∙ is.at) in
-      let seat : Contains (is.front ++ is.seat ∷ is.back) is.seat = Contains-append_right is.front (is.seat ∷ is.back) is.seat (member-head is.seat is.back) in
-      pin-beside d fed channel there.0.row upper row.items
-      (h.touches.beside ∙ ap (λ (t : Bool). channel_beside t (row_of d rows p.instance)) (sym side) ∙ ap (λ (r : ℕ). channel_beside (not upper) r) (ap row_in there.1))
-      row.is_row p is.seat h.listed (subst (λ (seats : List Seat). Contains seats is.seat) (sym row.cells) seat) (sym is.own)
-      (ap (λ (t : Bool). has_edge d t p) side ∙ h.touches.edge)
-      (subst (λ (cells : List (List Seat)). enters d cells p channel ≡ true) (sym (cells-fed d rows)) h.entry)
+      let row = cells-row fed.rows there.0.row (is.front ++ is.seat ∷ is.back) (rw (cells-fed d rows) is.at) in
+      pin-beside d fed channel there.0.row upper row.items (h.touches.beside ∙ ap (λ (o : Option Stand). channel_beside (not upper) (row_in o)) there.1) row.is_row p is.seat h.listed
+      (rw row.cells (Contains-append_right is.front (is.seat ∷ is.back) is.seat (member-head is.seat is.back))) (sym is.own) h.touches.edge (rw (cells-fed d rows) h.entry)
 
   -- and so does a feed
-  feed-at : (net row : ℕ) (top upper : Bool) → not upper ≡ top → FeedsBy d rows net channel top row → StandsBeside d fed channel upper (of_feed net)
-  feed-at net row top upper side h =
+  feed-at : (net row : ℕ) (upper : Bool) → FeedsBy d rows net channel (not upper) row → StandsBeside d fed channel upper (of_feed net)
+  feed-at net row upper h =
       let seats = at-place rows row h.within in
-      feed-beside d fed channel row upper (fed_row d rows row seats.0) (h.beside ∙ ap (λ (t : Bool). channel_beside t row) (sym side))
-      (fed-row d rows row ∙ ap (option_map (fed_row d rows row)) seats.1) net (fed-stands d rows good row net seats.0 h.fed)
+      feed-beside d fed channel row upper (fed_row d rows row seats.0) h.beside (fed-row d rows row ∙ ap (option_map (fed_row d rows row)) seats.1) net
+      (fed-stands d rows good row net seats.0 h.fed)
 
   -- what a cause leaves beside the channel
   record Beside (net : ℕ) (upper : Bool) : Type 0 where
@@ -142,9 +113,9 @@ module _ (d : Netlist) (good : IsNetlist d) (rows : List (List Seat)) (placed : 
     pub stands : StandsBeside d (fed_rows d rows) channel upper source
     pub of_net : source_net source ≡ net
 
-  beside-of : (net : ℕ) (top upper : Bool) → not upper ≡ top → Cause d rows net channel top → Beside net upper
-  beside-of net top upper side (by_pin p h) = record { source = of_pin p; stands = pin-at net top upper p side h; of_net = h.of_net }
-  beside-of net top upper side (by_feed row h) = record { source = of_feed net; stands = feed-at net row top upper side h; of_net = refl }
+  beside-of : (net : ℕ) (upper : Bool) → Cause d rows net channel (not upper) → Beside net upper
+  beside-of net upper (by_pin p h) = record { source = of_pin p; stands = pin-at net upper p h; of_net = h.of_net }
+  beside-of net upper (by_feed row h) = record { source = of_feed net; stands = feed-at net row upper h; of_net = refl }
 
   -- a net with two causes on different sides of the channel, or different ones on one side, stands at two places of the table
   two-places : (net : ℕ) (u v : Bool) (a : Beside net u) (b : Beside net v) → (u ≡ v → a.source ≢ b.source) → TwoPlaces table net
@@ -156,26 +127,23 @@ module _ (d : Netlist) (good : IsNetlist d) (rows : List (List Seat)) (placed : 
         at_second = place-effect d good fed channel b.stands.place b.source b.stands.stands ∙ b.of_net;
         differ = λ same. differ (sym a.stands.side ∙ ap (λ (p : TablePlace). p.upper) same ∙ b.stands.side)
             (place-once d good fed channel a.stands.place a.source b.source a.stands.stands
-            (subst (λ (p : TablePlace). StandsAt d (fed_rows d rows) channel b.source p) (sym same) b.stands.stands));
+            (rw same b.stands.stands));
       }
-
-  not-not : (top : Bool) → not (not top) ≡ top
-  not-not true = refl
-  not-not false = refl
 
   pins-differ : (p q : Pin) → AreDifferent p q → of_pin p ≢ of_pin q
   pins-differ p q differ same = let e : p ≡ q = cc in differ (ap (λ (x : Pin). x.instance) e) (ap (λ (x : Pin). x.terminal) e)
 
   entered-twice : (net : ℕ) → EntersTwice d rows net channel → TwoPlaces table net
   unfolding beside-of
-  entered-twice net (over_both above below) =
-      two-places net false true (beside-of net true false refl above) (beside-of net false true refl below) (λ (e : false ≡ true). absurd (cc))
-  entered-twice net (by_pins top p q first second differ) =
-      two-places net (not top) (not top) (beside-of net top (not top) (not-not top) (by_pin p first)) (beside-of net top (not top) (not-not top) (by_pin q second))
-      (λ e. pins-differ p q differ)
-  entered-twice net (by_both top p row first second) =
-      two-places net (not top) (not top) (beside-of net top (not top) (not-not top) (by_pin p first)) (beside-of net top (not top) (not-not top) (by_feed row second))
-      (λ e. λ (same : of_pin p ≡ of_feed net). cc)
+  entered-twice net (over_both above below) = two-places net false true (beside-of net false above) (beside-of net true below) (λ (e : false ≡ true). absurd (cc))
+  entered-twice net (by_pins true p q first second differ) =
+      two-places net false false (beside-of net false (by_pin p first)) (beside-of net false (by_pin q second)) (λ e. pins-differ p q differ)
+  entered-twice net (by_pins false p q first second differ) =
+      two-places net true true (beside-of net true (by_pin p first)) (beside-of net true (by_pin q second)) (λ e. pins-differ p q differ)
+  entered-twice net (by_both true p row first second) =
+      two-places net false false (beside-of net false (by_pin p first)) (beside-of net false (by_feed row second)) (λ e. λ (same : of_pin p ≡ of_feed net). cc)
+  entered-twice net (by_both false p row first second) =
+      two-places net true true (beside-of net true (by_pin p first)) (beside-of net true (by_feed row second)) (λ e. λ (same : of_pin p ≡ of_feed net). cc)
 
   two-of : (net : ℕ) → IsNetIn d rows channel net → TwoPlaces table net
   two-of net h = entered-twice net (enters-twice d rows good placed net channel h.stands)
@@ -183,31 +151,27 @@ module _ (d : Netlist) (good : IsNetlist d) (rows : List (List Seat)) (placed : 
   -- the table of a channel of rows with feeds makes a channel: no net has one pin
   pub table-channel : (fed_rows d rows).width ≤ 4000000 → IsChannel (table_of d (fed_rows d rows) channel)
   table-channel few =
-      let top = table-top_length d rows channel in
-      let bottom = table-bottom_length d rows channel in
       record {
-        matched = top ∙ sym bottom;
-        within = omega arith;
+        matched = table-top_length d rows channel ∙ sym (table-bottom_length d rows channel);
+        within = omega (arith, table-top_length d rows channel);
         paired = paired-from-places table (λ net place some is. two-of net (place-net net place some is));
       }
 
   -- a net at a place of the table has a pin in the channel
   stands-in : (net : ℕ) (place : TablePlace) → 0 < net → entry_at table place ≡ net → StandsIn table net
-  stands-in net place some is = (some, (place.column, by place.upper is))
-    where
-      by : (u : Bool) → entry_at table (record { upper = u; column = place.column }) ≡ net → (slice_index table.top place.column ≡ net) ⊎ (slice_index table.bottom place.column ≡ net)
-      by true there = inl there
-      by false there = inr there
+  stands-in net place some is = (some, (place.column, grind arith))
 
   listed-at : (net : ℕ) (place : TablePlace) → 0 < net → entry_at table place ≡ net → Contains (nets_in d rows channel) net
-  listed-at net place some is = let h = place-net net place some is in nets-from d rows channel net h.some h.few h.stands
+  listed-at net place some is =
+      let h = place-net net place some is in
+      filter-member _ (all_nets d) net (range-contains 1 (length d.nets) net h.some (omega (arith, h.few))) h.stands
 
   -- its nets are those that stand in the channel, in the order of their numbers
   pub table-nets : AreNets (table_of d (fed_rows d rows) channel) (nets_in d rows channel)
   table-nets =
       record {
         ascending = nets-increasing d rows channel;
-        standing = λ net h. (let n = nets-are d rows channel net h in let t = two-of net n in stands-in net t.first n.some t.at_first);
+        standing = λ net h. (let n = net-in net (filter-from _ (all_nets d) net h).1 in let t = two-of net n in stands-in net t.first n.some t.at_first);
         listed = λ net h. elim h.1.1 [
           | inl is ↦ listed-at net (record { upper = true; column = h.1.0 }) h.0 is
           | inr is ↦ listed-at net (record { upper = false; column = h.1.0 }) h.0 is

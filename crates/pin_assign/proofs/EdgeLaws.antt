@@ -1,14 +1,14 @@
-use Rattle.std.proofs.Common.{◌≡◌, ◌<◌, ℕ, Bool, true, false, ◌&&◌, eqb, Option, Some, None, refl, ap, sym, ◌∙◌, subst, arith, Contains}
-use Rattle.std.proofs.lemmas.Bool.{and_parts, eqb-true, not-true}
-use Rattle.std.proofs.lemmas.Option.{none-some, same_Some}
+use Rattle.std.proofs.Common.{◌≡◌, ◌<◌, ℕ, Bool, true, false, ◌&&◌, eqb, Option, Some, ap, sym, ◌∙◌, subst, arith, Contains}
+use Rattle.std.proofs.lemmas.Bool.Decides.{nat_tests}
+use Rattle.std.proofs.lemmas.Option.{same_Some}
 use Rattle.std.specs.List.{find, slice_get}
 use Rattle.list_facts.proofs.Members.{all-get, contains-get, find-passes, get-contains}
 use Rattle.design_model.specs.Netlist.{Netlist, IsNetlist, IsPosition}
 use Rattle.design_model.specs.declared.design.CellKind.{CellKind}
 use Rattle.design_model.specs.declared.design.Pin.{Pin}
 use Rattle.design_model.specs.declared.design.Position.{Position}
-use Rattle.row_model.specs.Stands.{column_in, edge_column, is_on, positions_in, positions_of, turned_column}
-use Rattle.row_model.specs.Widths.{columns_of, kind_of, width_of}
+use Rattle.row_model.specs.Stands.{edge_column, is_on, positions_in, positions_of, turned_column}
+use Rattle.row_model.specs.Widths.{columns_of, kind_of}
 use Rattle.row_model.proofs.WidthLaws.{kind-good}
 
 -- a column of a cell stands in the cell's columns, mirrored or not
@@ -34,42 +34,27 @@ pub record EdgePosition (d : Netlist) (top : Bool) (p : Pin) (own : ℕ) : Type 
 
 -- a pin that has a column on an edge has a position there
 pub edge-position : (d : Netlist) (top : Bool) (p : Pin) (own : ℕ) → edge_column d top p ≡ Some own → EdgePosition d top p own
-edge-position d top p own e = by (kind_of d p.instance) refl e
-  where
-    by : (k : Option CellKind) → kind_of d p.instance ≡ k → column_in (find (λ (a : Position). eqb a.terminal p.terminal && is_on top a) (positions_in k)) ≡ Some own
-        → EdgePosition d top p own
-    by None is e = absurd (none-some own e)
-    by (Some kind) is e = found (find (λ (a : Position). eqb a.terminal p.terminal && is_on top a) kind.positions) refl e
-      where
-        found : (o : Option Position) → find (λ (a : Position). eqb a.terminal p.terminal && is_on top a) kind.positions ≡ o → column_in o ≡ Some own → EdgePosition d top p own
-        found None at e = absurd (none-some own e)
-        found (Some a) at e =
-            let passes = find-passes (λ (a : Position). eqb a.terminal p.terminal && is_on top a) kind.positions a at in
-            let parts = and_parts (eqb a.terminal p.terminal) (is_on top a) passes.0 in
-            record {
-              kind = kind;
-              place = passes.1.0;
-              position = a;
-              is_kind = is;
-              at = contains-get kind.positions a passes.1;
-              terminal = eqb-true a.terminal p.terminal parts.0;
-              side = parts.1;
-              column = same_Some a.column own e;
-            }
-
--- positions on one edge
-same-side : (top : Bool) (a b : Position) → is_on top a ≡ true → is_on top b ≡ true → a.top ≡ b.top
-same-side true a b first second = first ∙ sym second
-same-side false a b first second = not-true a.top first ∙ sym (not-true b.top second)
+edge-position d top p own e =
+    let found : (kind : CellKind) × (a : Position) × (kind_of d p.instance ≡ Some kind)
+    × (find (λ (a : Position). eqb a.terminal p.terminal && is_on top a) kind.positions ≡ Some a) × (a.column ≡ own) = grind arith in
+    let passes = find-passes (λ (a : Position). eqb a.terminal p.terminal && is_on top a) found.0.positions found.1 found.3 in
+    record {
+      kind = found.0;
+      place = passes.1.0;
+      position = found.1;
+      is_kind = found.2;
+      at = contains-get found.0.positions found.1 passes.1;
+      terminal = grind (arith, nat_tests, passes.0);
+      side = grind (arith, passes.0);
+      column = found.4;
+    }
 
 -- a pin's column on an edge is one of its cell's
 pub own-within : (d : Netlist) → IsNetlist d → (top : Bool) (p : Pin) (own : ℕ) → edge_column d top p ≡ Some own → own < columns_of d p.instance
 own-within d good top p own e =
     let a = edge-position d top p own e in
     let within = (all-get (IsPosition a.kind) a.kind.positions a.place a.position (kind-good d good p.instance a.kind a.is_kind).positions a.at).column in
-    let width : columns_of d p.instance ≡ a.kind.columns = ap width_of a.is_kind in
-    let column = a.column in
-    omega arith
+    grind (arith, a.is_kind, a.column, within)
 
 -- two pins of one instance with one column on an edge are of one terminal
 pub same-terminal : (d : Netlist) → IsNetlist d → (top : Bool) (p q : Pin) (own : ℕ) → p.instance ≡ q.instance → edge_column d top p ≡ Some own → edge_column d top q ≡ Some own
@@ -77,10 +62,10 @@ pub same-terminal : (d : Netlist) → IsNetlist d → (top : Bool) (p q : Pin) (
 same-terminal d good top p q own instance first second =
     let a = edge-position d top p own first in
     let b = edge-position d top q own second in
-    let kind : b.kind ≡ a.kind = same_Some b.kind a.kind (sym b.is_kind ∙ ap (kind_of d) (sym instance) ∙ a.is_kind) in
+    let kind : b.kind ≡ a.kind = grind (arith, b.is_kind, a.is_kind) in
     let there : slice_get a.kind.positions b.place ≡ Some b.position = subst (λ (k : CellKind). slice_get k.positions b.place ≡ Some b.position) kind b.at in
     let place : a.place ≡ b.place = (kind-good d good p.instance a.kind a.is_kind).apart a.place b.place a.position b.position a.at there
-    (same-side top a.position b.position a.side b.side) (a.column ∙ sym b.column) in
+    (grind (arith, a.side, b.side)) (a.column ∙ sym b.column) in
     let position : a.position ≡ b.position = same_Some a.position b.position (sym a.at ∙ ap (slice_get a.kind.positions) place ∙ there) in
     sym a.terminal ∙ ap (λ (x : Position). x.terminal) position ∙ b.terminal
 

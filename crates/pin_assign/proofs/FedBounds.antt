@@ -32,15 +32,11 @@ module _ (d : Netlist) (good : IsNetlist d) (rows : List (List Seat)) where
       → fold max from (map (items_width d) (fed_from d rows row rest)) ≤ 3000000000000
   widest from row [] low short = low
   widest from row (seats ∷ rest) low short =
-      let here = row-narrow d rows good row seats short.0.1 in
-      widest (max from (items_width d (fed_row d rows row seats))) (row + 1) rest (omega arith) short.1
+      widest (max from (items_width d (fed_row d rows row seats))) (row + 1) rest (omega (arith, row-narrow d rows good row seats short.0.1)) short.1
 
   nets-narrow : (channel : ℕ) → length (nets_in d rows channel) ≤ 200000
   nets-narrow channel =
-      let few = filter-short (λ (net : ℕ). is_in (crossing_of d rows net) channel) (all_nets d) in
-      let all = length-range_with_len 1 (length d.nets) in
-      let nets = nets-few d good in
-      omega arith
+      omega (arith, filter-short (λ (net : ℕ). is_in (crossing_of d rows net) channel) (all_nets d), length-range_with_len 1 (length d.nets), nets-few d good)
 
   few-from : (channel n : ℕ) → AreFewNets (map (λ (c : ℕ). length (nets_in d rows c)) (range_with_len channel n))
   few-from channel zero = tt
@@ -50,9 +46,9 @@ module _ (d : Netlist) (good : IsNetlist d) (rows : List (List Seat)) where
   unfolding fed_rows
   rows-bounded placed =
       record {
-        rows = (let long = fed-long d rows in let few = placed.few in omega arith);
+        rows = omega (arith, fed-long d rows, placed.few);
         columns = widest 0 0 rows (omega arith) (rows-within d rows good placed);
-        channels = (let same = length-map (range_with_len 0 (length rows + 1)) (λ (c : ℕ). length (nets_in d rows c)) in let long = length-range_with_len 0 (length rows + 1) in let few = placed.few in omega arith);
+        channels = omega (arith, length-map (range_with_len 0 (length rows + 1)) (λ (c : ℕ). length (nets_in d rows c)), length-range_with_len 0 (length rows + 1), placed.few);
         nets = few-from 0 (length rows + 1);
       }
 

@@ -26,5 +26,3 @@ pub mod ChannelTables
 pub mod FedBounds
 -- the entries of rows by tables
 pub mod TabledEntries
--- the rows beside a channel, by its number
-pub mod BelowLaws

@@ -1,4 +1,4 @@
-use Rattle.std.proofs.Common.{◌≡◌, ◌≢◌, ◌<◌, ◌≤◌, ℕ, get_or, Bool, true, false, cond, refl, ap, sym, ◌∙◌, inl, inr, arith}
+use Rattle.std.proofs.Common.{◌≡◌, ◌≢◌, ◌<◌, ◌≤◌, ℕ, Bool, true, false, refl, ap, sym, ◌∙◌, inl, inr, arith}
 use Rattle.std.proofs.lemmas.Bool.{cases_eq}
 use Rattle.list_facts.proofs.Counts.{times, times-apart, times-one, times-place}
 use Rattle.channel_model.specs.Pins.{ArePaired, Pins, pin_count}
@@ -15,24 +15,11 @@ same-place a b upper column = ap (λ (u : Bool). place_at u a.column) upper ∙ 
 pub two-places : (pins : Pins) (net : ℕ) → 0 < net → (a b : TablePlace) → a ≢ b → entry_at pins a ≡ net → entry_at pins b ≡ net → 2 ≤ pin_count pins net
 two-places pins net some a b differ first second = by a.upper b.upper refl refl
   where
-    at : (place : TablePlace) (upper : Bool) → place.upper ≡ upper → entry_at pins place ≡ net → get_or (cond upper pins.top pins.bottom) place.column 0 ≡ net
-    at place upper is there = ap (λ (u : Bool). get_or (cond u pins.top pins.bottom) place.column 0) (sym is) ∙ there
-
     by : (u v : Bool) → a.upper ≡ u → b.upper ≡ v → 2 ≤ pin_count pins net
-    by true true p q =
-        let h = times-apart net pins.top a.column b.column some (λ e. differ (same-place a b (p ∙ sym q) e)) (at a true p first) (at b true q second) in
-        omega arith
-    by true false p q =
-        let h = times-one net pins.top a.column some (at a true p first) in
-        let k = times-one net pins.bottom b.column some (at b false q second) in
-        omega arith
-    by false true p q =
-        let h = times-one net pins.bottom a.column some (at a false p first) in
-        let k = times-one net pins.top b.column some (at b true q second) in
-        omega arith
-    by false false p q =
-        let h = times-apart net pins.bottom a.column b.column some (λ e. differ (same-place a b (p ∙ sym q) e)) (at a false p first) (at b false q second) in
-        omega arith
+    by true true p q = grind (arith, times-apart net pins.top a.column b.column some (λ e. differ (same-place a b (p ∙ sym q) e)))
+    by true false p q = grind (arith, times-one net pins.top a.column some, times-one net pins.bottom b.column some)
+    by false true p q = grind (arith, times-one net pins.bottom a.column some, times-one net pins.top b.column some)
+    by false false p q = grind (arith, times-apart net pins.bottom a.column b.column some (λ e. differ (same-place a b (p ∙ sym q) e)))
 
 -- a net with a pin stands at a place
 pub place-of_count : (pins : Pins) (net : ℕ) → 1 ≤ pin_count pins net → (a : TablePlace) × (entry_at pins a ≡ net)
@@ -55,5 +42,4 @@ pub paired-from-places : (pins : Pins) → ((net : ℕ) (place : TablePlace) →
 paired-from-places pins pairs net some one =
     let place = place-of_count pins net (omega arith) in
     let t = pairs net place.0 some place.1 in
-    let two = two-places pins net some t.first t.second t.differ t.at_first t.at_second in
-    omega arith
+    omega (arith, two-places pins net some t.first t.second t.differ t.at_first t.at_second)

@@ -1,4 +1,4 @@
-use Rattle.std.proofs.Common.{◌≡◌, ◌<◌, ℕ, ◌-◌, List, length, replicate, get_or, Bool, true, false, Option, Some, None, refl, ap, sym, ◌∙◌, subst, inl, inr, arith}
+use Rattle.std.proofs.Common.{◌≡◌, ◌<◌, ℕ, ◌-◌, List, length, replicate, get_or, Bool, true, false, Option, Some, None, refl, sym, ◌∙◌, inl, inr, arith}
 use Rattle.std.proofs.lemmas.Bool.{cases_lt}
 use Rattle.std.proofs.lemmas.List.{get_or-append_right, get_or-replicate, get_or_append_left, get_or_past, length-replicate}
 use Rattle.std.specs.List.{slice_get, slice_index}
@@ -15,9 +15,7 @@ padding : (n i : ℕ) → get_or (replicate {A = ℕ} n 0) i 0 ≡ 0
 padding n i =
     elim (cases_lt i n) [
       | inl within ↦ get_or-replicate n i 0 0 within
-      | inr past ↦
-          let longer : length (replicate {A = ℕ} n 0) ≡ n = length-replicate {A = ℕ} n 0 in
-          get_or_past (replicate n 0) i 0 (omega arith)
+      | inr past ↦ get_or_past (replicate n 0) i 0 (omega (arith, length-replicate {A = ℕ} n 0))
     ]
 
 -- a net among padded entries is one of the entries
@@ -26,10 +24,11 @@ padded-is width entries column net some is =
     elim (cases_lt column (length entries)) [
       | inl within ↦ sym (get_or_append_left entries (replicate (width - length entries) 0) 0 column within) ∙ is
       | inr past ↦
-          let none : get_or (replicate {A = ℕ} (width - length entries) 0) (column - length entries) 0 ≡ 0 = padding (width - length entries) (column - length entries) in
-          let there : get_or (replicate {A = ℕ} (width - length entries) 0) (column - length entries) 0 ≡ net =
-          sym (get_or-append_right entries (replicate (width - length entries) 0) (length entries) column 0 refl past) ∙ is in
-          absurd (omega arith)
+          absurd (omega (
+            arith,
+            padding (width - length entries) (column - length entries),
+            sym (get_or-append_right entries (replicate (width - length entries) 0) (length entries) column 0 refl past) ∙ is,
+          ))
     ]
 
 -- an entry stands at its place among padded ones
@@ -40,7 +39,7 @@ module _ (d : Netlist) (rows : List (List Seat)) (top : Bool) (channel width : �
   -- each net along an edge of a row, if there is one, has a cause in its column
   pub edge-cause : (row : Option (List Item)) (column net : ℕ) → 0 < net → slice_index (padded width (row_entries d rows top channel row)) column ≡ net
       → EntryIn d rows top channel row column net
-  edge-cause None column net some is = let none = padding (width - 0) column in absurd (omega arith)
+  edge-cause None column net some is = absurd (omega (arith, padding (width - 0) column))
   edge-cause (Some items) column net some is =
       row-cause d rows top channel items 0 column column net (omega arith) some (padded-is width (row_entries d rows top channel (Some items)) column net some is)
 
@@ -50,10 +49,8 @@ module _ (d : Netlist) (rows : List (List Seat)) (top : Bool) (channel width : �
   edge-effect good None column net h = absurd h
   edge-effect good (Some items) column net h =
       let e = row-effect d rows top channel good h.cause items 0 column h.stands h.entering in
-      let same : e.column ≡ column = (let place = e.place in omega arith) in
-      padded-from width (row_entries d rows top channel (Some items)) column net
-      (subst (λ (n : ℕ). n < length (row_entries d rows top channel (Some items))) same e.within)
-      (ap (λ (n : ℕ). get_or (row_entries d rows top channel (Some items)) n 0) (sym same) ∙ e.there ∙ h.of_net)
+      let same : e.column ≡ column = omega (arith, e.place) in
+      padded-from width (row_entries d rows top channel (Some items)) column net (rw (sym same) e.within) (rw (sym same) (e.there ∙ h.of_net))
 
 -- a net in the upper list of a channel's table has its cause at the lower edge of the row above, and each cause there leaves its net
 pub top-cause : (d : Netlist) (fed : Fed) (channel column net : ℕ) → 0 < net → slice_index (table_of d fed channel).top column ≡ net

@@ -1,4 +1,4 @@
-use Rattle.std.proofs.Common.{◌≡◌, ◌≤◌, ℕ, zero, suc, ◌-◌, List, [], ◌∷◌, length, replicate, Bool, true, false, Option, Some, None, refl, ◌∙◌, arith, length-append}
+use Rattle.std.proofs.Common.{◌≡◌, ◌≤◌, ℕ, zero, suc, ◌-◌, List, [], ◌∷◌, length, replicate, Bool, true, false, Option, Some, None, refl, arith, length-append}
 use Rattle.std.proofs.lemmas.List.{length-replicate}
 use Rattle.std.proofs.lemmas.List.FromFn.{length-map-range_with_len}
 use Rattle.std.proofs.lemmas.Option.{none-some}
@@ -24,20 +24,25 @@ pub row-length : (d : Netlist) (rows : List (List Seat)) (top : Bool) (channel :
     → length (row_entries d rows top channel (Some items)) ≡ items_width d items
 row-length d rows top channel [] = refl
 row-length d rows top channel (item ∷ items) =
-    length-append (item_entries d rows top channel item) (row_entries d rows top channel (Some items))
-    ∙ (let first = item-length d rows top channel item in let more = row-length d rows top channel items in let both = width-cons d item items in omega arith)
+    omega (
+      arith,
+      length-append (item_entries d rows top channel item) (row_entries d rows top channel (Some items)),
+      item-length d rows top channel item,
+      row-length d rows top channel items,
+      width-cons d item items,
+    )
 
 -- padded entries are as many as is wanted, unless they are more
 pub padded-length : (width : ℕ) (entries : List ℕ) → length entries ≤ width → length (padded width entries) ≡ width
 padded-length width entries few =
-    length-append entries (replicate (width - length entries) 0) ∙ (let more : length (replicate {A = ℕ} (width - length entries) 0) ≡ width - length entries = length-replicate {A = ℕ} (width - length entries) 0 in omega arith)
+    omega (arith, length-append entries (replicate (width - length entries) 0), length-replicate {A = ℕ} (width - length entries) 0)
 
 -- the entries of a row, if there is one, fit the widest
 entries-within : (d : Netlist) (rows : List (List Seat)) (top : Bool) (channel : ℕ) (row : Option (List Item))
     → ((items : List Item) → row ≡ Some items → items_width d items ≤ (fed_rows d rows).width)
     → length (row_entries d (cells_in (fed_rows d rows).rows) top channel row) ≤ (fed_rows d rows).width
 entries-within d rows top channel None fits = omega arith
-entries-within d rows top channel (Some items) fits = let h = fits items refl in let e = row-length d (cells_in (fed_rows d rows).rows) top channel items in omega arith
+entries-within d rows top channel (Some items) fits = omega (arith, fits items refl, row-length d (cells_in (fed_rows d rows).rows) top channel items)
 
 -- both lists of a channel's table are as long as the widest row
 pub table-top_length : (d : Netlist) (rows : List (List Seat)) (channel : ℕ) → length (table_of d (fed_rows d rows) channel).top ≡ (fed_rows d rows).width

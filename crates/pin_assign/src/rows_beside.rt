@@ -16,7 +16,6 @@ pub fn items_at<'r>(rows: &'r [Items<Item>], row: u32) -> &'r [Item]
 }
 
 /// The items of the row below the channel with this number, none for channel 0.
-#[tactic(auto, using(crate::proofs::BelowLaws::below_laws))]
 pub fn items_below<'r>(rows: &'r [Items<Item>], channel: u32) -> &'r [Item]
     ensures { result.now ≡ list_there (row_below rows.now channel) }
 {

@@ -44,6 +44,7 @@ pub fn channels(
 }
 
 // The pins of each instance.
+#[tactic(auto, unfolding(feed_cells::specs::Placement::placement_of))]
 fn table_of_pins(
     alloc: Global,
     design: &Design,
