@@ -34,4 +34,8 @@ pub struct Candidate {
     pub gap: u32,
     /// Where the net has its next pins.
     pub next: Next,
+    /// How near the net's other tracks are: 0 where there is none, else 1 more than the least distance from `track` to one of them. These
+    /// are on `Enter` all tracks that the net holds, on `Join` the upper track of the two, on `Keep` the net's tracks that are not joined
+    /// with this one, and on `Move` its other tracks that are kept, as the moves before have left them.
+    pub pull: u32,
 }

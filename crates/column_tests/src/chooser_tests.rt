@@ -1,8 +1,9 @@
 //! Choosers for the tests, and what a stored choice is.
 
+ghost use Rattle.choose_core.specs.Answers.{IsAsked};
 ghost use Rattle.std.specs.Prelude.{◌<◌, length};
 
-use choose_core::{Ask, Candidate, Choice, Chooser, Next};
+use choose_core::{Ask, Candidate, Choice, Chooser, Next, deft};
 use geom_core::Name;
 use std::alloc::Global;
 use std::cell::Cell;
@@ -47,6 +48,18 @@ pub fn last_chooser(alloc: Global) -> Result<Chooser, Fail> {
     Ok(Chooser::new(Name::new(b"last".to_vec(alloc)?), choice))
 }
 
+/// The chooser `deft`.
+pub fn deft_chooser(alloc: Global) -> Result<Chooser, Fail> {
+    let choice: Choice = Box::new(
+        alloc,
+        |list: &[Candidate]| -> usize
+            requires { IsAsked list.now }
+            ensures { result < length list.entry.now }
+        { deft(list) },
+    )?;
+    Ok(Chooser::new(Name::new(b"deft".to_vec(alloc)?), choice))
+}
+
 /// A chooser of the first candidate, which counts in a cell how often it is asked.
 pub fn counting_chooser(alloc: Global, calls: Rc<Cell<u32>>) -> Result<Chooser, Fail> {
     let choice: Choice = Box::new(
@@ -70,6 +83,7 @@ fn a_chooser_keeps_its_name_and_its_choice(rt: HostRuntime) -> Result<(), Fail> 
         track: 4,
         gap: 1,
         next: Next::Both,
+        pull: 0,
     };
     let far = Candidate { gap: 3, ..near };
     let chooser = nearest_chooser(alloc)?;

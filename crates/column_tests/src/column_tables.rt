@@ -2,9 +2,10 @@
 
 ghost use Rattle.greedy_column.specs.Ahead.{IsAhead};
 ghost use Rattle.greedy_column.specs.State.{IsState};
+ghost use Rattle.std.specs.Prelude.{◌<◌, ◌+◌, ◌^◌};
 
 use channel_model::Channel;
-use choose_core::Chooser;
+use choose_core::{Chooser, Manner};
 use greedy_column::{Ahead, Column, ColumnState, step};
 use std::alloc::Global;
 use std::test::Fail;
@@ -57,6 +58,7 @@ pub fn next_is(
     channel: &Channel,
     ahead: &Ahead,
     column: u32,
+    manner: Manner,
     chooser: &Chooser,
     wanted: &Wanted,
 ) -> Result<bool, Fail>
@@ -67,14 +69,14 @@ pub fn next_is(
     if state.fresh > 1_000_000 {
         return Ok(false);
     }
-    let done = match step(alloc, state, channel, ahead, column, chooser) {
+    let done = match step(alloc, state, channel, ahead, column, manner, chooser) {
         Ok(done) => done,
-        Err(_) => step(alloc, state, channel, ahead, column, chooser)?,
+        Err(_) => step(alloc, state, channel, ahead, column, manner, chooser)?,
     };
     Ok(is_wanted(&done, wanted))
 }
 
-/// The number of the first column whose record is another one than is wanted, or how many are wanted.
+/// The number of the first column whose record in the published manner is another one than is wanted, or how many are wanted.
 pub fn first_other(
     alloc: Global,
     top: &[u32],
@@ -82,22 +84,40 @@ pub fn first_other(
     chooser: &Chooser,
     wanted: &[Wanted],
 ) -> Result<usize, Fail> {
-    let channel = Channel::new(top.to_vec(alloc)?, bottom.to_vec(alloc)?).ok_or("a channel")?;
-    let ahead = Ahead::new(alloc, &channel)?;
-    first_other_in(alloc, &channel, &ahead, chooser, wanted)
+    first_other_of(alloc, top, bottom, Manner::Published, 0, chooser, wanted)
 }
 
-// The same, of a channel.
+/// The same in a manner, from so many free tracks.
+pub fn first_other_of(
+    alloc: Global,
+    top: &[u32],
+    bottom: &[u32],
+    manner: Manner,
+    begun: u32,
+    chooser: &Chooser,
+    wanted: &[Wanted],
+) -> Result<usize, Fail>
+    requires { begun + 1 < 2 ^ 32 }
+{
+    let channel = Channel::new(top.to_vec(alloc)?, bottom.to_vec(alloc)?).ok_or("a channel")?;
+    let ahead = Ahead::new(alloc, &channel)?;
+    let state = ColumnState::new(alloc, begun)?;
+    first_other_in(alloc, &channel, &ahead, state, manner, chooser, wanted)
+}
+
+// The same, of a channel and from a state.
 fn first_other_in(
     alloc: Global,
     channel: &Channel,
     ahead: &Ahead,
+    mut state: ColumnState,
+    manner: Manner,
     chooser: &Chooser,
     wanted: &[Wanted],
 ) -> Result<usize, Fail>
-    requires { IsAhead channel.now ahead.now }
+    requires ahead { IsAhead channel.now ahead.now }
+    requires state { IsState channel.now state }
 {
-    let mut state = ColumnState::new(alloc)?;
     for (column, one) in wanted.iter().enumerate() {
         if column > 1000
             || !next_is(
@@ -106,6 +126,7 @@ fn first_other_in(
                 channel,
                 ahead,
                 column as u32,
+                manner,
                 chooser,
                 one,
             )?

@@ -2,9 +2,13 @@
 #![tactic(auto)]
 
 #[cfg(test)]
+mod ahead_tests;
+#[cfg(test)]
 mod chooser_tests;
 #[cfg(test)]
 mod column_tables;
+#[cfg(test)]
+mod long_ahead_tests;
 #[cfg(test)]
 mod wide_tests;
 #[cfg(test)]

@@ -7,7 +7,7 @@ ghost use Rattle.std.specs.Prelude.{◌<◌};
 use crate::chooser_tests::{counting_chooser, nearest_chooser};
 use crate::column_tables::{NOTHING, Wanted, first_other, next_is};
 use channel_model::Channel;
-use choose_core::Chooser;
+use choose_core::{Chooser, Manner};
 use greedy_column::{Ahead, ColumnState};
 use std::alloc::Global;
 use std::cell::Cell;
@@ -233,11 +233,20 @@ fn first_crowded_other(
 ) -> Result<u32, Fail>
     requires { IsAhead channel.now ahead.now }
 {
-    let mut state = ColumnState::new(alloc)?;
+    let mut state = ColumnState::new(alloc, 0)?;
     for column in 0u32..1500 {
         let made = crowded_made(column);
         let wanted = crowded_record(column, &made);
-        if !next_is(alloc, &mut state, channel, ahead, column, chooser, &wanted)? {
+        if !next_is(
+            alloc,
+            &mut state,
+            channel,
+            ahead,
+            column,
+            Manner::Published,
+            chooser,
+            &wanted,
+        )? {
             return Ok(column);
         }
     }

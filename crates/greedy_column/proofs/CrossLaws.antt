@@ -14,8 +14,7 @@ use Rattle.greedy_column.specs.Verticals.{Vertical, on, between, joined_vertical
 use Rattle.greedy_column.specs.Lines.{id_on, net_on}
 use Rattle.greedy_column.specs.Offers.{offer, join_offer, move_question}
 use Rattle.greedy_column.specs.Joining.{JoinsFollow, possible_joins, span_in, is_joined, is_clear, passes}
-use Rattle.greedy_column.specs.Moving.{MovesFollow, GoesTo, move_options, piece_between, without}
-use Rattle.greedy_column.specs.Follows.{move_ids}
+use Rattle.greedy_column.specs.Moving.{MovesFollow, GoesTo, carried, move_ids, move_options, others_of_net, piece_between, without}
 use Rattle.greedy_column.proofs.Members.{in_one, in_first, in_later, in_cases, in_map, in_filter_back, all_at}
 use Rattle.greedy_column.proofs.PickLaws.{picked_is_option}
 use Rattle.greedy_column.proofs.IdLaws.{Apart}
@@ -68,33 +67,33 @@ module _ (may : List Candidate → ℕ → Type 0) (next : ℕ → Next) where
       subst (λ (l : List Span). AreUncrossed l) (append_assoc spans (piece ∷ []) joined)
       (uncrossed-joins pairs (spans ++ piece ∷ []) joined (uncrossed-clear spans piece apart clear) follow.1)
 
-  goes_clear : (ahead : Next) (net line target : ℕ) (spans : List Span) (free : List ℕ) → GoesTo may ahead line (move_options spans net line free) target → target ≢ line
+  goes_clear : (ahead : Next) (others : List ℕ) (net line target : ℕ) (spans : List Span) (free : List ℕ) → GoesTo may ahead others line (move_options spans net line free) target → target ≢ line
       → is_clear spans (piece_between net line target) ≡ true
-  goes_clear ahead net line target spans free goes other =
+  goes_clear ahead others net line target spans free goes other =
       in_options (move_options spans net line free)
       (λ member. (in_filter_back (λ o. is_clear spans (piece_between net line o)) target free member).1) goes where
-        in_options : (options : List ℕ) → (Contains options target → is_clear spans (piece_between net line target) ≡ true) → GoesTo may ahead line options target
+        in_options : (options : List ℕ) → (Contains options target → is_clear spans (piece_between net line target) ≡ true) → GoesTo may ahead others line options target
             → is_clear spans (piece_between net line target) ≡ true
         in_options [] from goes = absurd (other goes)
         in_options (o ∷ options) from goes =
-            elim (in_cases line target (o ∷ options) (picked_is_option may (offer (move_question line ahead)) (line ∷ (o ∷ options)) target goes)) [
+            elim (in_cases line target (o ∷ options) (picked_is_option may (offer (move_question line ahead) others) (line ∷ (o ∷ options)) target goes)) [
               | inl same ↦ absurd (other (sym same))
               | inr member ↦ from member
             ]
 
   -- the moves cross nothing
-  pub uncrossed-moves : (tracks : List Track) (lines : List ℕ) (spans : List Span) (free : List ℕ) (moves : List (ℕ × ℕ)) → AreUncrossed spans
-      → MovesFollow may next tracks lines spans free moves → AreUncrossed (spans ++ map (move_piece tracks) moves)
-  uncrossed-moves tracks [] spans free moves apart none =
+  pub uncrossed-moves : (tracks kept : List Track) (lines : List ℕ) (spans : List Span) (free : List ℕ) (moves : List (ℕ × ℕ)) → AreUncrossed spans
+      → MovesFollow may next tracks kept lines spans free moves → AreUncrossed (spans ++ map (move_piece tracks) moves)
+  uncrossed-moves tracks kept [] spans free moves apart none =
       subst (λ (l : List (ℕ × ℕ)). AreUncrossed (spans ++ map (move_piece tracks) l)) (sym none)
       (subst (λ (l : List Span). AreUncrossed l) (sym (append-nil spans)) apart)
-  uncrossed-moves tracks (line ∷ lines) spans free moves apart (inl (stays, follow)) = uncrossed-moves tracks lines spans free moves apart follow
-  uncrossed-moves tracks (line ∷ lines) spans free moves apart (inr (target, (rest, goes, other, is, follow))) =
+  uncrossed-moves tracks kept (line ∷ lines) spans free moves apart (inl (stays, follow)) = uncrossed-moves tracks kept lines spans free moves apart follow
+  uncrossed-moves tracks kept (line ∷ lines) spans free moves apart (inr (target, (rest, goes, other, is, follow))) =
       let piece : Span = piece_between (net_on tracks line) line target in
-      let clear = goes_clear (next (net_on tracks line)) (net_on tracks line) line target spans free goes other in
+      let clear = goes_clear (next (net_on tracks line)) (others_of_net tracks kept line) (net_on tracks line) line target spans free goes other in
       subst (λ (l : List (ℕ × ℕ)). AreUncrossed (spans ++ map (move_piece tracks) l)) (sym is)
       (subst (λ (l : List Span). AreUncrossed l) (append_assoc spans (piece ∷ []) (map (move_piece tracks) rest))
-      (uncrossed-moves tracks lines (spans ++ piece ∷ []) (without target free) rest (uncrossed-clear spans piece apart clear) follow))
+      (uncrossed-moves tracks (carried tracks kept line target) lines (spans ++ piece ∷ []) (without target free) rest (uncrossed-clear spans piece apart clear) follow))
 
 not_upward : (a b : ℕ) → b < a → leb a b ≡ false
 not_upward a b less = grind (arith, nat_tests)

@@ -1,6 +1,7 @@
 use Rattle.std.proofs.Common.{◌≡◌, ◌≢◌, inl, inr, ◌<◌, ◌+◌, eqb, ltb, ℕ, List, [], ◌∷◌, cond, length, sym, subst, ap, ◌∙◌, arith, Contains, eq-eqb}
 use Rattle.std.proofs.lemmas.Bool.{ne_eqb, cases_eq, ltb-true}
 use Rattle.choose_core.specs.declared.candidate.Candidate.{Candidate}
+use Rattle.choose_core.specs.declared.plan.Manner.{Manner}
 use Rattle.greedy_column.specs.declared.column.Track.{Track}
 use Rattle.greedy_column.specs.declared.entering.Pin.{Pin}
 use Rattle.greedy_column.specs.declared.entering.Entries.{Entries}
@@ -9,7 +10,7 @@ use Rattle.greedy_column.specs.declared.entering.PinKind.TheVariants.{NoPins, Bo
 use Rattle.greedy_column.specs.declared.entering.Newcomer.{Newcomer}
 use Rattle.greedy_column.specs.declared.entering.Newcomer.TheVariants.{TopPin, BottomPin, BothPins}
 use Rattle.greedy_column.specs.Tracks.{ids, line_of}
-use Rattle.greedy_column.specs.Lines.{below_line, id_on}
+use Rattle.greedy_column.specs.Lines.{below_line, id_on, own_lines, holds_track}
 use Rattle.greedy_column.specs.Offers.{offer}
 use Rattle.greedy_column.specs.State.{AreNumbered}
 use Rattle.greedy_column.specs.Entering.{EntersPair, EntersNew, newcomer_of, pin_kind, top_question, bottom_question}
@@ -51,22 +52,22 @@ pub record EnterBoth (before : List Track) (a b : ℕ) (entries : Entries) : Typ
   pub bottom : MayBeEntered before entries.made b entries.bottom
   pub apart : entries.top ≢ entries.bottom
 
-module _ (may : List Candidate → ℕ → Type 0) (before : List Track) (fresh : ℕ) (numbered : AreNumbered fresh before) where
+module _ (manner : Manner) (may : List Candidate → ℕ → Type 0) (before : List Track) (fresh : ℕ) (numbered : AreNumbered fresh before) where
   old_id : (net line : ℕ) → IsOpenLine before net line → id_on before line ≢ fresh
   old_id net line is same = let less = numbered.below (id_on before line) (id_on-member before line is.begins is.within) in omega (arith, less, same)
 
   pub new_both : (top bottom : Pin) (uppers lowers : List ℕ) (new : Newcomer) (entries : Entries) → 0 < top.net → 0 < bottom.net
       → ((line : ℕ) → Contains uppers line → IsOpenLine before top.net line) → ((line : ℕ) → Contains lowers line → IsOpenLine before bottom.net line)
-      → EntersNew may top bottom before fresh uppers lowers new entries → EnterBoth before top.net bottom.net entries
+      → EntersNew manner may top bottom before fresh uppers lowers new entries → EnterBoth before top.net bottom.net entries
   new_both top bottom uppers lowers TopPin entries some too above below (line, by, is) =
-      let own = below line (picked_is_option may (offer (bottom_question bottom)) lowers line by) in
+      let own = below line (picked_is_option may (offer (bottom_question bottom) (own_lines bottom.net before)) lowers line by) in
       subst (λ (e : Entries). EnterBoth before top.net bottom.net e) (sym is) (record {
         top = inr (in_first fresh []);
         bottom = inl (IsOpen-from before bottom.net line (Apart-from (ids before) numbered.distinct) too own);
         apart = λ same. old_id bottom.net line own (sym same);
       })
   new_both top bottom uppers lowers BottomPin entries some too above below (line, by, is) =
-      let own = above line (picked_is_option may (offer (top_question top (length before))) uppers line by) in
+      let own = above line (picked_is_option may (offer (top_question top (length before)) (own_lines top.net before)) uppers line by) in
       subst (λ (e : Entries). EnterBoth before top.net bottom.net e) (sym is) (record {
         top = inl (IsOpen-from before top.net line (Apart-from (ids before) numbered.distinct) some own);
         bottom = inr (in_first fresh []);
@@ -82,12 +83,12 @@ module _ (may : List Candidate → ℕ → Type 0) (before : List Track) (fresh 
   pub pair_both : (top bottom : Pin) (uppers lowers partnered : List ℕ) (entries : Entries) → 0 < top.net → 0 < bottom.net
       → ((line : ℕ) → Contains partnered line → Contains uppers line)
       → ((line : ℕ) → Contains uppers line → IsOpenLine before top.net line) → ((line : ℕ) → Contains lowers line → IsOpenLine before bottom.net line)
-      → EntersPair may top bottom before fresh uppers lowers partnered entries → EnterBoth before top.net bottom.net entries
+      → EntersPair manner may top bottom before fresh uppers lowers partnered entries → EnterBoth before top.net bottom.net entries
   pair_both top bottom uppers lowers [] entries some too within above below enters =
-      new_both top bottom uppers lowers (newcomer_of uppers lowers) entries some too above below enters
+      new_both top bottom uppers lowers (newcomer_of manner (holds_track before top.net) (holds_track before bottom.net) uppers lowers) entries some too above below enters
   pair_both top bottom uppers lowers (first ∷ others) entries some too within above below (line, by, (partner, at, is)) =
-      let upper = above line (within line (picked_is_option may (offer (top_question top (length before))) (first ∷ others) line by)) in
-      let found = in_filter_back (λ l. ltb l line) partner lowers (picked_is_option may (offer (bottom_question bottom)) (below_line line lowers) partner at) in
+      let upper = above line (within line (picked_is_option may (offer (top_question top (length before)) (own_lines top.net before)) (first ∷ others) line by)) in
+      let found = in_filter_back (λ l. ltb l line) partner lowers (picked_is_option may (offer (bottom_question bottom) (own_lines bottom.net before)) (below_line line lowers) partner at) in
       let lower = below partner found.0 in
       let order : partner < line = ltb-true partner line found.1 in
       let apart = Apart-from (ids before) numbered.distinct in

@@ -10,7 +10,7 @@ use Rattle.greedy_column.specs.declared.entering.Edge.{Edge}
 use Rattle.greedy_column.specs.declared.entering.Edge.TheVariants.{Upper, Lower}
 use Rattle.greedy_column.specs.Tracks.{ids}
 use Rattle.greedy_column.specs.Lawful.{IsOpen}
-use Rattle.greedy_column.specs.Lines.{is_open, lines_from, open_lines, id_on, net_on, place_of_new}
+use Rattle.greedy_column.specs.Lines.{is_open, lines_from, open_lines, id_on, net_on}
 use Rattle.greedy_column.specs.Offers.{offer}
 use Rattle.greedy_column.specs.Entering.{EntersAlone, entry_at, new_track}
 use Rattle.greedy_column.proofs.Members.{in_none, in_first}
@@ -92,18 +92,18 @@ pub record EntersOne (before : List Track) (edge : Edge) (net : ℕ) (entries : 
   pub enters : MayBeEntered before entries.made net (entered_at edge entries)
   pub other : not_entered_at edge entries ≡ 0
 
-pub EntersOne-from : (may : List Candidate → ℕ → Type 0) (before : List Track) (fresh : ℕ) (edge : Edge) (question : Question) (net : ℕ) (lines : List ℕ) (entries : Entries)
-    → Apart (ids before) → 0 < net → ((line : ℕ) → Contains lines line → IsOpenLine before net line) → EntersAlone may edge question before fresh lines entries
+pub EntersOne-from : (may : List Candidate → ℕ → Type 0) (before : List Track) (fresh : ℕ) (edge : Edge) (question : Question) (own : List ℕ) (below : ℕ) (net : ℕ) (lines : List ℕ) (entries : Entries)
+    → Apart (ids before) → 0 < net → ((line : ℕ) → Contains lines line → IsOpenLine before net line) → EntersAlone may edge question own below before fresh lines entries
     → EntersOne before edge net entries
-EntersOne-from may before fresh edge question net [] entries apart some each is =
-    let made : List Made = new_track fresh (place_of_new (length before) 0 (length before)) ∷ [] in
+EntersOne-from may before fresh edge question own below net [] entries apart some each is =
+    let made : List Made = new_track fresh below ∷ [] in
     subst (λ (e : Entries). EntersOne before edge net e) (sym is) (record {
       enters = inr (subst (λ (l : List Made). Contains (map (λ (m : Made). m.id) l) (entered_at edge (entry_at edge made fresh))) (sym (entry_made edge made fresh))
           (subst (λ n. Contains (fresh ∷ []) n) (sym (entry_id edge made fresh)) (in_first fresh [])));
       other = entry_other edge made fresh;
     })
-EntersOne-from may before fresh edge question net (line ∷ lines) entries apart some each (picked, by, is) =
-    let is_open_line = each picked (picked_is_option may (offer question) (line ∷ lines) picked by) in
+EntersOne-from may before fresh edge question own below net (line ∷ lines) entries apart some each (picked, by, is) =
+    let is_open_line = each picked (picked_is_option may (offer question own) (line ∷ lines) picked by) in
     subst (λ (e : Entries). EntersOne before edge net e) (sym is) (record {
       enters = inl (subst (λ n. IsOpen before net n) (sym (entry_id edge [] (id_on before picked))) (IsOpen-from before net picked apart some is_open_line));
       other = entry_other edge [] (id_on before picked);

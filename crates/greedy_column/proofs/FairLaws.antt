@@ -2,6 +2,7 @@ use Rattle.std.proofs.Common.{◌≡◌, ◌<◌, ◌≤◌, ◌++◌, ℕ, List
 use Rattle.std.proofs.lemmas.List.{length-map}
 use Rattle.channel_model.specs.Pins.{Pins}
 use Rattle.choose_core.specs.declared.candidate.Candidate.{Candidate}
+use Rattle.choose_core.specs.declared.plan.Manner.{Manner}
 use Rattle.greedy_column.specs.declared.column.Track.{Track}
 use Rattle.greedy_column.specs.declared.column.Column.{Column}
 use Rattle.greedy_column.specs.declared.span.Span.{Span}
@@ -13,8 +14,8 @@ use Rattle.greedy_column.specs.Lawful.{AreMadeFrom, IsMove}
 use Rattle.greedy_column.specs.Fair.{Fair}
 use Rattle.greedy_column.specs.Lines.{is_held, is_open, id_on, free_lines}
 use Rattle.greedy_column.specs.Joining.{neighbours, ids_of}
-use Rattle.greedy_column.specs.Moving.{order_of_moves}
-use Rattle.greedy_column.specs.Follows.{Follows, entries_of, pin_of, pin_spans, move_ids}
+use Rattle.greedy_column.specs.Moving.{move_ids}
+use Rattle.greedy_column.specs.Follows.{Follows, entries_of, pin_of, pin_spans}
 use Rattle.greedy_column.specs.State.{AreNumbered}
 use Rattle.greedy_column.proofs.Members.{in_map_back}
 use Rattle.greedy_column.proofs.IdLaws.{Apart, Apart-from, Apart-to, ids-entered, AreNumbered-with_made}
@@ -23,12 +24,13 @@ use Rattle.greedy_column.proofs.LineLaws.{LieWithin-lines}
 use Rattle.greedy_column.proofs.DrawnLaws.{IsPiece, IsPiece-neighbour, joined-neighbours, none_possible, drawn}
 use Rattle.greedy_column.proofs.JoinedLaws.{AreJoined-from}
 use Rattle.greedy_column.proofs.MadeLaws.{AreMadeForPins-from}
-use Rattle.greedy_column.proofs.PartLaws.{AreNeighbours-from, Apart-rising, Apart-lines_from, Apart-map, moves_within, moves_apart}
+use Rattle.greedy_column.proofs.PartLaws.{AreNeighbours-from, Apart-rising, Apart-map, moves_within, moves_apart}
 use Rattle.greedy_column.proofs.LawfulLaws.{AreEntered-from}
 use Rattle.greedy_column.proofs.CrossLaws.{uncrossed-joins, uncrossed-moves, uncrossed-verticals}
 use Rattle.greedy_column.proofs.PinLaws.{uncrossed-pins}
 use Rattle.greedy_column.proofs.KeepLaws.{ended_held, keeps}
 use Rattle.greedy_column.proofs.MovedLaws.{IsMove-from}
+use Rattle.greedy_column.proofs.OrderLaws.{Apart-order, held_in_order}
 use Rattle.greedy_column.proofs.SparingLaws.{SparesTracks-from}
 
 -- a map after a map
@@ -43,25 +45,26 @@ Apart-entered pins column fresh count before done numbered made =
     subst (λ l. Apart l) (sym (ids-entered pins column before done)) (Apart-from (ids (with_made before done.made)) (AreNumbered-with_made fresh count before done.made numbered made).distinct)
 
 -- a record that follows the steps is fair, whatever is answered
-pub Fair-from : (may : List Candidate → ℕ → Type 0) (pins : Pins) (column fresh : ℕ) (before : List Track) (done : Column)
-    → length pins.top ≡ length pins.bottom → AreNumbered fresh before → Follows may pins column fresh before done → Fair pins column fresh before done
-Fair-from may pins column fresh before done matched numbered follows =
+pub Fair-from : (manner : Manner) (may : List Candidate → ℕ → Type 0) (pins : Pins) (column fresh : ℕ) (before : List Track) (done : Column)
+    → length pins.top ≡ length pins.bottom → AreNumbered fresh before → Follows manner may pins column fresh before done → Fair pins column fresh before done
+Fair-from manner may pins column fresh before done matched numbered follows =
     let now : List Track = entered pins column done before in
     let spans : List Span = pin_spans pins column now done in
     let on = follows.goes_on in
-    let made = AreMadeForPins-from may before fresh (pin_of pins column (top_pin pins column)) (pin_of pins column (bottom_pin pins column)) (entries_of done) follows.enters in
+    let made = AreMadeForPins-from manner may before fresh (pin_of pins column (top_pin pins column)) (pin_of pins column (bottom_pin pins column)) (entries_of done) follows.enters in
     let apart = Apart-entered pins column fresh (length before) before done numbered made.placed in
     let each : (piece : Span) → Contains on.joined piece → IsPiece now piece = λ piece member.
     IsPiece-neighbour now piece (joined-neighbours may (next_of pins column) (neighbours now) spans on.joined on.joins_follow piece member) in
     let kept : List Track = freed done.ended now in
     let long : length kept ≡ length now = length-map now (freed_among done.ended) in
-    let moves = moves_apart may (next_of pins column) now (order_of_moves kept) (spans ++ on.joined) (free_lines now) on.moving (Apart-lines_from is_held 1 kept) on.moves_follow in
+    let moves = moves_apart may (next_of pins column) now kept on.order (spans ++ on.joined) (free_lines now) on.moving
+    (Apart-order manner (next_of pins column) kept on.order on.ordered) on.moves_follow in
     let within : (m : ℕ × ℕ) → Contains on.moving m → ((0 < m.0) × (m.0 ≤ length now)) × ((0 < m.1) × (m.1 ≤ length now)) = λ m member.
-    let found = moves_within may (next_of pins column) now (order_of_moves kept) (spans ++ on.joined) (free_lines now) on.moving on.moves_follow m member in
-    let from = (LieWithin-lines is_held kept).each m.0 found.0 in
+    let found = moves_within may (next_of pins column) now kept on.order (spans ++ on.joined) (free_lines now) on.moving on.moves_follow m member in
+    let from = (LieWithin-lines is_held kept).each m.0 (held_in_order manner (next_of pins column) kept on.order on.ordered m.0 found.0) in
     let to = (LieWithin-lines (is_open 0) now).each m.1 found.1 in
     ((from.0, omega (arith, from.1, long)), to) in
-    let entries = AreEntered-from may pins column fresh before done matched numbered follows in
+    let entries = AreEntered-from manner may pins column fresh before done matched numbered follows in
     let on_lines = drawn pins column now done on.joined apart each on.joins_told in
     record {
       lawful = record {
@@ -84,10 +87,11 @@ Fair-from may pins column fresh before done matched numbered follows =
         ended_held = ended_held may pins column now done (spans ++ on.joined) on.ending matched apart on_lines on.ends_follow on.ends_told;
         moves = λ old new member.
             let from = in_map_back (move_ids now) (old, new) on.moving (subst (λ (l : List (ℕ × ℕ)). Contains l (old, new)) on.moves_told member) in
-            let lines = moves_within may (next_of pins column) now (order_of_moves kept) (spans ++ on.joined) (free_lines now) on.moving on.moves_follow from.0 from.1 in
+            let lines = moves_within may (next_of pins column) now kept on.order (spans ++ on.joined) (free_lines now) on.moving on.moves_follow from.0 from.1 in
             subst (λ n. IsMove before now done old n) (ap (λ (p : ℕ × ℕ). p.1) from.2)
             (subst (λ o. IsMove before now done o (id_on now from.0.1)) (ap (λ (p : ℕ × ℕ). p.0) from.2)
-            (IsMove-from pins column fresh before done numbered made.placed made.entered entries apart from.0.0 from.0.1 lines.0 lines.1));
+            (IsMove-from pins column fresh before done numbered made.placed made.entered entries apart from.0.0 from.0.1
+            (held_in_order manner (next_of pins column) kept on.order on.ordered from.0.0 lines.0) lines.1));
         moved_once = Apart-to (map (λ (m : ℕ × ℕ). m.0) done.moves)
             (subst (λ l. Apart l) (sym (ap (λ (l : List (ℕ × ℕ)). map (λ (m : ℕ × ℕ). m.0) l) on.moves_told ∙ map_twice (λ (m : ℕ × ℕ). m.0) (move_ids now) on.moving))
             (Apart-map (λ (m : ℕ × ℕ). id_on now m.0) (λ (m : ℕ × ℕ). m.0) on.moving
@@ -97,11 +101,11 @@ Fair-from may pins column fresh before done matched numbered follows =
             (Apart-map (λ (m : ℕ × ℕ). id_on now m.1) (λ (m : ℕ × ℕ). m.1) on.moving
             (λ x y first second same. same_line now x.1 y.1 apart (within x first).1 (within y second).1 same) moves.1));
         apart = uncrossed-verticals pins column now done (spans ++ on.joined) on.moving apart on_lines on.moves_told within
-            (uncrossed-moves may (next_of pins column) now (order_of_moves kept) (spans ++ on.joined) (free_lines now) on.moving
+            (uncrossed-moves may (next_of pins column) now kept on.order (spans ++ on.joined) (free_lines now) on.moving
             (uncrossed-joins may (next_of pins column) (neighbours now) spans on.joined
-            (uncrossed-pins may pins column fresh before done numbered follows) on.joins_follow) on.moves_follow);
+            (uncrossed-pins manner may pins column fresh before done numbered follows) on.joins_follow) on.moves_follow);
       };
-      spares = SparesTracks-from may pins column fresh before done matched numbered follows;
+      spares = SparesTracks-from manner may pins column fresh before done matched numbered follows;
       joined = AreJoined-from pins column now done (spans ++ on.joined) apart on_lines
           (none_possible may (next_of pins column) (neighbours now) spans on.joined on.joins_follow);
       keeps = keeps may pins column now done (spans ++ on.joined) on.ending matched apart on_lines on.ends_follow on.ends_told;

@@ -1,12 +1,13 @@
-use Rattle.std.proofs.Common.{◌≡◌, ◌≢◌, inl, inr, not, eqb, ℕ, List, [], ◌∷◌, Bool, true, false, length, map, refl, sym, subst, ap, Contains, eq-eqb}
+use Rattle.std.proofs.Common.{◌≡◌, ◌≢◌, inl, inr, not, eqb, ℕ, List, [], ◌∷◌, Bool, true, false, length, map, get_or, refl, sym, subst, ap, Contains, eq-eqb}
 use Rattle.std.proofs.lemmas.Bool.{ne_eqb}
 use Rattle.std.proofs.lemmas.List.Elements.{Contains-append_cases, Contains-append_left, Contains-append_right}
 use Rattle.choose_core.specs.declared.candidate.Candidate.{Candidate}
 use Rattle.choose_core.specs.declared.candidate.Next.{Next}
 use Rattle.greedy_column.specs.declared.column.Track.{Track}
 use Rattle.greedy_column.specs.declared.span.Span.{Span}
+use Rattle.greedy_column.specs.Lines.{net_on, own_lines}
 use Rattle.greedy_column.specs.Offers.{offer, keep_question}
-use Rattle.greedy_column.specs.Ending.{EndsFollow, EndsOf, EndsButOne, chain_from, next_on, gives_up}
+use Rattle.greedy_column.specs.Ending.{EndsFollow, EndsOf, EndsButOne, outside, chain_from, next_on, gives_up}
 use Rattle.greedy_column.proofs.Members.{in_none, in_one, in_first, in_later, in_cases, in_filter, in_filter_back}
 use Rattle.greedy_column.proofs.PickLaws.{picked_is_option}
 use Rattle.greedy_column.proofs.IdLaws.{Apart}
@@ -18,44 +19,48 @@ pub record KeepsOne (group these : List ℕ) : Type 0 where
   pub goes_on : Contains these kept → ⊥
   pub others : (line : ℕ) → Contains group line → line ≢ kept → Contains these line
 
+-- the lines of a group's net
+abbrev pub owned : List Track → List ℕ → List ℕ
+owned now group = own_lines (net_on now (get_or group 0 0)) now
+
 module _ (may : List Candidate → ℕ → Type 0) where
-  all_but_one : (tracks : ℕ) (next : Next) (group these : List ℕ) (line : ℕ) → Contains group line → EndsButOne may tracks next group these → KeepsOne group these
-  all_but_one tracks next [] these line member ends = absurd (in_none line member)
-  all_but_one tracks next (one ∷ []) these line member none = record {
+  all_but_one : (tracks : ℕ) (next : Next) (own group these : List ℕ) (line : ℕ) → Contains group line → EndsButOne may tracks next own group these → KeepsOne group these
+  all_but_one tracks next own [] these line member ends = absurd (in_none line member)
+  all_but_one tracks next own (one ∷ []) these line member none = record {
     kept = one;
     member = in_first one [];
     goes_on = λ there. in_none one (subst (λ l. Contains l one) none there);
     others = λ l there other. absurd (other (sym (in_one one l there)));
   }
-  all_but_one tracks next (one ∷ (two ∷ group)) these line member (kept, by, is) = record {
+  all_but_one tracks next own (one ∷ (two ∷ group)) these line member (kept, by, is) = record {
     kept = kept;
-    member = picked_is_option may (offer (keep_question tracks next)) (one ∷ (two ∷ group)) kept by;
+    member = picked_is_option may (offer (keep_question tracks next) (outside (one ∷ (two ∷ group)) own)) (one ∷ (two ∷ group)) kept by;
     goes_on = λ there. let test = (in_filter_back (λ l. not (eqb l kept)) kept (one ∷ (two ∷ group)) (subst (λ l. Contains l kept) is there)).1 in
         cc (ap not (eq-eqb kept kept refl), test);
     others = λ l there other. subst (λ m. Contains m l) (sym is)
         (in_filter (λ m. not (eqb m kept)) l (one ∷ (two ∷ group)) there (ap not (ne_eqb l kept other)));
   }
 
-  pub ends_kept : (tracks : ℕ) (next : Next) (given : Bool) (group these : List ℕ) (line : ℕ) → given ≡ false → Contains group line
-      → EndsOf may tracks next given group these → KeepsOne group these
-  ends_kept tracks next true group these line is member ends = absurd (cc is)
-  ends_kept tracks next false group these line is member ends = all_but_one tracks next group these line member ends
+  pub ends_kept : (tracks : ℕ) (next : Next) (own : List ℕ) (given : Bool) (group these : List ℕ) (line : ℕ) → given ≡ false → Contains group line
+      → EndsOf may tracks next own given group these → KeepsOne group these
+  ends_kept tracks next own true group these line is member ends = absurd (cc is)
+  ends_kept tracks next own false group these line is member ends = all_but_one tracks next own group these line member ends
 
-  pub ends_given : (tracks : ℕ) (next : Next) (given : Bool) (group these : List ℕ) → given ≡ true → EndsOf may tracks next given group these → these ≡ group
-  ends_given tracks next true group these is ends = ends
-  ends_given tracks next false group these is ends = absurd (cc is)
+  pub ends_given : (tracks : ℕ) (next : Next) (own : List ℕ) (given : Bool) (group these : List ℕ) → given ≡ true → EndsOf may tracks next own given group these → these ≡ group
+  ends_given tracks next own true group these is ends = ends
+  ends_given tracks next own false group these is ends = absurd (cc is)
 
   -- what ends of a group is in it
-  but_one_within : (tracks : ℕ) (next : Next) (group these : List ℕ) (line : ℕ) → EndsButOne may tracks next group these → Contains these line → Contains group line
-  but_one_within tracks next [] these line none member = absurd (in_none line (subst (λ l. Contains l line) none member))
-  but_one_within tracks next (one ∷ []) these line none member = absurd (in_none line (subst (λ l. Contains l line) none member))
-  but_one_within tracks next (one ∷ (two ∷ group)) these line (kept, by, is) member =
+  but_one_within : (tracks : ℕ) (next : Next) (own group these : List ℕ) (line : ℕ) → EndsButOne may tracks next own group these → Contains these line → Contains group line
+  but_one_within tracks next own [] these line none member = absurd (in_none line (subst (λ l. Contains l line) none member))
+  but_one_within tracks next own (one ∷ []) these line none member = absurd (in_none line (subst (λ l. Contains l line) none member))
+  but_one_within tracks next own (one ∷ (two ∷ group)) these line (kept, by, is) member =
       (in_filter_back (λ l. not (eqb l kept)) line (one ∷ (two ∷ group)) (subst (λ l. Contains l line) is member)).0
 
-  ends_within : (tracks : ℕ) (next : Next) (given : Bool) (group these : List ℕ) (line : ℕ) → EndsOf may tracks next given group these → Contains these line
+  ends_within : (tracks : ℕ) (next : Next) (own : List ℕ) (given : Bool) (group these : List ℕ) (line : ℕ) → EndsOf may tracks next own given group these → Contains these line
       → Contains group line
-  ends_within tracks next true group these line is member = subst (λ l. Contains l line) is member
-  ends_within tracks next false group these line ends member = but_one_within tracks next group these line ends member
+  ends_within tracks next own true group these line is member = subst (λ l. Contains l line) is member
+  ends_within tracks next own false group these line ends member = but_one_within tracks next own group these line ends member
 
   module _ (next : ℕ → Next) (now : List Track) (spans joined : List Span) where
     -- what ends is in a group
@@ -67,7 +72,7 @@ module _ (may : List Candidate → ℕ → Type 0) where
           | inl own ↦ (
             one,
             in_first one lines,
-            ends_within (length now) (next_on next now (chain_from joined one)) (gives_up next now spans (chain_from joined one)) (chain_from joined one) these line here own,
+            ends_within (length now) (next_on next now (chain_from joined one)) (owned now (chain_from joined one)) (gives_up next now spans (chain_from joined one)) (chain_from joined one) these line here own,
           )
           | inr later ↦ let rest = ended_in lines others line follow later in (rest.0, in_later one rest.0 lines rest.1, rest.2)
         ]
@@ -75,7 +80,7 @@ module _ (may : List Candidate → ℕ → Type 0) where
     -- the lines of a group that end, and no other line of it does
     pub record EndsIn (ending group : List ℕ) : Type 0 where
       pub these : List ℕ
-      pub ends : EndsOf may (length now) (next_on next now group) (gives_up next now spans group) group these
+      pub ends : EndsOf may (length now) (next_on next now group) (owned now group) (gives_up next now spans group) group these
       pub all : (line : ℕ) → Contains these line → Contains ending line
       pub only : (line : ℕ) → Contains group line → Contains ending line → Contains these line
 
@@ -106,7 +111,7 @@ module _ (may : List Candidate → ℕ → Type 0) where
             only = λ line inside ended. elim (Contains-append_cases these others line (subst (λ l. Contains l line) is ended)) [
               | inr later ↦ rest.only line inside later
               | inl own ↦
-                  let there = ends_within (length now) (next_on next now (chain_from joined one)) (gives_up next now spans (chain_from joined one)) (chain_from joined one) these line here own in
+                  let there = ends_within (length now) (next_on next now (chain_from joined one)) (owned now (chain_from joined one)) (gives_up next now spans (chain_from joined one)) (chain_from joined one) these line here own in
                   let equal : one ≡ first = divided one first line (in_first one lines) member there inside in
                   absurd (apart.0 (subst (λ l. Contains lines l) (sym equal) behind))
             ];

@@ -23,7 +23,7 @@ use Rattle.greedy_column.proofs.LaterLaws.{HasLaterPin-from, goes_on-from_later}
 use Rattle.greedy_column.proofs.DrawnLaws.{IsPiece-neighbour}
 use Rattle.greedy_column.proofs.GroupLaws.{HoldsLine, HoldsLine-from, Holds-from, id_of_line, lower_line, upper_line, Grouped-trans, Grouped-sym, linked_joined, climb}
 use Rattle.greedy_column.proofs.ChainLaws.{joined, firsts, in_group, in_some, first_holds, one_group, Apart-firsts}
-use Rattle.greedy_column.proofs.GroupEndLaws.{KeepsOne, EndsIn, ended_in, ends_in, ends_kept, ends_given}
+use Rattle.greedy_column.proofs.GroupEndLaws.{owned, KeepsOne, EndsIn, ended_in, ends_in, ends_kept, ends_given}
 
 both_false : (b c : Bool) → (b && not c) ≡ false → (b ≡ false) ⊎ (c ≡ true)
 both_false true true none = inr refl
@@ -161,7 +161,7 @@ module _ (may : List Candidate → ℕ → Type 0) (pins : Pins) (column : ℕ) 
             let in_it = group_of net id held in
             let ends = ends_of_group in_it.first in_it.begins in
             let all : ends.these ≡ group in_it.first =
-            ends_given may (length now) (next_on (next_of pins column) now (group in_it.first)) (gives_up (next_of pins column) now spans (group in_it.first)) (group in_it.first) ends.these
+            ends_given may (length now) (next_on (next_of pins column) now (group in_it.first)) (owned now (group in_it.first)) (gives_up (next_of pins column) now spans (group in_it.first)) (group in_it.first) ends.these
             (gives_same net in_it.first in_it.holds ∙ is) ends.ends in
             subst (λ i. Contains done.ended i) (id_of_line now apart id held.there)
             (ended_from (line_of (ids now) id) (ends.all (line_of (ids now) id) (subst (λ l. Contains l (line_of (ids now) id)) (sym all) in_it.member)));
@@ -174,7 +174,7 @@ module _ (may : List Candidate → ℕ → Type 0) (pins : Pins) (column : ℕ) 
   kept_of : (net id : ℕ) (in_it : IsGrouped net id) → gives net ≡ false → KeepsOne (group in_it.first) (ends_of_group in_it.first in_it.begins).these
   kept_of net id in_it is =
       let ends = ends_of_group in_it.first in_it.begins in
-      ends_kept may (length now) (next_on (next_of pins column) now (group in_it.first)) (gives_up (next_of pins column) now spans (group in_it.first)) (group in_it.first) ends.these
+      ends_kept may (length now) (next_on (next_of pins column) now (group in_it.first)) (owned now (group in_it.first)) (gives_up (next_of pins column) now spans (group in_it.first)) (group in_it.first) ends.these
       (line_of (ids now) id) (gives_same net in_it.first in_it.holds ∙ is) in_it.member ends.ends
 
   goes_on : (net : ℕ) → 0 < net → gives net ≡ false → GoesOn pins column now done net

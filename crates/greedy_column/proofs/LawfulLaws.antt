@@ -2,6 +2,7 @@ use Rattle.std.proofs.Common.{◌≡◌, ◌≢◌, ◌⊎◌, inl, inr, ◌<◌
 use Rattle.std.proofs.lemmas.Bool.{cond-true, cond-false, ne_eqb}
 use Rattle.channel_model.specs.Pins.{Pins}
 use Rattle.choose_core.specs.declared.candidate.Candidate.{Candidate}
+use Rattle.choose_core.specs.declared.plan.Manner.{Manner}
 use Rattle.greedy_column.specs.declared.column.Track.{Track}
 use Rattle.greedy_column.specs.declared.column.Column.{Column}
 use Rattle.greedy_column.specs.declared.entering.Entries.{Entries}
@@ -13,8 +14,8 @@ use Rattle.greedy_column.specs.Replay.{top_pin, bottom_pin}
 use Rattle.greedy_column.specs.Ahead.{next_of}
 use Rattle.greedy_column.specs.Neighbours.{Holds}
 use Rattle.greedy_column.specs.Lawful.{TopEnters, BottomEnters, MayEnter}
-use Rattle.greedy_column.specs.Lines.{open_lines, above_lowest, holds_track}
-use Rattle.greedy_column.specs.Entering.{EntersBy, EntersEqual, is_ending, straight_question, top_question, bottom_question, pin_kind}
+use Rattle.greedy_column.specs.Lines.{open_lines, own_lines, above_lowest, holds_track}
+use Rattle.greedy_column.specs.Entering.{EntersBy, EntersEqual, any_place, is_ending, straight_question, top_question, bottom_question, pin_kind}
 use Rattle.greedy_column.specs.Follows.{Follows, entries_of, pin_of}
 use Rattle.greedy_column.specs.State.{AreNumbered}
 use Rattle.greedy_column.proofs.Members.{any_at, in_cases, in_map, in_filter_back, in_none}
@@ -76,7 +77,7 @@ either_true : (b c : Bool) → (b || c) ≡ true → (b ≡ true) ⊎ (c ≡ tru
 either_true true c some = inl refl
 either_true false c some = inr some
 
-module _ (may : List Candidate → ℕ → Type 0) (pins : Pins) (column fresh : ℕ) (before : List Track) (done : Column)
+module _ (manner : Manner) (may : List Candidate → ℕ → Type 0) (pins : Pins) (column fresh : ℕ) (before : List Track) (done : Column)
     (matched : length pins.top ≡ length pins.bottom) (numbered : AreNumbered fresh before) where
   no_top : done.top ≡ 0 → 0 < done.top → ⊥
   no_top none some = omega (arith, none, some)
@@ -95,7 +96,7 @@ module _ (may : List Candidate → ℕ → Type 0) (pins : Pins) (column fresh :
 
   equal_entered : (gone : Bool) → gone ≡ (holds_track before (top_pin pins column) || is_ending (next_of pins column (top_pin pins column)))
       → 0 < top_pin pins column → top_pin pins column ≡ bottom_pin pins column
-      → EntersEqual may (pin_of pins column (top_pin pins column)) before fresh gone (entries_of done) → AreEntered pins column before done
+      → EntersEqual manner may (pin_of pins column (top_pin pins column)) before fresh gone (entries_of done) → AreEntered pins column before done
   equal_entered true is some same enters =
       let top : done.top ≡ 0 = ap (λ (e : Entries). e.top) enters in
       let bottom : done.bottom ≡ 0 = ap (λ (e : Entries). e.bottom) enters in
@@ -108,7 +109,8 @@ module _ (may : List Candidate → ℕ → Type 0) (pins : Pins) (column fresh :
       }
   equal_entered false is some same enters =
       let parts = left_false (holds_track before (top_pin pins column)) (is_ending (next_of pins column (top_pin pins column))) (sym is) in
-      let one = EntersOne-from may before fresh Upper (straight_question (pin_of pins column (top_pin pins column))) (top_pin pins column)
+      let one = EntersOne-from may before fresh Upper (straight_question (pin_of pins column (top_pin pins column))) (own_lines (top_pin pins column) before)
+      (any_place manner (pin_of pins column (top_pin pins column)) Lower before) (top_pin pins column)
       (open_lines (top_pin pins column) before) (entries_of done) (Apart-from (ids before) numbered.distinct) some
       (λ line member. IsOpenLine-from before (top_pin pins column) line member) enters in
       record {
@@ -124,7 +126,7 @@ module _ (may : List Candidate → ℕ → Type 0) (pins : Pins) (column fresh :
       }
 
   by_kind_entered : (kind : PinKind) → KindSays (top_pin pins column) (bottom_pin pins column) kind
-      → EntersBy may (pin_of pins column (top_pin pins column)) (pin_of pins column (bottom_pin pins column)) before fresh kind (entries_of done) → AreEntered pins column before done
+      → EntersBy manner may (pin_of pins column (top_pin pins column)) (pin_of pins column (bottom_pin pins column)) before fresh kind (entries_of done) → AreEntered pins column before done
   by_kind_entered NoPins (top_gone, bottom_gone) enters =
       let top : done.top ≡ 0 = ap (λ (e : Entries). e.top) enters in
       let bottom : done.bottom ≡ 0 = ap (λ (e : Entries). e.bottom) enters in
@@ -136,7 +138,8 @@ module _ (may : List Candidate → ℕ → Type 0) (pins : Pins) (column fresh :
         entered_once = λ named. absurd (no_top top named);
       }
   by_kind_entered BottomAlone (top_gone, some) enters =
-      let one = EntersOne-from may before fresh Lower (bottom_question (pin_of pins column (bottom_pin pins column))) (bottom_pin pins column)
+      let one = EntersOne-from may before fresh Lower (bottom_question (pin_of pins column (bottom_pin pins column))) (own_lines (bottom_pin pins column) before)
+      (any_place manner (pin_of pins column (bottom_pin pins column)) Lower before) (bottom_pin pins column)
       (open_lines (bottom_pin pins column) before) (entries_of done) (Apart-from (ids before) numbered.distinct) some
       (λ line member. IsOpenLine-from before (bottom_pin pins column) line member) enters in
       record {
@@ -147,7 +150,8 @@ module _ (may : List Candidate → ℕ → Type 0) (pins : Pins) (column fresh :
         entered_once = λ named. absurd (no_top one.other named);
       }
   by_kind_entered TopAlone (some, bottom_gone) enters =
-      let one = EntersOne-from may before fresh Upper (top_question (pin_of pins column (top_pin pins column)) (length before)) (top_pin pins column)
+      let one = EntersOne-from may before fresh Upper (top_question (pin_of pins column (top_pin pins column)) (length before)) (own_lines (top_pin pins column) before)
+      (any_place manner (pin_of pins column (top_pin pins column)) Upper before) (top_pin pins column)
       (open_lines (top_pin pins column) before) (entries_of done) (Apart-from (ids before) numbered.distinct) some
       (λ line member. IsOpenLine-from before (top_pin pins column) line member) enters in
       record {
@@ -160,7 +164,7 @@ module _ (may : List Candidate → ℕ → Type 0) (pins : Pins) (column fresh :
   by_kind_entered EqualPins (some, same) enters =
       equal_entered (holds_track before (top_pin pins column) || is_ending (next_of pins column (top_pin pins column))) refl some same enters
   by_kind_entered TwoPins (some, too, other) enters =
-      let both = pair_both may before fresh numbered (pin_of pins column (top_pin pins column)) (pin_of pins column (bottom_pin pins column))
+      let both = pair_both manner may before fresh numbered (pin_of pins column (top_pin pins column)) (pin_of pins column (bottom_pin pins column))
       (open_lines (top_pin pins column) before) (open_lines (bottom_pin pins column) before)
       (above_lowest (open_lines (bottom_pin pins column) before) (open_lines (top_pin pins column) before)) (entries_of done) some too
       (λ line member. above_lowest-within (open_lines (bottom_pin pins column) before) (open_lines (top_pin pins column) before) line member)
@@ -174,6 +178,6 @@ module _ (may : List Candidate → ℕ → Type 0) (pins : Pins) (column fresh :
       }
 
   -- the entries of a record that follows are lawful
-  pub AreEntered-from : Follows may pins column fresh before done → AreEntered pins column before done
+  pub AreEntered-from : Follows manner may pins column fresh before done → AreEntered pins column before done
   AreEntered-from follows =
       by_kind_entered (pin_kind (top_pin pins column) (bottom_pin pins column)) (kind_says (top_pin pins column) (bottom_pin pins column)) follows.enters

@@ -4,6 +4,8 @@ pub mod Members
 pub mod PickLaws
 -- lines of tracks
 pub mod LineLaws
+-- places of new tracks
+pub mod PlaceLaws
 -- lists of uses, and where a net has its next pins by one
 pub mod UseLaws
 pub mod AheadLaws
@@ -15,7 +17,11 @@ pub mod SortedLaws
 pub mod PairLaws
 pub mod EndLaws
 -- the moves of a column
+pub mod AloneLaws
 pub mod MoveLaws
+pub mod SplitLaws
+pub mod WaitingLaws
+pub mod OrderLaws
 -- what the steps make
 pub mod FollowLaws
 -- ids and nets of tracks, kept by a column

@@ -1,8 +1,8 @@
-use Rattle.std.proofs.Common.{◌≡◌, inl, inr, ◌<◌, ◌≤◌, ◌+◌, ◌++◌, ℕ, suc, List, [], ◌∷◌, Bool, true, false, cond, ltb, length, filter, refl, sym, subst, ◌∙◌, arith, Contains, length-append}
+use Rattle.std.proofs.Common.{◌≡◌, inl, inr, ◌<◌, ◌≤◌, ◌+◌, ◌^◌, ◌++◌, ℕ, suc, List, [], ◌∷◌, Bool, true, false, cond, ltb, length, filter, refl, sym, subst, ◌∙◌, arith, Contains, length-append}
 use Rattle.std.proofs.lemmas.List.{append-nil}
 use Rattle.std.proofs.lemmas.List.Elements.{Contains-append_cases}
 use Rattle.greedy_column.specs.declared.column.Track.{Track}
-use Rattle.greedy_column.specs.Lines.{lines_from, LieWithin, above_lowest, below_line, place_of_new}
+use Rattle.greedy_column.specs.Lines.{lines_from, LieWithin, above_lowest, below_line, AreLines}
 use Rattle.greedy_column.proofs.Members.{in_none, in_first, in_later, in_one, in_filter_back, filter-few}
 
 -- a track that passes a test stands on a line
@@ -78,6 +78,9 @@ below_line-some (lowest ∷ others) lines line member =
     let above = (in_filter_back (λ l. ltb lowest l) line lines member).1 in
     subst (λ b. 0 < length (cond b (lowest ∷ filter (λ l. ltb l line) others) (filter (λ l. ltb l line) others))) (sym above) (omega arith)
 
--- at most as many tracks lie below a new one as it is to have at most
-pub place_of_new-most : (tracks least most : ℕ) → least ≤ most → place_of_new tracks least most ≤ most
-place_of_new-most tracks least most order = omega arith
+-- lines within tracks that are few
+pub AreLines-within : (tracks : ℕ) (lines : List ℕ) → tracks + 1 < 2 ^ 32 → LieWithin tracks lines → AreLines lines
+AreLines-within tracks lines few within = λ line member. let each = within.each line member in (each.0, omega (arith, each.1, few))
+
+pub AreLines-filter : (p : ℕ → Bool) (lines : List ℕ) → AreLines lines → AreLines (filter p lines)
+AreLines-filter p lines are = λ line member. are line (in_filter_back p line lines member).0

@@ -1,44 +1,69 @@
-use Rattle.std.proofs.Common.{◌≡◌, ◌≢◌, ◌++◌, inl, inr, ℕ, List, [], ◌∷◌, length, refl, subst, arith, append_assoc}
-use Rattle.std.proofs.lemmas.List.{append-nil}
+use Rattle.std.proofs.Common.{◌≡◌, ◌≢◌, ◌++◌, ◌∙◌, inl, inr, ℕ, List, [], ◌∷◌, length, map, refl, sym, ap, subst, arith, append_assoc}
+use Rattle.std.proofs.lemmas.List.{append-nil, length-map, map-append}
 use Rattle.choose_core.specs.declared.candidate.Candidate.{Candidate}
 use Rattle.choose_core.specs.declared.candidate.Next.{Next}
 use Rattle.greedy_column.specs.declared.column.Track.{Track}
 use Rattle.greedy_column.specs.declared.span.Span.{Span}
-use Rattle.greedy_column.specs.Lines.{net_on}
-use Rattle.greedy_column.specs.Moving.{MovesFollow, GoesTo, move_options, piece_between, without}
+use Rattle.greedy_column.specs.Lines.{net_on, own_lines}
+use Rattle.greedy_column.specs.Tracks.{given, held_by, hold}
+use Rattle.greedy_column.specs.Replay.{moved}
+use Rattle.greedy_column.specs.Moving.{MovesFollow, GoesTo, carried, move_ids, move_options, others_of_net, piece_between, without}
 
-module _ (may : List Candidate → ℕ → Type 0) (next : ℕ → Next) (tracks : List Track) where
+-- tracks after some moves, and after more
+pub moved-append : (moves more : List (ℕ × ℕ)) (tracks : List Track) → moved (moves ++ more) tracks ≡ moved more (moved moves tracks)
+moved-append [] more tracks = refl
+moved-append (m ∷ moves) more tracks = moved-append moves more (hold m.1 (held_by tracks m.0) (hold m.0 0 tracks))
+
+pub length-moved : (moves : List (ℕ × ℕ)) (tracks : List Track) → length (moved moves tracks) ≡ length tracks
+length-moved [] tracks = refl
+length-moved (m ∷ moves) tracks =
+    length-moved moves (hold m.1 (held_by tracks m.0) (hold m.0 0 tracks))
+    ∙ length-map (hold m.0 0 tracks) (given m.1 (held_by tracks m.0)) ∙ length-map tracks (given m.0 0)
+
+-- the tracks are carried along by one more move
+pub carried_on : (tracks start kept : List Track) (moves : List (ℕ × ℕ)) (line target : ℕ) → kept ≡ moved (map (move_ids tracks) moves) start
+    → carried tracks kept line target ≡ moved (map (move_ids tracks) (moves ++ (line, target) ∷ [])) start
+carried_on tracks start kept moves line target is =
+    ap (λ (l : List Track). carried tracks l line target) is
+    ∙ sym (moved-append (map (move_ids tracks) moves) (move_ids tracks (line, target) ∷ []) start)
+    ∙ ap (λ (l : List (ℕ × ℕ)). moved l start) (sym (map-append (move_ids tracks) moves ((line, target) ∷ [])))
+
+module _ (may : List Candidate → ℕ → Type 0) (next : ℕ → Next) (tracks start : List Track) where
   -- the moves end where no line is left, and go on with a line that stays or moves
-  pub moves_done : (lines rest : List ℕ) (first spans : List Span) (all free : List ℕ) (moves : List (ℕ × ℕ)) → length rest ≡ 0
-      → ((later : List (ℕ × ℕ)) → MovesFollow may next tracks rest spans free later → MovesFollow may next tracks lines first all (moves ++ later))
-      → MovesFollow may next tracks lines first all moves
-  moves_done lines [] first spans all free moves none so_far = rw append-nil at (so_far [] refl)
-  moves_done lines (line ∷ rest) first spans all free moves none so_far = absurd (omega arith)
+  pub moves_done : (kept : List Track) (lines rest : List ℕ) (first spans : List Span) (all free : List ℕ) (moves : List (ℕ × ℕ)) → length rest ≡ 0
+      → ((later : List (ℕ × ℕ)) → MovesFollow may next tracks kept rest spans free later → MovesFollow may next tracks start lines first all (moves ++ later))
+      → MovesFollow may next tracks start lines first all moves
+  moves_done kept lines [] first spans all free moves none so_far = rw append-nil at (so_far [] refl)
+  moves_done kept lines (line ∷ rest) first spans all free moves none so_far = absurd (omega arith)
 
-  pub moves_stay : (lines rest : List ℕ) (first spans : List Span) (all free : List ℕ) (moves : List (ℕ × ℕ)) (line : ℕ) (ahead : Next) (options : List ℕ) (target : ℕ)
-      → ahead ≡ next (net_on tracks line) → options ≡ move_options spans (net_on tracks line) line free → GoesTo may ahead line options target → target ≡ line
-      → ((later : List (ℕ × ℕ)) → MovesFollow may next tracks (line ∷ rest) spans free later → MovesFollow may next tracks lines first all (moves ++ later))
-      → (later : List (ℕ × ℕ)) → MovesFollow may next tracks rest spans free later → MovesFollow may next tracks lines first all (moves ++ later)
-  moves_stay lines rest first spans all free moves line ahead options target is offered goes same so_far later follow =
+  -- where a kept track goes on, as its net, its options and its others are found
+  goes_on : (kept : List Track) (spans : List Span) (free : List ℕ) (line net : ℕ) (ahead : Next) (others options : List ℕ) (target : ℕ) → net ≡ net_on tracks line
+      → ahead ≡ next net → others ≡ without line (own_lines net kept) → options ≡ move_options spans net line free → GoesTo may ahead others line options target
+      → GoesTo may (next (net_on tracks line)) (others_of_net tracks kept line) line (move_options spans (net_on tracks line) line free) target
+  goes_on kept spans free line net ahead others options target of_net is beside offered goes =
+      subst (λ n. GoesTo may (next n) (without line (own_lines n kept)) line (move_options spans n line free) target) of_net
+      (subst (λ l. GoesTo may (next net) (without line (own_lines net kept)) line l target) offered
+      (subst (λ l. GoesTo may (next net) l line options target) beside (subst (λ n. GoesTo may n others line options target) is goes)))
+
+  pub moves_stay : (kept : List Track) (lines rest : List ℕ) (first spans : List Span) (all free : List ℕ) (moves : List (ℕ × ℕ)) (line net : ℕ) (ahead : Next)
+      (others options : List ℕ) (target : ℕ) → net ≡ net_on tracks line → ahead ≡ next net → others ≡ without line (own_lines net kept)
+      → options ≡ move_options spans net line free → GoesTo may ahead others line options target → target ≡ line
+      → ((later : List (ℕ × ℕ)) → MovesFollow may next tracks kept (line ∷ rest) spans free later → MovesFollow may next tracks start lines first all (moves ++ later))
+      → (later : List (ℕ × ℕ)) → MovesFollow may next tracks kept rest spans free later → MovesFollow may next tracks start lines first all (moves ++ later)
+  moves_stay kept lines rest first spans all free moves line net ahead others options target of_net is beside offered goes same so_far later follow =
       so_far later (inl (
-        subst (λ l. GoesTo may (next (net_on tracks line)) line l line) offered
-            (subst (λ n. GoesTo may n line options line) is (subst (λ t. GoesTo may ahead line options t) same goes)),
+        goes_on kept spans free line net ahead others options line of_net is beside offered (subst (λ t. GoesTo may ahead others line options t) same goes),
         follow,
       ))
 
-  pub moves_go : (lines rest : List ℕ) (first spans : List Span) (all free : List ℕ) (moves : List (ℕ × ℕ)) (line : ℕ) (ahead : Next) (options : List ℕ) (target : ℕ)
-      → ahead ≡ next (net_on tracks line) → options ≡ move_options spans (net_on tracks line) line free → GoesTo may ahead line options target → target ≢ line
-      → ((later : List (ℕ × ℕ)) → MovesFollow may next tracks (line ∷ rest) spans free later → MovesFollow may next tracks lines first all (moves ++ later))
-      → (later : List (ℕ × ℕ)) → MovesFollow may next tracks rest (spans ++ piece_between (net_on tracks line) line target ∷ []) (without target free) later
-      → MovesFollow may next tracks lines first all ((moves ++ (line, target) ∷ []) ++ later)
-  moves_go lines rest first spans all free moves line ahead options target is offered goes other so_far later follow =
+  pub moves_go : (kept : List Track) (lines rest : List ℕ) (first spans : List Span) (all free : List ℕ) (moves : List (ℕ × ℕ)) (line net : ℕ) (ahead : Next)
+      (others options : List ℕ) (target : ℕ) → net ≡ net_on tracks line → ahead ≡ next net → others ≡ without line (own_lines net kept)
+      → options ≡ move_options spans net line free → GoesTo may ahead others line options target → target ≢ line
+      → ((later : List (ℕ × ℕ)) → MovesFollow may next tracks kept (line ∷ rest) spans free later → MovesFollow may next tracks start lines first all (moves ++ later))
+      → (later : List (ℕ × ℕ)) → MovesFollow may next tracks (carried tracks kept line target) rest (spans ++ piece_between (net_on tracks line) line target ∷ [])
+      (without target free) later → MovesFollow may next tracks start lines first all ((moves ++ (line, target) ∷ []) ++ later)
+  moves_go kept lines rest first spans all free moves line net ahead others options target of_net is beside offered goes other so_far later follow =
       rw append_assoc (so_far ((line, target) ∷ later) (inr (
         target,
-        (
-          later,
-          subst (λ l. GoesTo may (next (net_on tracks line)) line l target) offered (subst (λ n. GoesTo may n line options target) is goes),
-          other,
-          refl,
-          follow,
-        ),
+        (later, goes_on kept spans free line net ahead others options target of_net is beside offered goes, other, refl, follow),
       )))

@@ -6,8 +6,7 @@ use Rattle.greedy_column.specs.declared.column.Column.{Column}
 use Rattle.greedy_column.specs.Tracks.{ids}
 use Rattle.greedy_column.specs.Replay.{entered, freed}
 use Rattle.greedy_column.specs.Lawful.{AreMadeFrom, IsMove}
-use Rattle.greedy_column.specs.Lines.{id_on, net_on, free_lines}
-use Rattle.greedy_column.specs.Moving.{order_of_moves}
+use Rattle.greedy_column.specs.Lines.{id_on, net_on, free_lines, held_lines}
 use Rattle.greedy_column.specs.State.{AreNumbered}
 use Rattle.greedy_column.proofs.IdLaws.{Apart}
 use Rattle.greedy_column.proofs.TableLaws.{nets, held_by-line, id_on-member}
@@ -20,7 +19,7 @@ use Rattle.greedy_column.proofs.HeldLineLaws.{kept_at}
 -- a kept line and a free one are a move's
 pub IsMove-from : (pins : Pins) (column fresh : ℕ) (before : List Track) (done : Column) → AreNumbered fresh before → AreMadeFrom fresh (length before) done.made
     → ((m : Made) → Contains done.made m → (m.id ≡ done.top) ⊎ (m.id ≡ done.bottom)) → AreEntered pins column before done
-    → Apart (ids (entered pins column done before)) → (line target : ℕ) → Contains (order_of_moves (freed done.ended (entered pins column done before))) line
+    → Apart (ids (entered pins column done before)) → (line target : ℕ) → Contains (held_lines (freed done.ended (entered pins column done before))) line
     → Contains (free_lines (entered pins column done before)) target
     → IsMove before (entered pins column done before) done (id_on (entered pins column done before) line) (id_on (entered pins column done before) target)
 IsMove-from pins column fresh before done numbered made made_entered entries apart line target from to =

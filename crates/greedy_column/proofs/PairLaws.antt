@@ -1,9 +1,10 @@
-use Rattle.std.proofs.Common.{◌≡◌, ◌<◌, ◌≤◌, ◌+◌, ◌++◌, ◌||◌, eqb, ℕ, suc, List, [], ◌∷◌, Bool, true, false, cond, Option, Some, None, length, filter, get_or, refl, arith, eqb-true, length-append}
+use Rattle.std.proofs.Common.{◌≡◌, inl, inr, subst, ◌<◌, ◌≤◌, ◌+◌, ◌++◌, ◌||◌, eqb, ℕ, suc, List, [], ◌∷◌, Bool, true, false, cond, Option, Some, None, length, filter, get_or, refl, arith, eqb-true, length-append}
 use Rattle.std.specs.List.{list_any}
 use Rattle.greedy_column.specs.declared.column.Track.{Track}
 use Rattle.greedy_column.specs.declared.span.Span.{Span}
-use Rattle.greedy_column.specs.Joining.{AreAscending, next_line, pair_of, neighbours_from, neighbours}
+use Rattle.greedy_column.specs.Joining.{AreAscending, StandAbove, next_line, pair_of, neighbours_from, neighbours}
 use Rattle.greedy_column.specs.Ending.{chain_from}
+use Rattle.greedy_column.proofs.Members.{in_none, in_cases}
 
 -- where the next track of a net stands
 pub next_line-within : (net line above : ℕ) (tracks : List Track) → next_line net line tracks ≡ Some above → (line ≤ above) × (above < line + length tracks)
@@ -59,6 +60,16 @@ AreAscending-filter tracks first p (pair ∷ pairs) (begins, upward, within, lat
       step : (b : Bool) → AreAscending tracks (suc pair.low) (filter p pairs) → AreAscending tracks first (cond b (pair ∷ filter p pairs) (filter p pairs))
       step true rest = (begins, upward, within, rest)
       step false rest = ascending_lower tracks (suc pair.low) first (filter p pairs) (omega (arith, begins)) rest
+
+above_first : (tracks first : ℕ) (pairs : List Span) → 0 < first → AreAscending tracks first pairs → StandAbove pairs
+above_first tracks first [] some ascending = λ pair member. absurd (in_none pair member)
+above_first tracks first (one ∷ pairs) some (begins, upward, inside, later) = λ pair member. elim (in_cases one pair pairs member) [
+  | inl same ↦ subst (λ (p : Span). 0 < p.low) same (omega (arith, begins, some))
+  | inr behind ↦ above_first tracks (suc one.low) pairs (omega arith) later pair behind
+]
+
+pub neighbours-above : (tracks : List Track) → StandAbove (neighbours tracks)
+neighbours-above tracks = above_first (length tracks) 1 (neighbours tracks) (omega arith) (neighbours-ascending tracks)
 
 -- a chain has no more lines than lie from its first one on
 pub chain_from-few : (tracks first line : ℕ) (joined : List Span) → AreAscending tracks first joined → line ≤ tracks

@@ -11,7 +11,7 @@ use Rattle.greedy_column.specs.Neighbours.{AreNeighbours}
 use Rattle.greedy_column.specs.Lines.{id_on, net_on, lines_from}
 use Rattle.greedy_column.specs.Offers.{offer, move_question}
 use Rattle.greedy_column.specs.Joining.{is_clear}
-use Rattle.greedy_column.specs.Moving.{MovesFollow, GoesTo, move_options, piece_between, without}
+use Rattle.greedy_column.specs.Moving.{MovesFollow, GoesTo, move_options, piece_between, without, carried, others_of_net}
 use Rattle.greedy_column.proofs.Members.{in_none, in_first, in_later, in_cases, in_map, in_map_back, in_filter_back}
 use Rattle.greedy_column.proofs.PickLaws.{picked_is_option}
 use Rattle.greedy_column.proofs.IdLaws.{Apart}
@@ -79,58 +79,58 @@ Apart-map f g (x ∷ xs) keeps apart = (
 )
 
 module _ (may : List Candidate → ℕ → Type 0) (next : ℕ → Next) (tracks : List Track) where
-  goes_free : (net line target : ℕ) (spans : List Span) (free : List ℕ) → GoesTo may (next net) line (move_options spans net line free) target → target ≢ line → Contains free target
-  goes_free net line target spans free goes other = in_options (move_options spans net line free) (λ member. (in_filter_back (λ o. is_clear spans (piece_between net line o)) target free member).0) goes where
-    in_options : (options : List ℕ) → (Contains options target → Contains free target) → GoesTo may (next net) line options target → Contains free target
+  goes_free : (others : List ℕ) (net line target : ℕ) (spans : List Span) (free : List ℕ) → GoesTo may (next net) others line (move_options spans net line free) target → target ≢ line → Contains free target
+  goes_free others net line target spans free goes other = in_options (move_options spans net line free) (λ member. (in_filter_back (λ o. is_clear spans (piece_between net line o)) target free member).0) goes where
+    in_options : (options : List ℕ) → (Contains options target → Contains free target) → GoesTo may (next net) others line options target → Contains free target
     in_options [] from goes = absurd (other goes)
     in_options (o ∷ options) from goes =
-        elim (in_cases line target (o ∷ options) (picked_is_option may (offer (move_question line (next net))) (line ∷ (o ∷ options)) target goes)) [
+        elim (in_cases line target (o ∷ options) (picked_is_option may (offer (move_question line (next net)) others) (line ∷ (o ∷ options)) target goes)) [
           | inl same ↦ absurd (other (sym same))
           | inr member ↦ from member
         ]
 
   -- moves go to free lines, and go from lines in their order
-  pub moves_within : (lines : List ℕ) (spans : List Span) (free : List ℕ) (moves : List (ℕ × ℕ)) → MovesFollow may next tracks lines spans free moves
+  pub moves_within : (kept : List Track) (lines : List ℕ) (spans : List Span) (free : List ℕ) (moves : List (ℕ × ℕ)) → MovesFollow may next tracks kept lines spans free moves
       → (m : ℕ × ℕ) → Contains moves m → Contains lines m.0 × Contains free m.1 × (m.1 ≢ m.0)
-  moves_within [] spans free moves none m member = absurd (in_none m (subst (λ (l : List (ℕ × ℕ)). Contains l m) none member))
-  moves_within (line ∷ lines) spans free moves (inl (stays, follow)) m member =
-      let found = moves_within lines spans free moves follow m member in (in_later line m.0 lines found.0, found.1, found.2)
-  moves_within (line ∷ lines) spans free moves (inr (target, (rest, goes, other, is, follow))) m member =
+  moves_within kept [] spans free moves none m member = absurd (in_none m (subst (λ (l : List (ℕ × ℕ)). Contains l m) none member))
+  moves_within kept (line ∷ lines) spans free moves (inl (stays, follow)) m member =
+      let found = moves_within kept lines spans free moves follow m member in (in_later line m.0 lines found.0, found.1, found.2)
+  moves_within kept (line ∷ lines) spans free moves (inr (target, (rest, goes, other, is, follow))) m member =
       elim (in_cases (line, target) m rest (subst (λ (l : List (ℕ × ℕ)). Contains l m) is member)) [
         | inl same ↦
             let first : line ≡ m.0 = ap (λ (p : ℕ × ℕ). p.0) same in
             let second : target ≡ m.1 = ap (λ (p : ℕ × ℕ). p.1) same in (
               subst (λ l. Contains (line ∷ lines) l) first (in_first line lines),
-              subst (λ t. Contains free t) second (goes_free (net_on tracks line) line target spans free goes other),
+              subst (λ t. Contains free t) second (goes_free (others_of_net tracks kept line) (net_on tracks line) line target spans free goes other),
               λ equal. other (second ∙ equal ∙ sym first),
             )
         | inr later ↦
-            let found = moves_within lines (spans ++ piece_between (net_on tracks line) line target ∷ []) (without target free) rest follow m later in
+            let found = moves_within (carried tracks kept line target) lines (spans ++ piece_between (net_on tracks line) line target ∷ []) (without target free) rest follow m later in
             (in_later line m.0 lines found.0, (in_filter_back (λ o. not (eqb o target)) m.1 free found.1).0, found.2)
       ]
 
   kept_apart : (o target : ℕ) → not (eqb o target) ≡ true → o ≢ target
   kept_apart o target test same = cc (ap not (eq-eqb o target same), test)
 
-  pub moves_apart : (lines : List ℕ) (spans : List Span) (free : List ℕ) (moves : List (ℕ × ℕ)) → Apart lines → MovesFollow may next tracks lines spans free moves
+  pub moves_apart : (kept : List Track) (lines : List ℕ) (spans : List Span) (free : List ℕ) (moves : List (ℕ × ℕ)) → Apart lines → MovesFollow may next tracks kept lines spans free moves
       → Apart (map (λ (m : ℕ × ℕ). m.0) moves) × Apart (map (λ (m : ℕ × ℕ). m.1) moves)
-  moves_apart [] spans free moves apart none = subst (λ (l : List (ℕ × ℕ)). Apart (map (λ (m : ℕ × ℕ). m.0) l) × Apart (map (λ (m : ℕ × ℕ). m.1) l)) (sym none) (tt, tt)
-  moves_apart (line ∷ lines) spans free moves apart (inl (stays, follow)) = moves_apart lines spans free moves apart.1 follow
-  moves_apart (line ∷ lines) spans free moves apart (inr (target, (rest, goes, other, is, follow))) =
+  moves_apart kept [] spans free moves apart none = subst (λ (l : List (ℕ × ℕ)). Apart (map (λ (m : ℕ × ℕ). m.0) l) × Apart (map (λ (m : ℕ × ℕ). m.1) l)) (sym none) (tt, tt)
+  moves_apart kept (line ∷ lines) spans free moves apart (inl (stays, follow)) = moves_apart kept lines spans free moves apart.1 follow
+  moves_apart kept (line ∷ lines) spans free moves apart (inr (target, (rest, goes, other, is, follow))) =
       let spans_now : List Span = spans ++ piece_between (net_on tracks line) line target ∷ [] in
-      let later = moves_apart lines spans_now (without target free) rest apart.1 follow in
+      let later = moves_apart (carried tracks kept line target) lines spans_now (without target free) rest apart.1 follow in
       subst (λ (l : List (ℕ × ℕ)). Apart (map (λ (m : ℕ × ℕ). m.0) l) × Apart (map (λ (m : ℕ × ℕ). m.1) l)) (sym is) (
         (
           (λ member.
               let from = in_map_back (λ (m : ℕ × ℕ). m.0) line rest member in
-              let found = moves_within lines spans_now (without target free) rest follow from.0 from.1 in
+              let found = moves_within (carried tracks kept line target) lines spans_now (without target free) rest follow from.0 from.1 in
               apart.0 (subst (λ l. Contains lines l) from.2 found.0)),
           later.0,
         ),
         (
           (λ member.
               let from = in_map_back (λ (m : ℕ × ℕ). m.1) target rest member in
-              let found = moves_within lines spans_now (without target free) rest follow from.0 from.1 in
+              let found = moves_within (carried tracks kept line target) lines spans_now (without target free) rest follow from.0 from.1 in
               kept_apart from.0.1 target (in_filter_back (λ o. not (eqb o target)) from.0.1 free found.1).1 from.2),
           later.1,
         ),

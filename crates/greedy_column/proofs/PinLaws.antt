@@ -5,11 +5,13 @@ use Rattle.std.proofs.lemmas.List.Elements.{Contains-append_cases}
 use Rattle.std.specs.List.{insert}
 use Rattle.channel_model.specs.Pins.{Pins}
 use Rattle.choose_core.specs.declared.candidate.Candidate.{Candidate}
+use Rattle.choose_core.specs.declared.plan.Manner.{Manner}
 use Rattle.greedy_column.specs.declared.column.Track.{Track}
 use Rattle.greedy_column.specs.declared.column.Column.{Column}
 use Rattle.greedy_column.specs.declared.span.Span.{Span}
 use Rattle.greedy_column.specs.declared.entering.Pin.{Pin}
 use Rattle.greedy_column.specs.declared.entering.Entries.{Entries}
+use Rattle.greedy_column.specs.declared.entering.Edge.TheVariants.{Upper, Lower}
 use Rattle.greedy_column.specs.declared.entering.PinKind.{PinKind}
 use Rattle.greedy_column.specs.declared.entering.PinKind.TheVariants.{NoPins, BottomAlone, TopAlone, EqualPins, TwoPins}
 use Rattle.greedy_column.specs.declared.entering.Newcomer.{Newcomer}
@@ -17,16 +19,18 @@ use Rattle.greedy_column.specs.declared.entering.Newcomer.TheVariants.{TopPin, B
 use Rattle.greedy_column.specs.Tracks.{ids, line_of}
 use Rattle.greedy_column.specs.Replay.{top_pin, bottom_pin, with_made, entered}
 use Rattle.greedy_column.specs.Verticals.{Vertical, floor, on, ceiling, bottom_verticals, top_verticals, verticals_of_pins}
-use Rattle.greedy_column.specs.Lines.{id_on, place_of_new, open_lines, above_lowest, below_line}
+use Rattle.greedy_column.specs.Lines.{id_on, holds_track, open_lines, own_lines, above_lowest, below_line}
+use Rattle.greedy_column.specs.Places.{place_of_new}
 use Rattle.greedy_column.specs.Offers.{offer}
 use Rattle.greedy_column.specs.Joining.{span_in}
-use Rattle.greedy_column.specs.Entering.{EntersBy, EntersPair, EntersNew, newcomer_of, pin_kind, top_question, bottom_question}
+use Rattle.greedy_column.specs.Entering.{EntersBy, EntersPair, EntersNew, newcomer_of, any_place, place_for, pin_kind, top_question, bottom_question}
 use Rattle.greedy_column.specs.Follows.{Follows, entries_of, pin_of, pin_spans}
 use Rattle.greedy_column.specs.State.{AreNumbered}
 use Rattle.greedy_column.proofs.Members.{in_none, in_one, in_map_back, in_filter_back}
 use Rattle.greedy_column.proofs.PickLaws.{picked_is_option}
 use Rattle.greedy_column.proofs.IdLaws.{Apart, Apart-from, Apart-insert, ids-insert, ids-entered, in_insert}
 use Rattle.greedy_column.proofs.TableLaws.{length-ids, line_of-at, line_of-line}
+use Rattle.greedy_column.proofs.PlaceLaws.{place_bounds}
 use Rattle.greedy_column.proofs.EntryLaws.{IsOpenLine, IsOpenLine-from}
 use Rattle.greedy_column.proofs.EntersLaws.{KindSays, kind_says}
 use Rattle.greedy_column.proofs.LawfulLaws.{above_lowest-within}
@@ -56,15 +60,11 @@ module _ (order : List ℕ) (k new : ℕ) (within : k ≤ length order) (apart :
       sym (ap (line_of (insert order k new)) at)
       ∙ line_of-at (insert order k new) (line - 1 + 1) apart (omega (arith, above, inside, long)) ∙ omega (arith, above)
 
--- a new track has at least as many tracks below it as it is to have, and at most as many
-place_bounds : (tracks least most : ℕ) → least ≤ most → (least ≤ place_of_new tracks least most) × (place_of_new tracks least most ≤ most)
-place_bounds tracks least most order = (omega arith, omega arith)
-
 -- the track of the bottom pin lies below that of the top pin
 abbrev IsBelow : List Track → Entries → Type 0
 IsBelow before e = line_of (ids (with_made before e.made)) e.bottom < line_of (ids (with_made before e.made)) e.top
 
-module _ (may : List Candidate → ℕ → Type 0) (before : List Track) (fresh : ℕ) (numbered : AreNumbered fresh before) where
+module _ (manner : Manner) (may : List Candidate → ℕ → Type 0) (before : List Track) (fresh : ℕ) (numbered : AreNumbered fresh before) where
   first_apart : (k : ℕ) → Apart (insert (ids before) k fresh)
   first_apart k =
       Apart-insert fresh (ids before) k (λ member. let less = numbered.below fresh member in omega (arith, less)) (Apart-from (ids before) numbered.distinct)
@@ -80,11 +80,11 @@ module _ (may : List Candidate → ℕ → Type 0) (before : List Track) (fresh 
 
   new_below : (top bottom : Pin) (uppers lowers : List ℕ) (new : Newcomer) (entries : Entries)
       → ((line : ℕ) → Contains uppers line → IsOpenLine before top.net line) → ((line : ℕ) → Contains lowers line → IsOpenLine before bottom.net line)
-      → EntersNew may top bottom before fresh uppers lowers new entries → IsBelow before entries
+      → EntersNew manner may top bottom before fresh uppers lowers new entries → IsBelow before entries
   new_below top bottom uppers lowers TopPin entries above below (line, by, is) =
-      let own = below line (picked_is_option may (offer (bottom_question bottom)) lowers line by) in
-      let k : ℕ = place_of_new (length before) line (length before) in
-      let bounds = place_bounds (length before) line (length before) own.within in
+      let own = below line (picked_is_option may (offer (bottom_question bottom) (own_lines bottom.net before)) lowers line by) in
+      let k : ℕ = place_for manner top Upper before line (length before) in
+      let bounds = place_bounds manner (holds_track before top.net) top.next Upper (length before) line (length before) own.within in
       let inside : k ≤ length (ids before) = omega (arith, bounds.1, length-ids before) in
       let lower = below_new (ids before) k fresh inside (first_apart k) line own.begins bounds.0 in
       let upper = at_new (ids before) k fresh inside (first_apart k) in
@@ -92,9 +92,9 @@ module _ (may : List Candidate → ℕ → Type 0) (before : List Track) (fresh 
       (subst (λ l. line_of l (id_on before line) < line_of l fresh) (sym (ids-insert (record { id = fresh; net = 0 }) before k))
       (omega (arith, lower, upper, bounds.0)))
   new_below top bottom uppers lowers BottomPin entries above below (line, by, is) =
-      let own = above line (picked_is_option may (offer (top_question top (length before))) uppers line by) in
-      let k : ℕ = place_of_new (length before) 0 (line - 1) in
-      let bounds = place_bounds (length before) 0 (line - 1) (omega arith) in
+      let own = above line (picked_is_option may (offer (top_question top (length before)) (own_lines top.net before)) uppers line by) in
+      let k : ℕ = place_for manner bottom Lower before 0 (line - 1) in
+      let bounds = place_bounds manner (holds_track before bottom.net) bottom.next Lower (length before) 0 (line - 1) (omega arith) in
       let inside : k ≤ length (ids before) = omega (arith, bounds.1, own.within, length-ids before) in
       let upper = above_new (ids before) k fresh inside (first_apart k) line (omega (arith, bounds.1, own.begins)) (omega (arith, own.within, length-ids before)) in
       let lower = at_new (ids before) k fresh inside (first_apart k) in
@@ -102,10 +102,10 @@ module _ (may : List Candidate → ℕ → Type 0) (before : List Track) (fresh 
       (subst (λ l. line_of l fresh < line_of l (id_on before line)) (sym (ids-insert (record { id = fresh; net = 0 }) before k))
       (omega (arith, lower, upper, bounds.1, own.begins)))
   new_below top bottom uppers lowers BothPins entries above below is =
-      let k : ℕ = place_of_new (length before) 0 (length before) in
-      let l : ℕ = place_of_new (length before + 1) (k + 1) (length before + 1) in
-      let first = place_bounds (length before) 0 (length before) (omega arith) in
-      let second = place_bounds (length before + 1) (k + 1) (length before + 1) (omega (arith, first.1)) in
+      let k : ℕ = any_place manner bottom Lower before in
+      let l : ℕ = place_of_new manner (holds_track before top.net) top.next Upper (length before + 1) (k + 1) (length before + 1) in
+      let first = place_bounds manner (holds_track before bottom.net) bottom.next Lower (length before) 0 (length before) (omega arith) in
+      let second = place_bounds manner (holds_track before top.net) top.next Upper (length before + 1) (k + 1) (length before + 1) (omega (arith, first.1)) in
       let inside : k ≤ length (ids before) = omega (arith, first.1, length-ids before) in
       let one : List ℕ = insert (ids before) k fresh in
       let long = length-insert (ids before) k fresh in
@@ -123,12 +123,12 @@ module _ (may : List Candidate → ℕ → Type 0) (before : List Track) (fresh 
 
   pair_below : (top bottom : Pin) (uppers lowers partnered : List ℕ) (entries : Entries) → ((line : ℕ) → Contains partnered line → Contains uppers line)
       → ((line : ℕ) → Contains uppers line → IsOpenLine before top.net line) → ((line : ℕ) → Contains lowers line → IsOpenLine before bottom.net line)
-      → EntersPair may top bottom before fresh uppers lowers partnered entries → IsBelow before entries
+      → EntersPair manner may top bottom before fresh uppers lowers partnered entries → IsBelow before entries
   pair_below top bottom uppers lowers [] entries within above below enters =
-      new_below top bottom uppers lowers (newcomer_of uppers lowers) entries above below enters
+      new_below top bottom uppers lowers (newcomer_of manner (holds_track before top.net) (holds_track before bottom.net) uppers lowers) entries above below enters
   pair_below top bottom uppers lowers (first ∷ others) entries within above below (line, by, (partner, at, is)) =
-      let upper = above line (within line (picked_is_option may (offer (top_question top (length before))) (first ∷ others) line by)) in
-      let found = in_filter_back (λ l. ltb l line) partner lowers (picked_is_option may (offer (bottom_question bottom)) (below_line line lowers) partner at) in
+      let upper = above line (within line (picked_is_option may (offer (top_question top (length before)) (own_lines top.net before)) (first ∷ others) line by)) in
+      let found = in_filter_back (λ l. ltb l line) partner lowers (picked_is_option may (offer (bottom_question bottom) (own_lines bottom.net before)) (below_line line lowers) partner at) in
       let lower = below partner found.0 in
       let order : partner < line = ltb-true partner line found.1 in
       let apart = Apart-from (ids before) numbered.distinct in
@@ -137,21 +137,21 @@ module _ (may : List Candidate → ℕ → Type 0) (before : List Track) (fresh 
       subst (λ (e : Entries). IsBelow before e) (sym is) (omega (arith, order, first_line, second_line))
 
 -- of two pins of different nets, that at the bottom enters the lower track
-pub pins_below : (may : List Candidate → ℕ → Type 0) (pins : Pins) (column fresh : ℕ) (before : List Track) (done : Column) → AreNumbered fresh before
-    → Follows may pins column fresh before done → 0 < top_pin pins column → 0 < bottom_pin pins column → top_pin pins column ≢ bottom_pin pins column
+pub pins_below : (manner : Manner) (may : List Candidate → ℕ → Type 0) (pins : Pins) (column fresh : ℕ) (before : List Track) (done : Column) → AreNumbered fresh before
+    → Follows manner may pins column fresh before done → 0 < top_pin pins column → 0 < bottom_pin pins column → top_pin pins column ≢ bottom_pin pins column
     → line_of (ids (entered pins column done before)) done.bottom < line_of (ids (entered pins column done before)) done.top
-pins_below may pins column fresh before done numbered follows some too other =
+pins_below manner may pins column fresh before done numbered follows some too other =
     subst (λ l. line_of l done.bottom < line_of l done.top) (sym (ids-entered pins column before done))
     (by_kind (pin_kind (top_pin pins column) (bottom_pin pins column)) (kind_says (top_pin pins column) (bottom_pin pins column)) follows.enters) where
       by_kind : (kind : PinKind) → KindSays (top_pin pins column) (bottom_pin pins column) kind
-          → EntersBy may (pin_of pins column (top_pin pins column)) (pin_of pins column (bottom_pin pins column)) before fresh kind (entries_of done)
+          → EntersBy manner may (pin_of pins column (top_pin pins column)) (pin_of pins column (bottom_pin pins column)) before fresh kind (entries_of done)
           → IsBelow before (entries_of done)
       by_kind NoPins says enters = absurd (omega (arith, says.0, some))
       by_kind BottomAlone says enters = absurd (omega (arith, says.0, some))
       by_kind TopAlone says enters = absurd (omega (arith, says.1, too))
       by_kind EqualPins says enters = absurd (other says.1)
       by_kind TwoPins says enters =
-          pair_below may before fresh numbered (pin_of pins column (top_pin pins column)) (pin_of pins column (bottom_pin pins column))
+          pair_below manner may before fresh numbered (pin_of pins column (top_pin pins column)) (pin_of pins column (bottom_pin pins column))
           (open_lines (top_pin pins column) before) (open_lines (bottom_pin pins column) before)
           (above_lowest (open_lines (bottom_pin pins column) before) (open_lines (top_pin pins column) before)) (entries_of done)
           (λ line member. above_lowest-within (open_lines (bottom_pin pins column) before) (open_lines (top_pin pins column) before) line member)
@@ -207,9 +207,9 @@ pin_pieces order false top_net bottom_net top bottom below s t first second meet
     ]
 
 -- the verticals of a column's pins cross nothing
-pub uncrossed-pins : (may : List Candidate → ℕ → Type 0) (pins : Pins) (column fresh : ℕ) (before : List Track) (done : Column) → AreNumbered fresh before
-    → Follows may pins column fresh before done → AreUncrossed (pin_spans pins column (entered pins column done before) done)
-uncrossed-pins may pins column fresh before done numbered follows =
+pub uncrossed-pins : (manner : Manner) (may : List Candidate → ℕ → Type 0) (pins : Pins) (column fresh : ℕ) (before : List Track) (done : Column) → AreNumbered fresh before
+    → Follows manner may pins column fresh before done → AreUncrossed (pin_spans pins column (entered pins column done before) done)
+uncrossed-pins manner may pins column fresh before done numbered follows =
     pin_pieces (ids (entered pins column done before)) done.straight (top_pin pins column) (bottom_pin pins column) done.top done.bottom
-    (λ no some too. pins_below may pins column fresh before done numbered follows some too
+    (λ no some too. pins_below manner may pins column fresh before done numbered follows some too
     (λ same. let straight : done.straight ≡ true = follows.straight.1 (record { some = some; equal = same }) in cc (no, straight)))

@@ -2,6 +2,7 @@ use Rattle.std.proofs.Common.{◌≡◌, ◌<◌, ℕ, zero, suc, List, [], ◌�
 use Rattle.std.specs.List.Sorted.{IsStrictlyIncreasing}
 use Rattle.channel_model.proofs.Worked.{crossed}
 use Rattle.choose_core.specs.declared.candidate.Candidate.{Candidate}
+use Rattle.choose_core.specs.declared.plan.Manner.TheVariants.{Published}
 use Rattle.greedy_column.specs.declared.column.Track.{Track}
 use Rattle.greedy_column.specs.declared.column.Column.{Column}
 use Rattle.greedy_column.specs.Verticals.{floor, on}
@@ -88,16 +89,18 @@ ended_two = record { ascending = rising; members = λ id. (λ h. h, λ h. h) }
 
 -- they follow the steps under every chooser that may answer 0
 module _ (may : List Candidate → ℕ → Type 0) (first : (list : List Candidate) → may list 0) where
-  pub follows_first : Follows may crossed 0 1 [] first_column
+  pub follows_first : Follows Published may crossed 0 1 [] first_column
   follows_first = record {
     straight = (λ none. absurd (cc none), λ pins. absurd (none_equal pins));
     enters = refl;
     goes_on = record {
       joined = [];
       ending = [];
+      order = 1 ∷ (2 ∷ []);
       moving = [];
       joins_follow = refl;
       ends_follow = ([], ([], refl, ([], ([], refl, refl, refl)), refl));
+      ordered = refl;
       moves_follow = inl (refl, inl (refl, refl));
       joins_told = refl;
       ends_told = ended_none two_nets;
@@ -105,16 +108,18 @@ module _ (may : List Candidate → ℕ → Type 0) (first : (list : List Candida
     };
   }
 
-  pub follows_second : Follows may crossed 1 3 two_nets second_column
+  pub follows_second : Follows Published may crossed 1 3 two_nets second_column
   follows_second = record {
     straight = (λ none. absurd (cc none), λ pins. absurd (none_equal_later pins));
     enters = (2, (0, first _, refl), refl);
     goes_on = record {
       joined = [];
       ending = 2 ∷ [];
+      order = 1 ∷ (3 ∷ []);
       moving = [];
       joins_follow = refl;
       ends_follow = ([], (2 ∷ [], refl, (2 ∷ [], ([], refl, ([], ([], refl, refl, refl)), refl)), refl));
+      ordered = refl;
       moves_follow = inl (refl, inl (refl, refl));
       joins_told = refl;
       ends_told = ended_one;
@@ -122,16 +127,18 @@ module _ (may : List Candidate → ℕ → Type 0) (first : (list : List Candida
     };
   }
 
-  pub follows_last : Follows may crossed 2 4 split_net last_column
+  pub follows_last : Follows Published may crossed 2 4 split_net last_column
   follows_last = record {
     straight = (λ none. absurd (cc none), λ pins. absurd (none_past_the_end pins));
     enters = refl;
     goes_on = record {
       joined = record { net = 1; low = 1; high = 3 } ∷ [];
       ending = 1 ∷ (3 ∷ []);
+      order = [];
       moving = [];
       joins_follow = ((0, first _, refl), refl);
       ends_follow = (1 ∷ (3 ∷ []), ([], refl, refl, refl));
+      ordered = refl;
       moves_follow = refl;
       joins_told = refl;
       ends_told = ended_two;
@@ -142,7 +149,7 @@ module _ (may : List Candidate → ℕ → Type 0) (first : (list : List Candida
 -- and are fair
 pub fair_first : Fair crossed 0 1 [] first_column
 fair_first =
-    Fair-from (λ list answer. answer ≡ 0) crossed 0 1 [] first_column refl (IsState-first crossed).numbered (follows_first (λ list answer. answer ≡ 0) (λ list. refl))
+    Fair-from Published (λ list answer. answer ≡ 0) crossed 0 1 [] first_column refl (IsState-first 0 crossed).numbered (follows_first (λ list answer. answer ≡ 0) (λ list. refl))
 
 -- a record that joins the tracks of net 1 across the vertical of net 2 is not
 abbrev crossing_join : Column

@@ -4,7 +4,7 @@ use Rattle.choose_core.specs.declared.candidate.Candidate.{Candidate}
 use Rattle.choose_core.specs.declared.candidate.Next.{Next}
 use Rattle.greedy_column.specs.declared.column.Track.{Track}
 use Rattle.greedy_column.specs.declared.span.Span.{Span}
-use Rattle.greedy_column.specs.Lines.{net_on}
+use Rattle.greedy_column.specs.Lines.{net_on, own_lines}
 use Rattle.greedy_column.specs.Offers.{IsPicked, offer, keep_question}
 use Rattle.greedy_column.specs.Entering.{is_ending}
 use Rattle.greedy_column.specs.Joining.{is_joined, neighbours}
@@ -34,18 +34,23 @@ is_split spans pairs net = list_any (λ (pair : Span). pair.net == net && not (i
 abbrev pub others_of : List ℕ → ℕ → List ℕ
 others_of group kept = filter (λ line. not (line == kept)) group
 
--- the lines of a group that end where its net has more to do: all but one that is picked, and none of one line
-abbrev pub EndsButOne : (List Candidate → ℕ → Type 0) → ℕ → Next → List ℕ → List ℕ → Type 0
-EndsButOne may tracks next [] ending = ending ≡ []
-EndsButOne may tracks next (line ∷ []) ending = ending ≡ []
-EndsButOne may tracks next (line ∷ (above ∷ group)) ending =
-    (kept : ℕ) × IsPicked may (offer (keep_question tracks next)) (line ∷ (above ∷ group)) kept
+-- the lines of a net outside a group
+abbrev pub outside : List ℕ → List ℕ → List ℕ
+outside group own = filter (λ line. not (list_any (λ member. member == line) group)) own
+
+-- the lines of a group that end where its net, which holds tracks on these lines, has more to do: all but one that is picked, and none of
+-- one line
+abbrev pub EndsButOne : (List Candidate → ℕ → Type 0) → ℕ → Next → List ℕ → List ℕ → List ℕ → Type 0
+EndsButOne may tracks next own [] ending = ending ≡ []
+EndsButOne may tracks next own (line ∷ []) ending = ending ≡ []
+EndsButOne may tracks next own (line ∷ (above ∷ group)) ending =
+    (kept : ℕ) × IsPicked may (offer (keep_question tracks next) (outside (line ∷ (above ∷ group)) own)) (line ∷ (above ∷ group)) kept
     × (ending ≡ others_of (line ∷ (above ∷ group)) kept)
 
 -- the lines of a group that end: all of them where its net is one group and has no later pin
-abbrev pub EndsOf : (List Candidate → ℕ → Type 0) → ℕ → Next → Bool → List ℕ → List ℕ → Type 0
-EndsOf may tracks next true group ending = ending ≡ group
-EndsOf may tracks next false group ending = EndsButOne may tracks next group ending
+abbrev pub EndsOf : (List Candidate → ℕ → Type 0) → ℕ → Next → List ℕ → Bool → List ℕ → List ℕ → Type 0
+EndsOf may tracks next own true group ending = ending ≡ group
+EndsOf may tracks next own false group ending = EndsButOne may tracks next own group ending
 
 -- a net gives up all its tracks
 abbrev pub is_given_up : Next → Bool → Bool
@@ -63,5 +68,6 @@ gives_up next tracks spans group =
 abbrev pub EndsFollow : (List Candidate → ℕ → Type 0) → (ℕ → Next) → List Track → List Span → List (List ℕ) → List ℕ → Type 0
 EndsFollow may next tracks spans [] ending = ending ≡ []
 EndsFollow may next tracks spans (group ∷ groups) ending =
-    (these : List ℕ) × ((others : List ℕ) × EndsOf may (length tracks) (next_on next tracks group) (gives_up next tracks spans group) group these
+    (these : List ℕ) × ((others : List ℕ) × EndsOf may (length tracks) (next_on next tracks group)
+    (own_lines (net_on tracks (slice_index group 0)) tracks) (gives_up next tracks spans group) group these
     × EndsFollow may next tracks spans groups others × (ending ≡ these ++ others))

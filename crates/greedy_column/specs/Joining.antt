@@ -1,4 +1,4 @@
-use Rattle.std.specs.Prelude.{◌≡◌, ◌<◌, ◌≤◌, ◌==◌, ◌&&◌, ◌||◌, ◌++◌, not, nat_le, nat_lt, if◌then◌else◌, ℕ, suc, List, [], ◌∷◌, Bool, filter, Option, Some, None}
+use Rattle.std.specs.Prelude.{◌≡◌, ◌<◌, ◌≤◌, ◌==◌, ◌&&◌, ◌||◌, ◌++◌, not, nat_le, nat_lt, if◌then◌else◌, ℕ, suc, List, [], ◌∷◌, Bool, Contains, filter, Option, Some, None}
 use Rattle.std.specs.List.{list_any, list_all}
 use Rattle.choose_core.specs.declared.candidate.Candidate.{Candidate}
 use Rattle.choose_core.specs.declared.candidate.Next.{Next}
@@ -35,6 +35,10 @@ abbrev pub AreAscending : ℕ → ℕ → List Span → Type 0
 AreAscending tracks first [] = Unit {0}
 AreAscending tracks first (pair ∷ pairs) =
     (first ≤ pair.low) × (pair.low < pair.high) × (pair.high ≤ tracks) × AreAscending tracks (suc pair.low) pairs
+
+-- pieces whose lower lines lie above the lower edge
+abbrev pub StandAbove : List Span → Type 0
+StandAbove pairs = (pair : Span) → Contains pairs pair → 0 < pair.low
 
 -- a vertical of the net joins the ends of a piece, and no vertical of another net shares a point with it
 abbrev pub covers : Span → Span → Bool

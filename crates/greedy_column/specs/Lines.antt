@@ -1,4 +1,4 @@
-use Rattle.std.specs.Prelude.{◌==◌, ◌<◌, ◌≤◌, ◌||◌, ◌-◌, ◌++◌, ◌/◌, not, if◌then◌else◌, nat_lt, ℕ, suc, List, [], ◌∷◌, Bool, Contains, filter, map, slice_index, length, min, max}
+use Rattle.std.specs.Prelude.{◌==◌, ◌<◌, ◌≤◌, ◌||◌, ◌+◌, ◌-◌, ◌^◌, ◌++◌, not, if◌then◌else◌, nat_lt, ℕ, suc, List, [], ◌∷◌, Bool, Contains, filter, map, slice_index, length}
 use Rattle.std.specs.List.{list_any}
 use Rattle.greedy_column.specs.declared.column.Track.{Track}
 use Rattle.greedy_column.specs.Tracks.{ids}
@@ -29,6 +29,10 @@ pub record LieWithin (tracks : ℕ) (lines : List ℕ) : Type 0 where
   pub each : (line : ℕ) → Contains lines line → (0 < line) × (line ≤ tracks)
   pub few : length lines ≤ tracks
 
+-- lines on which tracks stand, where these are fewer than 2^32 - 1
+abbrev pub AreLines : List ℕ → Type 0
+AreLines lines = (line : ℕ) → Contains lines line → (0 < line) × (line + 1 < 2 ^ 32)
+
 -- the lines that are free or a net's own, those that are free, and those that nets hold
 abbrev pub open_lines : ℕ → List Track → List ℕ
 open_lines net tracks = lines_from (is_open net) 1 tracks
@@ -38,6 +42,10 @@ free_lines tracks = open_lines 0 tracks
 
 abbrev pub held_lines : List Track → List ℕ
 held_lines tracks = lines_from is_held 1 tracks
+
+-- the lines of the tracks that a net holds
+abbrev pub own_lines : ℕ → List Track → List ℕ
+own_lines net tracks = lines_from (λ (t : Track). t.net == net) 1 tracks
 
 -- a net holds a track
 abbrev pub holds_track : List Track → ℕ → Bool
@@ -50,8 +58,3 @@ above_lowest (lowest ∷ others) lines = filter (λ line. nat_lt lowest line) li
 
 abbrev pub below_line : ℕ → List ℕ → List ℕ
 below_line upper lines = filter (λ line. nat_lt line upper) lines
-
--- How many of some tracks lie below a new one, which is to have at least `least` and at most `most` of them below it: the
--- middle, or what lies nearest to it.
-abbrev pub place_of_new : ℕ → ℕ → ℕ → ℕ
-place_of_new tracks least most = max least (min most (tracks / 2))

@@ -1,15 +1,47 @@
-use Rattle.std.specs.Prelude.{◌≡◌, ◌≢◌, ◌⊎◌, ◌==◌, ◌++◌, not, ℕ, List, [], ◌∷◌, filter, min, max}
+use Rattle.std.specs.Prelude.{◌≡◌, ◌≢◌, ◌⊎◌, ◌==◌, ◌+◌, ◌-◌, ◌++◌, not, nat_lt, Bool, ℕ, List, [], ◌∷◌, filter, length, min, max}
+use Rattle.std.specs.List.Sorted.{IsNonDecreasingBy, IsStableByKey}
+use Rattle.std.specs.Ordering.{nat_cmp}
 use Rattle.choose_core.specs.declared.candidate.Candidate.{Candidate}
 use Rattle.choose_core.specs.declared.candidate.Next.{Next}
+use Rattle.choose_core.specs.declared.candidate.Next.TheVariants.{Ends, Top, Bottom, Both}
+use Rattle.choose_core.specs.declared.plan.Manner.{Manner}
+use Rattle.choose_core.specs.declared.plan.Manner.TheVariants.{Published, LookingAhead}
 use Rattle.greedy_column.specs.declared.column.Track.{Track}
 use Rattle.greedy_column.specs.declared.span.Span.{Span}
-use Rattle.greedy_column.specs.Lines.{held_lines, net_on}
+use Rattle.greedy_column.specs.Lines.{held_lines, id_on, net_on, own_lines}
+use Rattle.greedy_column.specs.Replay.{moved}
 use Rattle.greedy_column.specs.Offers.{IsPicked, offer, move_question}
 use Rattle.greedy_column.specs.Joining.{is_clear}
 
--- the order in which the kept tracks may move: from bottom to top
-abbrev pub order_of_moves : List Track → List ℕ
-order_of_moves kept = held_lines kept
+-- the net of a track holds others too
+abbrev pub is_split : List Track → ℕ → Bool
+is_split kept line = nat_lt 1 (length (own_lines (net_on kept line) kept))
+
+-- how much of a channel of so many tracks lies behind a line on the way to the next pins, and all of it where these lie at no one edge
+abbrev pub behind : ℕ → Next → ℕ → ℕ
+behind tracks Top line = line
+behind tracks Bottom line = tracks + 1 - line
+behind tracks Both line = tracks + 1
+behind tracks Ends line = tracks + 1
+
+abbrev pub behind_on : (ℕ → Next) → List Track → ℕ → ℕ
+behind_on next kept line = behind (length kept) (next (net_on kept line)) line
+
+-- lines by ascending key, those of one key as they stood
+pub record AreOrdered (key : ℕ → ℕ) (lines ordered : List ℕ) : Type 0 where
+  pub sorted : IsNonDecreasingBy key ordered
+  pub stable : IsStableByKey key nat_cmp lines ordered
+
+-- first those of split nets, from bottom to top, and then the others, of which those go first that have the farthest to go
+pub record IsOrderAhead (next : ℕ → Next) (kept : List Track) (order : List ℕ) : Type 0 where
+  pub others : List ℕ
+  pub split_first : order ≡ filter (is_split kept) (held_lines kept) ++ others
+  pub farthest_first : AreOrdered (behind_on next kept) (filter (λ line. not (is_split kept line)) (held_lines kept)) others
+
+-- the order in which the kept tracks may move: as published, from bottom to top
+abbrev pub IsOrderOfMoves : Manner → (ℕ → Next) → List Track → List ℕ → Type 0
+IsOrderOfMoves Published next kept order = order ≡ held_lines kept
+IsOrderOfMoves LookingAhead next kept order = IsOrderAhead next kept order
 
 -- the piece between two lines
 abbrev pub piece_between : ℕ → ℕ → ℕ → Span
@@ -20,21 +52,35 @@ abbrev pub move_options : List Span → ℕ → ℕ → List ℕ → List ℕ
 move_options spans net line free = filter (λ other. is_clear spans (piece_between net line other)) free
 
 -- a kept track goes on on a line: its own where it has no option, else one that is picked, be it its own
-abbrev pub GoesTo : (List Candidate → ℕ → Type 0) → Next → ℕ → List ℕ → ℕ → Type 0
-GoesTo may next line [] target = target ≡ line
-GoesTo may next line (option ∷ options) target = IsPicked may (offer (move_question line next)) (line ∷ (option ∷ options)) target
+abbrev pub GoesTo : (List Candidate → ℕ → Type 0) → Next → List ℕ → ℕ → List ℕ → ℕ → Type 0
+GoesTo may next others line [] target = target ≡ line
+GoesTo may next others line (option ∷ options) target =
+    IsPicked may (offer (move_question line next) others) (line ∷ (option ∷ options)) target
 
--- what is left of the free lines once one is taken
+-- what is left of some lines once one is taken
 abbrev pub without : ℕ → List ℕ → List ℕ
-without line free = filter (λ other. not (other == line)) free
+without line lines = filter (λ other. not (other == line)) lines
+
+-- the ids of a move's lines
+abbrev pub move_ids : List Track → (ℕ × ℕ) → ℕ × ℕ
+move_ids tracks move = (id_on tracks move.0, id_on tracks move.1)
+
+-- the other lines on which the net of a line holds tracks, as the moves so far have left them
+abbrev pub others_of_net : List Track → List Track → ℕ → List ℕ
+others_of_net tracks kept line = without line (own_lines (net_on tracks line) kept)
+
+-- the tracks after one more move between lines
+abbrev pub carried : List Track → List Track → ℕ → ℕ → List Track
+carried tracks kept line target = moved (move_ids tracks (line, target) ∷ []) kept
 
 -- Step 4: each kept track stays or moves to a free one, and is a vertical then. The moves are pairs of lines.
-abbrev pub MovesFollow : (List Candidate → ℕ → Type 0) → (ℕ → Next) → List Track → List ℕ → List Span → List ℕ → List (ℕ × ℕ) → Type 0
-MovesFollow may next tracks [] spans free moves = moves ≡ []
-MovesFollow may next tracks (line ∷ lines) spans free moves =
-    (GoesTo may (next (net_on tracks line)) line (move_options spans (net_on tracks line) line free) line
-    × MovesFollow may next tracks lines spans free moves)
+abbrev pub MovesFollow : (List Candidate → ℕ → Type 0) → (ℕ → Next) → List Track → List Track → List ℕ → List Span → List ℕ → List (ℕ × ℕ) → Type 0
+MovesFollow may next tracks kept [] spans free moves = moves ≡ []
+MovesFollow may next tracks kept (line ∷ lines) spans free moves =
+    (GoesTo may (next (net_on tracks line)) (others_of_net tracks kept line) line (move_options spans (net_on tracks line) line free) line
+    × MovesFollow may next tracks kept lines spans free moves)
     ⊎ ((target : ℕ) × ((rest : List (ℕ × ℕ))
-    × GoesTo may (next (net_on tracks line)) line (move_options spans (net_on tracks line) line free) target
+    × GoesTo may (next (net_on tracks line)) (others_of_net tracks kept line) line (move_options spans (net_on tracks line) line free) target
     × (target ≢ line) × (moves ≡ (line, target) ∷ rest)
-    × MovesFollow may next tracks lines (spans ++ piece_between (net_on tracks line) line target ∷ []) (without target free) rest))
+    × MovesFollow may next tracks (carried tracks kept line target) lines (spans ++ piece_between (net_on tracks line) line target ∷ [])
+    (without target free) rest))

@@ -1,4 +1,4 @@
-use Rattle.std.specs.Prelude.{◌==◌, if◌then◌else◌, ℕ, suc, List, [], ◌∷◌, map, slice_index}
+use Rattle.std.specs.Prelude.{◌==◌, ◌++◌, if◌then◌else◌, ℕ, zero, suc, List, [], ◌∷◌, map, slice_index}
 use Rattle.std.specs.List.{list_any, insert}
 use Rattle.channel_model.specs.Pins.{Pins}
 use Rattle.greedy_column.specs.declared.column.Track.{Track}
@@ -49,6 +49,11 @@ abbrev pub replay_from : Pins → ℕ → List Track → List Column → List Tr
 replay_from pins column tracks [] = tracks
 replay_from pins column tracks (done ∷ columns) = replay_from pins (suc column) (after pins column done tracks) columns
 
--- the tracks after these columns
-abbrev pub replay : Pins → List Column → List Track
-replay pins columns = replay_from pins 0 [] columns
+-- so many free tracks, with ids from 1 on from the bottom
+abbrev pub free_tracks : ℕ → List Track
+free_tracks zero = []
+free_tracks (suc n) = free_tracks n ++ record { id = suc n; net = 0 } ∷ []
+
+-- the tracks after these columns of a sweep that begins with so many free tracks
+abbrev pub replay : ℕ → Pins → List Column → List Track
+replay begun pins columns = replay_from pins 0 (free_tracks begun) columns

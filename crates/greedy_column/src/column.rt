@@ -44,17 +44,27 @@ pub struct Column {
 
 impl ColumnState {
     ghost use Rattle.channel_model.specs.Pins.{Pins};
+    ghost use Rattle.greedy_column.specs.Replay.{free_tracks};
     ghost use Rattle.greedy_column.specs.State.{IsState};
-    ghost use Rattle.std.specs.Prelude.{◌≡◌, [], IfOk};
+    ghost use Rattle.std.specs.Prelude.{◌≡◌, ◌+◌, ◌<◌, ◌^◌, IfOk};
 
-    /// The state before the first column: no track, and 1 as the first id. The one error is want of memory.
-    pub fn new(alloc: Global) -> Result<ColumnState, AllocError>
-        ensures first { IfOk result (λ state. state ≡ record { order = []; fresh = 1 }) }
+    /// The state before the first column: so many free tracks, with ids from 1 on from the bottom, and the next number as the first new
+    /// id. The one error is want of memory.
+    pub fn new(alloc: Global, begun: u32) -> Result<ColumnState, AllocError>
+        requires few { begun + 1 < 2 ^ 32 }
+        ensures first { IfOk result (λ state. state ≡ record { order = free_tracks begun; fresh = begun + 1 }) }
         ensures state { IfOk result (λ state. (pins : Pins) → IsState pins state) }
     {
+        let mut order = Vec::new(alloc);
+        for number in 0..begun {
+            order.push(Track {
+                id: number + 1,
+                net: 0,
+            })?;
+        }
         Ok(ColumnState {
-            order: Items::new(Vec::new(alloc)),
-            fresh: 1,
+            order: Items::new(order),
+            fresh: begun + 1,
         })
     }
 }

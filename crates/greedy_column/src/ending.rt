@@ -1,7 +1,7 @@
 ghost use Rattle.greedy_column.specs.Uses.{next_after};
-ghost use Rattle.greedy_column.specs.Ending.{EndsFollow, EndsOf, chain_from, groups, is_given_up, is_joined_below, is_split, joined_pairs, others_of};
+ghost use Rattle.greedy_column.specs.Ending.{EndsFollow, EndsOf, chain_from, groups, is_given_up, is_joined_below, is_split, joined_pairs, others_of, outside};
 ghost use Rattle.greedy_column.specs.Joining.{is_joined, neighbours};
-ghost use Rattle.greedy_column.specs.Lines.{held_lines};
+ghost use Rattle.greedy_column.specs.Lines.{held_lines, own_lines};
 ghost use Rattle.greedy_column.specs.Offers.{keep_question};
 ghost use Rattle.std.specs.List.Sorted.{IsNonDecreasing};
 ghost use Rattle.std.specs.List.{list_any};
@@ -10,7 +10,7 @@ ghost use Rattle.std.specs.Prelude.{◌≡◌, ◌==◌, ◌<◌, ◌≤◌, ◌
 use crate::ahead::Ahead;
 use crate::column::Track;
 use crate::entering::is_ending;
-use crate::lines::{held_lines, net_on};
+use crate::lines::{held_lines, net_on, own_lines};
 use crate::question::{Question, pick_line};
 use crate::sorted::{is_among, sorted};
 use crate::span::Span;
@@ -130,14 +130,15 @@ fn is_given_up(next: Next, split: bool) -> bool
 fn ends_of<C: Chooses>(
     alloc: Global,
     chooser: &C,
-    tracks: usize,
+    tracks: &[Track],
+    net: u32,
     next: Next,
     given_up: bool,
     group: Vec<u32>,
 ) -> Result<Vec<u32>, AllocError>
-    requires few { tracks + 1 < 2 ^ 32 }
-    requires within { length group.items ≤ tracks }
-    ensures { IfOk result (λ ending. EndsOf (C.answers chooser.now) tracks next given_up group.items ending.items) }
+    requires few { length tracks.now + 1 < 2 ^ 32 }
+    requires within { length group.items ≤ length tracks.now }
+    ensures { IfOk result (λ ending. EndsOf (C.answers chooser.now) (length tracks.now) next (own_lines net tracks.now) given_up group.items ending.items) }
 {
     if given_up {
         return Ok(group);
@@ -145,7 +146,10 @@ fn ends_of<C: Chooses>(
     if group.len() < 2 {
         return Ok(Vec::new(alloc));
     }
-    let kept = pick_line(alloc, chooser, keep_question(tracks, next), &group)?;
+    let own = own_lines(alloc, tracks, net)?;
+    let others = outside(alloc, &group, &own)?;
+    let question = keep_question(tracks.len(), next);
+    let kept = pick_line(alloc, chooser, question, &others, &group)?;
     others_of(alloc, &group, kept)
 }
 
@@ -158,6 +162,23 @@ fn others_of(alloc: Global, group: &[u32], kept: u32) -> Result<Vec<u32>, AllocE
         .copied()
         .filter(|line| *line != kept)
         .collect(alloc)
+}
+
+// The lines of a net outside a group.
+fn outside(alloc: Global, group: &[u32], own: &[u32]) -> Result<Vec<u32>, AllocError>
+    ensures { IfOk result (λ others. others.items ≡ outside group.now own.now) }
+{
+    own.iter()
+        .copied()
+        .filter(|line| !is_member(group, *line))
+        .collect(alloc)
+}
+
+// Whether a line is of a group.
+fn is_member(group: &[u32], line: u32) -> bool
+    ensures { result ≡ list_any (λ member. member == line) group.now }
+{
+    group.iter().any(|member| *member == line)
 }
 
 // The lines that end, group by group.
@@ -192,7 +213,7 @@ pub fn ending_lines<C: Chooses>(
         let next = ahead.next(net, column);
         let given_up = is_given_up(next, is_among(&split, net));
         let group = group_at(alloc, &joined, &lower, *line)?;
-        let ends = ends_of(alloc, chooser, tracks.len(), next, given_up, group)?;
+        let ends = ends_of(alloc, chooser, tracks, net, next, given_up, group)?;
         ending.extend_from_slice(&ends)?;
     }
     Ok(ending)

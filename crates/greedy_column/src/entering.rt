@@ -1,12 +1,13 @@
-ghost use Rattle.greedy_column.specs.Entering.{Enters, EntersAlone, EntersEqual, bottom_question, entry_at, is_ending, pin_kind, straight_question, top_question};
-ghost use Rattle.greedy_column.specs.Lines.{LieWithin, holds_track, place_of_new};
+ghost use Rattle.greedy_column.specs.Entering.{Enters, EntersAlone, EntersEqual, any_place, bottom_question, entry_at, is_ending, pin_kind, straight_question, top_question};
+ghost use Rattle.greedy_column.specs.Lines.{holds_track, open_lines, own_lines};
 ghost use Rattle.std.specs.Prelude.{◌≡◌, ◌<◌, ◌+◌, ◌^◌, ◌||◌, IfOk, length};
 
 use crate::column::{Made, Track};
-use crate::lines::{holds_track, id_on, open_lines};
+use crate::lines::{holds_track, id_on, open_lines, own_lines};
 use crate::pairing::enter_pair;
+use crate::places::any_place;
 use crate::question::{Question, pick_line};
-use choose_core::{Ask, Chooses, Next};
+use choose_core::{Ask, Chooses, Manner, Next};
 use geom_core::Items;
 use std::alloc::{AllocError, Global};
 
@@ -124,13 +125,6 @@ fn pin_kind(top: u32, bottom: u32) -> PinKind
     }
 }
 
-// How many of some tracks lie below a new one that is to have at least and at most so many of them below it.
-pub fn place_of_new(tracks: u32, least: u32, most: u32) -> u32
-    ensures { result ≡ place_of_new tracks least most }
-{
-    least.max(most.min(tracks / 2))
-}
-
 // Whether a net has no later pin.
 pub fn is_ending(next: Next) -> bool
     ensures { result ≡ is_ending next }
@@ -145,6 +139,7 @@ pub fn is_ending(next: Next) -> bool
 pub fn enter<C: Chooses>(
     alloc: Global,
     chooser: &C,
+    manner: Manner,
     before: &[Track],
     fresh: u32,
     top: Pin,
@@ -152,7 +147,7 @@ pub fn enter<C: Chooses>(
 ) -> Result<Entries, AllocError>
     requires few { length before.now + 2 < 2 ^ 32 }
     requires fresh { fresh + 2 < 2 ^ 32 }
-    ensures { IfOk result (λ entries. Enters (C.answers chooser.now) top bottom before.now fresh entries) }
+    ensures { IfOk result (λ entries. Enters manner (C.answers chooser.now) top bottom before.now fresh entries) }
 {
     match pin_kind(top.net, bottom.net) {
         PinKind::NoPins => Ok(Entries {
@@ -161,52 +156,55 @@ pub fn enter<C: Chooses>(
             bottom: 0,
         }),
         PinKind::BottomAlone => {
-            let lines = open_lines(alloc, before, bottom.net)?;
+            let question = bottom.bottom_question();
+            let lower = Edge::Lower;
             enter_alone(
-                alloc,
-                chooser,
-                Edge::Lower,
-                bottom.bottom_question(),
-                before,
-                fresh,
-                &lines,
+                alloc, chooser, manner, lower, lower, bottom, question, before, fresh,
             )
         }
         PinKind::TopAlone => {
-            let lines = open_lines(alloc, before, top.net)?;
             let question = top.top_question(before.len());
-            enter_alone(alloc, chooser, Edge::Upper, question, before, fresh, &lines)
+            let upper = Edge::Upper;
+            enter_alone(
+                alloc, chooser, manner, upper, upper, top, question, before, fresh,
+            )
         }
-        PinKind::EqualPins => enter_equal(alloc, chooser, before, fresh, top),
+        PinKind::EqualPins => enter_equal(alloc, chooser, manner, before, fresh, top),
         PinKind::TwoPins => {
             let uppers = open_lines(alloc, before, top.net)?;
             let lowers = open_lines(alloc, before, bottom.net)?;
-            enter_pair(alloc, chooser, before, fresh, top, bottom, &uppers, &lowers)
+            enter_pair(
+                alloc, chooser, manner, before, fresh, top, bottom, &uppers, &lowers,
+            )
         }
     }
 }
 
-// The entry of a pin alone, or of two equal ones, onto one of these lines.
+// The entry at an edge of a pin alone, or of two equal ones, onto a line that is open to it, or onto a new track that is placed for an
+// edge.
 fn enter_alone<C: Chooses>(
     alloc: Global,
     chooser: &C,
+    manner: Manner,
     edge: Edge,
+    placed: Edge,
+    pin: Pin,
     question: Question,
     before: &[Track],
     fresh: u32,
-    lines: &[u32],
 ) -> Result<Entries, AllocError>
     requires few { length before.now + 2 < 2 ^ 32 }
-    requires within { LieWithin (length before.now) lines.now }
-    ensures { IfOk result (λ entries. EntersAlone (C.answers chooser.now) edge question before.now fresh lines.now entries) }
+    ensures { IfOk result (λ entries. EntersAlone (C.answers chooser.now) edge question (own_lines pin.net before.now)
+        (any_place manner pin placed before.now) before.now fresh (open_lines pin.net before.now) entries) }
 {
+    let lines = open_lines(alloc, before, pin.net)?;
     if lines.is_empty() {
-        let tracks = before.len() as u32;
-        let below = place_of_new(tracks, 0, tracks);
+        let below = any_place(manner, pin, placed, before);
         let made = vec![in alloc; Made { id: fresh, below }]?;
         return Ok(entry_at(edge, made, fresh));
     }
-    let line = pick_line(alloc, chooser, question, lines)?;
+    let own = own_lines(alloc, before, pin.net)?;
+    let line = pick_line(alloc, chooser, question, &own, &lines)?;
     Ok(entry_at(edge, Vec::new(alloc), id_on(before, line)))
 }
 
@@ -214,13 +212,14 @@ fn enter_alone<C: Chooses>(
 fn enter_equal<C: Chooses>(
     alloc: Global,
     chooser: &C,
+    manner: Manner,
     before: &[Track],
     fresh: u32,
     pin: Pin,
 ) -> Result<Entries, AllocError>
     requires few { length before.now + 2 < 2 ^ 32 }
     ensures { IfOk result (λ entries.
-        EntersEqual (C.answers chooser.now) pin before.now fresh (holds_track before.now pin.net || is_ending pin.next) entries) }
+        EntersEqual manner (C.answers chooser.now) pin before.now fresh (holds_track before.now pin.net || is_ending pin.next) entries) }
 {
     if holds_track(before, pin.net) || is_ending(pin.next) {
         return Ok(Entries {
@@ -229,14 +228,16 @@ fn enter_equal<C: Chooses>(
             bottom: 0,
         });
     }
-    let lines = open_lines(alloc, before, pin.net)?;
+    let question = pin.straight_question();
     enter_alone(
         alloc,
         chooser,
+        manner,
         Edge::Upper,
-        pin.straight_question(),
+        Edge::Lower,
+        pin,
+        question,
         before,
         fresh,
-        &lines,
     )
 }

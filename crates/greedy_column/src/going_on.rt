@@ -9,9 +9,10 @@ use crate::ending::ending_lines;
 use crate::freeing::{ended_ids, freed};
 use crate::joining::{join_all, join_ids, neighbours};
 use crate::lines::open_lines;
-use crate::moving::{carry, move_all, move_ids, order_of_moves};
+use crate::move_order::order_of_moves;
+use crate::moving::{move_all, move_ids};
 use crate::span::Span;
-use choose_core::Chooses;
+use choose_core::{Chooses, Manner};
 use geom_core::Items;
 use std::alloc::{AllocError, Global};
 
@@ -30,11 +31,12 @@ pub fn go_on<C: Chooses>(
     chooser: &C,
     ahead: &Ahead,
     column: u32,
+    manner: Manner,
     now: &[Track],
     mut spans: Vec<Span>,
 ) -> Result<Outcome, AllocError>
     requires { length now.now + 1 < 2 ^ 32 }
-    ensures follows { IfOk result (λ outcome. FollowsOn (C.answers chooser.now) (next_after ahead.now.uses.items column) now.now spans.items
+    ensures follows { IfOk result (λ outcome. FollowsOn manner (C.answers chooser.now) (next_after ahead.now.uses.items column) now.now spans.items
         outcome.joins outcome.ended outcome.moves) }
     ensures tracks { IfOk result (λ outcome. outcome.tracks ≡ moved outcome.moves (freed outcome.ended now.now)) }
 {
@@ -43,12 +45,21 @@ pub fn go_on<C: Chooses>(
     let ending = ending_lines(alloc, chooser, ahead, column, now, &pairs, &spans)?;
     let ended = ended_ids(alloc, now, &ending)?;
     let mut tracks = freed(alloc, now, &ended)?;
-    let order = order_of_moves(alloc, &tracks)?;
+    let order = order_of_moves(alloc, manner, ahead, column, &tracks)?;
     let free = open_lines(alloc, now, 0)?;
-    let moving = move_all(alloc, chooser, ahead, column, now, &order, &mut spans, free)?;
+    let moving = move_all(
+        alloc,
+        chooser,
+        ahead,
+        column,
+        now,
+        &order,
+        &mut spans,
+        free,
+        &mut tracks,
+    )?;
     let joins = join_ids(alloc, now, &joined)?;
     let moves = move_ids(alloc, now, &moving)?;
-    carry(&mut tracks, &moves);
     Ok(Outcome {
         joins: Items::new(joins),
         ended: Items::new(ended),

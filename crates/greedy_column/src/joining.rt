@@ -1,5 +1,5 @@
 ghost use Rattle.greedy_column.specs.Uses.{next_after};
-ghost use Rattle.greedy_column.specs.Joining.{JoinsFollow, ids_of, neighbours, pair_of, possible_joins};
+ghost use Rattle.greedy_column.specs.Joining.{JoinsFollow, StandAbove, ids_of, neighbours, pair_of, possible_joins};
 ghost use Rattle.greedy_column.specs.Offers.{IsPicked, join_offer};
 ghost use Rattle.std.specs.BTreeMap.{get};
 ghost use Rattle.std.specs.Ordering.{nat_cmp};
@@ -75,13 +75,16 @@ fn possible_joins(alloc: Global, spans: &[Span], pairs: &[Span]) -> Result<Vec<S
 
 // Two tracks as they are offered for a join.
 fn join_offer(ahead: &Ahead, column: u32, pair: Span) -> Candidate
+    requires { 0 < pair.low }
     ensures { result ≡ join_offer (next_after ahead.now.uses.items column) pair }
 {
+    let gap = pair.high.saturating_sub(pair.low);
     Candidate {
         ask: Ask::Join,
         track: pair.low,
-        gap: pair.high.saturating_sub(pair.low),
+        gap,
         next: ahead.next(pair.net, column),
+        pull: gap + 1,
     }
 }
 
@@ -95,6 +98,7 @@ fn pick_join<C: Chooses>(
 ) -> Result<Span, AllocError>
     requires some { 0 < length joins.now }
     requires few { length joins.now < 2 ^ 32 }
+    requires above { StandAbove joins.now }
     ensures picked { IfOk result (λ pair.
         IsPicked (C.answers chooser.now) (join_offer (next_after ahead.now.uses.items column)) joins.now pair) }
 {
@@ -109,12 +113,16 @@ fn join_offers(
     column: u32,
     joins: &[Span],
 ) -> Result<Vec<Candidate>, AllocError>
+    requires { StandAbove joins.now }
     ensures { IfOk result (λ offers. offers.items ≡ map (join_offer (next_after ahead.now.uses.items column)) joins.now) }
 {
-    joins
-        .iter()
-        .map(|pair| join_offer(ahead, column, *pair))
-        .collect(alloc)
+    let mut offers = Vec::new(alloc);
+    let mut rest = joins;
+    while let Some((pair, later)) = rest.split_first() {
+        offers.push(join_offer(ahead, column, *pair))?;
+        rest = later;
+    }
+    Ok(offers)
 }
 
 // The joins of a column, in their order: while one is possible, one is picked, and becomes a vertical.
@@ -126,7 +134,8 @@ pub fn join_all<C: Chooses>(
     pairs: &[Span],
     spans: &mut Vec<Span>,
 ) -> Result<Vec<Span>, AllocError>
-    requires { length pairs.now < 2 ^ 32 }
+    requires few { length pairs.now < 2 ^ 32 }
+    requires above { StandAbove pairs.now }
     ensures joins { IfOk result (λ joined.
         JoinsFollow (C.answers chooser.now) (next_after ahead.now.uses.items column) pairs.now spans.old.items joined.items) }
     ensures spans { IfOk result (λ joined. spans.new.items ≡ spans.old.items ++ joined.items) }

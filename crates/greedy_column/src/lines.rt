@@ -1,6 +1,8 @@
-ghost use Rattle.greedy_column.specs.Lines.{LieWithin, above_lowest, below_line, held_lines, holds_track, id_on, net_on, open_lines};
+ghost use Rattle.greedy_column.specs.Lines.{AreLines, LieWithin, above_lowest, below_line, held_lines, holds_track, id_on, net_on, open_lines, own_lines};
+ghost use Rattle.greedy_column.specs.Moving.{without};
 ghost use Rattle.greedy_column.specs.Tracks.{given, hold, ids, line_of};
-ghost use Rattle.std.specs.Prelude.{◌≡◌, ◌<◌, ◌≤◌, ◌+◌, ◌++◌, ◌∷◌, [], ◌^◌, if◌then◌else◌, IfOk, OnOk, filter, length, nat_lt};
+ghost use Rattle.std.specs.List.{count_by};
+ghost use Rattle.std.specs.Prelude.{◌≡◌, ◌==◌, ◌<◌, ◌≤◌, ◌+◌, ◌++◌, ◌∷◌, [], true, ◌^◌, if◌then◌else◌, IfOk, OnOk, filter, length, nat_lt};
 
 use crate::column::Track;
 use std::alloc::{AllocError, Global};
@@ -39,8 +41,25 @@ pub fn held_lines(alloc: Global, tracks: &[Track]) -> Result<Vec<u32>, AllocErro
     Ok(lines)
 }
 
+// The lines of the tracks that a net holds.
+pub fn own_lines(alloc: Global, tracks: &[Track], net: u32) -> Result<Vec<u32>, AllocError>
+    requires few { length tracks.now + 1 < 2 ^ 32 }
+    ensures own { IfOk result (λ lines. lines.items ≡ own_lines net tracks.now) }
+    ensures lines { IfOk result (λ lines. AreLines lines.items) }
+{
+    let mut lines = Vec::new(alloc);
+    let mut line = 1u32;
+    let mut rest = tracks;
+    while let Some((track, above)) = rest.split_first() {
+        push_where(&mut lines, track.net == net, line)?;
+        line += 1;
+        rest = above;
+    }
+    Ok(lines)
+}
+
 // Adds a line, where it is wanted.
-fn push_where(lines: &mut Vec<u32>, wanted: bool, line: u32) -> Result<(), AllocError>
+pub fn push_where(lines: &mut Vec<u32>, wanted: bool, line: u32) -> Result<(), AllocError>
     ensures { OnOk result (lines.new.items ≡ lines.old.items ++ (if wanted then line ∷ [] else [])) }
 {
     if wanted {
@@ -54,6 +73,35 @@ pub fn holds_track(tracks: &[Track], net: u32) -> bool
     ensures { result ≡ holds_track tracks.now net }
 {
     tracks.iter().any(|track| track.net == net)
+}
+
+// How many tracks a net holds.
+fn tracks_held(tracks: &[Track], net: u32) -> usize
+    ensures { result ≡ count_by (λ t. t.net == net) tracks.now }
+{
+    let mut count = 0;
+    let mut rest = tracks;
+    while let Some((track, above)) = rest.split_first() {
+        count += usize::from(track.net == net);
+        rest = above;
+    }
+    count
+}
+
+// Whether the one track that a net holds is seen to be that on this line.
+pub fn holds_alone(tracks: &[Track], net: u32, line: u32) -> bool
+    ensures { result ≡ true → without line (own_lines net tracks.now) ≡ [] }
+{
+    if line == 0 {
+        return false;
+    }
+    if net == 0 {
+        return false;
+    }
+    if net_on(tracks, line) != net {
+        return false;
+    }
+    tracks_held(tracks, net) == 1
 }
 
 // The id on a line, 0 where there is no track.

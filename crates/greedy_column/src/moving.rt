@@ -1,28 +1,18 @@
 ghost use Rattle.greedy_column.specs.Uses.{next_after};
-ghost use Rattle.greedy_column.specs.Follows.{move_ids};
-ghost use Rattle.greedy_column.specs.Lines.{LieWithin};
+ghost use Rattle.greedy_column.specs.Lines.{AreLines, own_lines};
 ghost use Rattle.greedy_column.specs.Replay.{moved};
 ghost use Rattle.greedy_column.specs.Tracks.{held_by};
-ghost use Rattle.greedy_column.specs.Moving.{GoesTo, MovesFollow, move_options, order_of_moves, piece_between, without};
+ghost use Rattle.greedy_column.specs.Moving.{GoesTo, MovesFollow, move_ids, move_options, piece_between, without};
 ghost use Rattle.greedy_column.specs.Offers.{move_question};
 ghost use Rattle.std.specs.Prelude.{◌≡◌, ◌<◌, ◌+◌, ◌^◌, IfOk, length, map};
 
 use crate::ahead::Ahead;
 use crate::column::Track;
-use crate::lines::{held_lines, hold, id_on, net_on};
+use crate::lines::{hold, holds_alone, id_on, net_on, own_lines};
 use crate::question::{Question, pick_line};
 use crate::span::Span;
 use choose_core::{Ask, Chooses, Next};
 use std::alloc::{AllocError, Global};
-
-// The order in which the kept tracks may move.
-pub fn order_of_moves(alloc: Global, kept: &[Track]) -> Result<Vec<u32>, AllocError>
-    requires few { length kept.now + 1 < 2 ^ 32 }
-    ensures lines { IfOk result (λ lines. lines.items ≡ order_of_moves kept.now) }
-    ensures within { IfOk result (λ lines. LieWithin (length kept.now) lines.items) }
-{
-    held_lines(alloc, kept)
-}
 
 // The piece between two lines.
 fn piece_between(net: u32, one: u32, other: u32) -> Span
@@ -62,36 +52,54 @@ fn move_options(
         .collect(alloc)
 }
 
-// Where a kept track goes on, by an answer where it has options.
+// Where a kept track of a net goes on, by an answer where it has options.
 fn target_of<C: Chooses>(
     alloc: Global,
     chooser: &C,
     next: Next,
+    net: u32,
+    kept: &[Track],
     line: u32,
     options: &[u32],
 ) -> Result<u32, AllocError>
-    requires { length options.now + 1 < 2 ^ 32 }
-    ensures { IfOk result (λ target. GoesTo (C.answers chooser.now) next line options.now target) }
+    requires few { length kept.now + 1 < 2 ^ 32 }
+    requires options { length options.now + 1 < 2 ^ 32 }
+    ensures { IfOk result (λ target. GoesTo (C.answers chooser.now) next (without line (own_lines net kept.now)) line options.now target) }
 {
     if options.is_empty() {
         return Ok(line);
     }
+    let others = other_lines(alloc, kept, net, line)?;
     let mut lines = vec![in alloc; line]?;
     lines.extend_from_slice(options)?;
-    pick_line(alloc, chooser, move_question(line, next), &lines)
+    pick_line(alloc, chooser, move_question(line, next), &others, &lines)
 }
 
-// What is left of the free lines once one is taken.
-fn without(alloc: Global, line: u32, free: &[u32]) -> Result<Vec<u32>, AllocError>
-    ensures { IfOk result (λ left. left.items ≡ without line free.now) }
+// The other lines on which a net holds tracks.
+fn other_lines(alloc: Global, kept: &[Track], net: u32, line: u32) -> Result<Vec<u32>, AllocError>
+    requires few { length kept.now + 1 < 2 ^ 32 }
+    ensures others { IfOk result (λ others. others.items ≡ without line (own_lines net kept.now)) }
+    ensures lines { IfOk result (λ others. AreLines others.items) }
 {
-    free.iter()
+    if holds_alone(kept, net, line) {
+        return Ok(Vec::new(alloc));
+    }
+    let own = own_lines(alloc, kept, net)?;
+    without(alloc, line, &own)
+}
+
+// What is left of some lines once one is taken.
+fn without(alloc: Global, line: u32, lines: &[u32]) -> Result<Vec<u32>, AllocError>
+    ensures { IfOk result (λ left. left.items ≡ without line lines.now) }
+{
+    lines
+        .iter()
         .copied()
         .filter(|other| *other != line)
         .collect(alloc)
 }
 
-// The moves of a column, as lines, in their order.
+// The moves of a column, as lines, in their order, by which the kept tracks are carried along.
 pub fn move_all<C: Chooses>(
     alloc: Global,
     chooser: &C,
@@ -101,10 +109,14 @@ pub fn move_all<C: Chooses>(
     lines: &[u32],
     spans: &mut Vec<Span>,
     mut free: Vec<u32>,
+    kept: &mut [Track],
 ) -> Result<Vec<(u32, u32)>, AllocError>
-    requires { length free.items + 1 < 2 ^ 32 }
-    ensures { IfOk result (λ moves.
-        MovesFollow (C.answers chooser.now) (next_after ahead.now.uses.items column) tracks.now lines.now spans.old.items free.items moves.items) }
+    requires few { length kept.old + 1 < 2 ^ 32 }
+    requires free { length free.items + 1 < 2 ^ 32 }
+    ensures moves { IfOk result (λ moves.
+        MovesFollow (C.answers chooser.now) (next_after ahead.now.uses.items column) tracks.now kept.old lines.now spans.old.items free.items
+        moves.items) }
+    ensures kept { IfOk result (λ moves. kept.new ≡ moved (map (move_ids tracks.now) moves.items) kept.old) }
 {
     let mut moves = Vec::new(alloc);
     let mut rest = lines;
@@ -113,13 +125,14 @@ pub fn move_all<C: Chooses>(
         let net = net_on(tracks, *line);
         let next = ahead.next(net, column);
         let options = move_options(alloc, spans, net, *line, &free)?;
-        let target = target_of(alloc, chooser, next, *line, &options)?;
+        let target = target_of(alloc, chooser, next, net, kept, *line, &options)?;
         if target == *line {
             continue;
         }
         spans.push(piece_between(net, *line, target))?;
         free = without(alloc, target, &free)?;
         moves.push((*line, target))?;
+        carry(kept, &[(id_on(tracks, *line), id_on(tracks, target))]);
     }
     Ok(moves)
 }

@@ -1,21 +1,39 @@
-ghost use Rattle.greedy_column.specs.Entering.{EntersAbove, EntersBelow, EntersPair, EntersPartners, both_new, newcomer_of};
-ghost use Rattle.greedy_column.specs.Lines.{LieWithin, above_lowest, below_line};
+ghost use Rattle.greedy_column.specs.Entering.{EntersAbove, EntersBelow, EntersPair, EntersPartners, both_new, newcomer_by, newcomer_of};
+ghost use Rattle.greedy_column.specs.Lines.{LieWithin, above_lowest, below_line, holds_track};
 ghost use Rattle.std.specs.Prelude.{◌≡◌, ◌<◌, ◌+◌, ◌^◌, ℕ, Contains, IfOk, length};
 
 use crate::column::{Made, Track};
-use crate::entering::{Entries, Newcomer, Pin, place_of_new};
-use crate::lines::{above_lowest, below_line, id_on};
+use crate::entering::{Edge, Entries, Newcomer, Pin};
+use crate::lines::{above_lowest, below_line, holds_track, id_on, own_lines};
+use crate::places::{any_place, place_for, place_of_new};
 use crate::question::pick_line;
-use choose_core::Chooses;
+use choose_core::{Chooses, Manner};
 use geom_core::Items;
 use std::alloc::{AllocError, Global};
 
+// Which pin gets a new track where each has lines that are open to it, from whether the pins' nets hold tracks.
+fn newcomer_by(manner: Manner, top_holds: bool, bottom_holds: bool) -> Newcomer
+    ensures { result ≡ newcomer_by manner top_holds bottom_holds }
+{
+    match manner {
+        Manner::LookingAhead if top_holds && !bottom_holds => Newcomer::BottomPin,
+        Manner::LookingAhead | Manner::Published => Newcomer::TopPin,
+    }
+}
+
 // Which pins get a new track, from the lines that are open to the top pin and to the bottom pin.
-fn newcomer_of(uppers: &[u32], lowers: &[u32]) -> Newcomer
-    ensures { result ≡ newcomer_of uppers.now lowers.now }
+fn newcomer_of(
+    manner: Manner,
+    top_holds: bool,
+    bottom_holds: bool,
+    uppers: &[u32],
+    lowers: &[u32],
+) -> Newcomer
+    ensures { result ≡ newcomer_of manner top_holds bottom_holds uppers.now lowers.now }
 {
     match (uppers, lowers) {
-        (_, [_, ..]) => Newcomer::TopPin,
+        ([], [_, ..]) => Newcomer::TopPin,
+        ([_, ..], [_, ..]) => newcomer_by(manner, top_holds, bottom_holds),
         ([_, ..], []) => Newcomer::BottomPin,
         ([], []) => Newcomer::BothPins,
     }
@@ -25,6 +43,7 @@ fn newcomer_of(uppers: &[u32], lowers: &[u32]) -> Newcomer
 pub fn enter_pair<C: Chooses>(
     alloc: Global,
     chooser: &C,
+    manner: Manner,
     before: &[Track],
     fresh: u32,
     top: Pin,
@@ -36,17 +55,21 @@ pub fn enter_pair<C: Chooses>(
     requires fresh { fresh + 2 < 2 ^ 32 }
     requires uppers { LieWithin (length before.now) uppers.now }
     requires lowers { LieWithin (length before.now) lowers.now }
-    ensures { IfOk result (λ entries. EntersPair (C.answers chooser.now) top bottom before.now fresh
+    ensures { IfOk result (λ entries. EntersPair manner (C.answers chooser.now) top bottom before.now fresh
         uppers.now lowers.now (above_lowest lowers.now uppers.now) entries) }
 {
     let partnered = above_lowest(alloc, lowers, uppers)?;
     if !partnered.is_empty() {
         return enter_partners(alloc, chooser, before, top, bottom, lowers, &partnered);
     }
-    match newcomer_of(uppers, lowers) {
-        Newcomer::TopPin => enter_above(alloc, chooser, before, fresh, bottom, lowers),
-        Newcomer::BottomPin => enter_below(alloc, chooser, before, fresh, top, uppers),
-        Newcomer::BothPins => enter_both_new(alloc, before, fresh),
+    let top_holds = holds_track(before, top.net);
+    let bottom_holds = holds_track(before, bottom.net);
+    match newcomer_of(manner, top_holds, bottom_holds, uppers, lowers) {
+        Newcomer::TopPin => enter_above(alloc, chooser, manner, before, fresh, top, bottom, lowers),
+        Newcomer::BottomPin => enter_below(
+            alloc, chooser, manner, before, fresh, top, bottom, uppers,
+        ),
+        Newcomer::BothPins => enter_both_new(alloc, manner, before, fresh, top, bottom),
     }
 }
 
@@ -67,9 +90,18 @@ fn enter_partners<C: Chooses>(
     requires partners { (line : ℕ) → Contains partnered.now line → 0 < length (below_line line lowers.now) }
     ensures { IfOk result (λ entries. EntersPartners (C.answers chooser.now) top bottom before.now lowers.now partnered.now entries) }
 {
-    let line = pick_line(alloc, chooser, top.top_question(before.len()), partnered)?;
+    let top_own = own_lines(alloc, before, top.net)?;
+    let question = top.top_question(before.len());
+    let line = pick_line(alloc, chooser, question, &top_own, partnered)?;
     let partners = below_line(alloc, line, lowers)?;
-    let below = pick_line(alloc, chooser, bottom.bottom_question(), &partners)?;
+    let bottom_own = own_lines(alloc, before, bottom.net)?;
+    let below = pick_line(
+        alloc,
+        chooser,
+        bottom.bottom_question(),
+        &bottom_own,
+        &partners,
+    )?;
     Ok(Entries {
         made: Items::new(Vec::new(alloc)),
         top: id_on(before, line),
@@ -81,19 +113,22 @@ fn enter_partners<C: Chooses>(
 fn enter_above<C: Chooses>(
     alloc: Global,
     chooser: &C,
+    manner: Manner,
     before: &[Track],
     fresh: u32,
+    top: Pin,
     bottom: Pin,
     lowers: &[u32],
 ) -> Result<Entries, AllocError>
     requires few { length before.now + 2 < 2 ^ 32 }
     requires some { 0 < length lowers.now }
     requires within { LieWithin (length before.now) lowers.now }
-    ensures { IfOk result (λ entries. EntersAbove (C.answers chooser.now) bottom before.now fresh lowers.now entries) }
+    ensures { IfOk result (λ entries. EntersAbove manner (C.answers chooser.now) top bottom before.now fresh lowers.now entries) }
 {
-    let line = pick_line(alloc, chooser, bottom.bottom_question(), lowers)?;
-    let tracks = before.len() as u32;
-    let below = place_of_new(tracks, line, tracks);
+    let own = own_lines(alloc, before, bottom.net)?;
+    let line = pick_line(alloc, chooser, bottom.bottom_question(), &own, lowers)?;
+    let most = before.len() as u32;
+    let below = place_for(manner, top, Edge::Upper, before, line, most);
     let made = vec![in alloc; Made { id: fresh, below }]?;
     Ok(Entries {
         made: Items::new(made),
@@ -106,18 +141,22 @@ fn enter_above<C: Chooses>(
 fn enter_below<C: Chooses>(
     alloc: Global,
     chooser: &C,
+    manner: Manner,
     before: &[Track],
     fresh: u32,
     top: Pin,
+    bottom: Pin,
     uppers: &[u32],
 ) -> Result<Entries, AllocError>
     requires few { length before.now + 2 < 2 ^ 32 }
     requires some { 0 < length uppers.now }
     requires within { LieWithin (length before.now) uppers.now }
-    ensures { IfOk result (λ entries. EntersBelow (C.answers chooser.now) top before.now fresh uppers.now entries) }
+    ensures { IfOk result (λ entries. EntersBelow manner (C.answers chooser.now) top bottom before.now fresh uppers.now entries) }
 {
-    let line = pick_line(alloc, chooser, top.top_question(before.len()), uppers)?;
-    let below = place_of_new(before.len() as u32, 0, line - 1);
+    let own = own_lines(alloc, before, top.net)?;
+    let question = top.top_question(before.len());
+    let line = pick_line(alloc, chooser, question, &own, uppers)?;
+    let below = place_for(manner, bottom, Edge::Lower, before, 0, line - 1);
     let made = vec![in alloc; Made { id: fresh, below }]?;
     Ok(Entries {
         made: Items::new(made),
@@ -127,14 +166,22 @@ fn enter_below<C: Chooses>(
 }
 
 // Those of two pins that both enter new tracks.
-fn enter_both_new(alloc: Global, before: &[Track], fresh: u32) -> Result<Entries, AllocError>
+fn enter_both_new(
+    alloc: Global,
+    manner: Manner,
+    before: &[Track],
+    fresh: u32,
+    top: Pin,
+    bottom: Pin,
+) -> Result<Entries, AllocError>
     requires few { length before.now + 2 < 2 ^ 32 }
     requires fresh { fresh + 2 < 2 ^ 32 }
-    ensures { IfOk result (λ entries. entries ≡ both_new before.now fresh) }
+    ensures { IfOk result (λ entries. entries ≡ both_new manner top bottom before.now fresh) }
 {
-    let tracks = before.len() as u32;
-    let lower = place_of_new(tracks, 0, tracks);
-    let upper = place_of_new(tracks + 1, lower + 1, tracks + 1);
+    let lower = any_place(manner, bottom, Edge::Lower, before);
+    let holds = holds_track(before, top.net);
+    let most = before.len() as u32 + 1;
+    let upper = place_of_new(manner, holds, top.next, Edge::Upper, most, lower + 1, most);
     let made = vec![in alloc;
         Made {
             id: fresh,

@@ -1,5 +1,6 @@
-ghost use Rattle.greedy_column.specs.Offers.{IsPicked, gap_to, offer};
-ghost use Rattle.std.specs.Prelude.{◌≡◌, ◌<◌, ◌^◌, Contains, IfOk, length, map};
+ghost use Rattle.greedy_column.specs.Lines.{AreLines};
+ghost use Rattle.greedy_column.specs.Offers.{IsPicked, distance, gap_to, least_distance, offer, pull_to};
+ghost use Rattle.std.specs.Prelude.{◌≡◌, ◌<◌, ◌≤◌, ◌^◌, Contains, IfOk, length, map};
 
 use choose_core::{Ask, Candidate, Chooses, Next};
 use std::alloc::{AllocError, Global};
@@ -14,15 +15,17 @@ pub struct Question {
 }
 
 impl Question {
-    // A track as it is offered.
-    fn offer(self, line: u32) -> Candidate
-        ensures { result ≡ offer self line }
+    // A track as it is offered, beside the others of its net.
+    fn offer(self, others: &[u32], line: u32) -> Candidate
+        requires { AreLines others.now }
+        ensures { result ≡ offer self others.now line }
     {
         Candidate {
             ask: self.ask,
             track: line,
             gap: gap_to(self.aim, line),
             next: self.next,
+            pull: pull_to(others, line),
         }
     }
 }
@@ -37,28 +40,64 @@ fn gap_to(aim: Option<u32>, line: u32) -> u32
     }
 }
 
-// One of these lines, picked by the chooser.
+// How near the others of a net's lines are to a line: 0 where there is none, else 1 more than the least distance.
+fn pull_to(others: &[u32], line: u32) -> u32
+    requires { AreLines others.now }
+    ensures { result ≡ pull_to others.now line }
+{
+    match others.split_first() {
+        Some((other, more)) => least_distance(line, line.abs_diff(*other), more) + 1,
+        None => 0,
+    }
+}
+
+// The least of a distance and of those from a line to others.
+fn least_distance(line: u32, first: u32, others: &[u32]) -> u32
+    ensures least { result ≡ least_distance line first others.now }
+    ensures within { result ≤ first }
+{
+    let mut least = first;
+    let mut rest = others;
+    while let Some((other, more)) = rest.split_first() {
+        least = least.min(line.abs_diff(*other));
+        rest = more;
+    }
+    least
+}
+
+// One of these lines of a net that holds other tracks too, picked by the chooser.
 pub fn pick_line<C: Chooses>(
     alloc: Global,
     chooser: &C,
     question: Question,
+    others: &[u32],
     lines: &[u32],
 ) -> Result<u32, AllocError>
+    requires others { AreLines others.now }
     requires some { 0 < length lines.now }
     requires few { length lines.now < 2 ^ 32 }
-    ensures picked { IfOk result (λ line. IsPicked (C.answers chooser.now) (offer question) lines.now line) }
+    ensures picked { IfOk result (λ line. IsPicked (C.answers chooser.now) (offer question others.now) lines.now line) }
     ensures member { IfOk result (λ line. Contains lines.now line) }
 {
-    let offers = offers(alloc, question, lines)?;
+    let offers = offers(alloc, question, others, lines)?;
     Ok(lines[chooser.choose(&offers)])
 }
 
 // Some tracks as they are offered.
-fn offers(alloc: Global, question: Question, lines: &[u32]) -> Result<Vec<Candidate>, AllocError>
-    ensures { IfOk result (λ offers. offers.items ≡ map (offer question) lines.now) }
+fn offers(
+    alloc: Global,
+    question: Question,
+    others: &[u32],
+    lines: &[u32],
+) -> Result<Vec<Candidate>, AllocError>
+    requires { AreLines others.now }
+    ensures { IfOk result (λ offers. offers.items ≡ map (offer question others.now) lines.now) }
 {
-    lines
-        .iter()
-        .map(|line| question.offer(*line))
-        .collect(alloc)
+    let mut offers = Vec::new(alloc);
+    let mut rest = lines;
+    while let Some((line, later)) = rest.split_first() {
+        offers.push(question.offer(others, *line))?;
+        rest = later;
+    }
+    Ok(offers)
 }

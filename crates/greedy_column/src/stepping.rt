@@ -18,7 +18,7 @@ use crate::going_on::{Outcome, go_on};
 use crate::lines::hold;
 use crate::span::pin_spans;
 use channel_model::Channel;
-use choose_core::{Chooser, Chooses};
+use choose_core::{Chooser, Chooses, Manner};
 use geom_core::Items;
 use std::alloc::{AllocError, Global};
 
@@ -96,6 +96,7 @@ fn column_of<C: Chooses>(
     chooser: &C,
     ahead: &Ahead,
     column: u32,
+    manner: Manner,
     before: &[Track],
     fresh: u32,
     top: u32,
@@ -104,11 +105,11 @@ fn column_of<C: Chooses>(
     requires few { length before.now + 4 < 2 ^ 32 }
     requires fresh { fresh + 2 < 2 ^ 32 }
     ensures straight { IfOk result (λ taken. taken.done.straight ≡ (top == bottom && not (top == 0))) }
-    ensures enters { IfOk result (λ taken. Enters (C.answers chooser.now) (pin_with (next_after ahead.now.uses.items column) top)
+    ensures enters { IfOk result (λ taken. Enters manner (C.answers chooser.now) (pin_with (next_after ahead.now.uses.items column) top)
         (pin_with (next_after ahead.now.uses.items column) bottom) before.now fresh (entries_of taken.done)) }
     ensures follows { IfOk result (λ taken.
         let now = with_nets top taken.done.top bottom taken.done.bottom (with_made before.now taken.done.made) in
-        FollowsOn (C.answers chooser.now) (next_after ahead.now.uses.items column) now
+        FollowsOn manner (C.answers chooser.now) (next_after ahead.now.uses.items column) now
         (map (span_in (ids now)) (verticals_of_pins taken.done.straight top bottom taken.done.top taken.done.bottom))
         taken.done.joins taken.done.ended taken.done.moves) }
     ensures tracks { IfOk result (λ taken. taken.tracks ≡ moved taken.done.moves (freed taken.done.ended
@@ -117,7 +118,7 @@ fn column_of<C: Chooses>(
     let straight = has_equal_pins(top, bottom);
     let top_pin = pin_of(ahead, column, top);
     let bottom_pin = pin_of(ahead, column, bottom);
-    let entries = enter(alloc, chooser, before, fresh, top_pin, bottom_pin)?;
+    let entries = enter(alloc, chooser, manner, before, fresh, top_pin, bottom_pin)?;
     let now = entered(alloc, before, &entries, top, bottom)?;
     let spans = pin_spans(
         alloc,
@@ -128,7 +129,7 @@ fn column_of<C: Chooses>(
         entries.top,
         entries.bottom,
     )?;
-    let outcome = go_on(alloc, chooser, ahead, column, &now, spans)?;
+    let outcome = go_on(alloc, chooser, ahead, column, manner, &now, spans)?;
     Ok(taken_from(entries, straight, outcome))
 }
 
@@ -172,20 +173,21 @@ pub fn step(
     channel: &Channel,
     ahead: &Ahead,
     column: u32,
+    manner: Manner,
     chooser: &Chooser,
 ) -> Result<Column, AllocError>
     requires state { IsState channel.now state.old }
     requires few { state.old.fresh ≤ 4000000000 }
     requires ahead { IsAhead channel.now ahead.now }
     ensures follows { IfOk result (λ done.
-        Follows (⟦<Chooser as Chooses>⟧.answers chooser.now) channel.now column state.old.fresh state.old.order done) }
+        Follows manner (⟦<Chooser as Chooses>⟧.answers chooser.now) channel.now column state.old.fresh state.old.order done) }
     ensures fair { IfOk result (λ done. Fair channel.now column state.old.fresh state.old.order done) }
     ensures replay { IfOk result (λ done. state.new.order ≡ after channel.now column done state.old.order) }
     ensures fresh { IfOk result (λ done. state.new.fresh ≡ state.old.fresh + length done.made) }
     ensures state { IfOk result (λ _. IsState channel.now state.new) }
     ensures err { OnErr result (state.new ≡ state.old) }
 {
-    step_with(alloc, state, channel, ahead, column, chooser)
+    step_with(alloc, state, channel, ahead, column, manner, chooser)
 }
 
 /// The same as `step`, for all that chooses.
@@ -195,13 +197,14 @@ pub fn step_with<C: Chooses>(
     channel: &Channel,
     ahead: &Ahead,
     column: u32,
+    manner: Manner,
     chooser: &C,
 ) -> Result<Column, AllocError>
     requires state { IsState channel.now state.old }
     requires few { state.old.fresh ≤ 4000000000 }
     requires ahead { IsAhead channel.now ahead.now }
     ensures follows { IfOk result (λ done.
-        Follows (C.answers chooser.now) channel.now column state.old.fresh state.old.order done) }
+        Follows manner (C.answers chooser.now) channel.now column state.old.fresh state.old.order done) }
     ensures fair { IfOk result (λ done. Fair channel.now column state.old.fresh state.old.order done) }
     ensures replay { IfOk result (λ done. state.new.order ≡ after channel.now column done state.old.order) }
     ensures fresh { IfOk result (λ done. state.new.fresh ≡ state.old.fresh + length done.made) }
@@ -215,6 +218,7 @@ pub fn step_with<C: Chooses>(
         chooser,
         ahead,
         column,
+        manner,
         state.order.items(),
         state.fresh,
         top,

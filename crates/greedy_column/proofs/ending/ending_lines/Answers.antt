@@ -2,7 +2,7 @@ use Rattle.std.proofs.Common.{◌≡◌, ◌∷◌, ◌++◌, ◌∙◌, sym, ap
 use Rattle.std.specs.List.{list_any}
 use Rattle.greedy_column.specs.declared.span.Span.{Span}
 use Rattle.greedy_column.specs.Uses.{next_after}
-use Rattle.greedy_column.specs.Lines.{held_lines, net_on}
+use Rattle.greedy_column.specs.Lines.{held_lines, net_on, own_lines}
 use Rattle.greedy_column.specs.Joining.{AreAscending, neighbours, is_joined}
 use Rattle.greedy_column.specs.Ending.{EndsFollow, EndsOf, groups, joined_pairs, is_joined_below, is_split, is_given_up, chain_from}
 use Rattle.greedy_column.proofs.Members.{in_first, in_later}
@@ -76,16 +76,17 @@ loop-line-preserved g c =
     let gives : c.is_given_up-given_up.result ≡ is_given_up c.next-next.result (is_split spans (neighbours tracks) (net_on tracks line)) =
     c.is_given_up-given_up.ensures ∙ ap (is_given_up c.next-next.result) split in
     let group : c.in_ok-group.group.items ≡ chain_from joined line = c.in_ok-group.ensures ∙ ap (λ (l : List Span). chain_from l line) c.deref-in-Some-3.ensures.value in
-    let ends : EndsOf (g.C.Chooses.answers c.args.chooser.now) (length tracks) c.next-next.result c.is_given_up-given_up.result (chain_from joined line)
-    c.in_ok-ends.ends.items =
-    subst (λ (l : List ℕ). EndsOf (g.C.Chooses.answers c.args.chooser.now) (length tracks) c.next-next.result c.is_given_up-given_up.result l
-    c.in_ok-ends.ends.items) group c.in_ok-ends.ensures in
+    let ends : EndsOf (g.C.Chooses.answers c.args.chooser.now) (length tracks) c.next-next.result (own_lines c.net_on-net.result tracks) c.is_given_up-given_up.result
+    (chain_from joined line) c.in_ok-ends.ends.items =
+    subst (λ (l : List ℕ). EndsOf (g.C.Chooses.answers c.args.chooser.now) (length tracks) c.next-next.result (own_lines c.net_on-net.result tracks)
+    c.is_given_up-given_up.result l c.in_ok-ends.ends.items) group c.in_ok-ends.ensures in
     let pushed : c.extend_from_slice.new.self.items ≡ c.loop-line.ending.items ++ c.in_ok-ends.ends.items = search rules in
     let kept = rw cut at c.loop-line.invariant in
     rw pushed (record {
       within = λ other member. kept.within other (in_later line other later member);
       so_far = ends_go_on (g.C.Chooses.answers c.args.chooser.now) (next_after c.args.ahead.now.uses.items c.args.column) tracks spans joined _
-          c.loop-line.ending.items later c.in_ok-ends.ends.items line c.next-next.result c.is_given_up-given_up.result apart ahead_is gives ends kept.so_far;
+          c.loop-line.ending.items later c.in_ok-ends.ends.items line c.next-next.result (own_lines c.net_on-net.result tracks) c.is_given_up-given_up.result apart ahead_is (ap (λ n. own_lines n tracks) net_is)
+          gives ends kept.so_far;
     })
 
 pub returns : goal.returns

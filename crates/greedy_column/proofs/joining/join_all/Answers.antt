@@ -1,8 +1,9 @@
-use Rattle.std.proofs.Common.{arith, ap, sym, subst, rules, List, length, ◌≡◌, ◌<◌, ◌∙◌, ◌++◌, ◌∷◌, [], Contains}
+use Rattle.std.proofs.Common.{arith, ap, sym, subst, rules, List, length, ◌≡◌, ◌<◌, ◌∙◌, ◌++◌, ◌∷◌, ◌&&◌, not, [], Contains}
 use Rattle.greedy_column.specs.declared.span.Span.{Span}
 use Rattle.greedy_column.specs.Uses.{next_after}
 use Rattle.greedy_column.specs.Offers.{join_offer}
-use Rattle.greedy_column.specs.Joining.{possible_joins}
+use Rattle.greedy_column.specs.Joining.{is_clear, is_joined, possible_joins}
+use Rattle.greedy_column.proofs.Members.{in_filter_back}
 use Rattle.greedy_column.proofs.PickLaws.{picked_is_option}
 use Rattle.greedy_column.proofs.JoinLaws.{joins_end, possible_joins-less, possible_joins-few}
 use Rattle.greedy_column.proofs.joining.join_all.Goals as goal
@@ -20,7 +21,7 @@ pick_join-requires-clause-few g c =
       ap (λ (l : List Span). length l) c.deref-in-loop-joined.ensures.value,
       ap (λ (l : List Span). length l) c.in_ok-joins.ensures,
       possible_joins-few c.deref.result.now c.args.pairs.now,
-      c.requires,
+      c.requires.few,
     )
 
 pub loop-joined-smaller : goal.loop-joined-smaller
@@ -35,3 +36,11 @@ loop-joined-smaller g c =
     let pushed : c.push.new.self.items ≡ c.loop-joined.spans.items ++ pair ∷ [] = search rules in
     subst (λ (l : List Span). length (possible_joins l c.args.pairs.now) < length (possible_joins c.loop-joined.spans.items c.args.pairs.now)) (sym pushed)
     (possible_joins-less c.loop-joined.spans.items c.args.pairs.now pair member)
+
+pub pick_join-requires-clause-above : goal.pick_join-requires-clause-above
+pick_join-requires-clause-above g c =
+    let is : c.deref-in-loop-joined.result.now ≡ possible_joins c.loop-joined.spans.items c.args.pairs.now =
+    c.deref-in-loop-joined.ensures.value ∙ c.in_ok-joins.ensures ∙ ap (λ (l : List Span). possible_joins l c.args.pairs.now) c.deref.ensures.value in
+    λ pair member. c.requires.above pair
+    (in_filter_back (λ s. not (is_joined c.loop-joined.spans.items s) && is_clear c.loop-joined.spans.items s) pair c.args.pairs.now
+    (subst (λ (l : List Span). Contains l pair) is member)).0

@@ -18,7 +18,7 @@ column_of-requires-clause-few g c =
 
 pub returns-clause-follows : goal.returns-clause-follows
 returns-clause-follows g c =
-    Follows-from_copy _ (next_after c.args.ahead.now.uses.items c.args.column) c.args.channel.now c.args.column c.args.state.now.fresh c.args.state.now.order
+    Follows-from_copy c.args.manner _ (next_after c.args.ahead.now.uses.items c.args.column) c.args.channel.now c.args.column c.args.state.now.fresh c.args.state.now.order
     c.items-3.result.now _ c.pin_in-top.result c.pin_in-bottom.result c.items-3.ensures
     (c.pin_in-top.ensures ∙ ap (λ (l : List ℕ). get_or l c.args.column 0) (cc)) (c.pin_in-bottom.ensures ∙ ap (λ (l : List ℕ). get_or l c.args.column 0) (cc))
     (λ net. c.requires.ahead c.args.column net) c.in_ok-taken.ensures.straight c.in_ok-taken.ensures.enters c.in_ok-taken.ensures.follows
@@ -26,7 +26,7 @@ returns-clause-follows g c =
 pub returns-clause-fair : goal.returns-clause-fair
 returns-clause-fair g c =
     let is : IsChannel c.args.channel.now = search rules in
-    Fair-from _ c.args.channel.now c.args.column c.args.state.now.fresh c.args.state.now.order _ is.matched c.requires.state.numbered (returns-clause-follows g c)
+    Fair-from c.args.manner _ c.args.channel.now c.args.column c.args.state.now.fresh c.args.state.now.order _ is.matched c.requires.state.numbered (returns-clause-follows g c)
 
 pub returns-clause-state : goal.returns-clause-state
 returns-clause-state g c =

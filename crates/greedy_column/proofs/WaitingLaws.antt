@@ -1,0 +1,107 @@
+use Rattle.std.proofs.Common.{◌≡◌, ◌++◌, not, eqb, ℕ, List, [], ◌∷◌, Bool, true, false, cond, length, filter, map, refl, sym, subst, ap, ◌∙◌, arith, Contains, append_assoc}
+use Rattle.std.proofs.Math.ListN.{get_or-map}
+use Rattle.std.proofs.lemmas.List.{length-map}
+use Rattle.std.proofs.lemmas.List.Sorted.{Contains-permutation, IsPermutation-sym}
+use Rattle.std.specs.List.{list_any}
+use Rattle.std.specs.List.Sorted.{IsNonDecreasingBy, IsPermutation, IsStableByKey, ties}
+use Rattle.std.specs.Ordering.{is_lt, nat_cmp}
+use Rattle.choose_core.specs.declared.candidate.Next.{Next}
+use Rattle.greedy_column.specs.declared.column.Track.{Track}
+use Rattle.greedy_column.specs.declared.move_order.Waiting.{Waiting}
+use Rattle.greedy_column.specs.Lines.{held_lines, net_on}
+use Rattle.greedy_column.specs.Moving.{AreOrdered, IsOrderAhead, behind_on, is_split}
+use Rattle.greedy_column.proofs.Members.{in_first, in_later, in_map_back}
+
+-- a filter of what a map gives
+filter_map : {X Y : Type 0} (f : X → Y) (p : Y → Bool) (xs : List X) → filter p (map f xs) ≡ map f (filter (λ x. p (f x)) xs)
+filter_map f p [] = refl
+filter_map f p (x ∷ xs) = step (p (f x)) (filter_map f p xs) where
+  step : (b : Bool) → filter p (map f xs) ≡ map f (filter (λ y. p (f y)) xs)
+      → cond b (f x ∷ filter p (map f xs)) (filter p (map f xs)) ≡ map f (cond b (x ∷ filter (λ y. p (f y)) xs) (filter (λ y. p (f y)) xs))
+  step true later = ap (λ l. f x ∷ l) later
+  step false later = later
+
+-- tests that agree on all members
+filter_same : (p q : ℕ → Bool) (xs : List ℕ) → ((x : ℕ) → Contains xs x → p x ≡ q x) → filter p xs ≡ filter q xs
+filter_same p q [] same = refl
+filter_same p q (x ∷ xs) same =
+    (λ i. cond (same x (in_first x xs) i) (x ∷ filter p xs) (filter p xs))
+    ∙ ap (λ l. cond (q x) (x ∷ l) l) (filter_same p q xs (λ y member. same y (in_later x y xs member)))
+
+-- a loop that parts lines by a test goes on with one more
+pub part_more : (p : ℕ → Bool) (line : ℕ) (later done pushed all : List ℕ) (b : Bool) → b ≡ p line → pushed ≡ done ++ cond b (line ∷ []) []
+    → done ++ filter p (line ∷ later) ≡ all → pushed ++ filter p later ≡ all
+part_more p line later done pushed all b is added so_far =
+    ap (λ l. l ++ filter p later) added ∙ append_assoc done (cond b (line ∷ []) []) (filter p later) ∙ ap (λ l. done ++ l) (cut b)
+    ∙ ap (λ c. done ++ cond c (line ∷ filter p later) (filter p later)) is ∙ so_far where
+      cut : (c : Bool) → cond c (line ∷ []) [] ++ filter p later ≡ cond c (line ∷ filter p later) (filter p later)
+      cut true = refl
+      cut false = refl
+
+module _ (key : ℕ → ℕ) where
+  abbrev pub waiting : ℕ → Waiting
+  waiting line = record { line = line; behind = key line }
+
+  abbrev line_of_waiting : Waiting → ℕ
+  line_of_waiting w = w.line
+
+  lines_back : (lines : List ℕ) → map line_of_waiting (map waiting lines) ≡ lines
+  lines_back [] = refl
+  lines_back (line ∷ lines) = ap (λ l. line ∷ l) (lines_back lines)
+
+  restored : (ws : List Waiting) → ((w : Waiting) → Contains ws w → waiting w.line ≡ w) → map waiting (map line_of_waiting ws) ≡ ws
+  restored [] each = refl
+  restored (w ∷ ws) each = λ i. each w (in_first w ws) i ∷ restored ws (λ v member. each v (in_later w v ws member)) i
+
+  rising : (lines : List ℕ) → IsNonDecreasingBy (λ (w : Waiting). w.behind) (map waiting lines) → IsNonDecreasingBy key lines
+  rising lines sorted i j d order within =
+      let long : length (map waiting lines) ≡ length lines = length-map lines waiting in
+      let h = sorted i j (waiting d) order (omega (arith, within, long)) in
+      omega (
+        arith,
+        h,
+        ap (λ (w : Waiting). w.behind) (get_or-map waiting lines i d),
+        ap (λ (w : Waiting). w.behind) (get_or-map waiting lines j d),
+      )
+
+  steady : (lines ordered : List ℕ) → IsStableByKey (λ (w : Waiting). w.behind) nat_cmp (map waiting lines) (map waiting ordered)
+      → IsStableByKey key nat_cmp lines ordered
+  steady lines ordered stable x =
+      let like : ℕ → Bool = ties (λ a b. is_lt (nat_cmp (key a) (key b))) x in
+      let like_waiting : Waiting → Bool = ties (λ (v w : Waiting). is_lt (nat_cmp v.behind w.behind)) (waiting x) in
+      let same : map waiting (filter like ordered) ≡ map waiting (filter like lines) =
+      sym (filter_map waiting like_waiting ordered) ∙ stable (waiting x) ∙ filter_map waiting like_waiting lines in
+      sym (lines_back (filter like ordered)) ∙ ap (map line_of_waiting) same ∙ lines_back (filter like lines)
+
+  -- lines are ordered by a stable sort of what waits on them
+  pub AreOrdered-from_sort : (lines ordered : List ℕ) (found sorted : List Waiting) → found ≡ map waiting lines
+      → IsNonDecreasingBy (λ (w : Waiting). w.behind) sorted → IsStableByKey (λ (w : Waiting). w.behind) nat_cmp found sorted → IsPermutation found sorted
+      → ordered ≡ map (λ (w : Waiting). w.line) sorted → AreOrdered key lines ordered
+  AreOrdered-from_sort lines ordered found sorted is rises stable permuted told =
+      let each : (w : Waiting) → Contains sorted w → waiting w.line ≡ w = λ w member.
+      let at = in_map_back waiting w lines (subst (λ (l : List Waiting). Contains l w) is (Contains-permutation sorted found w (IsPermutation-sym found sorted permuted) member)) in
+      ap waiting (sym (ap (λ (v : Waiting). v.line) at.2)) ∙ at.2 in
+      let whole : sorted ≡ map waiting ordered = sym (restored sorted each) ∙ ap (map waiting) (sym told) in
+      record {
+        sorted = rising ordered (subst (λ (l : List Waiting). IsNonDecreasingBy (λ (w : Waiting). w.behind) l) whole rises);
+        stable = steady lines ordered
+            (subst (λ (l : List Waiting). IsStableByKey (λ (w : Waiting). w.behind) nat_cmp l (map waiting ordered)) is
+            (subst (λ (l : List Waiting). IsStableByKey (λ (w : Waiting). w.behind) nat_cmp found l) whole stable));
+      }
+
+-- the order that looks ahead, as it is found
+pub IsOrderAhead-from_parts : (next : ℕ → Next) (kept : List Track) (nets held split rest others order : List ℕ) → held ≡ held_lines kept
+    → ((line : ℕ) → Contains (held_lines kept) line → list_any (λ n. eqb n (net_on kept line)) nets ≡ is_split kept line)
+    → split ≡ filter (λ line. list_any (λ n. eqb n (net_on kept line)) nets) held
+    → rest ≡ filter (λ line. not (list_any (λ n. eqb n (net_on kept line)) nets)) held
+    → AreOrdered (behind_on next kept) rest others → order ≡ split ++ others → IsOrderAhead next kept order
+IsOrderAhead-from_parts next kept nets held split rest others order held_are tells split_are rest_are ordered told =
+    let among : ℕ → Bool = λ line. list_any (λ n. eqb n (net_on kept line)) nets in
+    record {
+      others = others;
+      split_first = told ∙ ap (λ l. l ++ others) (split_are ∙ ap (filter among) held_are ∙ filter_same among (is_split kept) (held_lines kept) tells);
+      farthest_first = subst (λ l. AreOrdered (behind_on next kept) l others)
+          (rest_are ∙ ap (filter (λ line. not (among line))) held_are
+          ∙ filter_same (λ line. not (among line)) (λ line. not (is_split kept line)) (held_lines kept) (λ line member. ap not (tells line member)))
+          ordered;
+    }
