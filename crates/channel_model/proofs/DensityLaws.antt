@@ -1,15 +1,15 @@
-use Rattle.std.proofs.Common.{◌≡◌, ◌<◌, ◌≤◌, ◌+◌, ◌-◌, ◌&&◌, Bool, cond, eqb, leb, ltb, ℕ, suc, List, [], ◌∷◌, ◌++◌, Option, Some, None, inl, inr, refl, sym, ap, ◌∙◌, arith, All, length, get_or, map, take, set, count_by}
-use Rattle.std.proofs.lemmas.Bool.{cases_eq, eq-eqb, ne_eqb}
+use Rattle.std.proofs.Common.{◌≡◌, ◌<◌, ◌≤◌, ◌+◌, ◌-◌, ◌&&◌, Bool, true, false, cond, eqb, leb, ltb, ℕ, suc, List, [], ◌∷◌, ◌++◌, Option, Some, None, inl, inr, refl, sym, ap, ◌∙◌, arith, All, length, get_or, map, take, set, count_by}
+use Rattle.std.proofs.lemmas.Bool.{cases_eq, eq-eqb, ne_eqb, ltb-true}
 use Rattle.std.proofs.lemmas.Bool.Decides.{nat_tests}
 use Rattle.std.proofs.lemmas.List.Elements.{All-nil, All-cons, All-tail, All-head, filter_map-append}
 use Rattle.std.proofs.lemmas.List.{take_more, get_or-map, get_or-set_same, get_or-set_other}
 use Rattle.std.proofs.lemmas.List.Sums.{sum_by-cons, count_by_more_yes, count_by_more_no}
-use Rattle.std.specs.List.{cons_option}
+use Rattle.std.specs.List.{cons_option, filter_map}
 use Rattle.std.specs.Option.{option_to_list}
 use Rattle.channel_model.specs.declared.reach.Reach.{Reach}
 use Rattle.channel_model.specs.Pins.{Pins}
 use Rattle.channel_model.specs.Reach.{IsReach, reach_of, joined, span_of}
-use Rattle.channel_model.specs.Density.{is_over, spans_of}
+use Rattle.channel_model.specs.Density.{is_over, spans_of, crossing_of}
 use Rattle.channel_model.proofs.ReachLaws.{LiesWithin, span_of-within}
 
 -- a span that is over a column and over the one before
@@ -110,6 +110,30 @@ length-spans_of pins [] = omega arith
 length-spans_of pins (n ∷ nets) = one_more (span_of pins n) (length-spans_of pins nets)
   where
     one_more : (o : Option Reach) → length (spans_of pins nets) ≤ length nets → length (cons_option o (spans_of pins nets)) ≤ suc (length nets)
+    one_more None few = omega arith
+    one_more (Some r) few = omega arith
+
+-- where a net crosses lies within the channel too
+pub crossings-within : (w : ℕ) (spans : List Reach) → All (IsReach w) spans → All (IsReach w) (filter_map crossing_of spans)
+crossings-within w [] all = All-nil (IsReach w)
+crossings-within w (s ∷ spans) all =
+    let head = All-head (IsReach w) s spans all in
+    step (ltb s.first s.last) refl head (crossings-within w spans (All-tail (IsReach w) s spans all))
+  where
+    step : (b : Bool) → ltb s.first s.last ≡ b → IsReach w s → All (IsReach w) (filter_map crossing_of spans)
+        → All (IsReach w) (cons_option (cond b (Some (record { first = s.first; last = s.last - 1 })) None) (filter_map crossing_of spans))
+    step true less head rest =
+        let ordered = ltb-true s.first s.last less in
+        All-cons (IsReach w) (record { first = s.first; last = s.last - 1 }) (filter_map crossing_of spans)
+        (record { ordered = omega (arith, ordered); within = omega (arith, head.within) }) rest
+    step false not_less head rest = rest
+
+-- there are no more of them than spans
+pub length-crossings : (spans : List Reach) → length (filter_map crossing_of spans) ≤ length spans
+length-crossings [] = omega arith
+length-crossings (s ∷ spans) = one_more (crossing_of s) (length-crossings spans)
+  where
+    one_more : (o : Option Reach) → length (filter_map crossing_of spans) ≤ length spans → length (cons_option o (filter_map crossing_of spans)) ≤ suc (length spans)
     one_more None few = omega arith
     one_more (Some r) few = omega arith
 

@@ -10,5 +10,5 @@ mod wiring;
 pub use channel::Channel;
 pub use nets::{nets_of, place_of};
 pub use reach::{Reach, reaches};
-pub use spans::density;
+pub use spans::{cut_density, density};
 pub use wiring::{Segment, Via, Wiring};

@@ -1,6 +1,6 @@
 //! Channels, their nets, and their density.
 
-use channel_model::{Channel, Reach, density, nets_of, place_of, reaches};
+use channel_model::{Channel, Reach, cut_density, density, nets_of, place_of, reaches};
 use std::alloc::{AllocError, Global};
 use std::test::Fail;
 
@@ -110,5 +110,25 @@ fn density_counts_the_nets_over_a_column(rt: HostRuntime) -> Result<(), Fail> {
     // That of a long channel comes at once.
     let channel = long_channel(rt.alloc())?;
     assert!(rt; density(rt.alloc(), &channel)? == 1500);
+    Ok(())
+}
+
+/// The cut density of the channel with these pins.
+fn cut_of(alloc: Global, top: &[u32], bottom: &[u32]) -> Result<u32, Fail> {
+    let channel = channel_of(alloc, top, bottom)?.ok_or("a channel")?;
+    Ok(cut_density(alloc, &channel)?)
+}
+
+#[test]
+fn cut_density_counts_the_nets_that_cross_from_a_column_to_the_next(
+    rt: HostRuntime,
+) -> Result<(), Fail> {
+    let alloc = rt.alloc();
+    assert_eq!(rt; cut_of(alloc, &[], &[])?, 0);
+    assert_eq!(rt; cut_of(alloc, &[2, 1], &[1, 2])?, 2);
+    assert_eq!(rt; cut_of(alloc, &[0, 0, 0, 0], &[1, 1, 2, 2])?, 1);
+    // One net ends where the other begins, and nets within a column cross none.
+    assert_eq!(rt; cut_of(alloc, &[1, 1, 0], &[0, 2, 2])?, 1);
+    assert_eq!(rt; cut_of(alloc, &[1, 2, 3, 0], &[1, 2, 3, 0])?, 0);
     Ok(())
 }

@@ -1,8 +1,8 @@
-use Rattle.std.proofs.Common.{◌≡◌, ◌≢◌, ◌⊎◌, inl, inr, ◌<◌, ◌≤◌, ◌+◌, ◌-◌, ℕ, zero, suc, List, [], length, map, refl, sym, subst, ap, arith}
+use Rattle.std.proofs.Common.{◌≡◌, ◌≢◌, ◌⊎◌, inl, inr, ◌<◌, ◌≤◌, ◌+◌, ◌-◌, ℕ, zero, suc, List, length, map, refl, sym, subst, ap, arith}
 use Rattle.channel_model.specs.Pins.{Pins, IsChannel}
 use Rattle.greedy_column.specs.declared.column.Track.{Track}
 use Rattle.greedy_column.specs.Tracks.{ids}
-use Rattle.greedy_column.specs.Replay.{top_pin, bottom_pin, replay}
+use Rattle.greedy_column.specs.Replay.{top_pin, bottom_pin, free_tracks, replay}
 use Rattle.greedy_column.specs.Verticals.{Vertical, joined_verticals}
 use Rattle.greedy_column.specs.Joining.{span_in}
 use Rattle.greedy_column.specs.Neighbours.{Holds, Grouped}
@@ -98,18 +98,18 @@ module _ (pins : Pins) (order : List ℕ) (course : Course pins order) where
       ]
 
 -- Each column past a channel's end, in which a net holds a track, leaves fewer tracks held.
-pub sweep-lessens : (pins : Pins) (sweep : Sweep) → IsChannel pins → AllFair pins 0 1 [] sweep.columns → Lessens pins sweep
+pub sweep-lessens : (pins : Pins) (sweep : Sweep) → IsChannel pins → AllFair pins 0 (sweep.begun + 1) (free_tracks sweep.begun) sweep.columns → Lessens pins sweep
 sweep-lessens pins sweep channel fair n past within held =
-    fewer_after pins (ids (replay pins sweep.columns)) (course_of pins sweep.columns fair) n within channel.matched past held
+    fewer_after pins (ids (replay sweep.begun pins sweep.columns)) (course_of sweep.begun pins sweep.columns fair) n within channel.matched past held
 
 -- So a sweep that goes on only while a net holds a track takes at most as many columns past the end as tracks are held there.
 held_past : (pins : Pins) (sweep : Sweep) → Lessens pins sweep
-    → ((n : ℕ) → length pins.top ≤ n → n < length sweep.columns → IsHeld (tracks_after pins sweep.columns n))
+    → ((n : ℕ) → length pins.top ≤ n → n < length sweep.columns → IsHeld (tracks_after sweep.begun pins sweep.columns n))
     → (k : ℕ) → length pins.top + k ≤ length sweep.columns
-    → held_count (tracks_after pins sweep.columns (length pins.top + k)) + k ≤ held_count (tracks_after pins sweep.columns (length pins.top))
+    → held_count (tracks_after sweep.begun pins sweep.columns (length pins.top + k)) + k ≤ held_count (tracks_after sweep.begun pins sweep.columns (length pins.top))
 held_past pins sweep lessens needed zero within =
     let e : length pins.top + 0 ≡ length pins.top = omega arith in
-    let same = ap (λ n. held_count (tracks_after pins sweep.columns n)) e in
+    let same = ap (λ n. held_count (tracks_after sweep.begun pins sweep.columns n)) e in
     omega (arith, same)
 held_past pins sweep lessens needed (suc k) within =
     let n : ℕ = length pins.top + k in
@@ -118,12 +118,12 @@ held_past pins sweep lessens needed (suc k) within =
     let less = lessens n past inside (needed n past inside) in
     let rest = held_past pins sweep lessens needed k (omega (arith, within)) in
     let e : length pins.top + suc k ≡ suc n = omega arith in
-    let same = ap (λ m. held_count (tracks_after pins sweep.columns m)) e in
+    let same = ap (λ m. held_count (tracks_after sweep.begun pins sweep.columns m)) e in
     omega (arith, less, rest, same)
 
 pub columns-past : (pins : Pins) (sweep : Sweep) → Lessens pins sweep
-    → ((n : ℕ) → length pins.top ≤ n → n < length sweep.columns → IsHeld (tracks_after pins sweep.columns n))
-    → length pins.top ≤ length sweep.columns → length sweep.columns ≤ length pins.top + held_count (tracks_after pins sweep.columns (length pins.top))
+    → ((n : ℕ) → length pins.top ≤ n → n < length sweep.columns → IsHeld (tracks_after sweep.begun pins sweep.columns n))
+    → length pins.top ≤ length sweep.columns → length sweep.columns ≤ length pins.top + held_count (tracks_after sweep.begun pins sweep.columns (length pins.top))
 columns-past pins sweep lessens needed covers =
     let k : ℕ = length sweep.columns - length pins.top in
     let few = held_past pins sweep lessens needed k (omega (arith, covers)) in

@@ -45,5 +45,9 @@ pub mod GoingLaws
 pub mod FewLaws
 -- how a sweep ends
 pub mod EndedLaws
+-- the left-edge router's wiring of a channel
+pub mod EdgeLaws
+-- the best of the sweeps that a plan tries
+pub mod PlanLaws
 -- the wiring of a worked sweep
 pub mod Worked

@@ -8,7 +8,7 @@ use Rattle.channel_model.specs.Elements.{Element, segment, via, elements}
 use Rattle.greedy_column.specs.declared.column.Track.{Track}
 use Rattle.greedy_column.specs.declared.column.Column.{Column}
 use Rattle.greedy_column.specs.Tracks.{ids}
-use Rattle.greedy_column.specs.Replay.{entered, after, replay_from, replay}
+use Rattle.greedy_column.specs.Replay.{entered, after, replay_from, free_tracks, replay}
 use Rattle.greedy_column.specs.Verticals.{Vertical, pin_verticals, verticals}
 use Rattle.greedy_column.specs.Fair.{AllFair}
 use Rattle.greedy_column.proofs.Members.{in_none, in_map, in_map_back, in_filter, in_filter_back}
@@ -124,47 +124,47 @@ module _ (pins : Pins) (order : List ℕ) (course : Course pins order) where
     pub of_part : (n : ℕ) (e : Element) → n < course.count → Part n e → Contains (elements wiring) e
     pub verticals_drawn : (n : ℕ) (v : Vertical) → n < course.count → Contains (verticals_at n) v → Contains wiring.segments (across order n v)
 
-module _ (pins : Pins) (columns : List Column) (fair : AllFair pins 0 1 [] columns) where
+module _ (begun : ℕ) (pins : Pins) (columns : List Column) (fair : AllFair pins 0 (begun + 1) (free_tracks begun) columns) where
   abbrev order : List ℕ
-  order = ids (replay pins columns)
+  order = ids (replay begun pins columns)
 
-  abbrev course : Course pins (ids (replay pins columns))
-  course = course_of pins columns fair
+  abbrev course : Course pins (ids (replay begun pins columns))
+  course = course_of begun pins columns fair
 
   abbrev drawn : Wiring
-  drawn = wiring_of pins (record { columns = columns; order = order })
+  drawn = wiring_of pins (record { begun = begun; columns = columns; order = order })
 
   abbrev done_at : ℕ → Column
   done_at n = get_or columns n no_column
 
   abbrev before_at : ℕ → List Track
-  before_at n = tracks_after pins columns n
+  before_at n = tracks_after begun pins columns n
 
   abbrev since_at : ℕ → ℕ → ℕ
-  since_at n = since_from pins 0 [] (λ id. 0) (take n columns)
+  since_at n = since_from pins 0 (free_tracks begun) (λ id. 0) (take n columns)
 
   in_segments : (s : Segment) → Contains drawn.segments s → (n : ℕ) × (n < length columns) × Contains (segments_at order pins n (before_at n) (since_at n) (done_at n)) s
   in_segments s member =
-      let found = in_segments_from order pins 0 [] (λ id. 0) columns s member in
+      let found = in_segments_from order pins 0 (free_tracks begun) (λ id. 0) columns s member in
       let e : 0 + found.0 ≡ found.0 = omega arith in
       (found.0, found.1, subst (λ c. Contains (segments_at order pins c (before_at found.0) (since_at found.0) (done_at found.0)) s) e found.2)
 
   of_segments : (s : Segment) (n : ℕ) → n < length columns → Contains (segments_at order pins n (before_at n) (since_at n) (done_at n)) s → Contains drawn.segments s
   of_segments s n within member =
       let e : n ≡ 0 + n = omega arith in
-      of_segments_from order pins 0 [] (λ id. 0) columns s n within
+      of_segments_from order pins 0 (free_tracks begun) (λ id. 0) columns s n within
       (subst (λ c. Contains (segments_at order pins c (before_at n) (since_at n) (done_at n)) s) e member)
 
   in_vias : (v : Via) → Contains drawn.vias v → (n : ℕ) × (n < length columns) × Contains (vias_at order pins n (before_at n) (done_at n)) v
   in_vias v member =
-      let found = in_vias_from order pins 0 [] columns v member in
+      let found = in_vias_from order pins 0 (free_tracks begun) columns v member in
       let e : 0 + found.0 ≡ found.0 = omega arith in
       (found.0, found.1, subst (λ c. Contains (vias_at order pins c (before_at found.0) (done_at found.0)) v) e found.2)
 
   of_vias : (v : Via) (n : ℕ) → n < length columns → Contains (vias_at order pins n (before_at n) (done_at n)) v → Contains drawn.vias v
   of_vias v n within member =
       let e : n ≡ 0 + n = omega arith in
-      of_vias_from order pins 0 [] columns v n within (subst (λ c. Contains (vias_at order pins c (before_at n) (done_at n)) v) e member)
+      of_vias_from order pins 0 (free_tracks begun) columns v n within (subst (λ c. Contains (vias_at order pins c (before_at n) (done_at n)) v) e member)
 
   segment_part : (n : ℕ) (s : Segment) → Contains (segments_at order pins n (before_at n) (since_at n) (done_at n)) s → Part pins order course n (segment s)
   segment_part n s member =
@@ -212,7 +212,7 @@ module _ (pins : Pins) (columns : List Column) (fair : AllFair pins 0 1 [] colum
       (in_map (via_at pins order course n) id (filter test order) (in_filter test id order member has))))
 
   -- the wiring of a sweep is drawn by its course
-  pub IsDrawnBy-sweep : IsDrawnBy pins order course (wiring_of pins (record { columns = columns; order = order }))
+  pub IsDrawnBy-sweep : IsDrawnBy pins order course (wiring_of pins (record { begun = begun; columns = columns; order = order }))
   IsDrawnBy-sweep = record {
     columns = refl;
     tracks = refl;

@@ -1,13 +1,12 @@
-use Rattle.std.proofs.Common.{◌≡◌, ◌≢◌, inl, inr, ◌<◌, ◌≤◌, ◌+◌, ◌-◌, eqb, ℕ, zero, suc, List, true, refl, sym, subst, ap, ◌∙◌, arith, Contains, eq-eqb}
+use Rattle.std.proofs.Common.{◌≡◌, ◌≢◌, inl, inr, ◌<◌, ◌≤◌, ◌+◌, ◌-◌, eqb, ℕ, zero, suc, List, true, refl, sym, subst, ap, ◌∙◌, arith, eq-eqb}
 use Rattle.std.proofs.lemmas.Bool.{cases_lt, cases_eq, cases_Bool, cond-true, cond-false, ne_eqb}
 use Rattle.channel_model.specs.Pins.{Pins}
 use Rattle.channel_model.specs.Nets.{StandsIn}
 use Rattle.greedy_column.specs.declared.column.Track.{Track}
-use Rattle.greedy_column.specs.Tracks.{ids, held_by}
+use Rattle.greedy_column.specs.Tracks.{held_by}
 use Rattle.greedy_column.specs.Neighbours.{Holds}
 use Rattle.greedy_column.specs.Lawful.{IsLawful}
 use Rattle.greedy_column.specs.State.{AreNumbered}
-use Rattle.greedy_column.proofs.Members.{in_none}
 use Rattle.greedy_router.specs.SweepWiring.{leaves, since_after, net_there}
 use Rattle.greedy_router.proofs.EnteredLaws.{keeps-now, from-before}
 use Rattle.greedy_router.proofs.LeftLaws.{leaves-ended, CameFrom, goes-on, came-from, same-or-none}
@@ -44,7 +43,7 @@ module _ (pins : Pins) (order : List ℕ) (course : Course pins order) where
       came-from pins n (course.fresh n) (course.before n) (course.done n) (numbered n within) (lawful n within) net id (held-after n net id within held)
 
   pub none-first : (net id : ℕ) → Holds (course.before 0) net id → ⊥
-  none-first net id held = in_none id (subst (λ (l : List Track). Contains (ids l) id) course.first held.there)
+  none-first net id held = let some = held.net_is in omega (arith, some, held.held, course.first id)
 
   -- a net that holds a track stands in the channel
   pub stands : (n net id : ℕ) → n ≤ course.count → Holds (course.before n) net id → StandsIn pins net

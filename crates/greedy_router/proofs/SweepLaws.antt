@@ -4,6 +4,7 @@ use Rattle.std.proofs.lemmas.List.{take-append-le, take_all}
 use Rattle.std.proofs.lemmas.Bool.{and_parts, and_from, or_parts, ltb-true, ltb-false, lt-ltb}
 use Rattle.channel_model.specs.Pins.{Pins}
 use Rattle.choose_core.specs.declared.candidate.Candidate.{Candidate}
+use Rattle.choose_core.specs.declared.plan.Manner.{Manner}
 use Rattle.greedy_column.specs.declared.column.Track.{Track}
 use Rattle.greedy_column.specs.declared.column.Column.{Column}
 use Rattle.greedy_column.specs.Replay.{after, replay_from, replay}
@@ -39,26 +40,26 @@ AllFair-push pins column fresh before (first ∷ columns) done fair one =
           (subst (λ n. Fair pins n (fresh_after (fresh + length first.made) columns) (replay_from pins (suc column) (after pins column first before) columns) done) e one),
     )
 
-pub AllFollow-push : (may : List Candidate → ℕ → Type 0) (pins : Pins) (column fresh : ℕ) (before : List Track) (columns : List Column) (done : Column)
-    → AllFollow may pins column fresh before columns
-    → Follows may pins (column + length columns) (fresh_after fresh columns) (replay_from pins column before columns) done
-    → AllFollow may pins column fresh before (columns ++ done ∷ [])
-AllFollow-push may pins column fresh before [] done follows one =
-    let e : column + 0 ≡ column = omega arith in (subst (λ n. Follows may pins n fresh before done) e one, tt)
-AllFollow-push may pins column fresh before (first ∷ columns) done follows one =
+pub AllFollow-push : (manner : Manner) (may : List Candidate → ℕ → Type 0) (pins : Pins) (column fresh : ℕ) (before : List Track) (columns : List Column) (done : Column)
+    → AllFollow manner may pins column fresh before columns
+    → Follows manner may pins (column + length columns) (fresh_after fresh columns) (replay_from pins column before columns) done
+    → AllFollow manner may pins column fresh before (columns ++ done ∷ [])
+AllFollow-push manner may pins column fresh before [] done follows one =
+    let e : column + 0 ≡ column = omega arith in (subst (λ n. Follows manner may pins n fresh before done) e one, tt)
+AllFollow-push manner may pins column fresh before (first ∷ columns) done follows one =
     let e : column + suc (length columns) ≡ suc column + length columns = omega arith in (
       follows.0,
-      AllFollow-push may pins (suc column) (fresh + length first.made) (after pins column first before) columns done follows.1
-          (subst (λ n. Follows may pins n (fresh_after (fresh + length first.made) columns) (replay_from pins (suc column) (after pins column first before) columns) done) e one),
+      AllFollow-push manner may pins (suc column) (fresh + length first.made) (after pins column first before) columns done follows.1
+          (subst (λ n. Follows manner may pins n (fresh_after (fresh + length first.made) columns) (replay_from pins (suc column) (after pins column first before) columns) done) e one),
     )
 
 -- the tracks at an earlier moment stay as they were, and those at the last one are of all records
-pub tracks_after-push : (pins : Pins) (columns : List Column) (done : Column) (n : ℕ) → n ≤ length columns
-    → tracks_after pins (columns ++ done ∷ []) n ≡ tracks_after pins columns n
-tracks_after-push pins columns done n within = ap (λ (l : List Column). replay pins l) (take-append-le n columns (done ∷ []) within)
+pub tracks_after-push : (begun : ℕ) (pins : Pins) (columns : List Column) (done : Column) (n : ℕ) → n ≤ length columns
+    → tracks_after begun pins (columns ++ done ∷ []) n ≡ tracks_after begun pins columns n
+tracks_after-push begun pins columns done n within = ap (λ (l : List Column). replay begun pins l) (take-append-le n columns (done ∷ []) within)
 
-pub tracks_after-all : (pins : Pins) (columns : List Column) (n : ℕ) → n ≡ length columns → tracks_after pins columns n ≡ replay pins columns
-tracks_after-all pins columns n same = ap (λ (l : List Column). replay pins l) (take_all n columns (omega (arith, same)))
+pub tracks_after-all : (begun : ℕ) (pins : Pins) (columns : List Column) (n : ℕ) → n ≡ length columns → tracks_after begun pins columns n ≡ replay begun pins columns
+tracks_after-all begun pins columns n same = ap (λ (l : List Column). replay begun pins l) (take_all n columns (omega (arith, same)))
 
 -- what the tests of a sweep say
 pub past-is : (tracks : List Track) (taken last most : ℕ) → is_past tracks taken last most ≡ true → (most < length tracks) ⊎ ((taken ≡ last) × IsHeld tracks)

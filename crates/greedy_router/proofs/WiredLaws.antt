@@ -1,4 +1,4 @@
-use Rattle.std.proofs.Common.{◌≡◌, inl, inr, ◌<◌, ◌≤◌, ◌+◌, ℕ, List, [], length, refl, sym, subst, ap, arith, Contains}
+use Rattle.std.proofs.Common.{◌≡◌, inl, inr, ◌<◌, ◌≤◌, ◌+◌, ℕ, List, length, refl, sym, subst, ap, arith, Contains}
 use Rattle.std.proofs.lemmas.Bool.{cases_lt}
 use Rattle.std.proofs.lemmas.List.{take_all, get_or_past}
 use Rattle.channel_model.specs.Pins.{Pins, IsChannel}
@@ -9,7 +9,7 @@ use Rattle.channel_model.specs.Wired.{IsOnGrid, KeepsEdges, Wired}
 use Rattle.greedy_column.specs.declared.column.Track.{Track}
 use Rattle.greedy_column.specs.declared.column.Column.{Column}
 use Rattle.greedy_column.specs.Tracks.{ids}
-use Rattle.greedy_column.specs.Replay.{top_pin, bottom_pin, replay}
+use Rattle.greedy_column.specs.Replay.{top_pin, bottom_pin, free_tracks, replay}
 use Rattle.greedy_column.specs.Verticals.{Vertical, pin_verticals, line_at}
 use Rattle.greedy_column.specs.Neighbours.{Holds}
 use Rattle.greedy_column.specs.Fair.{AllFair}
@@ -93,13 +93,15 @@ module _ (pins : Pins) (order : List ℕ) (course : Course pins order) (wiring :
   }
 
 -- The wiring of a sweep that has ended connects its channel.
-pub sweep-wired : (pins : Pins) (tracks extra : ℕ) (sweep : Sweep) → IsChannel pins → AllFair pins 0 1 [] sweep.columns
-    → sweep.order ≡ ids (replay pins sweep.columns) → IsDone pins tracks extra sweep → Wired pins (wiring_of pins sweep)
+pub sweep-wired : (pins : Pins) (tracks extra : ℕ) (sweep : Sweep) → IsChannel pins → AllFair pins 0 (sweep.begun + 1) (free_tracks sweep.begun) sweep.columns
+    → sweep.order ≡ ids (replay sweep.begun pins sweep.columns) → IsDone pins tracks extra sweep → Wired pins (wiring_of pins sweep)
 sweep-wired pins tracks extra sweep channel fair order_is done =
+    let begun : ℕ = sweep.begun in
     let columns : List Column = sweep.columns in
-    let whole : tracks_after pins columns (length columns) ≡ replay pins columns = ap (replay pins) (take_all (length columns) columns (omega arith)) in
-    subst (λ order. Wired pins (wiring_of pins (record { columns = columns; order = order }))) (sym order_is)
-    (wired_course pins (ids (replay pins columns)) (course_of pins columns fair) (wiring_of pins (record { columns = columns; order = ids (replay pins columns) }))
-    (IsDrawnBy-sweep pins columns fair)
-    (λ net id held. done.ended (IsHeld-from (replay pins columns) net id (subst (λ (l : List Track). Holds l net id) whole held)))
+    let whole : tracks_after begun pins columns (length columns) ≡ replay begun pins columns = ap (replay begun pins) (take_all (length columns) columns (omega arith)) in
+    subst (λ order. Wired pins (wiring_of pins (record { begun = begun; columns = columns; order = order }))) (sym order_is)
+    (wired_course pins (ids (replay begun pins columns)) (course_of begun pins columns fair)
+    (wiring_of pins (record { begun = begun; columns = columns; order = ids (replay begun pins columns) }))
+    (IsDrawnBy-sweep begun pins columns fair)
+    (λ net id held. done.ended (IsHeld-from (replay begun pins columns) net id (subst (λ (l : List Track). Holds l net id) whole held)))
     channel.matched done.covers)

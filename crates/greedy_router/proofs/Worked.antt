@@ -13,11 +13,12 @@ use Rattle.greedy_router.specs.SweepWiring.{wiring_of}
 -- the sweep of the channel with bottom pins 1, 2 and top pins 2, 1
 abbrev pub crossed_sweep : Sweep
 crossed_sweep = record {
+  begun = 0;
   columns = first_column ∷ (second_column ∷ (last_column ∷ []));
   order = 1 ∷ (2 ∷ (3 ∷ []));
 }
 
-pub crossed_order : crossed_sweep.order ≡ ids (replay crossed crossed_sweep.columns)
+pub crossed_order : crossed_sweep.order ≡ ids (replay 0 crossed crossed_sweep.columns)
 crossed_order = refl
 
 -- Its wiring. Column 0: the pins enter tracks 1 and 2. Column 1: they enter tracks 2 and 3, and track 2 ends. Column 2: tracks 1 and 3
@@ -57,6 +58,7 @@ straight_pins = record {
 
 abbrev straight_sweep : Sweep
 straight_sweep = record {
+  begun = 0;
   columns = first_column ∷ (second_column ∷ (third_column ∷ []));
   order = 1 ∷ (2 ∷ (3 ∷ []));
 }
@@ -94,6 +96,7 @@ moving_pins = record {
 
 abbrev moving_sweep : Sweep
 moving_sweep = record {
+  begun = 0;
   columns = first_column ∷ (entering_top 2 (2 ∷ []) [] ∷ (entering_top 0 [] ((1, 2) ∷ []) ∷ (entering_top 2 (2 ∷ []) [] ∷ [])));
   order = 1 ∷ (2 ∷ []);
 }

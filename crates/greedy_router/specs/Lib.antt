@@ -2,6 +2,8 @@
 pub mod Moments
 -- the records that a sweep is of, and when it has ended or passes its limits
 pub mod Sweeps
+-- how many free tracks a sweep begins with
+pub mod Begun
 -- the wiring of a sweep that has ended
 pub mod SweepWiring
 -- what the calls answer
@@ -10,3 +12,5 @@ pub mod Answers
 pub mod Tables
 -- the records of a sweep that goes on
 pub mod Running
+-- which of two routed channels is kept
+pub mod Planning

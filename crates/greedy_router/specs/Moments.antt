@@ -5,9 +5,9 @@ use Rattle.greedy_column.specs.declared.column.Track.{Track}
 use Rattle.greedy_column.specs.declared.column.Column.{Column}
 use Rattle.greedy_column.specs.Replay.{replay}
 
--- the tracks after the first n of these columns
-abbrev pub tracks_after : Pins → List Column → ℕ → List Track
-tracks_after pins columns n = replay pins (take n columns)
+-- the tracks after the first n of these columns of a sweep that begins with so many free tracks
+abbrev pub tracks_after : ℕ → Pins → List Column → ℕ → List Track
+tracks_after begun pins columns n = replay begun pins (take n columns)
 
 -- how many tracks nets hold
 abbrev pub held_count : List Track → ℕ

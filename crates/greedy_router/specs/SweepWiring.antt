@@ -8,7 +8,7 @@ use Rattle.channel_model.specs.declared.wiring.Wiring.{Wiring}
 use Rattle.greedy_column.specs.declared.column.Track.{Track}
 use Rattle.greedy_column.specs.declared.column.Column.{Column}
 use Rattle.greedy_column.specs.Tracks.{held_by, line_of}
-use Rattle.greedy_column.specs.Replay.{entered, after}
+use Rattle.greedy_column.specs.Replay.{entered, after, free_tracks}
 use Rattle.greedy_column.specs.Verticals.{Vertical, line_at, pin_verticals, verticals}
 use Rattle.greedy_router.specs.declared.sweep.Sweep.{Sweep}
 
@@ -81,6 +81,6 @@ abbrev pub wiring_of : Pins → Sweep → Wiring
 wiring_of pins sweep = record {
   tracks = length sweep.order;
   columns = length sweep.columns;
-  segments = segments_from sweep.order pins 0 [] (λ id. 0) sweep.columns;
-  vias = vias_from sweep.order pins 0 [] sweep.columns;
+  segments = segments_from sweep.order pins 0 (free_tracks sweep.begun) (λ id. 0) sweep.columns;
+  vias = vias_from sweep.order pins 0 (free_tracks sweep.begun) sweep.columns;
 }

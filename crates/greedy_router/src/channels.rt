@@ -1,35 +1,58 @@
-ghost use Rattle.greedy_router.specs.Answers.{AreRouted};
+ghost use Rattle.greedy_router.specs.Answers.{AreRouted, IsRoutedAs};
 ghost use Rattle.std.specs.Prelude.{◌≡◌, IfOk};
 
-use crate::routing::route_within;
+use crate::edges::route_free;
+use crate::planning::route_planned;
 use crate::sweep::Routed;
 use channel_model::Channel;
-use choose_core::{Chooser, Chooses};
+use choose_core::{Chooser, Chooses, Plan, Style};
 use std::alloc::{AllocError, Global};
+
+// Routes a channel by its left edges, where that is asked for and it has no vertical constraint, and else by the best sweep of a plan.
+fn route_one<C: Chooses>(
+    alloc: Global,
+    channel: &Channel,
+    chooser: &C,
+    plan: &Plan,
+    edge: bool,
+) -> Result<Routed, AllocError>
+    ensures { IfOk result (λ routed. IsRoutedAs edge plan.now (C.answers chooser.now) channel.now routed) }
+{
+    if edge {
+        if let Some(routed) = route_free(alloc, channel)? {
+            return Ok(routed);
+        }
+    }
+    route_planned(alloc, channel, chooser, plan)
+}
 
 // Routes channels, for all that chooses.
 fn route_all<C: Chooses>(
     alloc: Global,
     channels: &[Channel],
     chooser: &C,
+    plan: &Plan,
+    edge: bool,
 ) -> Result<Vec<Routed>, AllocError>
-    ensures { IfOk result (λ routed. AreRouted (C.answers chooser.now) channels.now routed.items) }
+    ensures { IfOk result (λ routed. AreRouted edge plan.now (C.answers chooser.now) channels.now routed.items) }
 {
     let mut routed = Vec::new(alloc);
     for channel in channels {
-        routed.push(route_within(alloc, channel, chooser)?)?;
+        routed.push(route_one(alloc, channel, chooser, plan, edge)?)?;
     }
     Ok(routed)
 }
 
-/// Routes channels, each of N nets with 2N tracks and N columns beyond the channel's, as `route_channel` does. The one error is
-/// want of memory.
+/// Routes channels: with `edge` those without vertical constraints by the left edges of their nets, and all others as `route_best` does.
+/// The one error is want of memory.
 pub fn route_channels(
     alloc: Global,
     channels: &[Channel],
-    chooser: &Chooser,
+    style: &Style,
+    edge: bool,
 ) -> Result<Vec<Routed>, AllocError>
-    ensures { IfOk result (λ routed. AreRouted (⟦<Chooser as Chooses>⟧.answers chooser.now) channels.now routed.items) }
+    ensures { IfOk result (λ routed.
+        AreRouted edge style.now.plan (⟦<Chooser as Chooses>⟧.answers style.now.chooser) channels.now routed.items) }
 {
-    route_all(alloc, channels, chooser)
+    route_all(alloc, channels, &style.chooser, &style.plan, edge)
 }

@@ -1,9 +1,13 @@
 //! The greedy channel router of Rivest and Fiduccia (1982): a sweep of a channel column by column, the wiring of a sweep that
-//! has ended, and the choice between it and the plain router.
+//! has ended, the choice between it and the plain router, the best of several sweeps, and the left edges of a channel that has no
+//! vertical constraint.
 #![tactic(auto)]
 
+mod begun;
 mod channels;
+mod edges;
 mod pieces;
+mod planning;
 mod routing;
 mod running;
 mod sweep;
@@ -12,6 +16,8 @@ mod tables;
 mod wiring;
 
 pub use channels::route_channels;
+pub use edges::route_edge;
+pub use planning::route_best;
 pub use routing::route_channel;
 pub use sweep::{By, Routed, Sweep, Swept};
 pub use sweeping::run_sweep;

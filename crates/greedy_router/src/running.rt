@@ -3,7 +3,7 @@ ghost use Rattle.greedy_router.specs.Running.{IsRun, is_going, is_held, is_past,
 ghost use Rattle.std.specs.Prelude.{◌≡◌, ◌≤◌, ◌+◌, IfOk, length, false};
 
 use channel_model::Channel;
-use choose_core::Chooses;
+use choose_core::{Chooses, Manner};
 use greedy_column::{Ahead, Column, ColumnState, Track, step_with};
 use std::alloc::{AllocError, Global};
 
@@ -50,30 +50,33 @@ pub struct Run {
     pub over: bool,
 }
 
-// Takes columns as long as the sweep goes on.
+// Takes columns as long as the sweep goes on, from so many free tracks.
 pub fn run_columns<C: Chooses>(
     alloc: Global,
     channel: &Channel,
+    manner: Manner,
+    begun: u32,
     chooser: &C,
     tracks: u32,
     extra: u32,
 ) -> Result<Run, AllocError>
-    ensures run { IfOk result (λ run. IsRun (C.answers chooser.now) channel.now tracks extra
+    requires begun { begun ≤ 16000000 }
+    ensures run { IfOk result (λ run. IsRun manner begun (C.answers chooser.now) channel.now tracks extra
         run.columns.items run.state.fresh run.state.order) }
     ensures over { IfOk result (λ run. run.over
         ≡ is_past run.state.order (length run.columns.items) (length channel.now.top + extra) tracks) }
     ensures stopped { IfOk result (λ run. is_going run.state.order (length run.columns.items) (length channel.now.top)
         (length channel.now.top + extra) tracks ≡ false) }
-    ensures fresh { IfOk result (λ run. run.state.fresh ≤ 8000001) }
+    ensures fresh { IfOk result (λ run. run.state.fresh ≤ 24000001) }
 {
     let ahead = Ahead::new(alloc, channel)?;
-    let mut state = ColumnState::new(alloc)?;
+    let mut state = ColumnState::new(alloc, begun)?;
     let mut columns = Vec::new(alloc);
     let width = channel.top.items().len();
     let last = width + extra as usize;
     'columns: while is_going(state.order.items(), columns.len(), width, last, tracks) {
         let column = columns.len() as u32;
-        let done = step_with(alloc, &mut state, channel, &ahead, column, chooser)?;
+        let done = step_with(alloc, &mut state, channel, &ahead, column, manner, chooser)?;
         columns.push(done)?;
     }
     let over = is_past(state.order.items(), columns.len(), last, tracks);

@@ -2,10 +2,11 @@ use channel_model::Wiring;
 use geom_core::Items;
 use greedy_column::Column;
 
-/// A sweep of a channel: the records of its columns, from the left, and the ids of its tracks after the last of them, from bottom
-/// to top.
+/// A sweep of a channel: how many free tracks it begins with, the records of its columns, from the left, and the ids of its tracks after
+/// the last of them, from bottom to top.
 #[derive(Debug, Drop)]
 pub struct Sweep {
+    pub begun: u32,
     pub columns: Items<Column>,
     pub order: Items<u32>,
 }
@@ -24,9 +25,12 @@ pub enum Swept {
 pub enum By {
     Greedy,
     Plain,
+    /// The left-edge router.
+    Edge,
 }
 
-/// A routed channel: its wiring, which router that is of, and the sweep that was made in either case.
+/// A routed channel: its wiring, which router that is of, and the sweep that was made; by the left-edge router that is one without
+/// columns and tracks.
 #[derive(Debug, Drop)]
 pub struct Routed {
     pub by: By,

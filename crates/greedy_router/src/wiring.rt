@@ -1,7 +1,7 @@
 ghost use Rattle.greedy_column.specs.Fair.{AllFair};
 ghost use Rattle.greedy_column.specs.Lawful.{AreMadeFrom};
 ghost use Rattle.greedy_column.specs.Joining.{span_in};
-ghost use Rattle.greedy_column.specs.Replay.{after, entered, replay};
+ghost use Rattle.greedy_column.specs.Replay.{after, entered, free_tracks, replay};
 ghost use Rattle.greedy_column.specs.Tracks.{held_by, ids};
 ghost use Rattle.greedy_column.specs.Verticals.{Vertical, pin_verticals, verticals};
 ghost use Rattle.greedy_column.specs.declared.column.Column.{Column};
@@ -9,12 +9,12 @@ ghost use Rattle.greedy_column.specs.declared.column.Track.{Track};
 ghost use Rattle.greedy_router.specs.SweepWiring.{across, alongs, column_segments, column_vias, segments_from, since_after, vias_from};
 ghost use Rattle.greedy_router.specs.Tables.{Tells, column_segments_by, since_by};
 ghost use Rattle.std.specs.List.Sorted.{IsNonDecreasing};
-ghost use Rattle.std.specs.Prelude.{◌≡◌, ◌<◌, ◌+◌, ◌^◌, ◌++◌, [], ℕ, List, IfOk, OnOk, Contains, All, length, map, slice_index};
+ghost use Rattle.std.specs.Prelude.{◌≡◌, ◌<◌, ◌≤◌, ◌+◌, ◌^◌, ◌++◌, ℕ, List, IfOk, OnOk, Contains, All, length, map, slice_index};
 
 use crate::pieces::{alongs, column_vias, pair_spans, push_across};
 use crate::tables::{nets_by_id, note_column};
 use channel_model::{Channel, Segment, Via};
-use greedy_column::{Column, Span, Track, entered, left, pin_in, pin_spans};
+use greedy_column::{Column, ColumnState, Span, Track, entered, left, pin_in, pin_spans};
 use std::alloc::{AllocError, Global};
 
 // The segments and the vias of some columns.
@@ -187,23 +187,34 @@ fn wire_column(
     Ok(later)
 }
 
-// The segments and the vias of all columns, where the final order has ids below `room`.
+// So many free tracks.
+fn free_tracks(alloc: Global, begun: u32) -> Result<Vec<Track>, AllocError>
+    requires { begun ≤ 16000000 }
+    ensures { IfOk result (λ tracks. tracks.items ≡ free_tracks begun) }
+{
+    let first = ColumnState::new(alloc, begun)?;
+    first.order.items().to_vec(alloc)
+}
+
+// The segments and the vias of all columns of a sweep that began with so many free tracks, where the final order has ids below `room`.
 pub fn wire_columns(
     alloc: Global,
     channel: &Channel,
+    begun: u32,
     columns: &[Column],
     order: &[Track],
     room: usize,
 ) -> Result<Wires, AllocError>
-    requires fair { AllFair channel.now 0 1 [] columns.now }
+    requires begun { begun ≤ 16000000 }
+    requires fair { AllFair channel.now 0 (begun + 1) (free_tracks begun) columns.now }
     requires ascending { All (λ (done : Column). IsNonDecreasing done.ended) columns.now }
-    requires order { order.now ≡ replay channel.now columns.now }
+    requires order { order.now ≡ replay begun channel.now columns.now }
     requires below { (id : ℕ) → Contains (ids order.now) id → id < room }
     requires few_tracks { length order.now + 1 < 2 ^ 32 }
     requires few_columns { length columns.now < 2 ^ 32 }
     ensures segments { IfOk result (λ wires. wires.segments.items
-        ≡ segments_from (ids order.now) channel.now 0 [] (λ id. 0) columns.now) }
-    ensures vias { IfOk result (λ wires. wires.vias.items ≡ vias_from (ids order.now) channel.now 0 [] columns.now) }
+        ≡ segments_from (ids order.now) channel.now 0 (free_tracks begun) (λ id. 0) columns.now) }
+    ensures vias { IfOk result (λ wires. wires.vias.items ≡ vias_from (ids order.now) channel.now 0 (free_tracks begun) columns.now) }
 {
     let mut wires = Wires {
         segments: Vec::new(alloc),
@@ -211,7 +222,7 @@ pub fn wire_columns(
     };
     let mut table = vec![in alloc; 0; room]?;
     let since = table.as_mut_slice();
-    let mut before = Vec::new(alloc);
+    let mut before = free_tracks(alloc, begun)?;
     let mut column = 0u32;
     let mut rest = columns;
     while let Some((done, later)) = rest.split_first() {

@@ -1,5 +1,5 @@
-//! Tests of the greedy channel router: the styles, sweeps and wirings of small channels, and many made channels whose wirings are
-//! looked at point by point.
+//! Tests of the greedy channel router: the styles, sweeps and wirings of small channels, sweeps that begin with free tracks, the best of
+//! several, channels without constraints, and many made channels whose wirings are looked at point by point.
 #![tactic(auto)]
 
 #[cfg(test)]
@@ -7,7 +7,17 @@ mod choosers;
 #[cfg(test)]
 mod connected;
 #[cfg(test)]
+mod deft_tests;
+#[cfg(test)]
+mod free_tracks_tests;
+#[cfg(test)]
+mod left_edge_tests;
+#[cfg(test)]
+mod made;
+#[cfg(test)]
 mod made_tests;
+#[cfg(test)]
+mod plan_tests;
 #[cfg(test)]
 mod style_tests;
 #[cfg(test)]

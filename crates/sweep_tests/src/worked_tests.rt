@@ -1,13 +1,14 @@
 //! Sweeps and wirings of small channels, as worked out by hand.
 
-use crate::choosers::near_chooser;
+use crate::choosers::{near_chooser, near_style};
 use channel_model::{Channel, Segment, Via, Wiring};
+use choose_core::Manner;
 use greedy_router::{By, Routed, Swept, route_channel, route_channels, run_sweep};
 use std::alloc::Global;
 use std::test::Fail;
 
-// A channel with these pins.
-fn channel_of(alloc: Global, top: &[u32], bottom: &[u32]) -> Result<Channel, Fail> {
+/// A channel with these pins.
+pub fn channel_of(alloc: Global, top: &[u32], bottom: &[u32]) -> Result<Channel, Fail> {
     Ok(Channel::new(top.to_vec(alloc)?, bottom.to_vec(alloc)?).ok_or("a channel")?)
 }
 
@@ -21,7 +22,15 @@ fn end_of(
 ) -> Result<(bool, usize, usize), Fail> {
     let channel = channel_of(alloc, top, bottom)?;
     let chooser = near_chooser(alloc)?;
-    let (over, sweep) = match run_sweep(alloc, &channel, &chooser, tracks, extra)? {
+    let (over, sweep) = match run_sweep(
+        alloc,
+        &channel,
+        Manner::Published,
+        0,
+        &chooser,
+        tracks,
+        extra,
+    )? {
         Swept::Finished {
             sweep,
             wiring: _wiring,
@@ -84,7 +93,15 @@ fn via(net: u32, column: u32, track: u32) -> Via {
 fn routed_crossed(alloc: Global, tracks: u32, extra: u32) -> Result<Routed, Fail> {
     let channel = channel_of(alloc, &[2, 1], &[1, 2])?;
     let chooser = near_chooser(alloc)?;
-    Ok(route_channel(alloc, &channel, &chooser, tracks, extra)?)
+    Ok(route_channel(
+        alloc,
+        &channel,
+        Manner::Published,
+        0,
+        &chooser,
+        tracks,
+        extra,
+    )?)
 }
 
 #[test]
@@ -155,8 +172,8 @@ fn channels_in_their_order(rt: HostRuntime) -> Result<(), Fail> {
     channels.push(channel_of(alloc, &[2, 1], &[1, 2])?)?;
     channels.push(channel_of(alloc, &[0, 0], &[0, 0])?)?;
     channels.push(channel_of(alloc, &[3, 0], &[0, 3])?)?;
-    let chooser = near_chooser(alloc)?;
-    let routed = route_channels(alloc, &channels, &chooser)?;
+    let style = near_style(alloc, 0, &[])?;
+    let routed = route_channels(alloc, &channels, &style, false)?;
     assert_eq!(rt; routed.len(), 3);
     assert_eq!(rt; (routed[0].wiring.tracks, routed[0].wiring.columns), (3, 3));
     assert_eq!(rt; (routed[1].wiring.tracks, routed[1].wiring.columns), (0, 2));

@@ -1,4 +1,3 @@
-use Rattle.channel_model.specs.Nets.{AreNets}
 use Rattle.channel_model.proofs.ListingLaws.{AreNets-from_sort}
 use Rattle.channel_model.proofs.NetsOf.{nets-one}
 use Rattle.channel_model.proofs.nets.nets_of.Goals as goal

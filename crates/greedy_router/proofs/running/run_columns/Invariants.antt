@@ -6,9 +6,9 @@ use Rattle.greedy_router.proofs.running.run_columns.Given as goal
 
 abbrev pub invariant-columns : goal.invariant-columns
 invariant-columns g l = record {
-  run : IsRun (g.C.Chooses.answers l.chooser) l.channel l.tracks l.extra l.columns.items l.state.fresh l.state.order;
+  run : IsRun l.manner l.begun (g.C.Chooses.answers l.chooser) l.channel l.tracks l.extra l.columns.items l.state.fresh l.state.order;
   state : IsState l.channel l.state;
-  fresh : l.state.fresh ≡ fresh_after 1 l.columns.items;
+  fresh : l.state.fresh ≡ fresh_after (l.begun + 1) l.columns.items;
 }
 
 abbrev pub decreases-columns : goal.decreases-columns

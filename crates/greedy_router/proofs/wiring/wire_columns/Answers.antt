@@ -18,14 +18,14 @@ loop-done-init c =
     let long : length c.as_mut_slice-since.result.now ≡ c.args.room = search rules in
     record {
       counted = omega arith;
-      fair = (1, rw c.new-before.ensures.items c.requires.fair);
+      fair = (c.args.begun + 1, rw c.in_ok-before.ensures c.requires.fair);
       ascending = c.requires.ascending;
-      replay = rw c.new-before.ensures.items c.requires.order;
+      replay = rw c.in_ok-before.ensures c.requires.order;
       below = λ id member. let less = c.requires.below id member in omega (arith, less, long);
-      segments = rw (c.new.ensures.items, c.new-before.ensures.items)
+      segments = rw (c.new.ensures.items, c.in_ok-before.ensures)
           (segments_from-agree (ids c.args.order.now) c.args.channel.now 0 _ (λ id. get_or c.as_mut_slice-since.result.now id 0) (λ id. 0) c.args.columns.now
           (λ id member. ap (λ l. get_or l id 0) blank ∙ get_or-replicate c.args.room id 0 0 (c.requires.below id member)));
-      vias = rw (c.new-2.ensures.items, c.new-before.ensures.items);
+      vias = rw (c.new-2.ensures.items, c.in_ok-before.ensures);
     }
 
 pub wire_column-requires-clause-ascending : goal.wire_column-requires-clause-ascending
@@ -57,20 +57,20 @@ loop-done-preserved c =
     let cut : c.loop-done.rest.now ≡ done ∷ later = search rules in
     let kept = rw cut at c.loop-done.invariant in
     let one : column + 1 ≡ suc column = add-one column in
-    let made = rw c.deref.ensures.value at c.in_ok-before.ensures in
-    let left : c.in_ok-before.before.items ≡ after pins column done before = made.after in
+    let made = rw c.deref.ensures.value at c.in_ok-before-2.ensures in
+    let left : c.in_ok-before-2.before.items ≡ after pins column done before = made.after in
     let long : length c.wire_column.new.since ≡ length c.loop-done.since = search rules in
     let noted : (id : ℕ) → Contains order id → get_or c.wire_column.new.since id 0 ≡ since_after column before (λ i. get_or c.loop-done.since i 0) id =
     λ id member. made.since id (let less = kept.below id member in omega (arith, less, long)) in
     record {
       counted = omega (arith, kept.counted);
-      fair = fair-more pins column (column + 1) kept.fair.0 before c.in_ok-before.before.items done later one left kept.fair.1;
+      fair = fair-more pins column (column + 1) kept.fair.0 before c.in_ok-before-2.before.items done later one left kept.fair.1;
       ascending = All-tail (λ (d : Column). IsNonDecreasing d.ended) done later kept.ascending;
-      replay = replay-more pins column (column + 1) before c.in_ok-before.before.items c.args.order.now done later one left kept.replay;
+      replay = replay-more pins column (column + 1) before c.in_ok-before-2.before.items c.args.order.now done later one left kept.replay;
       below = λ id member. let less = kept.below id member in omega (arith, less, long);
-      segments = segments-more order pins column (column + 1) before c.in_ok-before.before.items done later c.loop-done.wires.segments.items
+      segments = segments-more order pins column (column + 1) before c.in_ok-before-2.before.items done later c.loop-done.wires.segments.items
           c.wire_column.new.wires.segments.items _ (λ id. get_or c.loop-done.since id 0) (λ id. get_or c.wire_column.new.since id 0) one left noted
           made.segments kept.segments;
-      vias = vias-more order pins column (column + 1) before c.in_ok-before.before.items done later c.loop-done.wires.vias.items
+      vias = vias-more order pins column (column + 1) before c.in_ok-before-2.before.items done later c.loop-done.wires.vias.items
           c.wire_column.new.wires.vias.items _ one left made.vias kept.vias;
     }

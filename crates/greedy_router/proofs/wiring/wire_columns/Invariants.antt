@@ -1,8 +1,8 @@
-use Rattle.std.proofs.Common.{◌≡◌, ◌<◌, ◌+◌, ◌++◌, ℕ, [], get_or, length, All, Contains}
+use Rattle.std.proofs.Common.{◌≡◌, ◌<◌, ◌+◌, ◌++◌, ℕ, get_or, length, All, Contains}
 use Rattle.std.specs.List.Sorted.{IsNonDecreasing}
 use Rattle.greedy_column.specs.declared.column.Column.{Column}
 use Rattle.greedy_column.specs.Tracks.{ids}
-use Rattle.greedy_column.specs.Replay.{replay_from}
+use Rattle.greedy_column.specs.Replay.{free_tracks, replay_from}
 use Rattle.greedy_column.specs.Fair.{AllFair}
 use Rattle.greedy_router.specs.SweepWiring.{segments_from, vias_from}
 use Rattle.greedy_router.proofs.wiring.wire_columns.Given as goal
@@ -16,9 +16,9 @@ invariant-loop-done l = record {
   below : (id : ℕ) → Contains (ids l.order) id → id < length l.since;
   segments : l.wires.segments.items
       ++ segments_from (ids l.order) l.channel l.column l.before.items (λ id. get_or l.since id 0) l.rest
-      ≡ segments_from (ids l.order) l.channel 0 [] (λ id. 0) l.columns;
+      ≡ segments_from (ids l.order) l.channel 0 (free_tracks l.begun) (λ id. 0) l.columns;
   vias : l.wires.vias.items ++ vias_from (ids l.order) l.channel l.column l.before.items l.rest
-      ≡ vias_from (ids l.order) l.channel 0 [] l.columns;
+      ≡ vias_from (ids l.order) l.channel 0 (free_tracks l.begun) l.columns;
 }
 
 abbrev pub decreases-loop-done : goal.decreases-loop-done
