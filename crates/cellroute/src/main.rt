@@ -3,14 +3,14 @@
 #![tactic(auto)]
 
 ghost use Rattle.choose_core.specs.Answers.{IsAsked};
-ghost use Rattle.choose_core.specs.Styles.{IsFirstLeast, IsLean, gap_of};
+ghost use Rattle.choose_core.specs.Styles.{IsDeft, IsFirstLeast, IsLean, gap_of};
 ghost use Rattle.std.specs.Prelude.{◌≡◌, ◌+◌, ◌<◌, length};
 
-use choose_core::{Candidate, Choice, Chooser, high, lean, near};
+use choose_core::{Candidate, Choice, Chooser, Manner, Plan, Style, deft, high, lean, near};
 use commands::{Word, run};
-use geom_core::Name;
+use geom_core::{Items, Name};
 use shelf_io::{HostShelf, HostSink};
-use std::alloc::AllocError;
+use std::alloc::{AllocError, Global};
 use std::process::ExitCode;
 use std::{env, io};
 
@@ -24,10 +24,26 @@ fn main(rt: HostRuntime) -> ExitCode {
     }
 }
 
-// Does what the words ask for, with the styles `near`, `lean` and `high`, and gives the status.
+// Does what the words ask for, with the styles `best`, `deft`, `near`, `lean` and `high`, and gives the status.
 fn done(rt: &HostRuntime) -> Result<u8, AllocError> {
     let alloc = rt.alloc();
     let words = words(rt)?;
+    let best_choice: Choice = Box::new(
+        alloc,
+        |list: &[Candidate]| -> usize
+            requires { IsAsked list.now }
+            ensures deft { IsDeft list.entry.now result }
+            ensures within { result < length list.entry.now }
+        { deft(list) },
+    )?;
+    let deft_choice: Choice = Box::new(
+        alloc,
+        |list: &[Candidate]| -> usize
+            requires { IsAsked list.now }
+            ensures deft { IsDeft list.entry.now result }
+            ensures within { result < length list.entry.now }
+        { deft(list) },
+    )?;
     let near_choice: Choice = Box::new(
         alloc,
         |list: &[Candidate]| -> usize
@@ -53,13 +69,45 @@ fn done(rt: &HostRuntime) -> Result<u8, AllocError> {
         { high(list) },
     )?;
     let styles = [
-        Chooser::new(Name::new(b"near".to_vec(alloc)?), near_choice),
-        Chooser::new(Name::new(b"lean".to_vec(alloc)?), lean_choice),
-        Chooser::new(Name::new(b"high".to_vec(alloc)?), high_choice),
+        Style {
+            chooser: Chooser::new(Name::new(b"best".to_vec(alloc)?), best_choice),
+            plan: best_plan(alloc)?,
+        },
+        Style {
+            chooser: Chooser::new(Name::new(b"deft".to_vec(alloc)?), deft_choice),
+            plan: Plan::of_one(alloc, Manner::LookingAhead, 100),
+        },
+        Style {
+            chooser: Chooser::new(Name::new(b"near".to_vec(alloc)?), near_choice),
+            plan: published(alloc),
+        },
+        Style {
+            chooser: Chooser::new(Name::new(b"lean".to_vec(alloc)?), lean_choice),
+            plan: published(alloc),
+        },
+        Style {
+            chooser: Chooser::new(Name::new(b"high".to_vec(alloc)?), high_choice),
+            plan: published(alloc),
+        },
     ];
     let mut out = HostSink::new(rt);
     let mut shelf = HostShelf::new(rt);
     Ok(run(alloc, words.as_slice(), &mut shelf, &mut out, &styles).status)
+}
+
+// One sweep as it was published.
+fn published(alloc: Global) -> Plan {
+    Plan::of_one(alloc, Manner::Published, 0)
+}
+
+// Four sweeps that look ahead: with as many free tracks as are needed, with a little more room, and with none.
+fn best_plan(alloc: Global) -> Result<Plan, AllocError> {
+    let others = vec![in alloc; 110, 120, 0]?;
+    Ok(Plan {
+        manner: Manner::LookingAhead,
+        first: 100,
+        others: Items::new(others),
+    })
 }
 
 // The words after the program's name. Where one is no UTF-8 there are none, which make no command.

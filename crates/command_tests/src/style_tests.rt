@@ -3,7 +3,7 @@
 ghost use Rattle.choose_core.specs.Answers.{IsAsked};
 ghost use Rattle.std.specs.Prelude.{◌<◌, length};
 
-use crate::support::{ended, shelf_of, words};
+use crate::support::{ended, published, shelf_of, words};
 use choose_core::{Candidate, Choice, Chooser};
 use commands::{Ended, run};
 use geom_core::Name;
@@ -93,7 +93,10 @@ fn ended_by_counting(
             0
         },
     )?;
-    let styles = [Chooser::new(Name::new(b"counting".to_vec(alloc)?), choice)];
+    let styles = [published(
+        alloc,
+        Chooser::new(Name::new(b"counting".to_vec(alloc)?), choice),
+    )];
     let mut out = MemSink::new(alloc)?;
     let words = words(alloc, "route|d|r|o|--rows|2|--style|counting")?;
     Ok(run(alloc, words.as_slice(), shelf, &mut out, &styles).status)

@@ -3,7 +3,7 @@
 ghost use Rattle.choose_core.specs.Answers.{IsAsked};
 ghost use Rattle.std.specs.Prelude.{◌<◌, length};
 
-use choose_core::{Candidate, Choice, Chooser, high, lean, near};
+use choose_core::{Candidate, Choice, Chooser, Manner, Plan, Style, high, lean, near};
 use commands::{Ended, Word, run};
 use geom_core::Name;
 use samples::{INVERTER, RULES, design_text};
@@ -71,6 +71,14 @@ pub fn inverter_shelf(alloc: Global) -> Result<MemShelf, AllocError> {
     shelf_of(alloc, RULES, INVERTER, "u1 INV n1;\n")
 }
 
+/// The style of one sweep as it was published, without free tracks to begin with.
+pub fn published(alloc: Global, chooser: Chooser) -> Style {
+    Style {
+        chooser,
+        plan: Plan::of_one(alloc, Manner::Published, 0),
+    }
+}
+
 /// How these words end over this shelf and this sink, with the styles `near`, `lean` and `high`.
 pub fn ended(
     alloc: Global,
@@ -100,9 +108,18 @@ pub fn ended(
         { high(list) },
     )?;
     let styles = [
-        Chooser::new(Name::new(b"near".to_vec(alloc)?), near_choice),
-        Chooser::new(Name::new(b"lean".to_vec(alloc)?), lean_choice),
-        Chooser::new(Name::new(b"high".to_vec(alloc)?), high_choice),
+        published(
+            alloc,
+            Chooser::new(Name::new(b"near".to_vec(alloc)?), near_choice),
+        ),
+        published(
+            alloc,
+            Chooser::new(Name::new(b"lean".to_vec(alloc)?), lean_choice),
+        ),
+        published(
+            alloc,
+            Chooser::new(Name::new(b"high".to_vec(alloc)?), high_choice),
+        ),
     ];
     let words = words(alloc, text)?;
     Ok(run(alloc, words.as_slice(), shelf, out, &styles))

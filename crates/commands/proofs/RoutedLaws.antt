@@ -1,4 +1,4 @@
-use Rattle.std.proofs.Common.{◌≡◌, ap, sym, ◌∙◌, subst, refl, ◌≤◌, ◌+◌, ℕ, zero, suc, List, [], ◌∷◌, length, Some, All, Contains, arith}
+use Rattle.std.proofs.Common.{◌≡◌, ap, sym, ◌∙◌, subst, refl, ◌≤◌, ◌+◌, Bool, ℕ, zero, suc, List, [], ◌∷◌, length, Some, All, Contains, arith}
 use Rattle.std.proofs.lemmas.List.{length-map}
 use Rattle.std.proofs.lemmas.List.Elements.{All-weaker, All-contains_itself}
 use Rattle.std.proofs.lemmas.Option.{none-some, same_Some}
@@ -11,9 +11,10 @@ use Rattle.channel_model.specs.Wired.{Wired, IsOnGrid}
 use Rattle.channel_model.specs.declared.wiring.Wiring.{Wiring}
 use Rattle.channel_stack.specs.Routed.{AreWired, IsRouted}
 use Rattle.choose_core.specs.declared.candidate.Candidate.{Candidate}
+use Rattle.choose_core.specs.declared.plan.Plan.{Plan}
 use Rattle.design_model.specs.Netlist.{Netlist}
 use Rattle.feed_cells.specs.Fed.{Fed}
-use Rattle.greedy_router.specs.Answers.{AreRouted, IsRoutedWithin}
+use Rattle.greedy_router.specs.Answers.{AreRouted, IsRoutedAs}
 use Rattle.greedy_router.specs.declared.sweep.Routed.{Routed}
 use Rattle.pin_assign.specs.Bounds.{bound_of}
 use Rattle.pin_assign.specs.ChannelTables.{AreTablesFor}
@@ -36,14 +37,14 @@ pins-at (pins ∷ channels) (other ∷ kept) zero one same at = (pins, refl)
 pins-at (pins ∷ channels) (other ∷ kept) (suc k) one same at = pins-at channels kept k one (omega arith) at
 
 -- the same of equal lists
-pub told-routed : (may : List Candidate → ℕ → Type 0) (channels others : List Pins) (routed kept : List Routed) → channels ≡ others → kept ≡ routed
-    → AreRouted may channels routed → AreRouted may others kept
-told-routed may channels others routed kept same is made =
-    subst (λ (l : List Pins). AreRouted may l kept) same (subst (AreRouted may channels) (sym is) made)
+pub told-routed : (edge : Bool) (plan : Plan) (may : List Candidate → ℕ → Type 0) (channels others : List Pins) (routed kept : List Routed) → channels ≡ others → kept ≡ routed
+    → AreRouted edge plan may channels routed → AreRouted edge plan may others kept
+told-routed edge plan may channels others routed kept same is made =
+    subst (λ (l : List Pins). AreRouted edge plan may l kept) same (subst (AreRouted edge plan may channels) (sym is) made)
 
 -- where the channels of rows with feeds are routed
-module _ (may : List Candidate → ℕ → Type 0) (d : Netlist) (fed : Fed) (tables : AreTablesFor fed (tables_of d fed)) (kept : List Routed)
-    (routed : AreRouted may (tables_of d fed) kept) where
+module _ (edge : Bool) (plan : Plan) (may : List Candidate → ℕ → Type 0) (d : Netlist) (fed : Fed) (tables : AreTablesFor fed (tables_of d fed)) (kept : List Routed)
+    (routed : AreRouted edge plan may (tables_of d fed) kept) where
   each : length (wirings_of kept) ≡ length fed.rows + 1
   each = length-map kept (λ (r : Routed). r.wiring) ∙ routed.each ∙ tables.many
 
@@ -57,7 +58,7 @@ module _ (may : List Candidate → ℕ → Type 0) (d : Netlist) (fed : Fed) (ta
   }
 
   at : (k : ℕ) (w : Wiring) → slice_get (wirings_of kept) k ≡ Some w
-      → (pins : Pins) × ((slice_get (tables_of d fed) k ≡ Some pins) × ((one : Routed) × ((one.wiring ≡ w) × IsRoutedWithin may pins one)))
+      → (pins : Pins) × ((slice_get (tables_of d fed) k ≡ Some pins) × ((one : Routed) × ((one.wiring ≡ w) × IsRoutedAs edge plan may pins one)))
   at k w there =
       let one = wiring-at kept k w there in
       let pins = pins-at (tables_of d fed) kept k one.0 routed.each one.1 in

@@ -1,8 +1,9 @@
-use Rattle.std.proofs.Common.{◌≡◌, ◌∙◌, ◌<◌, List, length, get_or, ℕ, Option, Some, None, Result, Ok, Err, IfSome, inr, slice_get, refl, ap, subst, sym, arith}
+use Rattle.std.proofs.Common.{◌≡◌, ◌∙◌, ◌<◌, List, length, get_or, Bool, ℕ, Option, Some, None, Result, Ok, Err, IfSome, inr, slice_get, refl, ap, subst, sym, arith}
 use Rattle.std.proofs.lemmas.List.{take_all}
 use Rattle.std.proofs.lemmas.Option.{same_Some, slice_get-get_or}
 use Rattle.shelf_io.specs.Told.{Refines}
 use Rattle.choose_core.specs.declared.candidate.Candidate.{Candidate}
+use Rattle.choose_core.specs.declared.plan.Plan.{Plan}
 use Rattle.cif_writer.specs.LayoutText as written
 use Rattle.greedy_router.specs.Answers.{AreRouted}
 use Rattle.greedy_router.specs.declared.sweep.Routed.{Routed}
@@ -63,10 +64,11 @@ memory-ends said kept n before after old new stopped = record {
 }
 
 -- of a job that is accepted, with routed channels that are kept: how these are routed, and what the file holds
-pub routed-so : (may : List Candidate → ℕ → Type 0) (said : Result Accepted Refusal) (job : Job) (kept items : List Routed) → said ≡ Ok (to_lay_out job) → items ≡ kept
-    → AreRouted may (channels_of job) kept → IsRoutedSo may said items
-routed-so may said job kept items accepted same routed =
-    subst (λ (s : Result Accepted Refusal). IsRoutedSo may s items) (sym accepted) (subst (λ (k : List Routed). AreRouted may (channels_of job) k) (sym same) routed)
+pub routed-so : (edge : Bool) (plan : Plan) (may : List Candidate → ℕ → Type 0) (said : Result Accepted Refusal) (job : Job) (kept items : List Routed) → said ≡ Ok (to_lay_out job) → items ≡ kept
+    → AreRouted edge plan may (channels_of job) kept → IsRoutedSo edge plan may said items
+routed-so edge plan may said job kept items accepted same routed =
+    subst (λ (s : Result Accepted Refusal). IsRoutedSo edge plan may s items) (sym accepted)
+    (subst (λ (k : List Routed). AreRouted edge plan may (channels_of job) k) (sym same) routed)
 
 pub holds-so : (said : Result Accepted Refusal) (job : Job) (kept items : List Routed) (told : Option (List ℕ)) → said ≡ Ok (to_lay_out job) → items ≡ kept
     → Refines told (Some (job_text job kept)) → Holds said items told
@@ -111,22 +113,22 @@ job-said names told inputs said gives is =
     (told-next (inputs_told names.rules names.design told) inputs (λ (i : Inputs). Some (job_verdict names.wanted i)) said gives is))
 
 -- the same of what is said alike
-pub said-routed : (may : List Candidate → ℕ → Type 0) (said other : Result Accepted Refusal) (kept : List Routed) → said ≡ other → IsRoutedSo may other kept
-    → IsRoutedSo may said kept
-said-routed may said other kept same routed = subst (λ (s : Result Accepted Refusal). IsRoutedSo may s kept) (sym same) routed
+pub said-routed : (edge : Bool) (plan : Plan) (may : List Candidate → ℕ → Type 0) (said other : Result Accepted Refusal) (kept : List Routed) → said ≡ other
+    → IsRoutedSo edge plan may other kept → IsRoutedSo edge plan may said kept
+said-routed edge plan may said other kept same routed = subst (λ (s : Result Accepted Refusal). IsRoutedSo edge plan may s kept) (sym same) routed
 
 -- the channels that are kept are those of the command
-pub kept-so : {C : Type 0} (may : C → List Candidate → ℕ → Type 0) (styles : List C) (told : List ℕ → Option (List ℕ)) (done command : Command)
+pub kept-so : {C : Type 0} (styles : List C) (plan : C → Plan) (may : C → List Candidate → ℕ → Type 0) (told : List ℕ → Option (List ℕ)) (done command : Command)
     (said : Result Accepted Refusal) (kept : List Routed) → command ≡ done → command_verdict command told ≡ Some said
-    → ((s : Result Accepted Refusal) → command_verdict done told ≡ Some s → AreKept may styles done s kept) → AreKept may styles command said kept
-kept-so may styles told done command said kept one says routed =
-    subst (λ (c : Command). AreKept may styles c said kept) (sym one) (routed said (ap (λ (c : Command). command_verdict c told) (sym one) ∙ says))
+    → ((s : Result Accepted Refusal) → command_verdict done told ≡ Some s → AreKept styles plan may done s kept) → AreKept styles plan may command said kept
+kept-so styles plan may told done command said kept one says routed =
+    subst (λ (c : Command). AreKept styles plan may c said kept) (sym one) (routed said (ap (λ (c : Command). command_verdict c told) (sym one) ∙ says))
 
 -- so by the style that stands at its place
-pub chosen-so : {C : Type 0} (may : C → List Candidate → ℕ → Type 0) (styles : List C) (place : ℕ) (chosen d : C) (said : Result Accepted Refusal) (kept : List Routed)
-    → place < length styles → chosen ≡ get_or styles place d → IsRoutedSo (may chosen) said kept → (at_place : ℕ) (style : C) → Some place ≡ Some at_place
-    → slice_get styles at_place ≡ Some style → IsRoutedSo (may style) said kept
-chosen-so may styles place chosen d said kept within is routed at_place style placed at =
+pub chosen-so : {C : Type 0} (styles : List C) (edge : Bool) (plan : C → Plan) (may : C → List Candidate → ℕ → Type 0) (place : ℕ) (chosen d : C) (said : Result Accepted Refusal) (kept : List Routed)
+    → place < length styles → chosen ≡ get_or styles place d → IsRoutedSo edge (plan chosen) (may chosen) said kept → (at_place : ℕ) (style : C) → Some place ≡ Some at_place
+    → slice_get styles at_place ≡ Some style → IsRoutedSo edge (plan style) (may style) said kept
+chosen-so styles edge plan may place chosen d said kept within is routed at_place style placed at =
     let here : slice_get styles place ≡ Some style = ap (slice_get styles) (same_Some place at_place placed) ∙ at in
     let same : get_or styles place d ≡ style = same_Some (get_or styles place d) style (sym (slice_get-get_or styles place d within) ∙ here) in
-    subst (λ s. IsRoutedSo (may s) said kept) (is ∙ same) routed
+    subst (λ s. IsRoutedSo edge (plan s) (may s) said kept) (is ∙ same) routed

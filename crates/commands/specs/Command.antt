@@ -1,8 +1,9 @@
-use Rattle.std.specs.Prelude.{◌<◌, ℕ, suc, List, [], ◌∷◌, true, if◌then◌else◌, codes, Option, Some, None, option_and_then, option_map}
+use Rattle.std.specs.Prelude.{◌<◌, ℕ, suc, List, [], ◌∷◌, Bool, true, false, if◌then◌else◌, codes, Option, Some, None, option_and_then, option_map}
 use Rattle.std.specs.Str.{bytes_eq}
 use Rattle.commands.specs.NumberWord.{count_in, number_of, rows_in}
 use Rattle.commands.specs.declared.command.Wanted.{Wanted}
 use Rattle.clap.specs.Kinds.{Kinds}
+use Rattle.clap.specs.declared.builder.action.ArgAction.TheVariants.{SetTrue}
 use Rattle.clap.specs.Words.{App, Row, Rule, Text, fault_of, first_of, matches_of, new_app, new_rule, with_rule}
 
 -- where a design comes from: from the file of this name, or it is made from this seed, with so many instances
@@ -38,9 +39,14 @@ abbrev pub named_app : Text → Text → App
 named_app name last = with_rule (with_rule (with_rule (new_app name)
     (positional_rule (codes "design"))) (positional_rule (codes "rules"))) (positional_rule last)
 
--- `route` with three names, and with a seed, a number of rows and a style
+-- a word that is given or not, after two dashes
+abbrev pub flag_rule : Text → Rule
+flag_rule id = record (new_rule id) { long = Some id; action = Some SetTrue }
+
+-- `route` with three names, with a seed, a number of rows and a style, and with the wish for left edges
 abbrev pub route_app : App
-route_app = with_rule (with_rule (with_rule (named_app (codes "route") (codes "out")) (option_rule (codes "seed"))) (option_rule (codes "rows"))) (option_rule (codes "style"))
+route_app = with_rule (with_rule (with_rule (with_rule (named_app (codes "route") (codes "out"))
+    (option_rule (codes "seed"))) (option_rule (codes "rows"))) (option_rule (codes "style"))) (flag_rule (codes "edge"))
 
 -- `check` with three names
 abbrev pub check_app : App
@@ -61,11 +67,16 @@ abbrev pub rows_given : Option Text → Option (Option ℕ)
 rows_given None = Some None
 rows_given (Some text) = option_map (λ n. Some n) (rows_in text)
 
--- how a design is to be laid out, by the seed and the rows
-abbrev pub wanted_from : Option ℕ → Option (Option ℕ) → Option Wanted
-wanted_from (Some seed) (Some rows) = Some (record { seed = seed; rows = rows })
-wanted_from (Some seed) None = None
-wanted_from None rows = None
+-- a flag is given: its value is the word that `clap` has for that
+abbrev pub is_given : Option Text → Bool
+is_given None = false
+is_given (Some text) = bytes_eq text (codes "true")
+
+-- how a design is to be laid out, by the seed, the rows and whether left edges are wished for
+abbrev pub wanted_from : Option ℕ → Option (Option ℕ) → Bool → Option Wanted
+wanted_from (Some seed) (Some rows) edge = Some (record { seed = seed; rows = rows; edge = edge })
+wanted_from (Some seed) None edge = None
+wanted_from None rows edge = None
 
 -- the place of the first style of a name, among the names of all
 abbrev pub place_of : List Text → Text → Option ℕ
@@ -86,9 +97,10 @@ names_from (Some design) (Some rules) None wanted style = None
 names_from (Some design) None out wanted style = None
 names_from None rules out wanted style = None
 
--- the seed and the rows among the values that words gave, and all that they say
+-- the seed, the rows and the flag among the values that words gave, and all that they say
 abbrev pub wanted_in : List Row → Option Wanted
 wanted_in values = wanted_from (seed_given (first_of (codes "seed") values)) (rows_given (first_of (codes "rows") values))
+    (is_given (first_of (codes "edge") values))
 
 abbrev pub names_in : List Text → List Row → Option Names
 names_in styles values = names_from (first_of (codes "design") values) (first_of (codes "rules") values) (first_of (codes "out") values) (wanted_in values)
@@ -103,9 +115,10 @@ check_from None rules cif = None
 abbrev pub check_in : List Row → Option CheckNames
 check_in values = check_from (first_of (codes "design") values) (first_of (codes "rules") values) (first_of (codes "cif") values)
 
--- a design that is made, and laid out by the same seed, in rows as usual and by the first style
+-- a design that is made, and laid out by the same seed, in rows as usual, by the first style and without left edges
 abbrev pub make_names : ℕ → ℕ → Text → Text → Names
-make_names seed count rules out = record { design = from_seed seed count; rules = rules; out = out; wanted = record { seed = seed; rows = None }; style = 0 }
+make_names seed count rules out =
+    record { design = from_seed seed count; rules = rules; out = out; wanted = record { seed = seed; rows = None; edge = false }; style = 0 }
 
 abbrev pub make_from : Option ℕ → Option ℕ → Option Text → Option Text → Option Names
 make_from (Some seed) (Some count) (Some rules) (Some out) = Some (make_names seed count rules out)
@@ -152,6 +165,11 @@ command_of styles (word ∷ others) =
     if bytes_eq word (codes "route") then option_map route (given_by route_app (names_in styles) (word ∷ others)) else
     if bytes_eq word (codes "check") then option_map check (given_by check_app check_in (word ∷ others)) else
     if bytes_eq word (codes "make") then option_map route (given_by make_app make_in (word ∷ others)) else None
+
+-- a command wishes for left edges
+abbrev pub is_by_edge : Command → Bool
+is_by_edge (route names) = names.wanted.edge
+is_by_edge (check names) = false
 
 -- the place of a command's style, if it has one
 abbrev pub style_of : Command → Option ℕ

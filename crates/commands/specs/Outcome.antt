@@ -1,4 +1,4 @@
-use Rattle.std.specs.Prelude.{◌≡◌, ◌⊎◌, ◌++◌, ℕ, List, Option, Some, Result, Ok, Err, IfSome, slice_get, take}
+use Rattle.std.specs.Prelude.{◌≡◌, ◌⊎◌, ◌++◌, Bool, ℕ, List, Option, Some, Result, Ok, Err, IfSome, slice_get, take}
 use Rattle.shelf_io.specs.Count.{Rose}
 use Rattle.shelf_io.specs.Told.{Refines, appended}
 use Rattle.commands.specs.Answers.{Ends}
@@ -9,9 +9,10 @@ use Rattle.commands.specs.Job.{Accepted, Job, to_judge, to_lay_out}
 use Rattle.commands.specs.Line.{line_of}
 use Rattle.commands.specs.Status.{stop_status}
 use Rattle.choose_core.specs.declared.candidate.Candidate.{Candidate}
+use Rattle.choose_core.specs.declared.plan.Plan.{Plan}
 use Rattle.greedy_router.specs.Answers.{AreRouted}
 use Rattle.greedy_router.specs.declared.sweep.Routed.{Routed}
-use Rattle.commands.specs.Command.{Command, style_of}
+use Rattle.commands.specs.Command.{Command, is_by_edge, style_of}
 use Rattle.commands.specs.Text.{channels_of, job_text}
 use Rattle.commands.specs.declared.refusal.Refusal.{Refusal}
 use Rattle.commands.specs.declared.stop.Stop.{Stop}
@@ -31,13 +32,16 @@ Holds said kept told = IsJobAnd said (λ job. Refines told (Some (job_text job k
 abbrev pub HoldsFront : Result Accepted Refusal → List Routed → Option (List ℕ) → Option (List ℕ) → Type 0
 HoldsFront said kept before told = IsJobAnd said (λ job. written.HoldsFront (job_text job kept) before told)
 
--- the channels of the job that is accepted are routed so, by choices that may be made; one is
-abbrev pub IsRoutedSo : (List Candidate → ℕ → Type 0) → Result Accepted Refusal → List Routed → Type 0
-IsRoutedSo may said kept = IsJobAnd said (λ job. AreRouted may (channels_of job) kept)
+-- the channels of the job that is accepted are routed so, by the sweeps of a plan and choices that may be made, and by left edges where
+-- these are wished for; one is
+abbrev pub IsRoutedSo : Bool → Plan → (List Candidate → ℕ → Type 0) → Result Accepted Refusal → List Routed → Type 0
+IsRoutedSo edge plan may said kept = IsJobAnd said (λ job. AreRouted edge plan may (channels_of job) kept)
 
--- so by the choices of a command's style
-pub record AreKept {C : Type 0} (may : C → List Candidate → ℕ → Type 0) (styles : List C) (command : Command) (said : Result Accepted Refusal) (kept : List Routed) : Type 0 where
-  pub by_style : (place : ℕ) (style : C) → style_of command ≡ Some place → slice_get styles place ≡ Some style → IsRoutedSo (may style) said kept
+-- so by the plan and the choices of a command's style
+pub record AreKept {C : Type 0} (styles : List C) (plan : C → Plan) (may : C → List Candidate → ℕ → Type 0) (command : Command)
+    (said : Result Accepted Refusal) (kept : List Routed) : Type 0 where
+  pub by_style : (place : ℕ) (style : C) → style_of command ≡ Some place → slice_get styles place ≡ Some style
+      → IsRoutedSo (is_by_edge command) (plan style) (may style) said kept
 
 -- what was done is printed whole
 pub record IsPrinted (done : Done) (status : ℕ) (before after : Option (List ℕ)) (old new : ℕ) : Type 0 where

@@ -1,7 +1,7 @@
 //! The command that words give.
 
 ghost use Rattle.clap.specs.Words.{found_of, rows_of};
-ghost use Rattle.commands.specs.Command.{IsOfStyle, check, check_app, check_in, command_of, given_by, make_app, make_in, names_in, place_of, route, route_app, rows_given, seed_given, style_given, wanted_in};
+ghost use Rattle.commands.specs.Command.{IsOfStyle, check, check_app, check_in, command_of, given_by, is_given, make_app, make_in, names_in, place_of, route, route_app, rows_given, seed_given, style_given, wanted_in};
 ghost use Rattle.commands.specs.NumberWord.{count_in, number_of};
 ghost use Rattle.commands.specs.Seen.{Reads, check_seen, command_seen, seen};
 ghost use Rattle.std.specs.Prelude.{◌≡◌, ◌<◌, ℕ, length, map, option_and_then, option_map, IfOk};
@@ -9,15 +9,17 @@ ghost use Rattle.std.specs.Prelude.{◌≡◌, ◌<◌, ℕ, length, map, option
 use crate::number_word::{MadeCount, RowCount, read_count, read_number, read_rows};
 use crate::parser::{check_parser, make_parser, matches_in, route_parser, value_of};
 use crate::word::Word;
-use choose_core::Chooser;
+use choose_core::Style;
 use clap::ArgMatches;
 use std::alloc::Global;
 
-/// How a design is to be laid out: the seed of its annealing, and the number of rows, 1 to 512, if one is asked for.
+/// How a design is to be laid out: the seed of its annealing, the number of rows, 1 to 512, if one is asked for, and whether channels
+/// without vertical constraints are to be routed by the left edges of their nets.
 #[derive(Clone, Copy, Debug)]
 pub struct Wanted {
     pub seed: u64,
     pub rows: Option<RowCount>,
+    pub edge: bool,
 }
 
 /// Where a design comes from.
@@ -86,6 +88,16 @@ fn seed_given(value: Option<&str>) -> Option<u64>
     }
 }
 
+// Whether a flag is given, by its value.
+fn is_given(value: Option<&str>) -> bool
+    ensures { result ≡ is_given (option_map (λ s. s.now) value.entry) }
+{
+    match value {
+        Some(word) => word == "true",
+        None => false,
+    }
+}
+
 // How a design is to be laid out by accepted words.
 fn wanted_of<'a>(matches: &ArgMatches<'a>) -> Option<Wanted>
     ensures { result ≡ wanted_in (rows_of (found_of matches.now)) }
@@ -93,17 +105,18 @@ fn wanted_of<'a>(matches: &ArgMatches<'a>) -> Option<Wanted>
     Some(Wanted {
         seed: seed_given(value_of(matches, "seed"))?,
         rows: rows_given(value_of(matches, "rows"))?,
+        edge: is_given(value_of(matches, "edge")),
     })
 }
 
 // The place of the first style of a name.
-fn place_of(styles: &[Chooser], name: &str) -> Option<usize>
-    ensures { result ≡ place_of (map (λ s. s.name) styles.now) name.now }
+fn place_of(styles: &[Style], name: &str) -> Option<usize>
+    ensures { result ≡ place_of (map (λ s. s.chooser.name) styles.now) name.now }
 {
     let mut place = 0;
     let mut rest = styles;
     while let Some((style, after)) = rest.split_first() {
-        if style.name().items() == name.as_bytes() {
+        if style.chooser.name().items() == name.as_bytes() {
             return Some(place);
         }
         place += 1;
@@ -113,8 +126,8 @@ fn place_of(styles: &[Chooser], name: &str) -> Option<usize>
 }
 
 // The place of the style that a value asks for, of the first where there is none.
-fn style_given(styles: &[Chooser], value: Option<&str>) -> Option<usize>
-    ensures { result ≡ style_given (map (λ s. s.name) styles.now) (option_map (λ s. s.now) value.entry) }
+fn style_given(styles: &[Style], value: Option<&str>) -> Option<usize>
+    ensures { result ≡ style_given (map (λ s. s.chooser.name) styles.now) (option_map (λ s. s.now) value.entry) }
 {
     match value {
         Some(word) => place_of(styles, word),
@@ -123,8 +136,8 @@ fn style_given(styles: &[Chooser], value: Option<&str>) -> Option<usize>
 }
 
 // What accepted words give.
-fn route_of<'a>(styles: &[Chooser], matches: &ArgMatches<'a>) -> Option<Route<'a>>
-    ensures { option_map seen result ≡ names_in (map (λ s. s.name) styles.now) (rows_of (found_of matches.now)) }
+fn route_of<'a>(styles: &[Style], matches: &ArgMatches<'a>) -> Option<Route<'a>>
+    ensures { option_map seen result ≡ names_in (map (λ s. s.chooser.name) styles.now) (rows_of (found_of matches.now)) }
 {
     Some(Route {
         design: Source::File(value_of(matches, "design")?),
@@ -138,10 +151,10 @@ fn route_of<'a>(styles: &[Chooser], matches: &ArgMatches<'a>) -> Option<Route<'a
 // What words give `route`.
 fn read_route<'w>(
     alloc: Global,
-    styles: &[Chooser],
+    styles: &[Style],
     words: &'w [Word],
 ) -> Result<Route<'w>, WordsFault>
-    ensures { Reads seen result (given_by route_app (names_in (map (λ s. s.name) styles.now)) words.now) }
+    ensures { Reads seen result (given_by route_app (names_in (map (λ s. s.chooser.name) styles.now)) words.now) }
 {
     let Ok(parser) = route_parser(alloc) else {
         return Err(WordsFault::Memory);
@@ -212,7 +225,11 @@ fn make_of<'a>(matches: &ArgMatches<'a>) -> Option<Route<'a>>
         design: Source::Made(seed, count),
         rules: value_of(matches, "rules")?,
         out: value_of(matches, "out")?,
-        wanted: Wanted { seed, rows: None },
+        wanted: Wanted {
+            seed,
+            rows: None,
+            edge: false,
+        },
         style: 0,
     })
 }
@@ -236,11 +253,11 @@ fn read_make<'w>(alloc: Global, words: &'w [Word]) -> Result<Route<'w>, WordsFau
 // The command to route that words give.
 fn route_given<'w>(
     alloc: Global,
-    styles: &[Chooser],
+    styles: &[Style],
     words: &'w [Word],
 ) -> Result<Command<'w>, WordsFault>
     requires { 0 < length styles.now }
-    ensures reads { Reads command_seen result (option_map route (given_by route_app (names_in (map (λ s. s.name) styles.now)) words.now)) }
+    ensures reads { Reads command_seen result (option_map route (given_by route_app (names_in (map (λ s. s.chooser.name) styles.now)) words.now)) }
     ensures style { IfOk result (λ command. IsOfStyle (length styles.now) (command_seen command)) }
 {
     match read_route(alloc, styles, words) {
@@ -276,11 +293,11 @@ fn check_given<'w>(alloc: Global, words: &'w [Word]) -> Result<Command<'w>, Word
 #[tactic(auto, unfolding(crate::specs::Command::command_of))]
 pub fn read_command<'w>(
     alloc: Global,
-    styles: &[Chooser],
+    styles: &[Style],
     words: &'w [Word],
 ) -> Result<Command<'w>, WordsFault>
     requires { 0 < length styles.now }
-    ensures reads { Reads command_seen result (command_of (map (λ s. s.name) styles.now) words.now) }
+    ensures reads { Reads command_seen result (command_of (map (λ s. s.chooser.name) styles.now) words.now) }
     ensures style { IfOk result (λ command. IsOfStyle (length styles.now) (command_seen command)) }
 {
     let Some(word) = words.first() else {

@@ -1,14 +1,14 @@
 //! The parsers of the commands' words.
 
 ghost use Rattle.clap.specs.Words.{app_of, first_of, found_of, is_simple, is_simple_and_free, rows_of, rule_of, with_rule};
-ghost use Rattle.commands.specs.Command.{check_app, make_app, named_app, option_rule, positional_rule, route_app};
+ghost use Rattle.commands.specs.Command.{check_app, flag_rule, make_app, named_app, option_rule, positional_rule, route_app};
 ghost use Rattle.commands.specs.Taken.{IsTaken};
 ghost use Rattle.std.specs.Prelude.{◌≡◌, codes, false, option_map, true, IfOk};
 
 use crate::command::WordsFault;
 use crate::word::Word;
 use clap::error::ErrorKind;
-use clap::{Arg, ArgMatches, Command as Parser};
+use clap::{Arg, ArgAction, ArgMatches, Command as Parser};
 use std::alloc::{AllocError, Global};
 
 // A name that a command has to be given.
@@ -25,6 +25,14 @@ fn option<'a>(alloc: Global, id: &'a str) -> Arg<'a>
     ensures local { result.global ≡ false }
 {
     Arg::new(alloc, id).long(id)
+}
+
+// A word that is given or not.
+fn flag<'a>(alloc: Global, id: &'a str) -> Arg<'a>
+    ensures rule { rule_of result ≡ flag_rule id.entry.now }
+    ensures local { result.global ≡ false }
+{
+    Arg::new(alloc, id).long(id).action(ArgAction::SetTrue)
 }
 
 // The command with one more argument.
@@ -52,7 +60,8 @@ pub fn route_parser<'a>(alloc: Global) -> Result<Parser<'a>, AllocError>
     let command = named_parser(alloc, "route", "out")?;
     let command = with_arg(command, option(alloc, "seed"))?;
     let command = with_arg(command, option(alloc, "rows"))?;
-    with_arg(command, option(alloc, "style"))
+    let command = with_arg(command, option(alloc, "style"))?;
+    with_arg(command, flag(alloc, "edge"))
 }
 
 /// The command `check` with its arguments. The one error is want of memory.

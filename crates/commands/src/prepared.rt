@@ -30,7 +30,7 @@ use crate::stop::Stop;
 use crate::summarizing::{channel_lines, summarized};
 use channel_model::Channel;
 use channel_stack::{Laid, lay};
-use choose_core::{Chooser, Chooses};
+use choose_core::{Chooser, Chooses, Style};
 use cif_writer::{StartFault, symbol_drawings, write_layout};
 use design_model::Design;
 use feed_cells::FedRows;
@@ -115,25 +115,26 @@ fn width_of(fed: &FedRows) -> u64
     fed.width
 }
 
-// The channels between rows with feeds, routed by the choices of a style. The tables of the channels are given up.
+// The channels between rows with feeds, routed by a style, or by the left edges where that is wished for and a channel allows it. The tables of the channels are given up.
 fn route_tabled(
     alloc: Global,
     design: &Design,
     rules: &Rules,
     tabled: Tabled,
-    style: &Chooser,
+    style: &Style,
+    edge: bool,
 ) -> Result<RoutedRows, AllocError>
     requires is { tabled.channels.items ≡ tables_of design.now tabled.fed }
     requires tables { AreTablesFor tabled.fed tabled.channels.items }
     requires width { (pins.bound_of rules.now design.now tabled.fed).width ≤ 1000000000 }
     requires height { (pins.bound_of rules.now design.now tabled.fed).height ≤ 1000000000 }
     ensures fed { IfOk result (λ made. made.fed ≡ tabled.fed) }
-    ensures kept { IfOk result (λ made. AreRouted (⟦<Chooser as Chooses>⟧.answers style.now) (tables_of design.now made.fed) made.kept) }
+    ensures kept { IfOk result (λ made. AreRouted edge style.now.plan (⟦<Chooser as Chooses>⟧.answers style.now.chooser) (tables_of design.now made.fed) made.kept) }
     ensures lines { IfOk result (λ made. made.lines.items ≡ map (line_of_channel made.fed.width) made.kept) }
     ensures wired { IfOk result (λ made. AreWired design.now made.fed (wirings_of made.kept)) }
     ensures routed { IfOk result (λ made. IsRouted rules.now design.now made.fed (wirings_of made.kept)) }
 {
-    let routed = route_channels(alloc, tabled.channels.as_slice(), style)?;
+    let routed = route_channels(alloc, tabled.channels.as_slice(), style, edge)?;
     let lines = channel_lines(alloc, routed.as_slice(), width_of(&tabled.fed))?;
     let kept = Apart::new(alloc, routed)?;
     Ok(RoutedRows {
@@ -159,7 +160,7 @@ fn route_rows(
     design: &Design,
     rules: &Rules,
     wanted: &Wanted,
-    style: &Chooser,
+    style: &Style,
 ) -> Result<CostedRows, Refusal>
     ensures made { Answers (λ routed. job_of rules.now design.now wanted.now) result (within_limits (job_of rules.now design.now wanted.now)) }
     ensures is { IfOk result (λ made. made.fed ≡ rows_with_feeds (job_of rules.now design.now wanted.now)) }
@@ -167,7 +168,7 @@ fn route_rows(
     ensures narrow { IfOk result (λ made. made.fed.width ≤ 4000000) }
     ensures cost { IfOk result (λ made. made.cost ≡ cost_for (job_of rules.now design.now wanted.now)) }
     ensures lines { IfOk result (λ made. made.lines.items ≡ map (line_of_channel made.fed.width) made.kept) }
-    ensures kept { IfOk result (λ made. AreRouted (⟦<Chooser as Chooses>⟧.answers style.now) (tables_of design.now made.fed) made.kept) }
+    ensures kept { IfOk result (λ made. AreRouted wanted.now.edge style.now.plan (⟦<Chooser as Chooses>⟧.answers style.now.chooser) (tables_of design.now made.fed) made.kept) }
     ensures wired { IfOk result (λ made. AreWired design.now made.fed (wirings_of made.kept)) }
     ensures routed { IfOk result (λ made. IsRouted rules.now design.now made.fed (wirings_of made.kept)) }
     ensures command { IfErr result (λ refusal. refusal_status refusal ≢ 2) }
@@ -178,7 +179,14 @@ fn route_rows(
     }
     let cost = placed.cost;
     let tabled = tables_of_channels(alloc, design, placed)?;
-    let RoutedRows { fed, lines, kept } = route_tabled(alloc, design, rules, tabled, style)?;
+    let RoutedRows { fed, lines, kept } = route_tabled(
+        alloc,
+        design,
+        rules,
+        tabled,
+        style,
+        wanted.edge,
+    )?;
     Ok(CostedRows {
         fed,
         cost,
@@ -193,12 +201,12 @@ pub fn lay_out(
     design: Design,
     rules: Rules,
     wanted: Wanted,
-    style: &Chooser,
+    style: &Style,
 ) -> Result<Prepared, Refusal>
     requires high { HasRoom rules design }
     ensures made { Answers (λ prepared. prepared.job) result (within_limits (job_of rules design wanted)) }
     ensures is { IfOk result (λ prepared. prepared.job ≡ job_of rules design wanted) }
-    ensures kept { IfOk result (λ prepared. AreRouted (⟦<Chooser as Chooses>⟧.answers style.now) (channels_of prepared.job) prepared.kept) }
+    ensures kept { IfOk result (λ prepared. AreRouted wanted.edge style.now.plan (⟦<Chooser as Chooses>⟧.answers style.now.chooser) (channels_of prepared.job) prepared.kept) }
     ensures command { IfErr result (λ refusal. refusal_status refusal ≢ 2) }
 {
     let rows = rows_for(&design, &rules, wanted.rows);

@@ -15,7 +15,7 @@ use crate::command::Route;
 use crate::report::report_stop;
 use crate::stages::load_inputs;
 use crate::writing::lay_and_report;
-use choose_core::{Chooser, Chooses};
+use choose_core::{Chooser, Chooses, Style};
 use greedy_router::Routed;
 use shelf_io::{Shelf, Sink};
 use std::alloc::Global;
@@ -27,7 +27,7 @@ pub fn route_named<S: Shelf, K: Sink>(
     shelf: &mut S,
     out: &mut K,
     names: &Route<'_>,
-    styles: &[Chooser],
+    styles: &[Style],
     kept: &mut Vec<Routed>,
 ) -> u8
     requires style { names.now.style < length styles.now }
@@ -37,7 +37,7 @@ pub fn route_named<S: Shelf, K: Sink>(
     ensures ends { EndsAs (command_verdict (asked.route (seen names.now)) (S.holds shelf.old)) kept.new.items result
         (K.written out.old) (K.written out.new) (K.faults out.old) (K.faults out.new) }
     ensures kept { (said : _) → command_verdict (asked.route (seen names.now)) (S.holds shelf.old) ≡ Some said
-        → (result ≡ 0) ⊎ (result ≡ 9) → AreKept ⟦<Chooser as Chooses>⟧.answers styles.now (asked.route (seen names.now)) said kept.new.items }
+        → (result ≡ 0) ⊎ (result ≡ 9) → AreKept styles.now (λ s. s.plan) (λ s. ⟦<Chooser as Chooses>⟧.answers s.chooser) (asked.route (seen names.now)) said kept.new.items }
     ensures none { result ≢ 0 → result ≢ 9 → kept.new.items ≡ [] }
     ensures written { (said : _) → command_verdict (asked.route (seen names.now)) (S.holds shelf.old) ≡ Some said
         → result ≡ 0 → Holds said kept.new.items (S.holds shelf.new names.now.out.now) }

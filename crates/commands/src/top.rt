@@ -19,7 +19,7 @@ use crate::report::report_stop;
 use crate::routing::route_named;
 use crate::stop::Stop;
 use crate::word::Word;
-use choose_core::{Chooser, Chooses};
+use choose_core::{Chooser, Chooses, Style};
 use greedy_router::Routed;
 use shelf_io::{Shelf, Sink};
 use std::alloc::Global;
@@ -41,7 +41,7 @@ fn obey<S: Shelf, K: Sink>(
     shelf: &mut S,
     out: &mut K,
     command: &Command<'_>,
-    styles: &[Chooser],
+    styles: &[Style],
     kept: &mut Vec<Routed>,
 ) -> u8
     requires style { IsOfStyle (length styles.now) (command_seen command.now) }
@@ -52,7 +52,7 @@ fn obey<S: Shelf, K: Sink>(
         (K.written out.old) (K.written out.new) (K.faults out.old) (K.faults out.new) }
     ensures kept { (said : _) (file : List ℕ) → command_verdict (command_seen command.now) (S.holds shelf.old) ≡ Some said
         → writes_of (command_seen command.now) ≡ Some file → (result ≡ 0) ⊎ (result ≡ 9)
-        → AreKept ⟦<Chooser as Chooses>⟧.answers styles.now (command_seen command.now) said kept.new.items }
+        → AreKept styles.now (λ s. s.plan) (λ s. ⟦<Chooser as Chooses>⟧.answers s.chooser) (command_seen command.now) said kept.new.items }
     ensures none { result ≢ 0 → result ≢ 9 → kept.new.items ≡ [] }
     ensures unkept { writes_of (command_seen command.now) ≡ None → kept.new.items ≡ [] }
     ensures written { (said : _) (file : List ℕ) → command_verdict (command_seen command.now) (S.holds shelf.old) ≡ Some said
@@ -121,72 +121,72 @@ pub fn run<S: Shelf, K: Sink>(
     words: &[Word],
     shelf: &mut S,
     out: &mut K,
-    styles: &[Chooser],
+    styles: &[Style],
 ) -> Ended
     requires some { 0 < length styles.now }
     requires few { length styles.now ≤ 16 }
     ensures listed { is_status result.status ≡ true }
-    ensures usage { result.status ≡ 2 → command_of (map (λ s. s.name) styles.now) words.now ≡ None }
-    ensures no_command { command_of (map (λ s. s.name) styles.now) words.now ≡ None → (result.status ≡ 2) ⊎ (result.status ≡ 10) }
+    ensures usage { result.status ≡ 2 → command_of (map (λ s. s.chooser.name) styles.now) words.now ≡ None }
+    ensures no_command { command_of (map (λ s. s.chooser.name) styles.now) words.now ≡ None → (result.status ≡ 2) ⊎ (result.status ≡ 10) }
 
     // The status and the lines: both are of one end, which is the verdict's wherever the files that it comes to are told.
-    ensures ends { EndsAs (verdict (map (λ s. s.name) styles.now) words.now (S.holds shelf.old)) result.kept.items result.status
+    ensures ends { EndsAs (verdict (map (λ s. s.chooser.name) styles.now) words.now (S.holds shelf.old)) result.kept.items result.status
         (K.written out.old) (K.written out.new) (K.faults out.old) (K.faults out.new) }
 
     // Status 0 and 9 of a command that writes: each channel of the job is routed by the choices of the command's style; else there is none.
-    ensures kept { (command : asked.Command) (said : _) (file : List ℕ) → Comes (map (λ s. s.name) styles.now) words.now (S.holds shelf.old) command said
+    ensures kept { (command : asked.Command) (said : _) (file : List ℕ) → Comes (map (λ s. s.chooser.name) styles.now) words.now (S.holds shelf.old) command said
         → writes_of command ≡ Some file → (result.status ≡ 0) ⊎ (result.status ≡ 9)
-        → AreKept ⟦<Chooser as Chooses>⟧.answers styles.now command said result.kept.items }
+        → AreKept styles.now (λ s. s.plan) (λ s. ⟦<Chooser as Chooses>⟧.answers s.chooser) command said result.kept.items }
     ensures none { result.status ≢ 0 → result.status ≢ 9 → result.kept.items ≡ [] }
-    ensures unkept { (command : asked.Command) → command_of (map (λ s. s.name) styles.now) words.now ≡ Some command
+    ensures unkept { (command : asked.Command) → command_of (map (λ s. s.chooser.name) styles.now) words.now ≡ Some command
         → writes_of command ≡ None → result.kept.items ≡ [] }
 
     // Status 0: the file that the command writes, where the shelf tells it, holds exactly the text of the job with the wirings of these channels.
-    ensures written { (command : asked.Command) (said : _) (file : List ℕ) → Comes (map (λ s. s.name) styles.now) words.now (S.holds shelf.old) command said → writes_of command ≡ Some file
+    ensures written { (command : asked.Command) (said : _) (file : List ℕ) → Comes (map (λ s. s.chooser.name) styles.now) words.now (S.holds shelf.old) command said → writes_of command ≡ Some file
         → result.status ≡ 0 → Holds said result.kept.items (S.holds shelf.new file) }
 
     // The headline: what `route` writes reads as a layout that is good for the design under the rules, and so does what `make` writes for the design that
     // it makes.
-    ensures headline { (names : Names) (stated bytes held : List ℕ) → command_of (map (λ s. s.name) styles.now) words.now ≡ Some (asked.route names)
+    ensures headline { (names : Names) (stated bytes held : List ℕ) → command_of (map (λ s. s.chooser.name) styles.now) words.now ≡ Some (asked.route names)
         → S.holds shelf.old names.rules ≡ Some stated → IsSourceText names.design (S.holds shelf.old) stated bytes
         → result.status ≡ 0 → S.holds shelf.new names.out ≡ Some held → Headline stated bytes held }
 
     // What `check` says of a layout: with status 0 that it is so, with status 1 that it is not.
-    ensures good { (names : CheckNames) (stated bytes text : List ℕ) → command_of (map (λ s. s.name) styles.now) words.now ≡ Some (asked.check names)
+    ensures good { (names : CheckNames) (stated bytes text : List ℕ) → command_of (map (λ s. s.chooser.name) styles.now) words.now ≡ Some (asked.check names)
         → S.holds shelf.old names.rules ≡ Some stated → S.holds shelf.old names.design ≡ Some bytes → S.holds shelf.old names.cif ≡ Some text
         → result.status ≡ 0 → Headline stated bytes text }
-    ensures faulty { (names : CheckNames) (stated bytes text : List ℕ) → command_of (map (λ s. s.name) styles.now) words.now ≡ Some (asked.check names)
+    ensures faulty { (names : CheckNames) (stated bytes text : List ℕ) → command_of (map (λ s. s.chooser.name) styles.now) words.now ≡ Some (asked.check names)
         → S.holds shelf.old names.rules ≡ Some stated → S.holds shelf.old names.design ≡ Some bytes → S.holds shelf.old names.cif ≡ Some text
         → result.status ≡ 1 → Headline stated bytes text → ⊥ }
 
     // Status 9 of a command that writes: there is a job, and the file to write holds what it held, or a front of that text; all of it where its count did not
     // rise.
-    ensures front { (command : asked.Command) (said : _) (file : List ℕ) → Comes (map (λ s. s.name) styles.now) words.now (S.holds shelf.old) command said → writes_of command ≡ Some file
+    ensures front { (command : asked.Command) (said : _) (file : List ℕ) → Comes (map (λ s. s.chooser.name) styles.now) words.now (S.holds shelf.old) command said → writes_of command ≡ Some file
         → result.status ≡ 9 → HoldsFront said result.kept.items (S.holds shelf.old file) (S.holds shelf.new file) }
 
-    ensures whole { (command : asked.Command) (said : _) (file : List ℕ) → Comes (map (λ s. s.name) styles.now) words.now (S.holds shelf.old) command said → writes_of command ≡ Some file
+    ensures whole { (command : asked.Command) (said : _) (file : List ℕ) → Comes (map (λ s. s.chooser.name) styles.now) words.now (S.holds shelf.old) command said → writes_of command ≡ Some file
         → result.status ≡ 9 → Still (S.write_faults shelf.old file) (S.write_faults shelf.new file)
         → Holds said result.kept.items (S.holds shelf.new file) }
 
     // Status 8 and 9 come only where a count rose, and where it rose they come.
-    ensures read_cause { (command : asked.Command) → command_of (map (λ s. s.name) styles.now) words.now ≡ Some command → result.status ≡ 8
+    ensures read_cause { (command : asked.Command) → command_of (map (λ s. s.chooser.name) styles.now) words.now ≡ Some command → result.status ≡ 8
         → ReadFails command (S.holds shelf.old) (S.read_faults shelf.old) (S.read_faults shelf.new) }
-    ensures write_cause { (command : asked.Command) → command_of (map (λ s. s.name) styles.now) words.now ≡ Some command → result.status ≡ 9
+    ensures write_cause { (command : asked.Command) → command_of (map (λ s. s.chooser.name) styles.now) words.now ≡ Some command → result.status ≡ 9
         → WriteFails (writes_of command) (S.write_faults shelf.old) (S.write_faults shelf.new) (K.faults out.old) (K.faults out.new) }
     ensures reads { result.status ≢ 8 → S.read_faults shelf.new ≡ S.read_faults shelf.old }
     ensures writes { result.status ≢ 9 → S.write_faults shelf.new ≡ S.write_faults shelf.old }
 
     // Nothing is lost, and a command that writes no file leaves them all as they are.
     ensures untouched { result.status ≢ 0 → result.status ≢ 9 → S.holds shelf.new ≡ S.holds shelf.old }
-    ensures others { (command : asked.Command) (other : List ℕ) → command_of (map (λ s. s.name) styles.now) words.now ≡ Some command
+    ensures others { (command : asked.Command) (other : List ℕ) → command_of (map (λ s. s.chooser.name) styles.now) words.now ≡ Some command
         → writes_of command ≢ Some other → S.holds shelf.new other ≡ S.holds shelf.old other }
-    ensures files { (command : asked.Command) → command_of (map (λ s. s.name) styles.now) words.now ≡ Some command
+    ensures files { (command : asked.Command) → command_of (map (λ s. s.chooser.name) styles.now) words.now ≡ Some command
         → writes_of command ≡ None → S.holds shelf.new ≡ S.holds shelf.old }
-    ensures unwritten { (command : asked.Command) → command_of (map (λ s. s.name) styles.now) words.now ≡ Some command
+    ensures unwritten { (command : asked.Command) → command_of (map (λ s. s.chooser.name) styles.now) words.now ≡ Some command
         → writes_of command ≡ None → S.write_faults shelf.new ≡ S.write_faults shelf.old }
 
     // Where nothing fails the status is the verdict's, want of memory aside.
-    ensures complete { (command : asked.Command) (said : _) → Comes (map (λ s. s.name) styles.now) words.now (S.holds shelf.old) command said
+    ensures complete { (command : asked.Command) (said : _) → Comes (map (λ s. s.chooser.name) styles.now) words.now (S.holds shelf.old) command said
         → IsQuiet command (S.read_faults shelf.old) (S.read_faults shelf.new) (S.write_faults shelf.old) (S.write_faults shelf.new)
         (K.faults out.old) (K.faults out.new)
         → IsStatusOf said result.status ⊎ (result.status ≡ 10) }

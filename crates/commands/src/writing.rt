@@ -20,7 +20,7 @@ use crate::prepared::{Prepared, Told, lay_out};
 use crate::report::{report_laid, report_stop};
 use crate::stages::Inputs;
 use crate::stop::Stop;
-use choose_core::{Chooser, Chooses};
+use choose_core::{Chooser, Chooses, Style};
 use greedy_router::Routed;
 use layout_report::Summary;
 use shelf_io::{Shelf, Sink};
@@ -79,7 +79,7 @@ fn lay_and_write<S: Shelf>(
     shelf: &mut S,
     inputs: Inputs,
     wanted: Wanted,
-    style: &Chooser,
+    style: &Style,
     out: &str,
     kept: &mut Vec<Routed>,
 ) -> Result<Summary, Stop>
@@ -87,7 +87,7 @@ fn lay_and_write<S: Shelf>(
     requires none { kept.old.items ≡ [] }
     ensures ends { Ends kept.new.items (routed_end result) (job_verdict wanted inputs) }
     ensures kept { (ending_status result ≡ 0) ⊎ (ending_status result ≡ 9)
-        → IsRoutedSo (⟦<Chooser as Chooses>⟧.answers style.now) (job_verdict wanted inputs) kept.new.items }
+        → IsRoutedSo wanted.edge style.now.plan (⟦<Chooser as Chooses>⟧.answers style.now.chooser) (job_verdict wanted inputs) kept.new.items }
     ensures none { ending_status result ≢ 0 → ending_status result ≢ 9 → kept.new.items ≡ [] }
     ensures written { ending_status result ≡ 0 → Holds (job_verdict wanted inputs) kept.new.items (S.holds shelf.new out.now) }
     ensures headline { (stated bytes held : List ℕ) → AreInputsFrom stated bytes inputs → ending_status result ≡ 0
@@ -117,7 +117,7 @@ pub fn lay_and_report<S: Shelf, K: Sink>(
     sink: &mut K,
     inputs: Inputs,
     wanted: Wanted,
-    style: &Chooser,
+    style: &Style,
     out: &str,
     kept: &mut Vec<Routed>,
 ) -> u8
@@ -128,7 +128,7 @@ pub fn lay_and_report<S: Shelf, K: Sink>(
     ensures unread { result ≢ 8 }
     ensures ends { EndsAs (Some (job_verdict wanted inputs)) kept.new.items result
         (K.written sink.old) (K.written sink.new) (K.faults sink.old) (K.faults sink.new) }
-    ensures kept { (result ≡ 0) ⊎ (result ≡ 9) → IsRoutedSo (⟦<Chooser as Chooses>⟧.answers style.now) (job_verdict wanted inputs) kept.new.items }
+    ensures kept { (result ≡ 0) ⊎ (result ≡ 9) → IsRoutedSo wanted.edge style.now.plan (⟦<Chooser as Chooses>⟧.answers style.now.chooser) (job_verdict wanted inputs) kept.new.items }
     ensures none { result ≢ 0 → result ≢ 9 → kept.new.items ≡ [] }
     ensures written { result ≡ 0 → Holds (job_verdict wanted inputs) kept.new.items (S.holds shelf.new out.now) }
     ensures whole { result ≡ 9 → Still (S.write_faults shelf.old out.now) (S.write_faults shelf.new out.now)

@@ -1,7 +1,7 @@
 use Rattle.std.specs.Prelude.{ℕ, ◌+◌, List, [], ◌∷◌, ◌++◌, codes}
 use Rattle.std.specs.Fmt.{decimal}
 use Rattle.greedy_router.specs.declared.sweep.By.{By}
-use Rattle.greedy_router.specs.declared.sweep.By.TheVariants.{Greedy, Plain}
+use Rattle.greedy_router.specs.declared.sweep.By.TheVariants.{Greedy, Plain, Edge}
 use Rattle.layout_report.specs.Lines.{line}
 use Rattle.layout_report.specs.declared.summary.ChannelLine.{ChannelLine}
 use Rattle.layout_report.specs.declared.summary.Summary.{Summary}
@@ -14,6 +14,7 @@ counted word n = line (word ∷ decimal n ∷ [])
 abbrev pub by_word : By → List ℕ
 by_word Greedy = codes "greedy"
 by_word Plain = codes "plain"
+by_word Edge = codes "edge"
 
 -- the line of a channel of this number
 unfoldable pub channel_text : ℕ → ChannelLine → List ℕ

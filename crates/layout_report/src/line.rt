@@ -61,6 +61,7 @@ fn by_word(by: By) -> &'static [u8]
     match by {
         By::Greedy => b"greedy",
         By::Plain => b"plain",
+        By::Edge => b"edge",
     }
 }
 

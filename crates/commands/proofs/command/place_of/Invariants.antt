@@ -4,7 +4,7 @@ use Rattle.commands.proofs.command.place_of.Given as goal
 
 abbrev pub invariant-loop-style : goal.invariant-loop-style
 invariant-loop-style g l = record {
-  so_far : option_map (λ (p : ℕ). l.place + p) (place_of (map (λ s. s.name) l.rest) l.name) ≡ place_of (map (λ s. s.name) l.fn.styles) l.fn.name;
+  so_far : option_map (λ (p : ℕ). l.place + p) (place_of (map (λ s. s.chooser.name) l.rest) l.name) ≡ place_of (map (λ s. s.chooser.name) l.fn.styles) l.fn.name;
   count : l.place + length l.rest ≡ length l.fn.styles;
 }
 

@@ -30,7 +30,7 @@ invariant_of-result g c =
 
 pub returns-clause-kept : goal.returns-clause-kept
 returns-clause-kept g c =
-    told-routed _ _ _ _ _
+    told-routed _ _ _ _ _ _ _
     (ap (tables_of c.args.design)
     (c.in_ok-made.ensures.is
     ∙ ap (λ (n : ℕ). rows_with_feeds (record { rules = c.args.rules; design = c.args.design; rows = n; seed = c.args.wanted.seed })) (sym c.rows_for-rows.ensures.is)))

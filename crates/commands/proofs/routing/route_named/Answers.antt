@@ -28,8 +28,8 @@ returns-in-Ok-clause-kept g c = λ said is begun.
     let same = job-said (seen c.args.names.now) (g.S.Shelf.holds c.args.shelf.now) c.in-Ok.inputs said c.in-Ok.ensures.told is in
     record {
       by_style =
-          chosen-so _ c.args.styles.now c.args.names.now.style c.index-styles-names.result _ said c.lay_and_report.new.kept.items c.requires.style
-          c.index-styles-names.is (said-routed _ said _ c.lay_and_report.new.kept.items same (c.lay_and_report.ensures.kept begun));
+          chosen-so c.args.styles.now _ _ _ c.args.names.now.style c.index-styles-names.result _ said c.lay_and_report.new.kept.items c.requires.style
+          c.index-styles-names.is (said-routed _ _ _ said _ c.lay_and_report.new.kept.items same (c.lay_and_report.ensures.kept begun));
     }
 
 pub returns-in-Ok-clause-written : goal.returns-in-Ok-clause-written

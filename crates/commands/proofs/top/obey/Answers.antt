@@ -6,7 +6,7 @@ use Rattle.commands.proofs.top.obey.Goals as goal
 
 pub returns-in-Route-clause-kept : goal.returns-in-Route-clause-kept
 returns-in-Route-clause-kept g c = λ said file is writes begun.
-    kept-so _ c.args.styles.now (g.S.Shelf.holds c.args.shelf.now) (route (seen c.in-Route.names)) (command_seen c.args.command.now) said _
+    kept-so c.args.styles.now _ _ (g.S.Shelf.holds c.args.shelf.now) (route (seen c.in-Route.names)) (command_seen c.args.command.now) said _
     (ap command_seen c.in-Route.is) is (λ s says. c.route_named.ensures.kept s says begun)
 
 pub returns-in-Check-clause-faulty : goal.returns-in-Check-clause-faulty

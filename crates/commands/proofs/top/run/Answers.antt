@@ -25,8 +25,8 @@ pub returns-clause-kept : goal.returns-clause-kept
 returns-clause-kept g c = λ command said file comes writes begun. elim c.match-read_command.branch [
   | in-Ok w ↦
       let one : command ≡ command_seen w.in-Ok.command = same_Some _ _ (sym comes.asked ∙ w.in-Ok.ensures.reads) in
-      subst (AreKept _ c.args.styles.now command said) (sym (ap (λ (v : Vec Routed Global). v.items) w.kept-is))
-      (kept-so _ c.args.styles.now (g.S.Shelf.holds c.args.shelf.now) (command_seen w.in-Ok.command) command said _ one comes.says
+      subst (AreKept c.args.styles.now _ _ command said) (sym (ap (λ (v : Vec Routed Global). v.items) w.kept-is))
+      (kept-so c.args.styles.now _ _ (g.S.Shelf.holds c.args.shelf.now) (command_seen w.in-Ok.command) command said _ one comes.says
       (λ s says. w.obey-status.ensures.kept s file says (ap writes_of (sym one) ∙ writes) (subst (λ (n : ℕ). (n ≡ 0) ⊎ (n ≡ 9)) w.status-is begun)))
   | in-Err-Usage w ↦ absurd (omega (arith, w.status-is, w.report_stop-status.ensures.tells.number, begun))
   | in-Err-Memory w ↦ absurd (omega (arith, w.status-is, w.report_stop-status-in-Err-Memory.ensures.tells.number, begun))

@@ -22,7 +22,7 @@ returns-in-Ok-clause-ends g c =
 pub returns-in-Ok-clause-kept : goal.returns-in-Ok-clause-kept
 returns-in-Ok-clause-kept g c = λ begun.
     let accepted = job-accepted c.args.wanted c.args.inputs c.in-Ok.prepared.job c.in-Ok.ensures.made in
-    routed-so _ _ c.in-Ok.prepared.job c.in-Ok.prepared.kept _ accepted (c.write_prepared.ensures.kept begun) c.in-Ok.ensures.kept
+    routed-so _ _ _ _ c.in-Ok.prepared.job c.in-Ok.prepared.kept _ accepted (c.write_prepared.ensures.kept begun) c.in-Ok.ensures.kept
 
 pub returns-in-Ok-clause-written : goal.returns-in-Ok-clause-written
 returns-in-Ok-clause-written g c = λ zero.
