@@ -31,42 +31,100 @@ fn ends_with(
     }
 }
 
-// Each channel without and with as many free tracks at first as its cut density, which is 2, 4 and 5.
+/// The top pins and the bottom pins of a vertical cycle, and of two channels of 10 and 14 columns.
+const CYCLE: ([u32; 2], [u32; 2]) = ([2, 1], [1, 2]);
+
+const TEN: ([u32; 10], [u32; 10]) = (
+    [1, 3, 5, 4, 0, 2, 2, 5, 0, 2],
+    [0, 3, 2, 5, 2, 5, 5, 4, 2, 1],
+);
+
+const FOURTEEN: ([u32; 14], [u32; 14]) = (
+    [5, 1, 0, 4, 6, 4, 2, 1, 3, 4, 0, 1, 2, 6],
+    [6, 0, 6, 1, 1, 0, 5, 0, 0, 1, 0, 1, 3, 0],
+);
+
+/// Those of two nets side by side, and of a channel in which a new track is split unless it stands by its next pin.
+const PAIRS: ([u32; 4], [u32; 4]) = ([0, 0, 0, 0], [1, 1, 2, 2]);
+
+const CORNER: ([u32; 3], [u32; 3]) = ([0, 2, 2], [1, 0, 1]);
+
+/// Orders in which tracks end.
+const UP: [u32; 6] = [1, 2, 3, 4, 5, 6];
+
+const TEN_FROM_NONE: [u32; 6] = [2, 3, 4, 1, 5, 6];
+
+const FOURTEEN_FROM_NONE: [u32; 5] = [3, 1, 2, 4, 5];
+
+const SPLIT: [u32; 3] = [2, 1, 3];
+
+// Each channel without free tracks at first and with as many as its cut density.
 #[test]
-fn three_channels_by_deft(rt: HostRuntime) -> Result<(), Fail> {
-    let alloc = rt.alloc();
-    let deft = deft_chooser(alloc)?;
+fn a_cycle_by_deft(rt: HostRuntime) -> Result<(), Fail> {
+    let deft = deft_chooser(rt.alloc())?;
+    let channel = channel_of(rt.alloc(), &CYCLE.0, &CYCLE.1)?;
     let ahead = Manner::LookingAhead;
-    let crossed = channel_of(alloc, &[2, 1], &[1, 2])?;
-    assert!(rt; ends_with(alloc, &crossed, ahead, 0, &deft, 1, &[1, 2, 3])?);
-    assert!(rt; ends_with(alloc, &crossed, ahead, 100, &deft, 1, &[1, 2, 3])?);
-    let tens = channel_of(
-        alloc,
-        &[1, 3, 5, 4, 0, 2, 2, 5, 0, 2],
-        &[0, 3, 2, 5, 2, 5, 5, 4, 2, 1],
-    )?;
-    assert!(rt; ends_with(alloc, &tens, ahead, 0, &deft, 1, &[2, 3, 4, 1, 5, 6])?);
-    assert!(rt; ends_with(alloc, &tens, ahead, 100, &deft, 1, &[1, 2, 3, 4, 5, 6])?);
-    let wide = channel_of(
-        alloc,
-        &[5, 1, 0, 4, 6, 4, 2, 1, 3, 4, 0, 1, 2, 6],
-        &[6, 0, 6, 1, 1, 0, 5, 0, 0, 1, 0, 1, 3, 0],
-    )?;
-    assert!(rt; ends_with(alloc, &wide, ahead, 0, &deft, 0, &[3, 1, 2, 4, 5])?);
-    assert!(rt; ends_with(alloc, &wide, ahead, 100, &deft, 0, &[1, 2, 3, 4, 5])?);
-    let pairs = channel_of(alloc, &[0, 0, 0, 0], &[1, 1, 2, 2])?;
-    assert!(rt; ends_with(alloc, &pairs, ahead, 0, &deft, 0, &[1])?);
-    assert!(rt; ends_with(alloc, &pairs, ahead, 100, &deft, 0, &[1])?);
+    assert!(rt; ends_with(rt.alloc(), &channel, ahead, 0, &deft, 1, &UP[..3])?);
+    assert!(rt; ends_with(rt.alloc(), &channel, ahead, 100, &deft, 1, &UP[..3])?);
+    Ok(())
+}
+
+#[test]
+fn ten_columns_by_deft(rt: HostRuntime) -> Result<(), Fail> {
+    let deft = deft_chooser(rt.alloc())?;
+    let channel = channel_of(rt.alloc(), &TEN.0, &TEN.1)?;
+    let ahead = Manner::LookingAhead;
+    assert!(rt; ends_with(rt.alloc(), &channel, ahead, 0, &deft, 1, &TEN_FROM_NONE)?);
+    assert!(rt; ends_with(rt.alloc(), &channel, ahead, 100, &deft, 1, &UP)?);
+    Ok(())
+}
+
+#[test]
+fn fourteen_columns_by_deft(rt: HostRuntime) -> Result<(), Fail> {
+    let deft = deft_chooser(rt.alloc())?;
+    let channel = channel_of(rt.alloc(), &FOURTEEN.0, &FOURTEEN.1)?;
+    let ahead = Manner::LookingAhead;
+    assert!(rt;
+        ends_with(
+            rt.alloc(),
+            &channel,
+            ahead,
+            0,
+            &deft,
+            0,
+            &FOURTEEN_FROM_NONE
+        )?
+    );
+    assert!(rt; ends_with(rt.alloc(), &channel, ahead, 100, &deft, 0, &UP[..5])?);
+    Ok(())
+}
+
+#[test]
+fn two_nets_side_by_side_by_deft(rt: HostRuntime) -> Result<(), Fail> {
+    let deft = deft_chooser(rt.alloc())?;
+    let channel = channel_of(rt.alloc(), &PAIRS.0, &PAIRS.1)?;
+    let ahead = Manner::LookingAhead;
+    assert!(rt; ends_with(rt.alloc(), &channel, ahead, 0, &deft, 0, &UP[..1])?);
+    assert!(rt; ends_with(rt.alloc(), &channel, ahead, 100, &deft, 0, &UP[..1])?);
     Ok(())
 }
 
 // A new track in the middle, below that of net 1, splits net 2; one above it does not.
 #[test]
 fn a_new_track_by_its_next_pin_is_never_split(rt: HostRuntime) -> Result<(), Fail> {
-    let alloc = rt.alloc();
-    let near = near_chooser(alloc)?;
-    let channel = channel_of(alloc, &[0, 2, 2], &[1, 0, 1])?;
-    assert!(rt; ends_with(alloc, &channel, Manner::Published, 0, &near, 1, &[2, 1, 3])?);
-    assert!(rt; ends_with(alloc, &channel, Manner::LookingAhead, 0, &near, 0, &[1, 2])?);
+    let near = near_chooser(rt.alloc())?;
+    let channel = channel_of(rt.alloc(), &CORNER.0, &CORNER.1)?;
+    assert!(rt; ends_with(rt.alloc(), &channel, Manner::Published, 0, &near, 1, &SPLIT)?);
+    assert!(rt;
+        ends_with(
+            rt.alloc(),
+            &channel,
+            Manner::LookingAhead,
+            0,
+            &near,
+            0,
+            &UP[..2]
+        )?
+    );
     Ok(())
 }
