@@ -35,8 +35,7 @@ fn a_constrained_channel_by_the_style(rt: HostRuntime) -> Result<(), Fail> {
         &mut out,
     )?;
     assert!(rt; done.status == 0 && done.kept.len() == 3);
-    let mut number = 0;
-    for routed in done.kept.as_slice() {
+    for (number, routed) in done.kept.as_slice().iter().enumerate() {
         let wanted = if number == 1 {
             (By::Greedy, 3, 3)
         } else {
@@ -46,7 +45,6 @@ fn a_constrained_channel_by_the_style(rt: HostRuntime) -> Result<(), Fail> {
         assert_eq!(rt; routed.wiring.tracks, wanted.1);
         assert_eq!(rt; routed.wiring.columns, wanted.2);
         assert!(rt; (number == 1) != routed.sweep.columns.items().is_empty());
-        number += 1;
     }
     Ok(())
 }
