@@ -1,18 +1,22 @@
-use Rattle.std.proofs.Common.{◌≡◌, ◌⊎◌, ◌∙◌, ◌<◌, ◌≤◌, ℕ, List, Option, Result, Ok, Err, IfErr, IfOk, IsErrAnd, inl, inr, refl, sym, ap, subst, true, arith}
+use Rattle.std.proofs.Common.{◌≡◌, ◌⊎◌, ◌∙◌, ◌<◌, ℕ, List, Option, Result, Ok, Err, IfErr, IfOk, inl, inr, refl, sym, ap, subst, arith}
 use Rattle.shelf_io.specs.Count.{Rose, Still}
 use Rattle.greedy_router.specs.declared.sweep.Routed.{Routed}
 use Rattle.layout_report.specs.declared.summary.Summary.{Summary}
-use Rattle.commands.specs.Answers.{Ends, Finds, IsWriting}
-use Rattle.commands.specs.Causes.{AreStill, InputsFail, ReadFails, SourceFails}
-use Rattle.commands.specs.Command.{CheckNames, Source, check, files_of, from_file, from_seed}
+use Rattle.commands.specs.Ends.{Ends}
+use Rattle.command_ends.specs.Answers.{Finds}
+use Rattle.command_jobs.specs.Written.{IsWriting}
+use Rattle.commands.specs.Causes.{AreStill, ReadFails}
+use Rattle.command_inputs.specs.Failures.{InputsFail, SourceFails}
+use Rattle.command_words.specs.Command.{CheckNames, Source, check, files_of, from_file, from_seed}
 use Rattle.commands.specs.Done.{IsStatusOf, routed_end}
-use Rattle.commands.specs.Job.{Accepted, Job, to_lay_out}
-use Rattle.commands.specs.Summarized.{summary_of}
-use Rattle.commands.specs.Status.{ending_status, is_status, refusal_status, stop_status}
-use Rattle.commands.specs.declared.refusal.Refusal.{Refusal}
-use Rattle.commands.specs.declared.refusal.Refusal.TheVariants as refusals
-use Rattle.commands.specs.declared.stop.Stop.{Stop}
-use Rattle.commands.specs.declared.stop.Stop.TheVariants.{Refused, ReadFault, WriteFault}
+use Rattle.commands.specs.Accepted.{Accepted, to_lay_out}
+use Rattle.command_jobs.specs.Job.{Job}
+use Rattle.command_jobs.specs.Summarized.{summary_of}
+use Rattle.command_ends.specs.Status.{ending_status, refusal_status, stop_status}
+use Rattle.command_ends.specs.declared.refusal.Refusal.{Refusal}
+use Rattle.command_ends.specs.declared.refusal.Refusal.TheVariants as refusals
+use Rattle.command_ends.specs.declared.stop.Stop.{Stop}
+use Rattle.command_ends.specs.declared.stop.Stop.TheVariants.{Refused, ReadFault, WriteFault}
 
 -- what stopped a command before it wrote is its end
 pub stopped : {X : Type 0} (view : X → Accepted) (kept : List Routed) (stop : Stop) (said : Result Accepted Refusal) → Finds view (Err stop) said
@@ -56,11 +60,6 @@ written-ends ending (Ok s) job summary told kept writing same is stops summary_i
 written-ends ending (Err stop) job summary told kept writing same is stops summary_is kept_is =
     writing-ends kept stop job (subst IsWriting stops writing)
 
--- what is handed on has the same status
-pub handed-status : {X : Type 0} (result : Result X Stop) (stop : Stop) → IsErrAnd result (λ other. other ≡ stop) → ending_status result ≡ stop_status stop
-handed-status (Ok done) stop is = absurd is
-handed-status (Err other) stop is = ap stop_status is
-
 pub rose-still : (old new : ℕ) → Rose old new → Still old new → ⊥
 rose-still old new rose still = let more : old < new = rose still.open_ended in absurd (omega (arith, more, still.same))
 
@@ -102,48 +101,3 @@ by-stop view WriteFault said found reads = absurd found
 -- a text that is written has the status of a job
 pub written-status : (said : Result Accepted Refusal) (job : Job) (n : ℕ) → said ≡ Ok (to_lay_out job) → n ≡ 0 → IsStatusOf said n
 written-status said job n is zero = let P : Result Accepted Refusal → Type 0 = λ s. IsStatusOf s n in subst P (sym is) zero
-
--- what stops a command has a status of the list, above 1
-pub stop-listed : (stop : Stop) → is_status (stop_status stop) ≡ true
-stop-listed (Refused refusals.Usage) = refl
-stop-listed (Refused refusals.Toml) = refl
-stop-listed (Refused (refusals.Missing key)) = refl
-stop-listed (Refused (refusals.Range key)) = refl
-stop-listed (Refused (refusals.Tight rule)) = refl
-stop-listed (Refused (refusals.Yal kind at)) = refl
-stop-listed (Refused (refusals.Design fault name)) = refl
-stop-listed (Refused (refusals.Cif kind at)) = refl
-stop-listed (Refused (refusals.Meaning kind at)) = refl
-stop-listed (Refused (refusals.Limit what n)) = refl
-stop-listed (Refused refusals.Memory) = refl
-stop-listed ReadFault = refl
-stop-listed WriteFault = refl
-
-pub stop-above : (stop : Stop) → 2 ≤ stop_status stop
-stop-above (Refused refusals.Usage) = omega arith
-stop-above (Refused refusals.Toml) = omega arith
-stop-above (Refused (refusals.Missing key)) = omega arith
-stop-above (Refused (refusals.Range key)) = omega arith
-stop-above (Refused (refusals.Tight rule)) = omega arith
-stop-above (Refused (refusals.Yal kind at)) = omega arith
-stop-above (Refused (refusals.Design fault name)) = omega arith
-stop-above (Refused (refusals.Cif kind at)) = omega arith
-stop-above (Refused (refusals.Meaning kind at)) = omega arith
-stop-above (Refused (refusals.Limit what n)) = omega arith
-stop-above (Refused refusals.Memory) = omega arith
-stop-above ReadFault = omega arith
-stop-above WriteFault = omega arith
-
--- a refusal is no failure of reading
-pub refusal-unread : (refusal : Refusal) → refusal_status refusal ≡ 8 → ⊥
-refusal-unread refusals.Usage eight = absurd (omega (arith, eight))
-refusal-unread refusals.Toml eight = absurd (omega (arith, eight))
-refusal-unread (refusals.Missing key) eight = absurd (omega (arith, eight))
-refusal-unread (refusals.Range key) eight = absurd (omega (arith, eight))
-refusal-unread (refusals.Tight rule) eight = absurd (omega (arith, eight))
-refusal-unread (refusals.Yal kind at) eight = absurd (omega (arith, eight))
-refusal-unread (refusals.Design fault name) eight = absurd (omega (arith, eight))
-refusal-unread (refusals.Cif kind at) eight = absurd (omega (arith, eight))
-refusal-unread (refusals.Meaning kind at) eight = absurd (omega (arith, eight))
-refusal-unread (refusals.Limit what n) eight = absurd (omega (arith, eight))
-refusal-unread refusals.Memory eight = absurd (omega (arith, eight))

@@ -1,4 +1,4 @@
-use Rattle.std.proofs.Common.{◌≡◌, ◌∙◌, ℕ, List, Option, Some, Result, Ok, ap, subst, sym}
+use Rattle.std.proofs.Common.{◌≡◌, ◌∙◌, ℕ, List, Result, Ok, ap, subst, sym}
 use Rattle.greedy_router.specs.declared.sweep.Routed.{Routed}
 use Rattle.geom_core.specs.declared.layout.Layout.{Layout}
 use Rattle.tech_rules.specs.Rules.{RuleValues}
@@ -7,13 +7,12 @@ use Rattle.design_model.specs.Netlist.{Netlist}
 use Rattle.netlist_core.specs.OnGrid.{on_grid}
 use Rattle.cif_text.specs.Meaning.{meaning}
 use Rattle.cif_text.specs.ReadsAs.{ReadsAs}
-use Rattle.commands.specs.Headline.{AreInputsFrom, Headline, IsGoodText, IsJobFrom, IsSourceText}
-use Rattle.tech_rules.specs.RulesOf.{rules_of}
-use Rattle.commands.specs.Command.{Source, from_file, from_seed}
-use Rattle.commands.specs.Job.{Job}
-use Rattle.commands.specs.Text.{job_text}
-use Rattle.commands.specs.Verdict.{design_text}
-use Rattle.commands.specs.declared.stages.Inputs.{Inputs}
+use Rattle.command_inputs.specs.Origin.{AreInputsFrom}
+use Rattle.commands.specs.Headline.{Headline, IsJobFrom}
+use Rattle.command_jobs.specs.Written.{IsGoodText}
+use Rattle.command_jobs.specs.Job.{Job}
+use Rattle.command_jobs.specs.Text.{job_text}
+use Rattle.command_inputs.specs.declared.stages.Inputs.{Inputs}
 
 -- the text of a job that is what two files say, and that is good, is a good layout of what they say
 pub headline-from : (stated bytes held : List ℕ) (job : Job) (kept : List Routed) → IsJobFrom stated bytes job → IsGoodText job.rules job.design (job_text job kept)
@@ -32,12 +31,6 @@ headline-from stated bytes held job kept from good is = record {
     };
   };
 }
-
--- the text of a design from a source under the rules that a text states
-pub source-text : (source : Source) (told : List ℕ → Option (List ℕ)) (stated bytes : List ℕ) (rules : RuleValues) → rules_of stated ≡ Ok rules
-    → IsSourceText source told stated bytes → design_text source told rules ≡ Some bytes
-source-text (from_file name) told stated bytes rules states is = is
-source-text (from_seed seed count) told stated bytes rules states is = ap (λ (l : List ℕ). Some l) (sym (is rules states))
 
 -- a good layout of what files say, as whose text a file reads
 pub headline-of : (stated bytes text : List ℕ) (inputs : Inputs) (layout : Layout) → AreInputsFrom stated bytes inputs → ReadsAs text layout

@@ -3,7 +3,7 @@ use Rattle.shelf_io.specs.Count.{Rose, Still}
 use Rattle.layout_report.specs.declared.summary.Summary.{Summary}
 use Rattle.commands.specs.Done.{laid_out}
 use Rattle.commands.specs.Outcome.{Tells}
-use Rattle.commands.specs.Status.{is_status}
+use Rattle.command_ends.specs.Status.{is_status}
 use Rattle.commands.proofs.Endings.{rose-still}
 
 -- where a layout was written and told of

@@ -7,22 +7,25 @@ use Rattle.choose_core.specs.declared.plan.Plan.{Plan}
 use Rattle.cif_writer.specs.LayoutText as written
 use Rattle.greedy_router.specs.Answers.{AreRouted}
 use Rattle.greedy_router.specs.declared.sweep.Routed.{Routed}
-use Rattle.commands.specs.Answers.{Ends}
+use Rattle.commands.specs.Ends.{Ends}
 use Rattle.layout_report.specs.declared.summary.Summary.{Summary}
-use Rattle.commands.specs.Command.{Command, Names, route}
+use Rattle.command_words.specs.Command.{Command, Names, route}
 use Rattle.commands.specs.Done.{IsStatusOf, laid_out}
-use Rattle.commands.specs.Job.{Accepted, Job, to_judge, to_lay_out}
+use Rattle.commands.specs.Accepted.{Accepted, to_judge, to_lay_out}
+use Rattle.command_jobs.specs.Job.{Job}
 use Rattle.commands.specs.Outcome.{AreKept, EndsAs, Holds, HoldsFront, IsRoutedSo, IsStopped}
-use Rattle.commands.specs.Refusing.{◌>>=◌}
-use Rattle.commands.specs.Rows.{job_of}
-use Rattle.commands.specs.Text.{channels_of, job_text}
-use Rattle.commands.specs.Verdict.{asked_verdict, command_verdict, inputs_told, job_verdict, within_limits}
-use Rattle.commands.specs.declared.command.Wanted.{Wanted}
-use Rattle.commands.specs.declared.refusal.Refusal.{Refusal}
-use Rattle.commands.specs.declared.refusal.Refusal.TheVariants.{Memory, Usage}
-use Rattle.commands.specs.declared.stages.Inputs.{Inputs}
-use Rattle.commands.specs.declared.stop.Stop.TheVariants.{Refused}
-use Rattle.commands.proofs.Findings.{told-next}
+use Rattle.command_ends.specs.Refusing.{◌>>=◌}
+use Rattle.command_jobs.specs.Rows.{job_of}
+use Rattle.command_jobs.specs.Text.{channels_of, job_text}
+use Rattle.commands.specs.Verdict.{asked_verdict, command_verdict, job_verdict}
+use Rattle.command_inputs.specs.Stated.{inputs_told}
+use Rattle.command_jobs.specs.Limits.{within_limits}
+use Rattle.command_words.specs.declared.command.Wanted.{Wanted}
+use Rattle.command_ends.specs.declared.refusal.Refusal.{Refusal}
+use Rattle.command_ends.specs.declared.refusal.Refusal.TheVariants.{Memory, Usage}
+use Rattle.command_inputs.specs.declared.stages.Inputs.{Inputs}
+use Rattle.command_ends.specs.declared.stop.Stop.TheVariants.{Refused}
+use Rattle.command_ends.proofs.FindsLaws.{told-next}
 
 -- what holds of what is said, where anything is
 pub if-said : (said : Option (Result Accepted Refusal)) (P : Result Accepted Refusal → Type 0)

@@ -1,22 +1,8 @@
-use Rattle.std.specs.Prelude.{◌≡◌, ◌⊎◌, ℕ, List, [], ◌∷◌, Option, Some, None, IfSome, Result, is_ok, true}
+use Rattle.std.specs.Prelude.{◌⊎◌, ℕ, List, [], ◌∷◌, Option, Some, None}
 use Rattle.shelf_io.specs.Count.{Rose, Still}
-use Rattle.commands.specs.Command.{Command, Source, check, from_file, from_seed, reads_of, route, writes_of}
-use Rattle.commands.specs.Verdict.{inputs_told, rules_verdict}
-use Rattle.commands.specs.declared.refusal.Refusal.{Refusal}
-
--- why a design from a source could not be read: the read count of its file rose
-abbrev pub SourceFails : Source → (List ℕ → ℕ) → (List ℕ → ℕ) → Type 0
-SourceFails (from_file name) old new = Rose (old name) (new name)
-SourceFails (from_seed seed count) old new = ⊥
-
--- a read of the rules file failed, or one of the design's file, and the rules file, where it is told, states rules
-abbrev pub InputsFail : List ℕ → Source → (List ℕ → Option (List ℕ)) → (List ℕ → ℕ) → (List ℕ → ℕ) → Type 0
-InputsFail rules source told old new =
-    Rose (old rules) (new rules) ⊎ (SourceFails source old new × ((bytes : List ℕ) → told rules ≡ Some bytes → is_ok (rules_verdict bytes) ≡ true))
-
--- nothing is refused, by what files are told to hold
-abbrev pub IsPassed : {A : Type 0} → Option (Result A Refusal) → Type 0
-IsPassed said = IfSome said (λ s. is_ok s ≡ true)
+use Rattle.command_words.specs.Command.{Command, check, from_file, reads_of, route, writes_of}
+use Rattle.command_inputs.specs.Stated.{inputs_told}
+use Rattle.command_inputs.specs.Failures.{InputsFail, IsPassed}
 
 -- why a command's reading failed: the read count of a file that it reads rose, and nothing before that refuses, by what is told
 abbrev pub ReadFails : Command → (List ℕ → Option (List ℕ)) → (List ℕ → ℕ) → (List ℕ → ℕ) → Type 0

@@ -6,13 +6,13 @@ use Rattle.layout_check.specs.declared.finding.Finding.{Finding}
 use Rattle.greedy_router.specs.declared.sweep.Routed.{Routed}
 use Rattle.layout_report.specs.SummaryText.{summary_text}
 use Rattle.layout_report.specs.declared.summary.Summary.{Summary}
-use Rattle.commands.specs.FindingLines.{judged_text}
-use Rattle.commands.specs.Job.{Accepted, to_judge, to_lay_out}
-use Rattle.commands.specs.Status.{refusal_status}
-use Rattle.commands.specs.Summarized.{summary_of}
-use Rattle.commands.specs.declared.refusal.Refusal.{Refusal}
-use Rattle.commands.specs.declared.stages.Inputs.{Inputs}
-use Rattle.commands.specs.declared.stop.Stop.{Stop}
+use Rattle.command_ends.specs.FindingLines.{judged_text}
+use Rattle.commands.specs.Accepted.{Accepted, to_judge, to_lay_out}
+use Rattle.command_ends.specs.Status.{refusal_status}
+use Rattle.command_jobs.specs.Summarized.{summary_of}
+use Rattle.command_ends.specs.declared.refusal.Refusal.{Refusal}
+use Rattle.command_inputs.specs.declared.stages.Inputs.{Inputs}
+use Rattle.command_ends.specs.declared.stop.Stop.{Stop}
 
 -- what a command has done: it has laid a design out, of which this is told, or found this of a layout
 pub data Done : Type 0 where

@@ -1,22 +1,23 @@
 use Rattle.std.specs.Prelude.{◌≡◌, ◌⊎◌, ◌++◌, Bool, ℕ, List, Option, Some, Result, Ok, Err, IfSome, slice_get, take}
 use Rattle.shelf_io.specs.Count.{Rose}
 use Rattle.shelf_io.specs.Told.{Refines, appended}
-use Rattle.commands.specs.Answers.{Ends}
+use Rattle.commands.specs.Ends.{Ends}
 use Rattle.cif_writer.specs.LayoutText as written
 use Rattle.commands.specs.Done.{Done, done_status, done_text}
-use Rattle.commands.specs.Gains.{Gains}
-use Rattle.commands.specs.Job.{Accepted, Job, to_judge, to_lay_out}
-use Rattle.commands.specs.Line.{line_of}
-use Rattle.commands.specs.Status.{stop_status}
+use Rattle.command_ends.specs.Gains.{Gains}
+use Rattle.commands.specs.Accepted.{Accepted, to_judge, to_lay_out}
+use Rattle.command_jobs.specs.Job.{Job}
+use Rattle.command_ends.specs.Line.{line_of}
+use Rattle.command_ends.specs.Status.{stop_status}
 use Rattle.choose_core.specs.declared.candidate.Candidate.{Candidate}
 use Rattle.choose_core.specs.declared.plan.Plan.{Plan}
 use Rattle.greedy_router.specs.Answers.{AreRouted}
 use Rattle.greedy_router.specs.declared.sweep.Routed.{Routed}
-use Rattle.commands.specs.Command.{Command, is_by_edge, style_of}
-use Rattle.commands.specs.Text.{channels_of, job_text}
-use Rattle.commands.specs.declared.refusal.Refusal.{Refusal}
-use Rattle.commands.specs.declared.stop.Stop.{Stop}
-use Rattle.commands.specs.declared.stop.Stop.TheVariants.{WriteFault}
+use Rattle.command_words.specs.Command.{Command, is_by_edge, style_of}
+use Rattle.command_jobs.specs.Text.{channels_of, job_text}
+use Rattle.command_ends.specs.declared.refusal.Refusal.{Refusal}
+use Rattle.command_ends.specs.declared.stop.Stop.{Stop}
+use Rattle.command_ends.specs.declared.stop.Stop.TheVariants.{WriteFault}
 
 -- a job to lay a design out is accepted, of which this holds
 abbrev pub IsJobAnd : Result Accepted Refusal → (Job → Type 0) → Type 0

@@ -1,26 +1,25 @@
 //! The command to check a layout.
 
 ghost use Rattle.cif_text.specs.ReadsAs.{ReadsAs};
-ghost use Rattle.commands.specs.Answers.{Finds};
+ghost use Rattle.command_ends.specs.Answers.{Finds};
 ghost use Rattle.commands.specs.Causes.{IsQuiet, ReadFails, WriteFails};
-ghost use Rattle.commands.specs.Command as asked;
+ghost use Rattle.command_words.specs.Command as asked;
 ghost use Rattle.commands.specs.Done.{AreFound, IsStatusOf};
-ghost use Rattle.commands.specs.Headline.{AreInputsFrom, Headline};
-ghost use Rattle.commands.specs.Job.{to_judge};
+ghost use Rattle.command_inputs.specs.Origin.{AreInputsFrom};
+ghost use Rattle.commands.specs.Headline.{Headline};
+ghost use Rattle.commands.specs.Accepted.{to_judge};
 ghost use Rattle.commands.specs.Outcome.{EndsAs};
-ghost use Rattle.commands.specs.Seen.{check_seen};
-ghost use Rattle.commands.specs.Status.{ending_status, is_status};
+ghost use Rattle.command_words.specs.Seen.{check_seen};
+ghost use Rattle.command_ends.specs.Status.{ending_status, is_status};
 ghost use Rattle.commands.specs.Verdict.{command_verdict};
 ghost use Rattle.design_model.specs.Room.{HasRoom};
 ghost use Rattle.layout_check.specs.Measured.{IsMeasured};
 ghost use Rattle.std.specs.Prelude.{◌≡◌, ◌≢◌, ◌⊎◌, List, [], ℕ, None, Some, IfOk, true};
 
-use crate::command::{Check, Source};
-use crate::layout_file::load_layout;
-use crate::refusal::Refusal;
+use command_words::{Check, Source};
+use command_inputs::{Inputs, load_inputs, load_layout};
+use command_ends::{Refusal, Stop};
 use crate::report::{report_judged, report_stop};
-use crate::stages::{Inputs, load_inputs};
-use crate::stop::Stop;
 use geom_core::Layout;
 use layout_check::{Finding, check};
 use shelf_io::{Shelf, Sink};

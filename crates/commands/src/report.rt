@@ -2,38 +2,14 @@
 
 ghost use Rattle.commands.specs.Done as done;
 ghost use Rattle.commands.specs.Done.{findings_status};
-ghost use Rattle.commands.specs.FindingLines.{judged_text};
 ghost use Rattle.commands.specs.Outcome.{IsStopped, Tells};
-ghost use Rattle.shelf_io.specs.Count.{Rose};
-ghost use Rattle.shelf_io.specs.Told.{EndsWithin, Refines, appended};
-ghost use Rattle.commands.specs.Status.{is_status};
-ghost use Rattle.std.specs.Prelude.{◌≡◌, ◌≤◌, Ok, OnErr, OnOk, true};
+ghost use Rattle.command_ends.specs.Status.{is_status};
+ghost use Rattle.std.specs.Prelude.{◌≡◌, ◌≤◌, Ok, true};
 
-use crate::finding_line::{put_findings, put_number};
+use command_ends::{Stop, print_line, put_judged};
 use crate::judging::Judged;
-use crate::line::print_line;
-use crate::stop::Stop;
-use design_model::Design;
-use geom_core::Layout;
-use layout_check::Finding;
 use layout_report::{Summary, print_summary};
 use shelf_io::{Failed, Sink};
-
-// Puts what is printed of a layout that was judged.
-fn put_judged<K: Sink>(
-    out: &mut K,
-    design: &Design,
-    layout: &Layout,
-    findings: &[Finding],
-) -> Result<(), Failed>
-    ensures whole { OnOk result (Refines (K.written out.new) (appended (K.written out.old) (judged_text design.now layout.now findings.now))) }
-    ensures front { OnErr result (EndsWithin (K.written out.old) (judged_text design.now layout.now findings.now) (K.written out.new)) }
-    ensures quiet { OnOk result (K.faults out.new ≡ K.faults out.old) }
-    ensures cause { OnErr result (Rose (K.faults out.old) (K.faults out.new)) }
-{
-    put_findings(out, design, layout, findings)?;
-    put_number(out, findings.len() as u64)
-}
 
 // The status of a layout that was judged.
 fn status_of(judged: &Judged) -> u8

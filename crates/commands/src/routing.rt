@@ -1,19 +1,20 @@
 //! The command to route a design.
 
 ghost use Rattle.commands.specs.Causes.{IsQuiet, ReadFails, WriteFails};
-ghost use Rattle.commands.specs.Command as asked;
+ghost use Rattle.command_words.specs.Command as asked;
 ghost use Rattle.commands.specs.Done.{IsStatusOf};
-ghost use Rattle.commands.specs.Headline.{Headline, IsSourceText};
+ghost use Rattle.commands.specs.Headline.{Headline};
+ghost use Rattle.command_inputs.specs.Origin.{IsSourceText};
 ghost use Rattle.commands.specs.Outcome.{AreKept, EndsAs, Holds, HoldsFront};
-ghost use Rattle.commands.specs.Seen.{seen, source_seen};
-ghost use Rattle.commands.specs.Status.{is_status};
+ghost use Rattle.command_words.specs.Seen.{seen, source_seen};
+ghost use Rattle.command_ends.specs.Status.{is_status};
 ghost use Rattle.commands.specs.Verdict.{command_verdict};
 ghost use Rattle.shelf_io.specs.Count.{Still};
 ghost use Rattle.std.specs.Prelude.{◌≡◌, ◌≢◌, ◌⊎◌, ◌<◌, List, [], ℕ, length, Some, true};
 
-use crate::command::Route;
+use command_words::Route;
 use crate::report::report_stop;
-use crate::stages::load_inputs;
+use command_inputs::load_inputs;
 use crate::writing::lay_and_report;
 use choose_core::{Chooser, Chooses, Style};
 use greedy_router::Routed;

@@ -1,24 +1,23 @@
 //! The top call: a command's words, a shelf with the files, and a sink for lines.
 
 ghost use Rattle.commands.specs.Causes.{IsQuiet, ReadFails, WriteFails};
-ghost use Rattle.commands.specs.Command as asked;
-ghost use Rattle.commands.specs.Command.{CheckNames, IsOfStyle, Names, command_of, writes_of};
+ghost use Rattle.command_words.specs.Command as asked;
+ghost use Rattle.command_words.specs.Command.{CheckNames, IsOfStyle, Names, command_of, writes_of};
 ghost use Rattle.commands.specs.Done.{IsStatusOf};
-ghost use Rattle.commands.specs.Headline.{Headline, IsSourceText};
+ghost use Rattle.commands.specs.Headline.{Headline};
+ghost use Rattle.command_inputs.specs.Origin.{IsSourceText};
 ghost use Rattle.commands.specs.Outcome.{AreKept, EndsAs, Holds, HoldsFront};
-ghost use Rattle.commands.specs.Seen.{command_seen};
-ghost use Rattle.commands.specs.Status.{is_status};
+ghost use Rattle.command_words.specs.Seen.{command_seen};
+ghost use Rattle.command_ends.specs.Status.{is_status};
 ghost use Rattle.commands.specs.Verdict.{Comes, command_verdict, verdict};
 ghost use Rattle.shelf_io.specs.Count.{Still};
 ghost use Rattle.std.specs.Prelude.{◌≡◌, ◌≢◌, ◌⊎◌, ◌<◌, ◌≤◌, List, [], ℕ, length, map, Some, None, true};
 
-use crate::command::{Command, WordsFault, read_command};
+use command_words::{Command, Word, WordsFault, read_command};
 use crate::judging::check_named;
-use crate::refusal::Refusal;
+use command_ends::{Refusal, Stop};
 use crate::report::report_stop;
 use crate::routing::route_named;
-use crate::stop::Stop;
-use crate::word::Word;
 use choose_core::{Chooser, Chooses, Style};
 use greedy_router::Routed;
 use shelf_io::{Shelf, Sink};

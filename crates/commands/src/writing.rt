@@ -1,25 +1,27 @@
 //! A design that is laid out and written, and what is told of it.
 
 ghost use Rattle.cif_writer.specs.LayoutText as cif;
-ghost use Rattle.commands.specs.Answers.{Ends};
+ghost use Rattle.commands.specs.Ends.{Ends};
 ghost use Rattle.commands.specs.Causes.{WriteFails};
 ghost use Rattle.commands.specs.Done.{IsStatusOf, routed_end};
-ghost use Rattle.commands.specs.Headline.{AreInputsFrom, Headline, IsGoodText};
-ghost use Rattle.commands.specs.Job.{to_lay_out};
+ghost use Rattle.command_inputs.specs.Origin.{AreInputsFrom};
+ghost use Rattle.commands.specs.Headline.{Headline};
+ghost use Rattle.command_jobs.specs.Written.{IsGoodText};
+ghost use Rattle.commands.specs.Accepted.{to_lay_out};
 ghost use Rattle.commands.specs.Outcome.{EndsAs, Holds, HoldsFront, IsRoutedSo};
-ghost use Rattle.commands.specs.Status.{ending_status, is_status};
-ghost use Rattle.commands.specs.Text.{job_text};
+ghost use Rattle.command_ends.specs.Status.{ending_status, is_status};
+ghost use Rattle.command_jobs.specs.Text.{job_text};
 ghost use Rattle.commands.specs.Verdict.{job_verdict};
 ghost use Rattle.design_model.specs.Room.{HasRoom};
 ghost use Rattle.shelf_io.specs.Count.{Rose, Still};
 ghost use Rattle.shelf_io.specs.Told.{Refines};
 ghost use Rattle.std.specs.Prelude.{◌≡◌, ◌≢◌, ◌⊎◌, List, [], ℕ, Err, IfErr, IfOk, Ok, Some, true};
 
-use crate::command::Wanted;
-use crate::prepared::{Prepared, Told, lay_out};
+use command_words::Wanted;
+use command_jobs::{Prepared, Told, lay_out};
 use crate::report::{report_laid, report_stop};
-use crate::stages::Inputs;
-use crate::stop::Stop;
+use command_inputs::Inputs;
+use command_ends::Stop;
 use choose_core::{Chooser, Chooses, Style};
 use greedy_router::Routed;
 use layout_report::Summary;

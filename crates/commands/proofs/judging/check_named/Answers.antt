@@ -1,8 +1,8 @@
 use Rattle.std.proofs.Common.{◌≡◌, ◌⊎◌, ℕ, [], Ok, Err, inl, subst, sym}
 use Rattle.commands.specs.Done as done
 use Rattle.commands.specs.Done.{IsStatusOf}
-use Rattle.commands.specs.Job.{to_judge}
-use Rattle.commands.specs.Seen.{check_seen}
+use Rattle.commands.specs.Accepted.{to_judge}
+use Rattle.command_words.specs.Seen.{check_seen}
 use Rattle.commands.specs.declared.judging.Judged.{Judged}
 use Rattle.commands.proofs.Endings.{by-stop, check-still, stopped}
 use Rattle.commands.proofs.HeadlineLaws.{good-of, headline-of}

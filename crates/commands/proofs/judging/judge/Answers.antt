@@ -1,13 +1,15 @@
 use Rattle.std.proofs.Common.{◌≡◌, ◌∙◌, ℕ, List, Ok, Err, ap, ap₂, inr, subst, sym, arith}
 use Rattle.shelf_io.specs.Count.{Rose}
 use Rattle.geom_core.specs.declared.layout.Layout.{Layout}
-use Rattle.commands.specs.Job.{to_judge}
-use Rattle.commands.specs.Refusing.{◌>>=◌}
-use Rattle.commands.specs.Verdict.{command_verdict, judgement_verdict, layout_verdict}
+use Rattle.commands.specs.Accepted.{to_judge}
+use Rattle.command_ends.specs.Refusing.{◌>>=◌}
+use Rattle.commands.specs.Verdict.{command_verdict, judgement_verdict}
+use Rattle.command_inputs.specs.LayoutFile.{layout_verdict}
 use Rattle.commands.specs.declared.judging.Judged.{Judged}
-use Rattle.commands.specs.declared.stages.Inputs.{Inputs}
-use Rattle.commands.proofs.Endings.{handed-status}
-use Rattle.commands.proofs.Findings.{handed-on, of-file, passed, stops, told-goes-on, told-stops}
+use Rattle.command_inputs.specs.declared.stages.Inputs.{Inputs}
+use Rattle.command_ends.proofs.StopLaws.{handed-status}
+use Rattle.command_ends.proofs.FindsLaws.{handed-on, of-file, stops, told-goes-on, told-stops}
+use Rattle.command_inputs.proofs.LimitLaws.{passed}
 use Rattle.commands.proofs.judging.judge.Goals as goal
 
 pub returns-in_err-inputs-clause-told : goal.returns-in_err-inputs-clause-told

@@ -1,6 +1,6 @@
 use Rattle.std.proofs.Common.{◌∙◌, ap, arith}
-use Rattle.commands.specs.Status.{is_status}
-use Rattle.commands.proofs.Endings.{stop-above, stop-listed}
+use Rattle.command_ends.specs.Status.{is_status}
+use Rattle.command_ends.proofs.StopLaws.{stop-above, stop-listed}
 use Rattle.commands.proofs.report.report_stop.Goals as goal
 
 pub returns-clause-listed : goal.returns-clause-listed

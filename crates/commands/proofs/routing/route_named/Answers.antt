@@ -1,14 +1,14 @@
 use Rattle.std.proofs.Common.{◌≡◌, ◌⊎◌, ℕ, List, Option, Err, ap, subst, sym}
 use Rattle.shelf_io.specs.Count.{Still}
-use Rattle.commands.specs.Answers.{Ends}
+use Rattle.commands.specs.Ends.{Ends}
 use Rattle.commands.specs.Done.{IsStatusOf}
-use Rattle.commands.specs.Job.{Accepted}
+use Rattle.commands.specs.Accepted.{Accepted}
 use Rattle.commands.specs.Outcome.{Holds, HoldsFront}
-use Rattle.commands.specs.Seen.{seen, source_seen}
+use Rattle.command_words.specs.Seen.{seen, source_seen}
 use Rattle.commands.specs.Verdict.{command_verdict, job_verdict}
-use Rattle.commands.specs.declared.stages.Inputs.{Inputs}
+use Rattle.command_inputs.specs.declared.stages.Inputs.{Inputs}
 use Rattle.commands.proofs.Endings.{by-stop, inputs-still, stopped}
-use Rattle.commands.proofs.Findings.{told-stops}
+use Rattle.command_ends.proofs.FindsLaws.{told-stops}
 use Rattle.commands.proofs.RunLaws.{chosen-so, if-said, job-said, said-routed}
 use Rattle.commands.proofs.routing.route_named.Goals as goal
 

@@ -1,6 +1,6 @@
 use Rattle.std.proofs.Common.{◌≡◌, ◌∙◌, ap, sym}
-use Rattle.commands.specs.Command.{CheckNames, check, route}
-use Rattle.commands.specs.Seen.{check_seen, command_seen, seen}
+use Rattle.command_words.specs.Command.{CheckNames, check, route}
+use Rattle.command_words.specs.Seen.{check_seen, command_seen, seen}
 use Rattle.commands.proofs.RunLaws.{kept-so}
 use Rattle.commands.proofs.top.obey.Goals as goal
 

@@ -1,9 +1,9 @@
 use Rattle.std.proofs.Common.{◌≡◌, ◌⊎◌, ◌∙◌, ℕ, Vec, Global, ap, arith, subst, sym}
 use Rattle.std.proofs.lemmas.Option.{same_Some}
 use Rattle.greedy_router.specs.declared.sweep.Routed.{Routed}
-use Rattle.commands.specs.Command.{writes_of}
+use Rattle.command_words.specs.Command.{writes_of}
 use Rattle.commands.specs.Outcome.{AreKept}
-use Rattle.commands.specs.Seen.{command_seen}
+use Rattle.command_words.specs.Seen.{command_seen}
 use Rattle.commands.proofs.RunLaws.{asked-ends, kept-so, memory-ends, moved-ends, usage-ends}
 use Rattle.commands.proofs.top.run.Goals as goal
 use Rattle.commands.proofs.top.run.Goals.{in-Ok, in-Err-Usage, in-Err-Memory}

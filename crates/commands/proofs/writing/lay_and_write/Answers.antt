@@ -1,15 +1,17 @@
 use Rattle.std.proofs.Common.{Ok, inl, inr, refl, subst, sym}
 use Rattle.std.proofs.lemmas.Option.{same_Some}
-use Rattle.commands.specs.Answers.{Ends}
+use Rattle.commands.specs.Ends.{Ends}
 use Rattle.commands.specs.Done.{routed_end}
 use Rattle.commands.specs.Headline.{IsJobFrom}
-use Rattle.commands.specs.Job.{Job, to_lay_out}
-use Rattle.commands.specs.PreparedView.{RoutedJob}
-use Rattle.commands.specs.Text.{job_text}
+use Rattle.command_jobs.specs.Job.{Job}
+use Rattle.commands.specs.Accepted.{to_lay_out}
+use Rattle.command_jobs.specs.PreparedView.{RoutedJob}
+use Rattle.command_jobs.specs.Text.{job_text}
 use Rattle.commands.specs.Verdict.{job_verdict}
-use Rattle.commands.specs.declared.stop.Stop.TheVariants.{Refused}
-use Rattle.commands.proofs.Endings.{by-stop, refusal-unread, rose-still, stopped, written-status}
-use Rattle.commands.proofs.Findings.{found-refusal, stops}
+use Rattle.command_ends.specs.declared.stop.Stop.TheVariants.{Refused}
+use Rattle.commands.proofs.Endings.{by-stop, rose-still, stopped, written-status}
+use Rattle.command_ends.proofs.StopLaws.{refusal-unread}
+use Rattle.command_ends.proofs.FindsLaws.{found-refusal, stops}
 use Rattle.commands.proofs.HeadlineLaws.{headline-from}
 use Rattle.commands.proofs.RunLaws.{front-so, holds-so, job-accepted, routed-so}
 use Rattle.commands.proofs.writing.lay_and_write.Goals as goal

@@ -1,0 +1,106 @@
+use Rattle.std.specs.Prelude.{ℕ, List, [], ◌∷◌, ◌++◌, codes, Some, None}
+use Rattle.std.specs.Fmt.{decimal}
+use Rattle.tech_rules.specs.Keys.{name_of}
+use Rattle.yal_reader.specs.declared.fault.YalKind.{YalKind}
+use Rattle.yal_reader.specs.declared.fault.YalKind.TheVariants as kinds
+use Rattle.netlist_core.specs.declared.fault.DesignFault.{DesignFault}
+use Rattle.netlist_core.specs.declared.fault.DesignFault.TheVariants as faults
+use Rattle.cif_text.specs.declared.fault.CifKind.{CifKind}
+use Rattle.cif_text.specs.declared.fault.CifKind.TheVariants as texts
+use Rattle.cif_reader.specs.declared.fault.ExpandKind.{ExpandKind}
+use Rattle.cif_reader.specs.declared.fault.ExpandKind.TheVariants as meanings
+use Rattle.command_ends.specs.declared.refusal.Limited.{Limited}
+use Rattle.command_ends.specs.declared.refusal.Limited.TheVariants as limits
+use Rattle.command_ends.specs.declared.refusal.Refusal.{Refusal}
+use Rattle.command_ends.specs.declared.refusal.Refusal.TheVariants.{Usage, Toml, Missing, Range, Tight, Yal, Design, Cif, Meaning, Limit, Memory}
+use Rattle.command_ends.specs.declared.stop.Stop.{Stop}
+use Rattle.command_ends.specs.declared.stop.Stop.TheVariants.{Refused, ReadFault, WriteFault}
+
+-- what stands after a word: a blank where more words follow, else a line feed
+abbrev pub word_end : List (List ℕ) → List ℕ
+word_end [] = codes "\n"
+word_end (word ∷ words) = codes " "
+
+-- a line of words
+abbrev pub line : List (List ℕ) → List ℕ
+line [] = []
+line (word ∷ words) = word ++ word_end words ++ line words
+
+unfoldable pub kind_word : YalKind → List ℕ
+kind_word kinds.NotAscii = codes "NotAscii"
+kind_word kinds.OpenComment = codes "OpenComment"
+kind_word kinds.Word = codes "Word"
+kind_word kinds.Ends = codes "Ends"
+kind_word kinds.Number = codes "Number"
+kind_word kinds.Twice = codes "Twice"
+
+unfoldable pub fault_word : DesignFault → List ℕ
+fault_word faults.NoParent = codes "NoParent"
+fault_word faults.ManyParents = codes "ManyParents"
+fault_word (faults.UnknownModule i) = codes "UnknownModule"
+fault_word (faults.NotStandard i) = codes "NotStandard"
+fault_word (faults.SignalCount i) = codes "SignalCount"
+fault_word (faults.NoShape m) = codes "NoShape"
+fault_word (faults.OffGrid m) = codes "OffGrid"
+fault_word (faults.Height m) = codes "Height"
+fault_word (faults.TooLow m) = codes "TooLow"
+fault_word (faults.PinClash m) = codes "PinClash"
+fault_word (faults.WrongLayer m) = codes "WrongLayer"
+fault_word (faults.Limit count n) = codes "Limit"
+fault_word faults.Memory = codes "Memory"
+
+-- the words of a fault of a text of CIF and of its commands, without what they carry
+unfoldable pub text_word : CifKind → List ℕ
+text_word texts.NotAscii = codes "NotAscii"
+text_word texts.Unclosed = codes "Unclosed"
+text_word texts.BadCommand = codes "BadCommand"
+text_word texts.Number = codes "Number"
+text_word texts.NoEnd = codes "NoEnd"
+text_word (texts.LeftOut byte) = codes "LeftOut"
+text_word texts.Turned = codes "Turned"
+
+unfoldable pub meaning_word : ExpandKind → List ℕ
+meaning_word (meanings.Undefined n) = codes "Undefined"
+meaning_word (meanings.Twice n) = codes "Twice"
+meaning_word meanings.Inexact = codes "Inexact"
+meaning_word (meanings.TooFar z) = codes "TooFar"
+meaning_word meanings.TooMany = codes "TooMany"
+meaning_word meanings.NoLayer = codes "NoLayer"
+meaning_word meanings.NoSymbolName = codes "NoSymbolName"
+meaning_word meanings.TooDeep = codes "TooDeep"
+
+unfoldable pub limited_word : Limited → List ℕ
+limited_word limits.Rules = codes "Rules"
+limited_word limits.Design = codes "Design"
+limited_word limits.Cif = codes "Cif"
+limited_word limits.Instances = codes "Instances"
+limited_word limits.Pins = codes "Pins"
+limited_word limits.Moves = codes "Moves"
+limited_word limits.Grid = codes "Grid"
+limited_word limits.Width = codes "Width"
+limited_word limits.Height = codes "Height"
+
+-- the words of a refusal's line
+unfoldable pub refusal_words : Refusal → List (List ℕ)
+refusal_words Usage = codes "usage" ∷ []
+refusal_words Toml = codes "rules" ∷ codes "Toml" ∷ []
+refusal_words (Missing key) = codes "rules" ∷ codes "Missing" ∷ name_of key ∷ []
+refusal_words (Range key) = codes "rules" ∷ codes "Range" ∷ name_of key ∷ []
+refusal_words (Tight rule) = codes "rules" ∷ codes "Tight" ∷ decimal rule ∷ []
+refusal_words (Yal kind place) = codes "yal" ∷ kind_word kind ∷ decimal place ∷ []
+refusal_words (Design fault None) = codes "design" ∷ fault_word fault ∷ []
+refusal_words (Design fault (Some name)) = codes "design" ∷ fault_word fault ∷ name ∷ []
+refusal_words (Cif kind place) = codes "cif" ∷ text_word kind ∷ decimal place ∷ []
+refusal_words (Meaning kind command) = codes "cif" ∷ meaning_word kind ∷ decimal command ∷ []
+refusal_words (Limit what n) = codes "limit" ∷ limited_word what ∷ decimal n ∷ []
+refusal_words Memory = codes "memory" ∷ []
+
+-- the words of the line of what stopped a command
+unfoldable pub stop_words : Stop → List (List ℕ)
+stop_words (Refused refusal) = refusal_words refusal
+stop_words ReadFault = codes "read" ∷ codes "fault" ∷ []
+stop_words WriteFault = codes "write" ∷ codes "fault" ∷ []
+
+-- the line of what stopped a command
+abbrev pub line_of : Stop → List ℕ
+line_of stop = line (stop_words stop)

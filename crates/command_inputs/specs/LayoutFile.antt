@@ -1,0 +1,32 @@
+use Rattle.std.specs.Prelude.{ℕ, List, Result, Ok, Err}
+use Rattle.geom_core.specs.declared.layout.Layout.{Layout}
+use Rattle.cif_text.specs.CifReads.{cif_reads}
+use Rattle.cif_text.specs.declared.command.Command as cif
+use Rattle.cif_text.specs.declared.fault.CifKind.{CifKind}
+use Rattle.cif_reader.specs.Expansion.{expansion}
+use Rattle.cif_reader.specs.declared.fault.ExpandKind.{ExpandKind}
+use Rattle.command_ends.specs.Limits.{within_limit}
+use Rattle.command_ends.specs.Refusing.{◌>>=◌}
+use Rattle.command_ends.specs.declared.refusal.Limited.TheVariants as limits
+use Rattle.command_ends.specs.declared.refusal.Refusal.{Refusal}
+use Rattle.command_ends.specs.declared.refusal.Refusal.TheVariants.{Cif, Meaning}
+
+abbrev pub cif_said : Result (List cif.Command) (CifKind × ℕ) → Result (List cif.Command) Refusal
+cif_said (Ok commands) = Ok commands
+cif_said (Err bad) = Err (Cif bad.0 bad.1)
+
+abbrev pub meaning_said : Result Layout (ExpandKind × ℕ) → Result Layout Refusal
+meaning_said (Ok layout) = Ok layout
+meaning_said (Err bad) = Err (Meaning bad.0 bad.1)
+
+-- the commands that the bytes of a layout's file are
+unfoldable pub commands_verdict : List ℕ → Result (List cif.Command) Refusal
+commands_verdict bytes = do
+  whole ← within_limit limits.Cif 268435456 bytes
+  cif_said (cif_reads whole)
+
+-- the layout that they give, within the limits of the reader
+unfoldable pub layout_verdict : List ℕ → Result Layout Refusal
+layout_verdict bytes = do
+  commands ← commands_verdict bytes
+  meaning_said (expansion commands)

@@ -1,0 +1,9 @@
+-- the names in the faults of a design
+pub mod FaultName
+-- what the files of rules and of a design state, and what the file of a layout says
+pub mod Stated
+pub mod LayoutFile
+-- rules and a design that are what two texts say
+pub mod Origin
+-- why files could not be read
+pub mod Failures

@@ -1,0 +1,11 @@
+//! What the files that a command reads say: rules, a design under them, and a layout.
+#![tactic(auto)]
+
+mod fault_name;
+mod layout_file;
+mod limits;
+mod outcome;
+mod stages;
+
+pub use layout_file::load_layout;
+pub use stages::{Inputs, load_inputs};

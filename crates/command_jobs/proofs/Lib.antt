@@ -1,0 +1,8 @@
+-- a layout whose size is not refused is within the limits
+pub mod SizeLaws
+-- the wirings of routed channels connect the channels of rows with feeds, within the bound
+pub mod RoutedLaws
+-- routed channels apart and together
+pub mod KeptLaws
+-- a layout in short
+pub mod SummaryLaws

@@ -1,0 +1,54 @@
+use Rattle.std.specs.Prelude.{ℕ, ◌+◌, ◌-◌, List, [], ◌∷◌, length, map}
+use Rattle.tech_rules.specs.Rules.{RuleValues}
+use Rattle.design_model.specs.Netlist.{Netlist}
+use Rattle.row_model.specs.Cost.{cost_of}
+use Rattle.feed_cells.specs.Fed.{Fed}
+use Rattle.feed_cells.specs.declared.fed.Item.{Item}
+use Rattle.feed_cells.specs.declared.fed.Item.TheVariants.{Cell, Feed}
+use Rattle.channel_stack.specs.Stack.{stack_of}
+use Rattle.greedy_router.specs.declared.sweep.Routed.{Routed}
+use Rattle.layout_report.specs.declared.summary.ChannelLine.{ChannelLine}
+use Rattle.layout_report.specs.declared.summary.Summary.{Summary}
+use Rattle.command_jobs.specs.Job.{Job}
+use Rattle.command_jobs.specs.Kept.{wirings_of}
+use Rattle.command_jobs.specs.Rows.{rows_of, schedule_of}
+use Rattle.command_jobs.specs.Text.{rows_with_feeds}
+
+-- 1 for a feed, and 0 for a cell
+abbrev pub feeds_at : Item → ℕ
+feeds_at (Cell seat) = 0
+feeds_at (Feed net) = 1
+
+-- how many feeds a row has, and how many rows have
+abbrev pub feeds_of : List Item → ℕ
+feeds_of [] = 0
+feeds_of (item ∷ items) = feeds_at item + feeds_of items
+
+abbrev pub feeds_in : List (List Item) → ℕ
+feeds_in [] = 0
+feeds_in (items ∷ rows) = feeds_of items + feeds_in rows
+
+-- a routed channel in short, beside rows of this width
+abbrev pub line_of_channel : ℕ → Routed → ChannelLine
+line_of_channel width r = record { tracks = r.wiring.tracks; extra = r.wiring.columns - width; by = r.by }
+
+-- what the annealed rows of a job cost
+unfoldable pub cost_for : Job → ℕ
+cost_for job = cost_of job.design (rows_of job) (schedule_of job.rules).weights
+
+-- a layout in short, of rows with feeds that cost so, with these routed channels
+abbrev pub summary_at : RuleValues → Netlist → Fed → ℕ → List Routed → Summary
+summary_at r d fed cost kept = record {
+  cells = length d.instances;
+  nets = length d.nets;
+  rows = length fed.rows;
+  feeds = feeds_in fed.rows;
+  channels = map (line_of_channel fed.width) kept;
+  width = (stack_of r d fed (wirings_of kept)).width;
+  height = (stack_of r d fed (wirings_of kept)).height;
+  cost = cost;
+}
+
+-- the layout of a job with these routed channels in short
+unfoldable pub summary_of : Job → List Routed → Summary
+summary_of job kept = summary_at job.rules job.design (rows_with_feeds job) (cost_for job) kept

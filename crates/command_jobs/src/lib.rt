@@ -1,0 +1,10 @@
+//! The job of laying a design out: its rows are annealed and get feeds, its channels are routed, and all of it is written.
+#![tactic(auto)]
+
+mod kept;
+mod limits;
+mod placing;
+mod prepared;
+mod summarizing;
+
+pub use prepared::{Prepared, Told, lay_out};

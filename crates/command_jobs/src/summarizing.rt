@@ -1,0 +1,110 @@
+//! A layout in short.
+
+ghost use Rattle.command_jobs.specs.Summarized.{feeds_at, feeds_in, feeds_of, line_of_channel};
+ghost use Rattle.feed_cells.specs.Fed.{IsFed};
+ghost use Rattle.std.specs.Prelude.{◌≡◌, ◌<◌, ◌≤◌, ◌^◌, IfOk, length, map};
+
+use channel_stack::Laid;
+use design_model::Design;
+use feed_cells::{FedRows, Item};
+use geom_core::Items;
+use greedy_router::Routed;
+use layout_report::{ChannelLine, Summary};
+use std::alloc::{AllocError, Global};
+
+fn feeds_at(item: &Item) -> u64
+    ensures is { result ≡ feeds_at item.now }
+    ensures few { result ≤ 1 }
+{
+    match item {
+        Item::Cell(_) => 0,
+        Item::Feed(_) => 1,
+    }
+}
+
+// How many feeds a row has.
+fn feeds_of(items: &[Item]) -> u64
+    requires { feeds_of items.now < 2 ^ 64 }
+    ensures { result ≡ feeds_of items.now }
+{
+    let mut feeds = 0;
+    let mut rest = items;
+    while let Some((item, after)) = rest.split_first() {
+        feeds += feeds_at(item);
+        rest = after;
+    }
+    feeds
+}
+
+// How many feeds rows have.
+fn feeds_in(rows: &[Items<Item>]) -> u64
+    requires { feeds_in rows.now < 2 ^ 64 }
+    ensures { result ≡ feeds_in rows.now }
+{
+    let mut feeds = 0;
+    let mut rest = rows;
+    while let Some((row, after)) = rest.split_first() {
+        feeds += feeds_of(row.items());
+        rest = after;
+    }
+    feeds
+}
+
+// A routed channel in short, beside rows of this width.
+fn line_of_channel(width: u64, channel: &Routed) -> ChannelLine
+    ensures { result ≡ line_of_channel width channel.now }
+{
+    ChannelLine {
+        tracks: channel.wiring.tracks,
+        extra: u64::from(channel.wiring.columns).saturating_sub(width) as u32,
+        by: channel.by,
+    }
+}
+
+/// Routed channels in short, beside rows of this width. The one error is want of memory.
+pub fn channel_lines(
+    alloc: Global,
+    channels: &[Routed],
+    width: u64,
+) -> Result<Vec<ChannelLine>, AllocError>
+    ensures { IfOk result (λ v. v.items ≡ map (line_of_channel width) channels.now) }
+{
+    channels
+        .iter()
+        .map(|channel| line_of_channel(width, channel))
+        .collect(alloc)
+}
+
+/// The layout in short of a design in rows with feeds, which cost so, with these channels. The rows are at most 4,000,000 columns wide. Takes no
+/// memory.
+pub fn summarized(
+    design: &Design,
+    fed: &FedRows,
+    channels: Vec<ChannelLine>,
+    laid: &Laid,
+    cost: u64,
+) -> Summary
+    requires fed { IsFed design.now fed.now }
+    requires narrow { fed.now.width ≤ 4000000 }
+    ensures { result ≡ record {
+      cells = length design.now.instances;
+      nets = length design.now.nets;
+      rows = length fed.now.rows;
+      feeds = feeds_in fed.now.rows;
+      channels = channels.items;
+      width = laid.now.width;
+      height = laid.now.height;
+      cost = cost;
+    } }
+{
+    Summary {
+        cells: design.instances.items().len() as u32,
+        nets: design.nets.items().len() as u32,
+        rows: fed.rows.items().len() as u32,
+        feeds: feeds_in(fed.rows.items()),
+        channels: Items::new(channels),
+        width: laid.width,
+        height: laid.height,
+        cost,
+    }
+}

@@ -1,0 +1,4 @@
+-- what `clap` makes of the words of a command
+pub mod Arguments
+-- the style that words give
+pub mod StyleLaws

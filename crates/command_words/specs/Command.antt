@@ -1,0 +1,182 @@
+use Rattle.std.specs.Prelude.{◌<◌, ℕ, suc, List, [], ◌∷◌, Bool, true, false, if◌then◌else◌, codes, Option, Some, None, option_and_then, option_map}
+use Rattle.std.specs.Str.{bytes_eq}
+use Rattle.command_words.specs.NumberWord.{count_in, number_of, rows_in}
+use Rattle.command_words.specs.declared.command.Wanted.{Wanted}
+use Rattle.clap.specs.Kinds.{Kinds}
+use Rattle.clap.specs.declared.builder.action.ArgAction.TheVariants.{SetTrue}
+use Rattle.clap.specs.Words.{App, Row, Rule, Text, fault_of, first_of, matches_of, new_app, new_rule, with_rule}
+
+-- where a design comes from: from the file of this name, or it is made from this seed, with so many instances
+pub data Source : Type 0 where
+  from_file : List ℕ → Source
+  from_seed : ℕ → ℕ → Source
+
+-- what a command to route says: where the design comes from, the rules file, the file to write, how the design is to be laid out, and the place of the style that
+-- chooses
+pub record Names : Type 0 where
+  pub design : Source
+  pub rules : List ℕ
+  pub out : List ℕ
+  pub wanted : Wanted
+  pub style : ℕ
+
+-- what a command to check says: the design's file, the rules file, and the file of the layout
+pub record CheckNames : Type 0 where
+  pub design : List ℕ
+  pub rules : List ℕ
+  pub cif : List ℕ
+
+-- an argument that has to be given, by its place
+abbrev pub positional_rule : Text → Rule
+positional_rule id = record (new_rule id) { required = true }
+
+-- an option that is given by its name after two dashes, and has a value
+abbrev pub option_rule : Text → Rule
+option_rule id = record (new_rule id) { long = Some id }
+
+-- a command with three names, the first two of them those of the design's file and of the rules file
+abbrev pub named_app : Text → Text → App
+named_app name last = with_rule (with_rule (with_rule (new_app name)
+    (positional_rule (codes "design"))) (positional_rule (codes "rules"))) (positional_rule last)
+
+-- a word that is given or not, after two dashes
+abbrev pub flag_rule : Text → Rule
+flag_rule id = record (new_rule id) { long = Some id; action = Some SetTrue }
+
+-- `route` with three names, with a seed, a number of rows and a style, and with the wish for left edges
+abbrev pub route_app : App
+route_app = with_rule (with_rule (with_rule (with_rule (named_app (codes "route") (codes "out"))
+    (option_rule (codes "seed"))) (option_rule (codes "rows"))) (option_rule (codes "style"))) (flag_rule (codes "edge"))
+
+-- `check` with three names
+abbrev pub check_app : App
+check_app = named_app (codes "check") (codes "cif")
+
+-- `make` with a seed, a number of instances and two names
+abbrev pub make_app : App
+make_app = with_rule (with_rule (with_rule (with_rule (new_app (codes "make"))
+    (positional_rule (codes "seed"))) (positional_rule (codes "count"))) (positional_rule (codes "rules"))) (positional_rule (codes "out"))
+
+-- the seed that is asked for: 1 where no value is given, and no answer where the value is no number below 2 ^ 64
+abbrev pub seed_given : Option Text → Option ℕ
+seed_given None = Some 1
+seed_given (Some text) = number_of text
+
+-- the rows that are asked for: none where no value is given, and no answer where the value is no number of rows
+abbrev pub rows_given : Option Text → Option (Option ℕ)
+rows_given None = Some None
+rows_given (Some text) = option_map (λ n. Some n) (rows_in text)
+
+-- a flag is given: its value is the word that `clap` has for that
+abbrev pub is_given : Option Text → Bool
+is_given None = false
+is_given (Some text) = bytes_eq text (codes "true")
+
+-- how a design is to be laid out, by the seed, the rows and whether left edges are wished for
+abbrev pub wanted_from : Option ℕ → Option (Option ℕ) → Bool → Option Wanted
+wanted_from (Some seed) (Some rows) edge = Some (record { seed = seed; rows = rows; edge = edge })
+wanted_from (Some seed) None edge = None
+wanted_from None rows edge = None
+
+-- the place of the first style of a name, among the names of all
+abbrev pub place_of : List Text → Text → Option ℕ
+place_of [] text = None
+place_of (name ∷ names) text = if bytes_eq name text then Some 0 else option_map suc (place_of names text)
+
+-- the style that is asked for: the first where no value is given, and no answer where none has the name
+abbrev pub style_given : List Text → Option Text → Option ℕ
+style_given styles None = Some 0
+style_given styles (Some text) = place_of styles text
+
+abbrev pub names_from : Option Text → Option Text → Option Text → Option Wanted → Option ℕ → Option Names
+names_from (Some design) (Some rules) (Some out) (Some wanted) (Some style) =
+    Some (record { design = from_file design; rules = rules; out = out; wanted = wanted; style = style })
+names_from (Some design) (Some rules) (Some out) (Some wanted) None = None
+names_from (Some design) (Some rules) (Some out) None style = None
+names_from (Some design) (Some rules) None wanted style = None
+names_from (Some design) None out wanted style = None
+names_from None rules out wanted style = None
+
+-- the seed, the rows and the flag among the values that words gave, and all that they say
+abbrev pub wanted_in : List Row → Option Wanted
+wanted_in values = wanted_from (seed_given (first_of (codes "seed") values)) (rows_given (first_of (codes "rows") values))
+    (is_given (first_of (codes "edge") values))
+
+abbrev pub names_in : List Text → List Row → Option Names
+names_in styles values = names_from (first_of (codes "design") values) (first_of (codes "rules") values) (first_of (codes "out") values) (wanted_in values)
+    (style_given styles (first_of (codes "style") values))
+
+abbrev pub check_from : Option Text → Option Text → Option Text → Option CheckNames
+check_from (Some design) (Some rules) (Some cif) = Some (record { design = design; rules = rules; cif = cif })
+check_from (Some design) (Some rules) None = None
+check_from (Some design) None cif = None
+check_from None rules cif = None
+
+abbrev pub check_in : List Row → Option CheckNames
+check_in values = check_from (first_of (codes "design") values) (first_of (codes "rules") values) (first_of (codes "cif") values)
+
+-- a design that is made, and laid out by the same seed, in rows as usual, by the first style and without left edges
+abbrev pub make_names : ℕ → ℕ → Text → Text → Names
+make_names seed count rules out =
+    record { design = from_seed seed count; rules = rules; out = out; wanted = record { seed = seed; rows = None; edge = false }; style = 0 }
+
+abbrev pub make_from : Option ℕ → Option ℕ → Option Text → Option Text → Option Names
+make_from (Some seed) (Some count) (Some rules) (Some out) = Some (make_names seed count rules out)
+make_from (Some seed) (Some count) (Some rules) None = None
+make_from (Some seed) (Some count) None out = None
+make_from (Some seed) None rules out = None
+make_from None count rules out = None
+
+abbrev pub make_in : List Row → Option Names
+make_in values = make_from (option_and_then number_of (first_of (codes "seed") values)) (option_and_then count_in (first_of (codes "count") values))
+    (first_of (codes "rules") values) (first_of (codes "out") values)
+
+abbrev pub unless_refused : {A : Type 0} → Kinds → Option A → Option A
+unless_refused [] given = given
+unless_refused (kind ∷ kinds) given = None
+
+-- what words give a command, of which the first is its name, by what `clap` makes of them; none where it refuses them
+unfoldable pub given_by : {A : Type 0} → App → (List Row → Option A) → List Text → Option A
+given_by app given words = unless_refused (fault_of app words) (given (matches_of app words))
+
+-- a command, by what it reads and writes
+pub data Command : Type 0 where
+  route : Names → Command
+  check : CheckNames → Command
+
+-- the files that a source is read from
+abbrev pub files_of : Source → List (List ℕ)
+files_of (from_file name) = name ∷ []
+files_of (from_seed seed count) = []
+
+-- the files that a command reads, in their order, and the one that it writes, if it writes one
+abbrev pub reads_of : Command → List (List ℕ)
+reads_of (route names) = names.rules ∷ files_of names.design
+reads_of (check names) = names.rules ∷ names.design ∷ names.cif ∷ []
+
+abbrev pub writes_of : Command → Option (List ℕ)
+writes_of (route names) = Some names.out
+writes_of (check names) = None
+
+-- the command that words give where the styles have these names: the first is a command's name, and the others are its arguments
+unfoldable pub command_of : List Text → List (List ℕ) → Option Command
+command_of styles [] = None
+command_of styles (word ∷ others) =
+    if bytes_eq word (codes "route") then option_map route (given_by route_app (names_in styles) (word ∷ others)) else
+    if bytes_eq word (codes "check") then option_map check (given_by check_app check_in (word ∷ others)) else
+    if bytes_eq word (codes "make") then option_map route (given_by make_app make_in (word ∷ others)) else None
+
+-- a command wishes for left edges
+abbrev pub is_by_edge : Command → Bool
+is_by_edge (route names) = names.wanted.edge
+is_by_edge (check names) = false
+
+-- the place of a command's style, if it has one
+abbrev pub style_of : Command → Option ℕ
+style_of (route names) = Some names.style
+style_of (check names) = None
+
+-- a command is of one of so many styles, if it has one
+abbrev pub IsOfStyle : ℕ → Command → Type 0
+IsOfStyle count (route names) = names.style < count
+IsOfStyle count (check names) = Unit {0}

@@ -1,0 +1,33 @@
+use Rattle.std.specs.Prelude.{◌≡◌, Option, Some, None, Result, Ok, Err}
+use Rattle.command_words.specs.Command.{CheckNames, Command, Names, Source, check, from_file, from_seed, route}
+use Rattle.command_words.specs.declared.command.Check.{Check}
+use Rattle.command_words.specs.declared.command.Command as asked
+use Rattle.command_words.specs.declared.command.Command.TheVariants as commands
+use Rattle.command_words.specs.declared.command.Route.{Route}
+use Rattle.command_words.specs.declared.command.Source as asked_source
+use Rattle.command_words.specs.declared.command.Source.TheVariants as sources
+use Rattle.command_words.specs.declared.command.WordsFault.{WordsFault}
+use Rattle.command_words.specs.declared.command.WordsFault.TheVariants.{Usage, Memory}
+
+-- where a design comes from
+abbrev pub source_seen : asked_source.Source → Source
+source_seen (sources.File name) = from_file name.now
+source_seen (sources.Made seed count) = from_seed seed count
+
+-- a command as its names and how the design is to be laid out
+abbrev pub seen : Route → Names
+seen names = record { design = source_seen names.design; rules = names.rules.now; out = names.out.now; wanted = names.wanted; style = names.style }
+
+-- the same of a command to check
+abbrev pub check_seen : Check → CheckNames
+check_seen names = record { design = names.design.now; rules = names.rules.now; cif = names.cif.now }
+
+abbrev pub command_seen : asked.Command → Command
+command_seen (commands.Route names) = route (seen names)
+command_seen (commands.Check names) = check (check_seen names)
+
+-- what was read is what words give, seen so, both ways, want of memory aside
+abbrev pub Reads : {X Y : Type 0} → (X → Y) → Result X WordsFault → Option Y → Type 0
+Reads view (Ok x) said = said ≡ Some (view x)
+Reads view (Err Usage) said = said ≡ None
+Reads view (Err Memory) said = Unit {0}

@@ -1,0 +1,130 @@
+//! The numbers that words ask for.
+
+ghost use Rattle.command_words.specs.NumberWord.{count_in, is_digit, number_from, number_of, rows_in};
+ghost use Rattle.std.specs.Prelude.{◌≡◌, ◌+◌, ◌-◌, ◌*◌, ◌^◌, ◌≤◌, if◌then◌else◌, nat_lt, true, None, Some};
+
+use std::marker::Model;
+
+fn is_digit(byte: u8) -> bool
+    ensures { result ≡ is_digit byte }
+{
+    byte.is_ascii_digit()
+}
+
+// A number with one more digit, where it stays below 2^64.
+fn with_digit(number: u64, digit: u8) -> Option<u64>
+    requires { is_digit digit ≡ true }
+    ensures { result ≡ (if nat_lt (number * 10 + (digit - 48)) (2 ^ 64) then Some (number * 10 + (digit - 48)) else None) }
+{
+    number.checked_mul(10)?.checked_add(u64::from(digit - b'0'))
+}
+
+/// The number below 2^64 that a word of one to twenty digits writes. Takes no memory.
+#[tactic(auto, unfolding(crate::specs::NumberWord::number_of))]
+pub fn read_number(word: &str) -> Option<u64>
+    ensures { result ≡ number_of word.now }
+{
+    let text = word.as_bytes();
+    if text.is_empty() || text.len() > 20 {
+        return None;
+    }
+    let mut number = 0;
+    let mut rest = text;
+    while let Some((digit, after)) = rest.split_first() {
+        if !is_digit(*digit) {
+            return None;
+        }
+        let Some(more) = with_digit(number, *digit) else {
+            return None;
+        };
+        number = more;
+        rest = after;
+    }
+    Some(number)
+}
+
+/// A number of rows, 1 to 512, which contracts see as the number.
+#[derive(Clone, Copy, Debug, PartialEq, Eq)]
+pub struct RowCount {
+    rows: u32,
+}
+
+impl Model for RowCount {
+    ghost use Rattle.std.specs.Prelude.{ℕ};
+    ghost use Rattle.command_words.specs.RowCountView.{count_in, IsCount, counted};
+
+    ghost Value = { ℕ };
+
+    ghost view = { count_in };
+
+    ghost invariant = { IsCount };
+
+    ghost inverse = { counted };
+}
+
+impl RowCount {
+    /// The number. Takes no memory.
+    pub fn get(self) -> u32
+        ensures is { result ≡ self }
+        ensures some { 1 ≤ result }
+        ensures few { result ≤ 512 }
+    {
+        self.rows
+    }
+}
+
+/// The number of rows, 1 to 512, that a word of one to twenty digits asks for. Takes no memory.
+#[tactic(auto, unfolding(crate::specs::NumberWord::rows_in))]
+pub fn read_rows(word: &str) -> Option<RowCount>
+    ensures { result ≡ rows_in word.now }
+{
+    let rows = read_number(word)?;
+    if rows < 1 || rows > 512 {
+        return None;
+    }
+    Some(RowCount { rows: rows as u32 })
+}
+
+/// A number of instances, 1 to 20,000, which contracts see as the number.
+#[derive(Clone, Copy, Debug, PartialEq, Eq)]
+pub struct MadeCount {
+    instances: u32,
+}
+
+impl Model for MadeCount {
+    ghost use Rattle.std.specs.Prelude.{ℕ};
+    ghost use Rattle.command_words.specs.MadeCountView.{count_in, IsCount, counted};
+
+    ghost Value = { ℕ };
+
+    ghost view = { count_in };
+
+    ghost invariant = { IsCount };
+
+    ghost inverse = { counted };
+}
+
+impl MadeCount {
+    /// The number. Takes no memory.
+    pub fn get(self) -> u32
+        ensures is { result ≡ self }
+        ensures some { 1 ≤ result }
+        ensures few { result ≤ 20000 }
+    {
+        self.instances
+    }
+}
+
+/// The number of instances, 1 to 20,000, that a word of one to twenty digits asks for. Takes no memory.
+#[tactic(auto, unfolding(crate::specs::NumberWord::count_in))]
+pub fn read_count(word: &str) -> Option<MadeCount>
+    ensures { result ≡ count_in word.now }
+{
+    let instances = read_number(word)?;
+    if instances < 1 || instances > 20_000 {
+        return None;
+    }
+    Some(MadeCount {
+        instances: instances as u32,
+    })
+}

@@ -1,6 +1,0 @@
-use Rattle.commands.specs.Seen.{seen}
-use Rattle.commands.proofs.StyleLaws.{made-within}
-use Rattle.commands.proofs.command.make_given.Goals as goal
-
-pub returns-in-Ok-clause-style : goal.returns-in-Ok-clause-style
-returns-in-Ok-clause-style c = λ count some. made-within c.args.words.now (seen c.in-Ok.names) count some c.in-Ok.ensures

@@ -1,8 +1,0 @@
-use Rattle.commands.proofs.Judgements.{expansion-means, measured}
-use Rattle.commands.proofs.layout_file.expand_commands.Goals as goal
-
-pub returns-in-Ok-clause-means : goal.returns-in-Ok-clause-means
-returns-in-Ok-clause-means c = expansion-means c.args.commands.now c.in-Ok.layout c.in-Ok.ensures.expands
-
-pub returns-in-Ok-clause-measured : goal.returns-in-Ok-clause-measured
-returns-in-Ok-clause-measured c = measured _ c.in-Ok.layout c.requires.few c.in-Ok.ensures.within

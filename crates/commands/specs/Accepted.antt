@@ -1,0 +1,8 @@
+use Rattle.geom_core.specs.declared.layout.Layout.{Layout}
+use Rattle.command_inputs.specs.declared.stages.Inputs.{Inputs}
+use Rattle.command_jobs.specs.Job.{Job}
+
+-- what a command comes to where nothing is refused: a job to be done, or a layout to be judged for a design and rules
+pub data Accepted : Type 0 where
+  to_lay_out : Job → Accepted
+  to_judge : Inputs → Layout → Accepted
