@@ -13,9 +13,9 @@ ghost use Rattle.feed_cells.specs.Placement.{placement_of};
 ghost use Rattle.row_model.specs.Rows.{ArePlaced};
 ghost use Rattle.std.specs.Prelude.{◌≡◌, ◌≢◌, ◌≤◌, Ok, IfErr, IfOk};
 
-use command_words::{RowCount, Wanted};
-use command_ends::{Limited, Refusal};
 use anneal_int::{AnnealFault, Schedule, anneal};
+use command_ends::{Limited, Refusal};
+use command_words::{RowCount, Wanted};
 use design_model::Design;
 use feed_cells::{FedRows, Placement, insert_feeds, place};
 use row_model::{Rows, Weights, cost, default_rows, start};

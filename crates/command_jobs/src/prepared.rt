@@ -22,16 +22,16 @@ ghost use Rattle.shelf_io.specs.Count.{Rose};
 ghost use Rattle.shelf_io.specs.Told.{Refines};
 ghost use Rattle.std.specs.Prelude.{◌≡◌, ◌≢◌, ◌⊎◌, ◌≤◌, List, ℕ, Some, IfErr, IfOk, map};
 
-use command_words::Wanted;
 use crate::kept::Apart;
 use crate::limits::size_refusal;
 use crate::placing::{FedDesign, feed_rows, rows_for};
-use command_ends::{Refusal, Stop};
 use crate::summarizing::{channel_lines, summarized};
 use channel_model::Channel;
 use channel_stack::{Laid, lay};
 use choose_core::{Chooser, Chooses, Style};
 use cif_writer::{StartFault, symbol_drawings, write_layout};
+use command_ends::{Refusal, Stop};
+use command_words::Wanted;
 use design_model::Design;
 use feed_cells::FedRows;
 use geom_core::{Items, Shape};

@@ -1,5 +1,4 @@
 use Rattle.std.proofs.Common.{◌≡◌, ◌⊎◌, ◌∙◌, ◌≤◌, ℕ, List, [], ◌∷◌, Option, Result, Ok, true, inl, inr, refl, sym, ap, subst, arith}
-use Rattle.std.proofs.lemmas.Int.{ints}
 use Rattle.shelf_io.specs.Count.{Rose, Still}
 use Rattle.geom_core.specs.declared.layout.Layout.{Layout}
 use Rattle.design_model.specs.Good.{Good}

@@ -16,10 +16,10 @@ ghost use Rattle.design_model.specs.Room.{HasRoom};
 ghost use Rattle.layout_check.specs.Measured.{IsMeasured};
 ghost use Rattle.std.specs.Prelude.{◌≡◌, ◌≢◌, ◌⊎◌, List, [], ℕ, None, Some, IfOk, true};
 
-use command_words::{Check, Source};
-use command_inputs::{Inputs, load_inputs, load_layout};
-use command_ends::{Refusal, Stop};
 use crate::report::{report_judged, report_stop};
+use command_ends::{Refusal, Stop};
+use command_inputs::{Inputs, load_inputs, load_layout};
+use command_words::{Check, Source};
 use geom_core::Layout;
 use layout_check::{Finding, check};
 use shelf_io::{Shelf, Sink};

@@ -6,8 +6,8 @@ ghost use Rattle.commands.specs.Outcome.{IsStopped, Tells};
 ghost use Rattle.command_ends.specs.Status.{is_status};
 ghost use Rattle.std.specs.Prelude.{◌≡◌, ◌≤◌, Ok, true};
 
-use command_ends::{Stop, print_line, put_judged};
 use crate::judging::Judged;
+use command_ends::{Stop, print_line, put_judged};
 use layout_report::{Summary, print_summary};
 use shelf_io::{Failed, Sink};
 

@@ -12,11 +12,11 @@ ghost use Rattle.commands.specs.Verdict.{command_verdict};
 ghost use Rattle.shelf_io.specs.Count.{Still};
 ghost use Rattle.std.specs.Prelude.{◌≡◌, ◌≢◌, ◌⊎◌, ◌<◌, List, [], ℕ, length, Some, true};
 
-use command_words::Route;
 use crate::report::report_stop;
-use command_inputs::load_inputs;
 use crate::writing::lay_and_report;
 use choose_core::{Chooser, Chooses, Style};
+use command_inputs::load_inputs;
+use command_words::Route;
 use greedy_router::Routed;
 use shelf_io::{Shelf, Sink};
 use std::alloc::Global;

@@ -13,12 +13,12 @@ ghost use Rattle.commands.specs.Verdict.{Comes, command_verdict, verdict};
 ghost use Rattle.shelf_io.specs.Count.{Still};
 ghost use Rattle.std.specs.Prelude.{◌≡◌, ◌≢◌, ◌⊎◌, ◌<◌, ◌≤◌, List, [], ℕ, length, map, Some, None, true};
 
-use command_words::{Command, Word, WordsFault, read_command};
 use crate::judging::check_named;
-use command_ends::{Refusal, Stop};
 use crate::report::report_stop;
 use crate::routing::route_named;
 use choose_core::{Chooser, Chooses, Style};
+use command_ends::{Refusal, Stop};
+use command_words::{Command, Word, WordsFault, read_command};
 use greedy_router::Routed;
 use shelf_io::{Shelf, Sink};
 use std::alloc::Global;

@@ -17,12 +17,12 @@ ghost use Rattle.shelf_io.specs.Count.{Rose, Still};
 ghost use Rattle.shelf_io.specs.Told.{Refines};
 ghost use Rattle.std.specs.Prelude.{◌≡◌, ◌≢◌, ◌⊎◌, List, [], ℕ, Err, IfErr, IfOk, Ok, Some, true};
 
-use command_words::Wanted;
-use command_jobs::{Prepared, Told, lay_out};
 use crate::report::{report_laid, report_stop};
-use command_inputs::Inputs;
-use command_ends::Stop;
 use choose_core::{Chooser, Chooses, Style};
+use command_ends::Stop;
+use command_inputs::Inputs;
+use command_jobs::{Prepared, Told, lay_out};
+use command_words::Wanted;
 use greedy_router::Routed;
 use layout_report::Summary;
 use shelf_io::{Shelf, Sink};
