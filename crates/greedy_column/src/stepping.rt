@@ -163,8 +163,10 @@ fn taken_from(entries: Entries, straight: bool, outcome: Outcome) -> Taken
 
 /// One column of the greedy sweep, from the state that the columns before it have left. A column at or past the channel's end
 /// has no pins. The column's pins enter tracks, the tracks of one net are joined where that is possible, one track of each group
-/// that is joined is kept, and the kept tracks may move. Each choice is an answer of the chooser, and the record is what these
-/// steps make of it; it is fair, whatever the chooser answers. The one error is want of memory, and the state is then as before.
+/// that is joined is kept, and the kept tracks may move. The manner says where a new track goes,
+/// which of two pins gets one, and in what order tracks move: as published, or looking ahead to the nets' next pins. Each choice is
+/// an answer of the chooser, and the record is what these steps make of it; it is fair, whatever the chooser answers and in either
+/// manner. The one error is want of memory, and the state is then as before.
 ///
 /// Source: Rivest and Fiduccia, A Greedy Channel Router (1982).
 pub fn step(
