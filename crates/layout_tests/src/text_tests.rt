@@ -1,6 +1,7 @@
 //! Whole texts, byte for byte.
 
-use crate::support::{Rowed, layout_for};
+use crate::support::{Rowed, is_made_of, layout_for};
+use samples::SampleFault;
 use std::alloc::Global;
 use std::test::Fail;
 
@@ -42,20 +43,8 @@ const MIRRORED: &[&str] = &[
     "91 u;\nC 1 M X T 1600 800;\nE\n",
 ];
 
-/// Whether a text is made of these pieces.
-fn is_made_of(text: &[u8], pieces: &[&str]) -> bool {
-    let mut rest = text;
-    for piece in pieces {
-        match rest.strip_prefix(piece.as_bytes()) {
-            Some(after) => rest = after,
-            None => return false,
-        }
-    }
-    rest.is_empty()
-}
-
 /// Whether the text of a design in rows is made of these pieces.
-fn is_text(alloc: Global, rowed: Rowed, pieces: &[&str]) -> Result<bool, Fail> {
+fn is_text(alloc: Global, rowed: Rowed, pieces: &[&str]) -> Result<bool, SampleFault> {
     match layout_for(alloc, rowed)? {
         Some(made) => Ok(is_made_of(made.text.as_slice(), pieces)),
         None => Ok(false),
