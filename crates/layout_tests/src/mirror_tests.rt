@@ -11,7 +11,6 @@ use design_model::Design;
 use feed_cells::{FedRows, Placement, insert_feeds, place};
 use pin_assign::channels;
 use row_model::{PinPlace, Rows, pin_places};
-use samples::SampleFault;
 use std::alloc::Global;
 use std::test::Fail;
 
@@ -33,12 +32,7 @@ fn are_at(places: &[PinPlace], wanted: &[Place]) -> bool {
 }
 
 /// Whether the pins of a design stand there in rows.
-fn are_pins(
-    alloc: Global,
-    design: &Design,
-    rows: &Rows,
-    wanted: &[Place],
-) -> Result<bool, SampleFault>
+fn are_pins(alloc: Global, design: &Design, rows: &Rows, wanted: &[Place]) -> Result<bool, Fail>
     requires { ArePlaced design.now rows.now }
 {
     let places = pin_places(alloc, design, rows)?;
@@ -46,12 +40,7 @@ fn are_pins(
 }
 
 /// Whether they stand there in so many rows of mirrored cells.
-fn are_pins_in(
-    alloc: Global,
-    design: &Design,
-    count: u32,
-    wanted: &[Place],
-) -> Result<bool, SampleFault>
+fn are_pins_in(alloc: Global, design: &Design, count: u32, wanted: &[Place]) -> Result<bool, Fail>
     requires some { 0 < count }
     requires few { count ≤ 512 }
 {
@@ -60,7 +49,7 @@ fn are_pins_in(
 }
 
 /// The same of these calls.
-fn have_pins(alloc: Global, calls: &str, count: u32, wanted: &[Place]) -> Result<bool, SampleFault>
+fn have_pins(alloc: Global, calls: &str, count: u32, wanted: &[Place]) -> Result<bool, Fail>
     requires some { 0 < count }
     requires few { count ≤ 512 }
 {
@@ -115,7 +104,7 @@ fn has_channels(
     fed: &FedRows,
     placement: &Placement,
     wanted: &[Table],
-) -> Result<bool, SampleFault>
+) -> Result<bool, Fail>
     requires fed { IsFed design.now fed.now }
     requires placement { placement.now ≡ placement_of design.now (cells_in fed.now.rows) }
 {
@@ -133,7 +122,7 @@ fn have_channels(
     rows: &Rows,
     placement: &Placement,
     wanted: &[Table],
-) -> Result<bool, SampleFault>
+) -> Result<bool, Fail>
     requires placed { ArePlaced design.now rows.now }
     requires placement { placement.now ≡ placement_of design.now rows.now }
 {
@@ -142,12 +131,7 @@ fn have_channels(
 }
 
 /// Whether those of placed rows do.
-fn are_tables(
-    alloc: Global,
-    design: &Design,
-    rows: &Rows,
-    wanted: &[Table],
-) -> Result<bool, SampleFault>
+fn are_tables(alloc: Global, design: &Design, rows: &Rows, wanted: &[Table]) -> Result<bool, Fail>
     requires { ArePlaced design.now rows.now }
 {
     let placement = place(alloc, design, rows)?;
@@ -155,13 +139,13 @@ fn are_tables(
 }
 
 /// Whether those of a design in one row of mirrored cells do.
-fn has_tables(alloc: Global, design: &Design, wanted: &[Table]) -> Result<bool, SampleFault> {
+fn has_tables(alloc: Global, design: &Design, wanted: &[Table]) -> Result<bool, Fail> {
     let rows = rows_of(alloc, design, 1, true)?;
     are_tables(alloc, design, &rows, wanted)
 }
 
 /// Whether those of these calls do.
-fn is_tabled(alloc: Global, calls: &str, wanted: &[Table]) -> Result<bool, SampleFault> {
+fn is_tabled(alloc: Global, calls: &str, wanted: &[Table]) -> Result<bool, Fail> {
     let design = designed_with(alloc, calls)?;
     has_tables(alloc, &design, wanted)
 }

@@ -5,7 +5,6 @@ use crate::support::{Rowed, is_made_of, layout_for};
 use channel_stack::{Placed, PlacedItem};
 use feed_cells::Item;
 use geom_core::Items;
-use samples::SampleFault;
 use std::alloc::{AllocError, Global};
 use std::test::Fail;
 use wire_geom::Drawn;
@@ -90,18 +89,23 @@ const STACKED: [Stacked; 5] = [
     },
 ];
 
-/// What stands before the number of an item.
-fn item_word(placed: &PlacedItem) -> &'static str {
-    match placed.item {
-        Item::Cell(seat) => match (seat.mirror, placed.place.mirror) {
-            (false, false) => "",
-            (true, true) => "mirrored ",
-            _ => "turned ",
-        },
-        Item::Feed(_) => match placed.place.mirror {
-            false => "feed ",
-            true => "mirrored feed ",
-        },
+/// What stands before the number of a cell, whose seat and whose place are mirrored or not.
+fn cell_word(seat: bool, place: bool) -> &'static str {
+    if seat != place {
+        "turned "
+    } else if place {
+        "mirrored "
+    } else {
+        ""
+    }
+}
+
+/// What stands before the number of an item, whose place is mirrored or not.
+fn item_word(item: Item, place: bool) -> &'static str {
+    match item {
+        Item::Cell(seat) => cell_word(seat.mirror, place),
+        Item::Feed(_) if place => "mirrored feed ",
+        Item::Feed(_) => "feed ",
     }
 }
 
@@ -115,7 +119,7 @@ fn item_number(item: Item) -> u32 {
 
 /// An item, and its place.
 fn item_text(alloc: Global, placed: &PlacedItem) -> Result<String, AllocError> {
-    let word = item_word(placed);
+    let word = item_word(placed.item, placed.place.mirror);
     let number = item_number(placed.item);
     let (dx, dy) = (placed.place.dx, placed.place.dy);
     format!(in alloc; "{word}{number} at {dx} {dy}, ")
@@ -139,7 +143,7 @@ fn cells_text(alloc: Global, rows: &[Items<PlacedItem>]) -> Result<String, Alloc
 }
 
 /// Whether these are the items of rows.
-fn are_cells(alloc: Global, rows: &[Items<PlacedItem>], wanted: &str) -> Result<bool, SampleFault> {
+fn are_cells(alloc: Global, rows: &[Items<PlacedItem>], wanted: &str) -> Result<bool, Fail> {
     let told = cells_text(alloc, rows)?;
     Ok(told.as_str() == wanted)
 }
@@ -154,12 +158,12 @@ fn have_sizes(placed: &Placed, wanted: &Stacked) -> bool {
 }
 
 /// Whether these are the edges, the sizes and the items of a case.
-fn are_stacked(alloc: Global, placed: &Placed, wanted: &Stacked) -> Result<bool, SampleFault> {
+fn are_stacked(alloc: Global, placed: &Placed, wanted: &Stacked) -> Result<bool, Fail> {
     Ok(have_sizes(placed, wanted) && are_cells(alloc, placed.cells.items(), wanted.cells)?)
 }
 
 /// Whether the calls of a case are stacked so.
-fn is_stacked(alloc: Global, case: &Stacked) -> Result<bool, SampleFault> {
+fn is_stacked(alloc: Global, case: &Stacked) -> Result<bool, Fail> {
     match layout_for(alloc, case.rowed)? {
         Some(made) => are_stacked(alloc, &made.placed, case),
         None => Ok(false),
@@ -218,13 +222,13 @@ fn wires_text(alloc: Global, drawn: &[Drawn]) -> Result<String, AllocError> {
 }
 
 /// Whether a channel has these wires.
-fn has_wires(alloc: Global, drawn: &[Drawn], pieces: &[&str]) -> Result<bool, SampleFault> {
+fn has_wires(alloc: Global, drawn: &[Drawn], pieces: &[&str]) -> Result<bool, Fail> {
     let told = wires_text(alloc, drawn)?;
     Ok(is_made_of(told.as_bytes(), pieces))
 }
 
 /// Whether the middle one of three channels has these wires, and the others have none.
-fn has_middle_wires(alloc: Global, placed: &Placed, pieces: &[&str]) -> Result<bool, SampleFault> {
+fn has_middle_wires(alloc: Global, placed: &Placed, pieces: &[&str]) -> Result<bool, Fail> {
     match placed.shapes.items() {
         [below, middle, above] if below.items().is_empty() && above.items().is_empty() => {
             has_wires(alloc, middle.items(), pieces)
@@ -234,7 +238,7 @@ fn has_middle_wires(alloc: Global, placed: &Placed, pieces: &[&str]) -> Result<b
 }
 
 /// Whether the middle one of the three channels of these calls has these wires.
-fn is_wired(alloc: Global, rowed: Rowed, pieces: &[&str]) -> Result<bool, SampleFault> {
+fn is_wired(alloc: Global, rowed: Rowed, pieces: &[&str]) -> Result<bool, Fail> {
     match layout_for(alloc, rowed)? {
         Some(made) => has_middle_wires(alloc, &made.placed, pieces),
         None => Ok(false),

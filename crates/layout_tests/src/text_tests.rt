@@ -1,7 +1,6 @@
 //! Whole texts, byte for byte.
 
 use crate::support::{Rowed, is_made_of, layout_for};
-use samples::SampleFault;
 use std::alloc::Global;
 use std::test::Fail;
 
@@ -44,7 +43,7 @@ const MIRRORED: &[&str] = &[
 ];
 
 /// Whether the text of a design in rows is made of these pieces.
-fn is_text(alloc: Global, rowed: Rowed, pieces: &[&str]) -> Result<bool, SampleFault> {
+fn is_text(alloc: Global, rowed: Rowed, pieces: &[&str]) -> Result<bool, Fail> {
     match layout_for(alloc, rowed)? {
         Some(made) => Ok(is_made_of(made.text.as_slice(), pieces)),
         None => Ok(false),
