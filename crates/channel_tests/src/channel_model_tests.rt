@@ -41,29 +41,44 @@ fn is_none(alloc: Global, top: &[u32], bottom: &[u32]) -> bool {
     }
 }
 
-/// Whether edges are equal in length, and no pin is alone.
-fn are_channels(alloc: Global) -> bool {
-    is_kept(alloc, &[], &[])
-        && is_kept(alloc, &[0, 0], &[0, 0])
-        && is_kept(alloc, &[2, 1], &[1, 2])
-        && is_kept(alloc, &[7], &[7])
-        && is_kept(alloc, &[0, 0, 3], &[0, 0, 3])
-        && is_none(alloc, &[2, 1], &[1, 2, 0])
-        && is_none(alloc, &[5, 1], &[1, 0])
-        && is_none(alloc, &[0, 0], &[0, 4])
-}
+/// The pins at an upper and at a lower edge.
+type Edges = (&'static [u32], &'static [u32]);
+
+/// Edges that make a channel, and edges that make none, as they differ in length or a pin is alone.
+const KEPT: [Edges; 5] = [
+    (&[], &[]),
+    (&[0, 0], &[0, 0]),
+    (&[2, 1], &[1, 2]),
+    (&[7], &[7]),
+    (&[0, 0, 3], &[0, 0, 3]),
+];
+
+const REFUSED: [Edges; 3] = [
+    (&[2, 1], &[1, 2, 0]),
+    (&[5, 1], &[1, 0]),
+    (&[0, 0], &[0, 4]),
+];
 
 #[test]
 fn a_channel_has_equal_edges_and_no_lone_pin(rt: HostRuntime) {
-    assert!(rt; are_channels(rt.alloc()));
+    for (i, (top, bottom)) in KEPT.iter().enumerate() {
+        assert!(rt; is_kept(rt.alloc(), top, bottom), "kept {i}");
+    }
+    for (i, (top, bottom)) in REFUSED.iter().enumerate() {
+        assert!(rt; is_none(rt.alloc(), top, bottom), "refused {i}");
+    }
 }
 
 /// Whether the channel with these pins has these nets.
 fn has_nets(alloc: Global, top: &[u32], bottom: &[u32], nets: &[u32]) -> Result<bool, AllocError> {
     match channel_of(alloc, top, bottom)? {
-        Some(channel) => Ok(nets_of(alloc, &channel)?.as_slice() == nets),
+        Some(channel) => are_nets(alloc, &channel, nets),
         None => Ok(false),
     }
+}
+
+fn are_nets(alloc: Global, channel: &Channel, nets: &[u32]) -> Result<bool, AllocError> {
+    Ok(nets_of(alloc, channel)?.as_slice() == nets)
 }
 
 /// Whether the middle one of three nets has no pin, and the others reach from their first pin to their last.
@@ -86,49 +101,75 @@ fn nets_stand_in_number_order_and_reach_from_pin_to_pin(rt: HostRuntime) -> Resu
     Ok(())
 }
 
-/// Whether the channel with these pins has this density.
-fn is_dense(alloc: Global, top: &[u32], bottom: &[u32], wanted: u32) -> bool {
-    match channel_of(alloc, top, bottom) {
-        Ok(Some(channel)) => density(alloc, &channel) == Ok(wanted),
-        _ => false,
+/// Edges of a channel, how many nets stand over a column of it at most, and how many cross from a column to the next at most.
+struct Counted {
+    edges: Edges,
+    density: u32,
+    cut: u32,
+}
+
+const COUNTED: [Counted; 6] = [
+    Counted {
+        edges: (&[], &[]),
+        density: 0,
+        cut: 0,
+    },
+    Counted {
+        edges: (&[0, 0], &[0, 0]),
+        density: 0,
+        cut: 0,
+    },
+    Counted {
+        edges: (&[2, 1], &[1, 2]),
+        density: 2,
+        cut: 2,
+    },
+    Counted {
+        edges: (&[0, 0, 0, 0], &[1, 1, 2, 2]),
+        density: 1,
+        cut: 1,
+    },
+    // One net ends where the other begins.
+    Counted {
+        edges: (&[1, 1, 0], &[0, 2, 2]),
+        density: 2,
+        cut: 1,
+    },
+    // Nets within a column cross none.
+    Counted {
+        edges: (&[1, 2, 3, 0], &[1, 2, 3, 0]),
+        density: 1,
+        cut: 0,
+    },
+];
+
+/// Whether a channel has the density and the cut density of a case.
+fn are_counts(alloc: Global, channel: &Channel, case: &Counted) -> Result<bool, AllocError> {
+    Ok(density(alloc, channel)? == case.density && cut_density(alloc, channel)? == case.cut)
+}
+
+/// Whether the channel of a case does.
+fn is_counted(alloc: Global, case: &Counted) -> Result<bool, AllocError> {
+    match channel_of(alloc, case.edges.0, case.edges.1)? {
+        Some(channel) => are_counts(alloc, &channel, case),
+        None => Ok(false),
     }
 }
 
-/// Whether channels have their densities.
-fn are_dense(alloc: Global) -> bool {
-    is_dense(alloc, &[], &[], 0)
-        && is_dense(alloc, &[0, 0], &[0, 0], 0)
-        && is_dense(alloc, &[2, 1], &[1, 2], 2)
-        && is_dense(alloc, &[0, 0, 0, 0], &[1, 1, 2, 2], 1)
-        && is_dense(alloc, &[1, 1, 0], &[0, 2, 2], 2)
-        && is_dense(alloc, &[1, 2, 3, 0], &[1, 2, 3, 0], 1)
-}
-
 #[test]
-fn density_counts_the_nets_over_a_column(rt: HostRuntime) -> Result<(), Fail> {
-    assert!(rt; are_dense(rt.alloc()));
-    // That of a long channel comes at once.
-    let channel = long_channel(rt.alloc())?;
-    assert!(rt; density(rt.alloc(), &channel)? == 1500);
+fn densities_count_the_nets_over_a_column_and_from_it_to_the_next(
+    rt: HostRuntime,
+) -> Result<(), Fail> {
+    for (i, case) in COUNTED.iter().enumerate() {
+        assert!(rt; is_counted(rt.alloc(), case)?, "case {i}");
+    }
     Ok(())
 }
 
-/// The cut density of the channel with these pins.
-fn cut_of(alloc: Global, top: &[u32], bottom: &[u32]) -> Result<u32, Fail> {
-    let channel = channel_of(alloc, top, bottom)?.ok_or("a channel")?;
-    Ok(cut_density(alloc, &channel)?)
-}
-
+// That of a long channel comes at once.
 #[test]
-fn cut_density_counts_the_nets_that_cross_from_a_column_to_the_next(
-    rt: HostRuntime,
-) -> Result<(), Fail> {
-    let alloc = rt.alloc();
-    assert_eq!(rt; cut_of(alloc, &[], &[])?, 0);
-    assert_eq!(rt; cut_of(alloc, &[2, 1], &[1, 2])?, 2);
-    assert_eq!(rt; cut_of(alloc, &[0, 0, 0, 0], &[1, 1, 2, 2])?, 1);
-    // One net ends where the other begins, and nets within a column cross none.
-    assert_eq!(rt; cut_of(alloc, &[1, 1, 0], &[0, 2, 2])?, 1);
-    assert_eq!(rt; cut_of(alloc, &[1, 2, 3, 0], &[1, 2, 3, 0])?, 0);
+fn the_density_of_a_long_channel(rt: HostRuntime) -> Result<(), Fail> {
+    let channel = long_channel(rt.alloc())?;
+    assert!(rt; density(rt.alloc(), &channel) == Ok(1500));
     Ok(())
 }

@@ -1,5 +1,8 @@
 //! The rectangles of wirings.
 
+ghost use Rattle.channel_model.specs.Elements.{elements};
+ghost use Rattle.channel_model.specs.Wired.{IsOnGrid};
+ghost use Rattle.std.specs.List.{All};
 ghost use Rattle.std.specs.Prelude.{◌≡◌, IfOk};
 ghost use Rattle.wire_geom.specs.Samples.{joined_pins, near_vias};
 
@@ -125,12 +128,29 @@ const JOINED: [(&[u8], u32, [i64; 4]); 9] = [
     (b"NC", 1, [2200, 11000, 2600, 11400]),
 ];
 
+// Whether a wiring above this line is drawn as these shapes.
+fn are_wires(
+    alloc: Global,
+    wiring: &Wiring,
+    base: u32,
+    rules: &Rules,
+    boxes: &[(&[u8], u32, [i64; 4])],
+) -> Result<bool, AllocError>
+    requires { All (IsOnGrid wiring.now.columns wiring.now.tracks) (elements wiring.now) }
+{
+    let drawn = draw(alloc, wiring, base, rules)?;
+    Ok(are_drawn(drawn.as_slice(), boxes))
+}
+
+fn are_joined(alloc: Global, rules: &Rules) -> Result<bool, AllocError> {
+    let wiring = joined_pins(alloc)?;
+    are_wires(alloc, &wiring, 48, rules, &JOINED)
+}
+
 #[test]
 fn two_joined_pins_are_drawn_as_nine_boxes(rt: HostRuntime) -> Result<(), Fail> {
-    let alloc = rt.alloc();
-    let wiring = joined_pins(alloc)?;
-    let drawn = draw(alloc, &wiring, 48, &Rules::sample(alloc)?)?;
-    assert!(rt; are_drawn(drawn.as_slice(), &JOINED));
+    let rules = Rules::sample(rt.alloc())?;
+    assert!(rt; are_joined(rt.alloc(), &rules)?);
     Ok(())
 }
 
@@ -147,11 +167,14 @@ const TIGHT: [(&[u8], u32, [i64; 4]); 9] = [
     (b"NC", 3, [24, 120, 40, 136]),
 ];
 
+fn are_tight(alloc: Global, rules: &Rules) -> Result<bool, AllocError> {
+    let wiring = near_vias(alloc)?;
+    are_wires(alloc, &wiring, 0, rules, &TIGHT)
+}
+
 #[test]
 fn tight_rules_leave_just_their_spaces(rt: HostRuntime) -> Result<(), Fail> {
-    let alloc = rt.alloc();
-    let wiring = near_vias(alloc)?;
-    let drawn = draw(alloc, &wiring, 0, &tight_rules(alloc)?)?;
-    assert!(rt; are_drawn(drawn.as_slice(), &TIGHT));
+    let rules = tight_rules(rt.alloc())?;
+    assert!(rt; are_tight(rt.alloc(), &rules)?);
     Ok(())
 }

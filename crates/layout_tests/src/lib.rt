@@ -15,3 +15,5 @@ mod support;
 mod text_tests;
 #[cfg(test)]
 mod writer_tests;
+#[cfg(test)]
+mod written;

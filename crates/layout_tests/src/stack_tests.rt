@@ -1,7 +1,7 @@
 //! Where channels, rows, cells, feeds and wires lie, under the sample rules: columns and tracks of 8 units, cells 40 high, and a unit of 200 half
 //! centimicrons. A channel of n nets has 2n tracks and is 8 * (2n + 1) units high, and n columns wider than the widest row.
 
-use crate::support::{Rowed, layout_for};
+use crate::support::{Rowed, is_made_of, layout_for};
 use channel_stack::{Placed, PlacedItem};
 use feed_cells::Item;
 use geom_core::Items;
@@ -89,20 +89,45 @@ const STACKED: [Stacked; 5] = [
     },
 ];
 
-/// The number of an instance, or of the net of a feed, and its place.
-fn item_text(alloc: Global, placed: &PlacedItem) -> Result<String, AllocError> {
-    let (dx, dy) = (placed.place.dx, placed.place.dy);
-    match placed.item {
-        Item::Cell(seat) => match (seat.mirror, placed.place.mirror) {
-            (false, false) => format!(in alloc; "{} at {dx} {dy}, ", seat.instance),
-            (true, true) => format!(in alloc; "mirrored {} at {dx} {dy}, ", seat.instance),
-            _ => format!(in alloc; "turned {} at {dx} {dy}, ", seat.instance),
-        },
-        Item::Feed(net) => match placed.place.mirror {
-            false => format!(in alloc; "feed {net} at {dx} {dy}, "),
-            true => format!(in alloc; "mirrored feed {net} at {dx} {dy}, "),
-        },
+/// What stands before the number of a cell, whose seat and whose place are mirrored or not.
+fn cell_word(seat: bool, place: bool) -> &'static str {
+    if seat != place {
+        "turned "
+    } else if place {
+        "mirrored "
+    } else {
+        ""
     }
+}
+
+/// What stands before the number of an item, whose place is mirrored or not.
+fn item_word(item: Item, place: bool) -> &'static str {
+    match item {
+        Item::Cell(seat) => cell_word(seat.mirror, place),
+        Item::Feed(_) if place => "mirrored feed ",
+        Item::Feed(_) => "feed ",
+    }
+}
+
+/// The number of an instance, or of the net of a feed.
+fn item_number(item: Item) -> u32 {
+    match item {
+        Item::Cell(seat) => seat.instance,
+        Item::Feed(net) => net,
+    }
+}
+
+/// An item, and its place.
+fn item_text(alloc: Global, placed: &PlacedItem) -> Result<String, AllocError> {
+    let word = item_word(placed.item, placed.place.mirror);
+    let number = item_number(placed.item);
+    let (dx, dy) = (placed.place.dx, placed.place.dy);
+    format!(in alloc; "{word}{number} at {dx} {dy}, ")
+}
+
+fn push_item(alloc: Global, text: &mut String, placed: &PlacedItem) -> Result<(), AllocError> {
+    let item = item_text(alloc, placed)?;
+    text.push_str(item.as_str())
 }
 
 /// The items of rows, each row ended by a bar.
@@ -110,30 +135,37 @@ fn cells_text(alloc: Global, rows: &[Items<PlacedItem>]) -> Result<String, Alloc
     let mut text = String::new(alloc);
     for row in rows {
         for placed in row.items() {
-            text.push_str(&item_text(alloc, placed)?)?;
+            push_item(alloc, &mut text, placed)?;
         }
         text.push_str("| ")?;
     }
     Ok(text)
 }
 
+/// Whether these are the items of rows.
+fn are_cells(alloc: Global, rows: &[Items<PlacedItem>], wanted: &str) -> Result<bool, Fail> {
+    let told = cells_text(alloc, rows)?;
+    Ok(told.as_str() == wanted)
+}
+
+/// Whether these are the edges and the sizes of a case.
+fn have_sizes(placed: &Placed, wanted: &Stacked) -> bool {
+    placed.channel_base.items() == wanted.channels
+        && placed.row_base.items() == wanted.rows
+        && placed.width == wanted.width
+        && placed.height == wanted.height
+        && placed.shapes.items().len() == wanted.channels.len()
+}
+
 /// Whether these are the edges, the sizes and the items of a case.
-fn are_stacked(alloc: Global, placed: &Placed, wanted: &Stacked) -> Result<bool, AllocError> {
-    let told = cells_text(alloc, placed.cells.items())?;
-    Ok(
-        told.as_str() == wanted.cells
-            && placed.channel_base.items() == wanted.channels
-            && placed.row_base.items() == wanted.rows
-            && placed.width == wanted.width
-            && placed.height == wanted.height
-            && placed.shapes.items().len() == wanted.channels.len(),
-    )
+fn are_stacked(alloc: Global, placed: &Placed, wanted: &Stacked) -> Result<bool, Fail> {
+    Ok(have_sizes(placed, wanted) && are_cells(alloc, placed.cells.items(), wanted.cells)?)
 }
 
 /// Whether the calls of a case are stacked so.
 fn is_stacked(alloc: Global, case: &Stacked) -> Result<bool, Fail> {
     match layout_for(alloc, case.rowed)? {
-        Some(made) => Ok(are_stacked(alloc, &made.placed, case)?),
+        Some(made) => are_stacked(alloc, &made.placed, case),
         None => Ok(false),
     }
 }
@@ -175,29 +207,31 @@ fn drawn_text(alloc: Global, drawn: &Drawn) -> Result<String, AllocError> {
     }
 }
 
+fn push_drawn(alloc: Global, text: &mut String, drawn: &Drawn) -> Result<(), AllocError> {
+    let wire = drawn_text(alloc, drawn)?;
+    text.push_str(wire.as_str())
+}
+
 /// The rectangles of a channel.
 fn wires_text(alloc: Global, drawn: &[Drawn]) -> Result<String, AllocError> {
     let mut text = String::new(alloc);
     for wire in drawn {
-        text.push_str(&drawn_text(alloc, wire)?)?;
+        push_drawn(alloc, &mut text, wire)?;
     }
     Ok(text)
 }
 
+/// Whether a channel has these wires.
+fn has_wires(alloc: Global, drawn: &[Drawn], pieces: &[&str]) -> Result<bool, Fail> {
+    let told = wires_text(alloc, drawn)?;
+    Ok(is_made_of(told.as_bytes(), pieces))
+}
+
 /// Whether the middle one of three channels has these wires, and the others have none.
-fn has_wires(alloc: Global, placed: &Placed, pieces: &[&str]) -> Result<bool, AllocError> {
-    let mut wanted = String::new(alloc);
-    for piece in pieces {
-        wanted.push_str(piece)?;
-    }
+fn has_middle_wires(alloc: Global, placed: &Placed, pieces: &[&str]) -> Result<bool, Fail> {
     match placed.shapes.items() {
-        [below, middle, above] => {
-            let told = wires_text(alloc, middle.items())?;
-            Ok(
-                told.as_str() == wanted.as_str()
-                    && below.items().is_empty()
-                    && above.items().is_empty(),
-            )
+        [below, middle, above] if below.items().is_empty() && above.items().is_empty() => {
+            has_wires(alloc, middle.items(), pieces)
         }
         _ => Ok(false),
     }
@@ -206,7 +240,7 @@ fn has_wires(alloc: Global, placed: &Placed, pieces: &[&str]) -> Result<bool, Al
 /// Whether the middle one of the three channels of these calls has these wires.
 fn is_wired(alloc: Global, rowed: Rowed, pieces: &[&str]) -> Result<bool, Fail> {
     match layout_for(alloc, rowed)? {
-        Some(made) => Ok(has_wires(alloc, &made.placed, pieces)?),
+        Some(made) => has_middle_wires(alloc, &made.placed, pieces),
         None => Ok(false),
     }
 }

@@ -10,17 +10,15 @@ ghost use Rattle.tech_rules.specs.Rules.{ValidRules};
 
 use crate::mirror::mirrored;
 use crate::routing::route_channels;
+use crate::written::text_written;
 use channel_model::Wiring;
-use channel_stack::{Placed, lay, stack};
-use cif_writer::{symbol_drawings, write_layout};
+use channel_stack::{Placed, stack};
 use design_model::Design;
 use feed_cells::{FedRows, Placement, insert_feeds, place};
 use pin_assign::{bound_of, channels};
 use row_model::{Rows, start};
 use samples::{CELLS, SampleFault, designed};
-use shelf_io::MemShelf;
 use std::alloc::{AllocError, Global};
-use std::test::Fail;
 use tech_rules::{Rules, StartBy};
 
 /// A cell of four columns: `a` below in the first and above in the second, `y` above in the last, and `b` below in the third.
@@ -75,39 +73,6 @@ fn wirings_for(
     Ok(Some(wirings))
 }
 
-/// The text of a routed design, as it is written to a shelf in memory; None where that fails.
-fn text_written(
-    alloc: Global,
-    design: &Design,
-    fed: &FedRows,
-    wirings: &[Wiring],
-    rules: &Rules,
-) -> Result<Option<Vec<u8>>, AllocError>
-    requires valid { ValidRules rules.now }
-    requires high { HasRoom rules.now design.now }
-    requires fed { IsFed design.now fed.now }
-    requires routed { IsRouted rules.now design.now fed.now wirings.now }
-{
-    let laid = lay(alloc, design, fed, wirings, rules)?;
-    let symbols = symbol_drawings(alloc, design, fed, rules)?;
-    let mut shelf = MemShelf::new(alloc)?;
-    let written = write_layout(
-        alloc,
-        &mut shelf,
-        "out",
-        design,
-        fed,
-        &laid,
-        wirings,
-        symbols.as_slice(),
-        rules,
-    );
-    match (written, shelf.get("out")) {
-        (Ok(()), Some(bytes)) => Ok(Some(bytes.to_vec(alloc)?)),
-        _ => Ok(None),
-    }
-}
-
 /// A layout: what is stacked, and its text.
 #[derive(Drop)]
 pub struct Shown {
@@ -115,14 +80,34 @@ pub struct Shown {
     pub text: Vec<u8>,
 }
 
+/// The layout of a routed design; None where it has no text.
+fn shown_routed(
+    alloc: Global,
+    design: &Design,
+    fed: &FedRows,
+    wirings: &[Wiring],
+    rules: &Rules,
+) -> Result<Option<Shown>, SampleFault>
+    requires valid { ValidRules rules.now }
+    requires high { HasRoom rules.now design.now }
+    requires fed { IsFed design.now fed.now }
+    requires routed { IsRouted rules.now design.now fed.now wirings.now }
+{
+    let Some(text) = text_written(alloc, design, fed, wirings, rules)? else {
+        return Ok(None);
+    };
+    let placed = stack(alloc, design, fed, wirings, rules)?;
+    Ok(Some(Shown { placed, text }))
+}
+
 /// The layout of rows with feeds; None where it is above a limit, or the cells have no room for their pins.
-fn shown_with(
+fn shown_fed(
     alloc: Global,
     design: &Design,
     fed: &FedRows,
     placement: &Placement,
     rules: &Rules,
-) -> Result<Option<Shown>, AllocError>
+) -> Result<Option<Shown>, SampleFault>
     requires fed { IsFed design.now fed.now }
     requires placement { placement.now ≡ placement_of design.now (cells_in fed.now.rows) }
 {
@@ -130,14 +115,25 @@ fn shown_with(
     if room > u64::from(design.height) {
         return Ok(None);
     }
-    let Some(wirings) = wirings_for(alloc, design, fed, placement, rules)? else {
-        return Ok(None);
-    };
-    let placed = stack(alloc, design, fed, wirings.as_slice(), rules)?;
-    match text_written(alloc, design, fed, wirings.as_slice(), rules)? {
-        Some(text) => Ok(Some(Shown { placed, text })),
+    match wirings_for(alloc, design, fed, placement, rules)? {
+        Some(wirings) => shown_routed(alloc, design, fed, wirings.as_slice(), rules),
         None => Ok(None),
     }
+}
+
+/// The layout of placed rows; None where they have none.
+fn shown_placed(
+    alloc: Global,
+    design: &Design,
+    rows: &Rows,
+    placement: &Placement,
+    rules: &Rules,
+) -> Result<Option<Shown>, SampleFault>
+    requires placed { ArePlaced design.now rows.now }
+    requires placement { placement.now ≡ placement_of design.now rows.now }
+{
+    let fed = insert_feeds(alloc, design, rows, placement)?;
+    shown_fed(alloc, design, &fed, placement, rules)
 }
 
 /// The layout of rows; None where they have none.
@@ -146,34 +142,51 @@ fn shown_rows(
     design: &Design,
     rows: &Rows,
     rules: &Rules,
-) -> Result<Option<Shown>, AllocError>
+) -> Result<Option<Shown>, SampleFault>
     requires { ArePlaced design.now rows.now }
 {
     let placement = place(alloc, design, rows)?;
-    let fed = insert_feeds(alloc, design, rows, &placement)?;
-    shown_with(alloc, design, &fed, &placement, rules)
+    shown_placed(alloc, design, rows, &placement, rules)
 }
 
-/// The layout of a design in so many rows; None where it has none.
-fn shown_in(
+/// The layout of a design in so many rows under rules; None where it has none.
+fn shown_under(
     alloc: Global,
     design: &Design,
     count: u32,
     mirror: bool,
-) -> Result<Option<Shown>, AllocError>
+    rules: &Rules,
+) -> Result<Option<Shown>, SampleFault>
     requires some { 0 < count }
     requires few { count ≤ 512 }
 {
-    let rules = Rules::sample(alloc)?;
     let rows = rows_of(alloc, design, count, mirror)?;
-    shown_rows(alloc, design, &rows, &rules)
+    shown_rows(alloc, design, &rows, rules)
 }
 
-/// The layout of calls in rows; None where they have none.
-pub fn layout_for(alloc: Global, rowed: Rowed) -> Result<Option<Shown>, Fail> {
+/// The layout of a design in rows under the sample rules; None where it has none.
+fn shown_in(alloc: Global, design: &Design, rowed: Rowed) -> Result<Option<Shown>, SampleFault> {
     if rowed.rows == 0 || rowed.rows > 512 {
         return Ok(None);
     }
+    let rules = Rules::sample(alloc)?;
+    shown_under(alloc, design, rowed.rows, rowed.mirrored, &rules)
+}
+
+/// The layout of calls in rows; None where they have none.
+pub fn layout_for(alloc: Global, rowed: Rowed) -> Result<Option<Shown>, SampleFault> {
     let design = designed_with(alloc, rowed.calls)?;
-    Ok(shown_in(alloc, &design, rowed.rows, rowed.mirrored)?)
+    shown_in(alloc, &design, rowed)
+}
+
+/// Whether a text is made of these pieces.
+pub fn is_made_of(text: &[u8], pieces: &[&str]) -> bool {
+    let mut rest = text;
+    for piece in pieces {
+        match rest.strip_prefix(piece.as_bytes()) {
+            Some(after) => rest = after,
+            None => return false,
+        }
+    }
+    rest.is_empty()
 }

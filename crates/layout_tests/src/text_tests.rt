@@ -1,6 +1,6 @@
 //! Whole texts, byte for byte.
 
-use crate::support::{Rowed, layout_for};
+use crate::support::{Rowed, is_made_of, layout_for};
 use std::alloc::Global;
 use std::test::Fail;
 
@@ -41,18 +41,6 @@ const MIRRORED: &[&str] = &[
     "(cellroute 1);\nDS 1 1 1;\n9 DRV;\nL XP;\nB 1600 4000 800 2000;\nL NP;\nB 300 400 400 200;\nB 300 400 1200 3800;\nDF;\n",
     "91 u;\nC 1 M X T 1600 800;\nE\n",
 ];
-
-/// Whether a text is made of these pieces.
-fn is_made_of(text: &[u8], pieces: &[&str]) -> bool {
-    let mut rest = text;
-    for piece in pieces {
-        match rest.strip_prefix(piece.as_bytes()) {
-            Some(after) => rest = after,
-            None => return false,
-        }
-    }
-    rest.is_empty()
-}
 
 /// Whether the text of a design in rows is made of these pieces.
 fn is_text(alloc: Global, rowed: Rowed, pieces: &[&str]) -> Result<bool, Fail> {

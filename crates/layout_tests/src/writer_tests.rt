@@ -83,23 +83,54 @@ fn write_copies(
     writer.close(shelf, "out")
 }
 
+/// Whether a text of copies with these names is written to its end; None where it is not begun.
+fn is_written(alloc: Global, shelf: &mut MemShelf, short: &Name, long: &Name) -> Option<bool> {
+    match Writer::start(alloc, shelf, "out") {
+        Ok(writer) => Some(write_copies(writer, shelf, short, long).is_ok()),
+        Err(_) => None,
+    }
+}
+
+/// The same of a long name of so many bytes.
+fn is_long_written(
+    alloc: Global,
+    shelf: &mut MemShelf,
+    short: &Name,
+    last: usize,
+) -> Result<Option<bool>, AllocError> {
+    let long = Name::new(vec![in alloc; 98; last]?);
+    Ok(is_written(alloc, shelf, short, &long))
+}
+
+/// The same with the short name.
+fn are_both_written(
+    alloc: Global,
+    shelf: &mut MemShelf,
+    last: usize,
+) -> Result<Option<bool>, AllocError> {
+    let short = Name::new("a".as_bytes().to_vec(alloc)?);
+    is_long_written(alloc, shelf, &short, last)
+}
+
+/// Whether a shelf's file holds so many bytes, which begin as the text does.
+fn holds_front(shelf: &MemShelf, count: usize) -> bool {
+    match shelf.get("out") {
+        Some(held) => {
+            let text = "(cellroute 1);\n91 a;\nC 1 T 0 0;\n91 a;\n".as_bytes();
+            let front = held.len().min(text.len());
+            held.len() == count && held[..front] == text[..front]
+        }
+        None => false,
+    }
+}
+
 /// Whether a case ends so, and its file then holds as many bytes, which begin as the text does.
 fn is_so(alloc: Global, case: &Case) -> Result<bool, AllocError> {
-    let short = Name::new("a".as_bytes().to_vec(alloc)?);
-    let long = Name::new(vec![in alloc; 98; case.last]?);
     let mut shelf = MemShelf::new(alloc)?;
     shelf.most(case.most.max(1));
     shelf.fail_at(case.fail)?;
-    let Ok(writer) = Writer::start(alloc, &mut shelf, "out") else {
-        return Ok(false);
-    };
-    let whole = write_copies(writer, &mut shelf, &short, &long).is_ok();
-    let Some(held) = shelf.get("out") else {
-        return Ok(false);
-    };
-    let text = "(cellroute 1);\n91 a;\nC 1 T 0 0;\n91 a;\n".as_bytes();
-    let front = held.len().min(text.len());
-    Ok(whole == case.whole && held.len() == case.held && held[..front] == text[..front])
+    let whole = are_both_written(alloc, &mut shelf, case.last)?;
+    Ok(whole == Some(case.whole) && holds_front(&shelf, case.held))
 }
 
 #[test]

@@ -51,27 +51,6 @@ const COSTED: [Costed; 4] = [
     },
 ];
 
-/// What the rows of a case cost at first, after its swap, and after one more, each time by the sum and by the tables.
-fn costs_of(alloc: Global, case: &Costed) -> Result<Option<[[u64; 2]; 3]>, Fail> {
-    if case.rows == 0 || case.rows > 512 {
-        return Ok(None);
-    }
-    let design = designed(alloc, CELLS, case.calls)?;
-    let rows = start(alloc, &design, case.rows, StartBy::Width)?;
-    let count = design.instances.items().len();
-    let (a, b) = case.swapped;
-    if a as usize >= count || b as usize >= count {
-        return Ok(None);
-    }
-    let mut spans = Spans::new(alloc, &design, rows, WEIGHTS)?;
-    let first = both_costs(alloc, &design, &spans)?;
-    spans.swap(a, b);
-    let second = both_costs(alloc, &design, &spans)?;
-    spans.swap(a, b);
-    let third = both_costs(alloc, &design, &spans)?;
-    Ok(Some([first, second, third]))
-}
-
 /// What rows cost by the sum and by the tables.
 fn both_costs(alloc: Global, design: &Design, spans: &Spans) -> Result<[u64; 2], AllocError>
     requires { spans.now.design ≡ design.now }
@@ -80,12 +59,49 @@ fn both_costs(alloc: Global, design: &Design, spans: &Spans) -> Result<[u64; 2],
     Ok([summed, spans.cost()])
 }
 
+/// Whether rows cost so much by the sum and by the tables at first, after a swap of two instances, and after one more.
+fn cost_in_turn(
+    alloc: Global,
+    design: &Design,
+    spans: &mut Spans,
+    swapped: (u32, u32),
+    costs: [u64; 3],
+) -> Result<bool, Fail>
+    requires same { spans.old.design ≡ design.now }
+    requires one { swapped.0 < length design.now.instances }
+    requires other { swapped.1 < length design.now.instances }
+{
+    let (a, b) = swapped;
+    let first = both_costs(alloc, design, spans)?;
+    spans.swap(a, b);
+    let second = both_costs(alloc, design, spans)?;
+    spans.swap(a, b);
+    let third = both_costs(alloc, design, spans)?;
+    Ok(first == [costs[0]; 2] && second == [costs[1]; 2] && third == [costs[2]; 2])
+}
+
+/// Whether the rows of a design cost what a case says.
+fn have_costs(alloc: Global, design: &Design, case: &Costed) -> Result<bool, Fail> {
+    let count = design.instances.items().len();
+    let (a, b) = case.swapped;
+    if case.rows == 0 || case.rows > 512 || a as usize >= count || b as usize >= count {
+        return Ok(false);
+    }
+    let rows = start(alloc, design, case.rows, StartBy::Width)?;
+    let mut spans = Spans::new(alloc, design, rows, WEIGHTS)?;
+    cost_in_turn(alloc, design, &mut spans, (a, b), case.costs)
+}
+
+/// Whether the rows of the calls of a case do.
+fn is_costed(alloc: Global, case: &Costed) -> Result<bool, Fail> {
+    let design = designed(alloc, CELLS, case.calls)?;
+    have_costs(alloc, &design, case)
+}
+
 #[test]
 fn rows_cost_what_their_nets_and_lengths_do(rt: HostRuntime) -> Result<(), Fail> {
-    for (i, case) in COSTED.iter().enumerate() {
-        let [first, second, third] = case.costs;
-        let wanted = Some([[first, first], [second, second], [third, third]]);
-        assert!(rt; costs_of(rt.alloc(), case)? == wanted, "case {i}");
+    for case in &COSTED {
+        assert!(rt; is_costed(rt.alloc(), case)?, "{}", case.calls);
     }
     Ok(())
 }
@@ -129,12 +145,7 @@ fn change(spans: &mut Spans, count: u32, one: u32, two: u32)
 }
 
 /// Whether the cost by the tables is that by the sum after each of so many changes.
-fn are_told(
-    alloc: Global,
-    design: &Design,
-    spans: &mut Spans,
-    changes: u32,
-) -> Result<bool, AllocError>
+fn are_told(alloc: Global, design: &Design, spans: &mut Spans, changes: u32) -> Result<bool, Fail>
     requires some { 0 < length design.now.instances }
     requires same { spans.old.design ≡ design.now }
 {
@@ -152,16 +163,26 @@ fn are_told(
     Ok(true)
 }
 
-/// Whether that is so of a varied design in three rows.
-fn are_told_of_varied(alloc: Global, changes: u32) -> Result<bool, Fail> {
-    let calls = varied(alloc)?;
-    let design = designed(alloc, CELLS, calls.as_str())?;
+/// Whether that is so of a design in three rows.
+fn are_told_in_rows(alloc: Global, design: &Design, changes: u32) -> Result<bool, Fail> {
     if design.instances.items().is_empty() {
         return Ok(false);
     }
-    let rows = start(alloc, &design, 3, StartBy::Width)?;
-    let mut spans = Spans::new(alloc, &design, rows, WEIGHTS)?;
-    Ok(are_told(alloc, &design, &mut spans, changes)?)
+    let rows = start(alloc, design, 3, StartBy::Width)?;
+    let mut spans = Spans::new(alloc, design, rows, WEIGHTS)?;
+    are_told(alloc, design, &mut spans, changes)
+}
+
+/// Whether that is so of the design with these calls.
+fn are_told_of(alloc: Global, calls: &str, changes: u32) -> Result<bool, Fail> {
+    let design = designed(alloc, CELLS, calls)?;
+    are_told_in_rows(alloc, &design, changes)
+}
+
+/// Whether that is so of a varied design.
+fn are_told_of_varied(alloc: Global, changes: u32) -> Result<bool, Fail> {
+    let calls = varied(alloc)?;
+    are_told_of(alloc, calls.as_str(), changes)
 }
 
 #[test]

@@ -3,8 +3,9 @@
 ghost use Rattle.row_model.specs.Rows.{ArePlaced};
 ghost use Rattle.std.specs.Prelude.{◌<◌, ◌≤◌};
 
+use crate::first_rows::fed_rows_of;
 use design_model::Design;
-use feed_cells::{Crossing, FedRows, Item, insert_feeds, place, spans_of};
+use feed_cells::{Crossing, FedRows, Item, spans_of};
 use geom_core::Items;
 use row_model::{Rows, start};
 use samples::{CELLS, designed};
@@ -22,20 +23,45 @@ fn crossing(design: &Design, rows: &Rows, net: u32) -> Option<Crossing>
     Some(spans_of(design, rows, net))
 }
 
+/// The crossing of a net of a design in four rows.
+fn crossing_in(alloc: Global, design: &Design, net: u32) -> Result<Option<Crossing>, Fail> {
+    let rows = start(alloc, design, 4, StartBy::Width)?;
+    Ok(crossing(design, &rows, net))
+}
+
 /// The crossing of a net of these calls in four rows.
 fn crossing_of(alloc: Global, calls: &str, net: u32) -> Result<Option<Crossing>, Fail> {
     let design = designed(alloc, CELLS, calls)?;
-    let rows = start(alloc, &design, 4, StartBy::Width)?;
-    Ok(crossing(&design, &rows, net))
+    crossing_in(alloc, &design, net)
 }
+
+/// Calls, a net of theirs, and its crossing in four rows.
+const CROSSED: [(&str, u32, Crossing); 3] = [
+    (
+        "u1 BUF n; u2 INV p; u3 INV q; u4 INV n;",
+        1,
+        Crossing::Many { lo: 1, hi: 3 },
+    ),
+    (
+        "u1 BUF n; u2 INV p; u3 INV q; u4 INV n;",
+        2,
+        Crossing::Alone,
+    ),
+    (
+        "u1 BUF n; u2 THR n; u3 INV q; u4 INV n;",
+        1,
+        Crossing::Many { lo: 1, hi: 3 },
+    ),
+];
 
 #[test]
 fn nets_cross_rows(rt: HostRuntime) -> Result<(), Fail> {
-    let many = Some(Crossing::Many { lo: 1, hi: 3 });
-    let calls = "u1 BUF n; u2 INV p; u3 INV q; u4 INV n;";
-    assert!(rt; crossing_of(rt.alloc(), calls, 1)? == many);
-    assert!(rt; crossing_of(rt.alloc(), calls, 2)? == Some(Crossing::Alone));
-    assert!(rt; crossing_of(rt.alloc(), "u1 BUF n; u2 THR n; u3 INV q; u4 INV n;", 1)? == many);
+    for (calls, net, crossing) in &CROSSED {
+        assert!(rt;
+            crossing_of(rt.alloc(), calls, *net)? == Some(*crossing),
+            "net {net} of {calls}"
+        );
+    }
     Ok(())
 }
 
@@ -62,74 +88,67 @@ fn rows_text(alloc: Global, rows: &[Items<Item>]) -> Result<String, AllocError> 
     Ok(text)
 }
 
-/// The rows that a design with these calls begins with, with their feeds.
-fn fed_of(alloc: Global, calls: &str, count: u32) -> Result<FedRows, Fail>
-    requires some { 0 < count }
-    requires few { count ≤ 512 }
-{
-    let design = designed(alloc, CELLS, calls)?;
-    let rows = start(alloc, &design, count, StartBy::Width)?;
-    let placement = place(alloc, &design, &rows)?;
-    Ok(insert_feeds(alloc, &design, &rows, &placement)?)
+/// Calls, how many rows they go into, the items of the rows with their feeds, their width in columns, and how many nets stand in each channel.
+struct Fed {
+    calls: &'static str,
+    rows: u32,
+    items: &'static str,
+    width: u64,
+    nets: &'static [u32],
 }
 
-/// Whether rows have these items, this width in columns and so many nets in each channel.
-fn are_fed(
-    alloc: Global,
-    fed: &FedRows,
-    items: &str,
-    width: u64,
-    nets: &[u32],
-) -> Result<bool, AllocError> {
+const FED: [Fed; 3] = [
+    // A net crosses two rows by feeds.
+    Fed {
+        calls: "u1 BUF n; u2 INV p; u3 INV q; u4 INV n;",
+        rows: 4,
+        items: "0 | f1 1 | f1 2 | 3 | ",
+        width: 2,
+        nets: &[0, 1, 1, 1, 0],
+    },
+    // A net crosses a row by its through pin.
+    Fed {
+        calls: "u1 BUF n; u2 THR n; u3 INV q; u4 INV n;",
+        rows: 4,
+        items: "0 | 1 | f1 2 | 3 | ",
+        width: 2,
+        nets: &[0, 1, 1, 1, 0],
+    },
+    // Feeds at one place stand in the order of nets.
+    Fed {
+        calls: "u1 BUF a; u2 BUF b; u3 INV c; u4 INV d; u5 INV b; u6 INV a;",
+        rows: 3,
+        items: "0 1 | f1 f2 2 3 | 4 5 | ",
+        width: 4,
+        nets: &[0, 2, 2, 0],
+    },
+];
+
+/// Whether rows have the items, the width and the nets of a case.
+fn are_fed(alloc: Global, fed: &FedRows, case: &Fed) -> Result<bool, AllocError> {
     let told = rows_text(alloc, fed.rows.items())?;
-    Ok(told.as_str() == items && fed.width == width && fed.nets.items() == nets)
+    Ok(told.as_str() == case.items && fed.width == case.width && fed.nets.items() == case.nets)
 }
 
-/// Whether these calls in so many rows have such rows with their feeds.
-fn is_fed(
-    alloc: Global,
-    calls: &str,
-    count: u32,
-    items: &str,
-    width: u64,
-    nets: &[u32],
-) -> Result<bool, Fail>
-    requires some { 0 < count }
-    requires few { count ≤ 512 }
-{
-    let fed = fed_of(alloc, calls, count)?;
-    Ok(are_fed(alloc, &fed, items, width, nets)?)
+/// Whether a design has the rows with feeds of a case.
+fn has_fed(alloc: Global, design: &Design, case: &Fed) -> Result<bool, Fail> {
+    if case.rows == 0 || case.rows > 512 {
+        return Ok(false);
+    }
+    let fed = fed_rows_of(alloc, design, case.rows)?;
+    Ok(are_fed(alloc, &fed, case)?)
+}
+
+/// Whether the calls of a case have its rows with feeds.
+fn is_fed(alloc: Global, case: &Fed) -> Result<bool, Fail> {
+    let design = designed(alloc, CELLS, case.calls)?;
+    has_fed(alloc, &design, case)
 }
 
 #[test]
 fn rows_have_their_feeds(rt: HostRuntime) -> Result<(), Fail> {
-    let alloc = rt.alloc();
-    // A net crosses two rows by feeds.
-    let calls = "u1 BUF n; u2 INV p; u3 INV q; u4 INV n;";
-    assert!(rt;
-        is_fed(
-            alloc,
-            calls,
-            4,
-            "0 | f1 1 | f1 2 | 3 | ",
-            2,
-            &[0, 1, 1, 1, 0]
-        )?
-    );
-    // A net crosses a row by its through pin.
-    let calls = "u1 BUF n; u2 THR n; u3 INV q; u4 INV n;";
-    assert!(rt; is_fed(alloc, calls, 4, "0 | 1 | f1 2 | 3 | ", 2, &[0, 1, 1, 1, 0])?);
-    // Feeds at one place stand in the order of nets.
-    let calls = "u1 BUF a; u2 BUF b; u3 INV c; u4 INV d; u5 INV b; u6 INV a;";
-    assert!(rt;
-        is_fed(
-            alloc,
-            calls,
-            3,
-            "0 1 | f1 f2 2 3 | 4 5 | ",
-            4,
-            &[0, 2, 2, 0]
-        )?
-    );
+    for case in &FED {
+        assert!(rt; is_fed(rt.alloc(), case)?, "{}", case.calls);
+    }
     Ok(())
 }

@@ -6,6 +6,8 @@ mod cost_tests;
 #[cfg(test)]
 mod feed_tests;
 #[cfg(test)]
+mod first_rows;
+#[cfg(test)]
 mod pin_tests;
 #[cfg(test)]
 mod row_tests;

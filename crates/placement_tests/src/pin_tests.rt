@@ -2,13 +2,15 @@
 
 ghost use Rattle.feed_cells.specs.Fed.{IsFed, cells_in};
 ghost use Rattle.feed_cells.specs.Placement.{placement_of};
+ghost use Rattle.row_model.specs.Rows.{ArePlaced};
 ghost use Rattle.std.specs.Prelude.{◌≡◌, ◌<◌, ◌≤◌};
 
+use crate::first_rows::fed_rows_of;
 use channel_model::Channel;
 use design_model::Design;
 use feed_cells::{FedRows, Placement, insert_feeds, place};
 use pin_assign::{Bound, bound_of, channels};
-use row_model::start;
+use row_model::{Rows, start};
 use samples::{CELLS, SampleFault, designed};
 use std::alloc::{AllocError, Global};
 use std::test::Fail;
@@ -33,16 +35,22 @@ fn bound_in(alloc: Global, design: &Design, fed: &FedRows) -> Result<Bound, Allo
     Ok(bound_of(design, fed, &rules))
 }
 
+/// The bound of a design in so many rows.
+fn bound_with(alloc: Global, design: &Design, count: u32) -> Result<Bound, Fail>
+    requires some { 0 < count }
+    requires few { count ≤ 512 }
+{
+    let fed = fed_rows_of(alloc, design, count)?;
+    Ok(bound_in(alloc, design, &fed)?)
+}
+
 /// The bound of a design with these calls in so many rows.
-fn bound_with(alloc: Global, calls: &str, count: u32) -> Result<Bound, Fail>
+fn bound_with_calls(alloc: Global, calls: &str, count: u32) -> Result<Bound, Fail>
     requires some { 0 < count }
     requires few { count ≤ 512 }
 {
     let design = designed_with(alloc, calls)?;
-    let rows = start(alloc, &design, count, StartBy::Width)?;
-    let placement = place(alloc, &design, &rows)?;
-    let fed = insert_feeds(alloc, &design, &rows, &placement)?;
-    Ok(bound_in(alloc, &design, &fed)?)
+    bound_with(alloc, &design, count)
 }
 
 /// Calls, the number of rows, and for each channel the nets at its upper and at its lower edge.
@@ -119,7 +127,7 @@ fn has_channels(
     fed: &FedRows,
     placement: &Placement,
     wanted: &[(&[u32], &[u32])],
-) -> Result<bool, AllocError>
+) -> Result<bool, Fail>
     requires fed { IsFed design.now fed.now }
     requires placement { placement.now ≡ placement_of design.now (cells_in fed.now.rows) }
 {
@@ -130,16 +138,47 @@ fn has_channels(
     Ok(are_channels(made.as_slice(), wanted))
 }
 
-/// Whether the calls of a case have its channels.
-fn is_tabled(alloc: Global, case: &Tabled) -> Result<bool, Fail> {
+/// Whether the channels of rows do, once the rows have their feeds.
+fn have_channels(
+    alloc: Global,
+    design: &Design,
+    rows: &Rows,
+    placement: &Placement,
+    wanted: &[(&[u32], &[u32])],
+) -> Result<bool, Fail>
+    requires placed { ArePlaced design.now rows.now }
+    requires placement { placement.now ≡ placement_of design.now rows.now }
+{
+    let fed = insert_feeds(alloc, design, rows, placement)?;
+    has_channels(alloc, design, &fed, placement, wanted)
+}
+
+/// Whether those of placed rows do.
+fn are_tabled(
+    alloc: Global,
+    design: &Design,
+    rows: &Rows,
+    wanted: &[(&[u32], &[u32])],
+) -> Result<bool, Fail>
+    requires { ArePlaced design.now rows.now }
+{
+    let placement = place(alloc, design, rows)?;
+    have_channels(alloc, design, rows, &placement, wanted)
+}
+
+/// Whether a design in rows has the channels of a case.
+fn has_tables(alloc: Global, design: &Design, case: &Tabled) -> Result<bool, Fail> {
     if case.rows == 0 || case.rows > 512 {
         return Ok(false);
     }
+    let rows = start(alloc, design, case.rows, StartBy::Width)?;
+    are_tabled(alloc, design, &rows, case.channels)
+}
+
+/// Whether the calls of a case have its channels.
+fn is_tabled(alloc: Global, case: &Tabled) -> Result<bool, Fail> {
     let design = designed_with(alloc, case.calls)?;
-    let rows = start(alloc, &design, case.rows, StartBy::Width)?;
-    let placement = place(alloc, &design, &rows)?;
-    let fed = insert_feeds(alloc, &design, &rows, &placement)?;
-    Ok(has_channels(alloc, &design, &fed, &placement, case.channels)?)
+    has_tables(alloc, &design, case)
 }
 
 #[test]
@@ -158,7 +197,7 @@ fn a_layout_is_within_its_bound(rt: HostRuntime) -> Result<(), Fail> {
         grid: 15,
     };
     let calls = "u1 BUF n; u2 INV p; u3 INV q; u4 INV n;";
-    assert!(rt; bound_with(rt.alloc(), calls, 4)? == wanted);
-    assert!(rt; bound_with(rt.alloc(), "", 1)?.grid == 0);
+    assert!(rt; bound_with_calls(rt.alloc(), calls, 4)? == wanted);
+    assert!(rt; bound_with_calls(rt.alloc(), "", 1)?.grid == 0);
     Ok(())
 }

@@ -122,15 +122,20 @@ fn are_columns(design: &Design, rows: &Rows, columns: &[u64]) -> bool
     count == columns.len()
 }
 
-/// Whether the calls of a case go into its rows, with its columns.
-fn is_started(alloc: Global, case: &Started) -> Result<bool, Fail> {
+/// Whether a design goes into the rows of a case, with its columns.
+fn starts_so(alloc: Global, design: &Design, case: &Started) -> Result<bool, Fail> {
     let count = case.rows.len();
     if count == 0 || count > 512 {
         return Ok(false);
     }
+    let rows = start(alloc, design, count as u32, case.by)?;
+    Ok(are_rows(&rows, case.rows) && are_columns(design, &rows, case.columns))
+}
+
+/// Whether the calls of a case do.
+fn is_started(alloc: Global, case: &Started) -> Result<bool, Fail> {
     let design = designed(alloc, CELLS, case.calls)?;
-    let rows = start(alloc, &design, count as u32, case.by)?;
-    Ok(are_rows(&rows, case.rows) && are_columns(&design, &rows, case.columns))
+    starts_so(alloc, &design, case)
 }
 
 /// Whether four cells are alone in the first of 512 rows.
@@ -147,13 +152,24 @@ fn are_mostly_empty(rows: &Rows) -> bool {
     rows.rows.items().len() == 512
 }
 
+/// Whether four cells go so into 512 rows.
+fn start_mostly_empty(alloc: Global, design: &Design) -> Result<bool, Fail> {
+    let rows = start(alloc, design, 512, StartBy::Width)?;
+    Ok(are_mostly_empty(&rows))
+}
+
 #[test]
 fn rows_take_instances_in_order(rt: HostRuntime) -> Result<(), Fail> {
     for (i, case) in STARTED.iter().enumerate() {
         assert!(rt; is_started(rt.alloc(), case)?, "case {i}");
     }
+    Ok(())
+}
+
+#[test]
+fn more_rows_than_instances_are_mostly_empty(rt: HostRuntime) -> Result<(), Fail> {
     let design = designed(rt.alloc(), CELLS, FOUR)?;
-    assert!(rt; are_mostly_empty(&start(rt.alloc(), &design, 512, StartBy::Width)?));
+    assert!(rt; start_mostly_empty(rt.alloc(), &design)?);
     Ok(())
 }
 
@@ -166,45 +182,57 @@ fn inverters(alloc: Global, count: u32) -> Result<String, AllocError> {
     Ok(calls)
 }
 
-/// As many rows as make the layout of these modules and calls about square.
-fn rows_of(alloc: Global, modules: &str, calls: &str) -> Result<u32, Fail> {
+/// As many rows as make the layout of a design about square.
+fn rows_of(alloc: Global, design: &Design) -> Result<u32, Fail> {
     let rules = Rules::sample(alloc)?;
+    Ok(default_rows(design, &rules))
+}
+
+/// The same of these modules and calls.
+fn rows_of_calls(alloc: Global, modules: &str, calls: &str) -> Result<u32, Fail> {
     let design = designed(alloc, modules, calls)?;
-    Ok(default_rows(&design, &rules))
+    rows_of(alloc, &design)
 }
 
 /// The same of so many INV.
 fn rows_of_inverters(alloc: Global, count: u32) -> Result<u32, Fail> {
     let calls = inverters(alloc, count)?;
-    rows_of(alloc, CELLS, calls.as_str())
+    rows_of_calls(alloc, CELLS, calls.as_str())
 }
 
 /// The same of these calls, also of WIDE.
 fn rows_of_wide(alloc: Global, calls: &str) -> Result<u32, Fail> {
     let modules = format!(in alloc; "{CELLS}{WIDE}")?;
-    rows_of(alloc, modules.as_str(), calls)
+    rows_of_calls(alloc, modules.as_str(), calls)
 }
 
-/// A column is 8 units wide and a cell 40 high, so that K rows do for 5 * K * K columns.
+/// Numbers of columns, and how many rows they go into: a column is 8 units wide and a cell 40 high, so that K rows do for 5 * K * K columns.
+const SQUARE: [(u32, u32); 10] = [
+    (0, 1),
+    (1, 1),
+    (5, 1),
+    (6, 2),
+    (20, 2),
+    (21, 3),
+    (45, 3),
+    (46, 4),
+    (500, 10),
+    (501, 11),
+];
+
 #[test]
-fn as_many_rows_as_are_square_up_to_512(rt: HostRuntime) -> Result<(), Fail> {
-    for (columns, rows) in [
-        (0, 1),
-        (1, 1),
-        (5, 1),
-        (6, 2),
-        (20, 2),
-        (21, 3),
-        (45, 3),
-        (46, 4),
-        (500, 10),
-        (501, 11),
-    ] {
+fn as_many_rows_as_are_square(rt: HostRuntime) -> Result<(), Fail> {
+    for (columns, rows) in &SQUARE {
         assert!(rt;
-            rows_of_inverters(rt.alloc(), columns)? == rows,
+            rows_of_inverters(rt.alloc(), *columns)? == *rows,
             "{columns} columns"
         );
     }
+    Ok(())
+}
+
+#[test]
+fn at_most_512_rows(rt: HostRuntime) -> Result<(), Fail> {
     assert!(rt; rows_of_wide(rt.alloc(), "u WIDE x;")? == 511);
     assert!(rt; rows_of_wide(rt.alloc(), "u WIDE x; v INV x;")? == 512);
     assert!(rt; rows_of_wide(rt.alloc(), "u WIDE x; v WIDE x;")? == 512);
@@ -258,39 +286,72 @@ fn is_at(place: PinPlace, wanted: Place) -> bool {
         && place.column == wanted.3
 }
 
-/// Whether the pins of a design in rows stand there, one by one and all at once.
-fn are_at(alloc: Global, design: &Design, rows: &Rows, wanted: &[Place]) -> Result<bool, AllocError>
+/// Whether the pins of a design in rows stand there, one by one.
+fn are_each_at(design: &Design, rows: &Rows, wanted: &[Place]) -> bool
     requires { ArePlaced design.now rows.now }
 {
     for (pin, want) in design.pins.items().iter().zip(wanted) {
         if !is_at(pin_place(design, rows, *pin), *want) {
-            return Ok(false);
+            return false;
         }
     }
-    let places = pin_places(alloc, design, rows)?;
-    for (place, want) in places.iter().zip(wanted) {
-        if !is_at(*place, *want) {
-            return Ok(false);
-        }
-    }
-    Ok(places.len() == wanted.len())
+    true
 }
 
-/// Whether the pins of that design stand there in so many rows.
-fn are_sided(alloc: Global, count: u32, wanted: &[Place]) -> Result<bool, Fail> {
+/// Whether places are those.
+fn are_places(places: &[PinPlace], wanted: &[Place]) -> bool {
+    for (place, want) in places.iter().zip(wanted) {
+        if !is_at(*place, *want) {
+            return false;
+        }
+    }
+    places.len() == wanted.len()
+}
+
+/// Whether the pins of a design in rows stand there, one by one and all at once.
+fn are_at(alloc: Global, design: &Design, rows: &Rows, wanted: &[Place]) -> Result<bool, Fail>
+    requires { ArePlaced design.now rows.now }
+{
+    let places = pin_places(alloc, design, rows)?;
+    Ok(are_each_at(design, rows, wanted) && are_places(places.as_slice(), wanted))
+}
+
+/// Whether the pins of a design stand there in so many rows.
+fn stand_in_rows(
+    alloc: Global,
+    design: &Design,
+    count: u32,
+    wanted: &[Place],
+) -> Result<bool, Fail> {
     if count == 0 || count > 512 {
         return Ok(false);
     }
-    let design = sided(alloc)?;
-    let rows = start(alloc, &design, count, StartBy::Width)?;
-    Ok(are_at(alloc, &design, &rows, wanted)?)
+    let rows = start(alloc, design, count, StartBy::Width)?;
+    are_at(alloc, design, &rows, wanted)
 }
+
+/// Whether the pins of that design do.
+fn are_sided(alloc: Global, count: u32, wanted: &[Place]) -> Result<bool, Fail> {
+    let design = sided(alloc)?;
+    stand_in_rows(alloc, &design, count, wanted)
+}
+
+/// Where the pins of that design stand in one row and in two.
+const IN_ONE: [Place; 3] = [
+    (0, Some(0), Some(1), 1),
+    (0, Some(1), None, 1),
+    (0, Some(0), None, 3),
+];
+
+const IN_TWO: [Place; 3] = [
+    (0, Some(0), Some(1), 1),
+    (0, Some(1), None, 1),
+    (1, Some(0), None, 0),
+];
 
 #[test]
 fn pins_stand_in_rows_on_each_edge(rt: HostRuntime) -> Result<(), Fail> {
-    let both = (0, Some(0), Some(1), 1);
-    let second = (0, Some(1), None, 1);
-    assert!(rt; are_sided(rt.alloc(), 1, &[both, second, (0, Some(0), None, 3)])?);
-    assert!(rt; are_sided(rt.alloc(), 2, &[both, second, (1, Some(0), None, 0)])?);
+    assert!(rt; are_sided(rt.alloc(), 1, &IN_ONE)?);
+    assert!(rt; are_sided(rt.alloc(), 2, &IN_TWO)?);
     Ok(())
 }

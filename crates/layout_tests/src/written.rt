@@ -1,0 +1,90 @@
+//! The texts of routed designs.
+
+ghost use Rattle.channel_stack.specs.Routed.{IsRouted};
+ghost use Rattle.channel_stack.specs.Stack.{laid_of, stack_of};
+ghost use Rattle.cif_writer.specs.Symbols.{symbol_drawings};
+ghost use Rattle.design_model.specs.Room.{HasRoom};
+ghost use Rattle.feed_cells.specs.Fed.{IsFed};
+ghost use Rattle.std.specs.Prelude.{◌≡◌};
+ghost use Rattle.tech_rules.specs.Rules.{ValidRules};
+
+use channel_model::Wiring;
+use channel_stack::{Laid, lay};
+use cif_writer::{symbol_drawings, write_layout};
+use design_model::Design;
+use feed_cells::FedRows;
+use geom_core::{Items, Shape};
+use shelf_io::MemShelf;
+use std::alloc::{AllocError, Global};
+use tech_rules::Rules;
+
+/// What a shelf holds as the text; None where it holds none.
+fn text_on(alloc: Global, shelf: &MemShelf) -> Result<Option<Vec<u8>>, AllocError> {
+    match shelf.get("out") {
+        Some(bytes) => Ok(Some(bytes.to_vec(alloc)?)),
+        None => Ok(None),
+    }
+}
+
+/// The text of a routed design that is laid, with the drawings of its symbols, as it is written to a shelf in memory; None where that fails.
+fn text_drawn(
+    alloc: Global,
+    design: &Design,
+    fed: &FedRows,
+    laid: &Laid,
+    wirings: &[Wiring],
+    symbols: &[Items<Shape>],
+    rules: &Rules,
+) -> Result<Option<Vec<u8>>, AllocError>
+    requires valid { ValidRules rules.now }
+    requires high { HasRoom rules.now design.now }
+    requires fed { IsFed design.now fed.now }
+    requires routed { IsRouted rules.now design.now fed.now wirings.now }
+    requires laid { laid.now ≡ laid_of (stack_of rules.now design.now fed.now wirings.now) }
+    requires symbols { symbols.now ≡ symbol_drawings rules.now design.now fed.now }
+{
+    let mut shelf = MemShelf::new(alloc)?;
+    let written = write_layout(
+        alloc, &mut shelf, "out", design, fed, laid, wirings, symbols, rules,
+    );
+    match written {
+        Ok(()) => text_on(alloc, &shelf),
+        Err(_) => Ok(None),
+    }
+}
+
+/// The text of a routed design that is laid; None where that fails.
+fn text_laid(
+    alloc: Global,
+    design: &Design,
+    fed: &FedRows,
+    laid: &Laid,
+    wirings: &[Wiring],
+    rules: &Rules,
+) -> Result<Option<Vec<u8>>, AllocError>
+    requires valid { ValidRules rules.now }
+    requires high { HasRoom rules.now design.now }
+    requires fed { IsFed design.now fed.now }
+    requires routed { IsRouted rules.now design.now fed.now wirings.now }
+    requires laid { laid.now ≡ laid_of (stack_of rules.now design.now fed.now wirings.now) }
+{
+    let symbols = symbol_drawings(alloc, design, fed, rules)?;
+    text_drawn(alloc, design, fed, laid, wirings, symbols.as_slice(), rules)
+}
+
+/// The text of a routed design; None where that fails.
+pub fn text_written(
+    alloc: Global,
+    design: &Design,
+    fed: &FedRows,
+    wirings: &[Wiring],
+    rules: &Rules,
+) -> Result<Option<Vec<u8>>, AllocError>
+    requires valid { ValidRules rules.now }
+    requires high { HasRoom rules.now design.now }
+    requires fed { IsFed design.now fed.now }
+    requires routed { IsRouted rules.now design.now fed.now wirings.now }
+{
+    let laid = lay(alloc, design, fed, wirings, rules)?;
+    text_laid(alloc, design, fed, &laid, wirings, rules)
+}
