@@ -4,7 +4,7 @@
 
 ghost use Rattle.choose_core.specs.Answers.{IsAsked};
 ghost use Rattle.choose_core.specs.Styles.{IsDeft, IsFirstLeast, IsLean, gap_of};
-ghost use Rattle.std.specs.Prelude.{◌≡◌, ◌+◌, ◌<◌, length};
+ghost use Rattle.std.specs.Prelude.{◌≡◌, ◌+◌, ◌<◌, ℕ, length};
 
 use choose_core::{Candidate, Choice, Chooser, Manner, Plan, Style, deft, high, lean, near};
 use commands::{Word, run};
@@ -26,73 +26,93 @@ fn main(rt: HostRuntime) -> ExitCode {
 
 // Does what the words ask for, with the styles `best`, `deft`, `near`, `lean` and `high`, and gives the status.
 fn done(rt: &HostRuntime) -> Result<u8, AllocError> {
-    let alloc = rt.alloc();
     let words = words(rt)?;
-    let best_choice: Choice = Box::new(
+    obeyed(rt, words.as_slice())
+}
+
+// The style of this name that chooses so, by the sweeps of a plan.
+fn styled(alloc: Global, name: &[u8], choice: Choice, plan: Plan) -> Result<Style, AllocError>
+    requires callable { (list : _) → IsAsked list.now → Choice.pre choice list }
+    requires within { (list : _) (answer : ℕ) → IsAsked list.now → Choice.post choice list answer → answer < length list.now }
+{
+    let name = Name::new(name.to_vec(alloc)?);
+    Ok(Style {
+        chooser: Chooser::new(name, choice),
+        plan,
+    })
+}
+
+fn obeyed(rt: &HostRuntime, words: &[Word]) -> Result<u8, AllocError> {
+    let alloc = rt.alloc();
+    let mut styles = Vec::with_capacity(alloc, 5)?;
+    styles.push(styled(
         alloc,
-        |list: &[Candidate]| -> usize
-            requires { IsAsked list.now }
-            ensures deft { IsDeft list.entry.now result }
-            ensures within { result < length list.entry.now }
-        { deft(list) },
-    )?;
-    let deft_choice: Choice = Box::new(
+        b"best",
+        Box::new(
+            alloc,
+            |list: &[Candidate]| -> usize
+                requires { IsAsked list.now }
+                ensures deft { IsDeft list.entry.now result }
+                ensures within { result < length list.entry.now }
+            { deft(list) },
+        )?,
+        best_plan(alloc)?,
+    )?)?;
+    styles.push(styled(
         alloc,
-        |list: &[Candidate]| -> usize
-            requires { IsAsked list.now }
-            ensures deft { IsDeft list.entry.now result }
-            ensures within { result < length list.entry.now }
-        { deft(list) },
-    )?;
-    let near_choice: Choice = Box::new(
+        b"deft",
+        Box::new(
+            alloc,
+            |list: &[Candidate]| -> usize
+                requires { IsAsked list.now }
+                ensures deft { IsDeft list.entry.now result }
+                ensures within { result < length list.entry.now }
+            { deft(list) },
+        )?,
+        Plan::of_one(alloc, Manner::LookingAhead, 100),
+    )?)?;
+    styles.push(styled(
         alloc,
-        |list: &[Candidate]| -> usize
-            requires { IsAsked list.now }
-            ensures near { IsFirstLeast gap_of list.entry.now result }
-            ensures within { result < length list.entry.now }
-        { near(list) },
-    )?;
-    let lean_choice: Choice = Box::new(
+        b"near",
+        Box::new(
+            alloc,
+            |list: &[Candidate]| -> usize
+                requires { IsAsked list.now }
+                ensures near { IsFirstLeast gap_of list.entry.now result }
+                ensures within { result < length list.entry.now }
+            { near(list) },
+        )?,
+        published(alloc),
+    )?)?;
+    styles.push(styled(
         alloc,
-        |list: &[Candidate]| -> usize
-            requires { IsAsked list.now }
-            ensures lean { IsLean list.entry.now result }
-            ensures within { result < length list.entry.now }
-        { lean(list) },
-    )?;
-    let high_choice: Choice = Box::new(
+        b"lean",
+        Box::new(
+            alloc,
+            |list: &[Candidate]| -> usize
+                requires { IsAsked list.now }
+                ensures lean { IsLean list.entry.now result }
+                ensures within { result < length list.entry.now }
+            { lean(list) },
+        )?,
+        published(alloc),
+    )?)?;
+    styles.push(styled(
         alloc,
-        |list: &[Candidate]| -> usize
-            requires { IsAsked list.now }
-            ensures high { result + 1 ≡ length list.entry.now }
-            ensures within { result < length list.entry.now }
-        { high(list) },
-    )?;
-    let styles = [
-        Style {
-            chooser: Chooser::new(Name::new(b"best".to_vec(alloc)?), best_choice),
-            plan: best_plan(alloc)?,
-        },
-        Style {
-            chooser: Chooser::new(Name::new(b"deft".to_vec(alloc)?), deft_choice),
-            plan: Plan::of_one(alloc, Manner::LookingAhead, 100),
-        },
-        Style {
-            chooser: Chooser::new(Name::new(b"near".to_vec(alloc)?), near_choice),
-            plan: published(alloc),
-        },
-        Style {
-            chooser: Chooser::new(Name::new(b"lean".to_vec(alloc)?), lean_choice),
-            plan: published(alloc),
-        },
-        Style {
-            chooser: Chooser::new(Name::new(b"high".to_vec(alloc)?), high_choice),
-            plan: published(alloc),
-        },
-    ];
+        b"high",
+        Box::new(
+            alloc,
+            |list: &[Candidate]| -> usize
+                requires { IsAsked list.now }
+                ensures high { result + 1 ≡ length list.entry.now }
+                ensures within { result < length list.entry.now }
+            { high(list) },
+        )?,
+        published(alloc),
+    )?)?;
     let mut out = HostSink::new(rt);
     let mut shelf = HostShelf::new(rt);
-    Ok(run(alloc, words.as_slice(), &mut shelf, &mut out, &styles).status)
+    Ok(run(alloc, words, &mut shelf, &mut out, styles.as_slice()).status)
 }
 
 // One sweep as it was published.
