@@ -53,6 +53,7 @@ fn shape_at(rules: &Rules, placed: &Placed) -> Shape
     shape(layer_of(rules, on), x, y, width.max(1), height.max(1))
 }
 
+// The shapes of a table.
 pub fn shapes_of(alloc: Global, rules: &Rules, table: &[Placed]) -> Result<Vec<Shape>, AllocError>
     ensures len { IfOk result (λ v. length v.items ≡ length table.now) }
     ensures reach { IfOk result (λ v. All IsShapeInReach v.items) }
