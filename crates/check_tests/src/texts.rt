@@ -73,13 +73,26 @@ pub fn findings_of(
     Ok(Some(check(alloc, &layout, &design, &rules)?))
 }
 
-/// Whether just this is wrong with the layout of a text of CIF as that of two buffers with these calls.
-pub fn are_found(
+/// A name, the calls of two buffers or more, the pieces of a text of CIF before its end, and what is wrong with its layout.
+pub type Case = (
+    &'static str,
+    &'static str,
+    &'static [&'static str],
+    &'static [Finding],
+);
+
+/// Whether just this is wrong with the layout of a text of CIF in pieces as that of buffers with these calls.
+pub fn is_case(
     alloc: Global,
     calls: &str,
-    text: &str,
+    pieces: &[&str],
     want: &[Finding],
 ) -> Result<bool, AllocError> {
+    let mut text = String::new(alloc);
+    for piece in pieces {
+        text.push_str(piece)?;
+    }
+    text.push_str("E")?;
     match findings_of(alloc, BUFFER, calls, text.as_bytes())? {
         Some(findings) => Ok(findings.as_slice() == want),
         None => Ok(false),

@@ -15,12 +15,12 @@ const COMMANDS: &str =
 /// How the text reads that is cut after so many bytes: the comment is open up to its parenthesis, and then the end is missing.
 fn cut_answer(alloc: Global, length: usize) -> Result<String, AllocError> {
     if length > 360 {
-        return format!(in alloc; "{COMMANDS}");
+        return String::from_str(alloc, COMMANDS);
     }
     if length == 0 || length > 12 {
         return format!(in alloc; "NoEnd {length}");
     }
-    format!(in alloc; "Unclosed 0")
+    String::from_str(alloc, "Unclosed 0")
 }
 
 /// Whether the text reads so when it is cut after so many bytes.

@@ -157,24 +157,24 @@ fn texts_give_their_layouts(rt: HostRuntime) -> Result<(), Fail> {
     Ok(())
 }
 
-/// Puts definitions from one number to another, each with a body of its number less 1.
-fn put_calls(
+/// Puts the call of a definition at the end of a text.
+fn put_call(alloc: Global, text: &mut Vec<u8>, n: u32) -> Result<(), AllocError> {
+    text.extend_from_slice(format!(in alloc; "C {n};")?.as_bytes())
+}
+
+/// Puts a definition that calls the one before it once or twice.
+fn put_definition(
     alloc: Global,
     text: &mut Vec<u8>,
-    first: u32,
-    last: u32,
+    n: u32,
     twice: bool,
 ) -> Result<(), AllocError> {
-    for n in first..=last {
-        let below = n.saturating_sub(1);
-        let line = if twice {
-            format!(in alloc; "DS {n}; C {below}; C {below}; DF;")?
-        } else {
-            format!(in alloc; "DS {n}; C {below}; DF;")?
-        };
-        text.extend_from_slice(line.as_bytes())?;
+    text.extend_from_slice(format!(in alloc; "DS {n};")?.as_bytes())?;
+    put_call(alloc, text, n.saturating_sub(1))?;
+    if twice {
+        put_call(alloc, text, n.saturating_sub(1))?;
     }
-    Ok(())
+    text.extend_from_slice(b"DF;")
 }
 
 /// A definition with a box or without one, and others up to this number, each of which calls the one before it once or twice.
@@ -187,89 +187,88 @@ fn nested(
 ) -> Result<Vec<u8>, AllocError> {
     let mut text = Vec::new(alloc);
     text.extend_from_slice(body.as_bytes())?;
-    put_calls(alloc, &mut text, 2, last, twice)?;
+    for n in 2..=last {
+        put_definition(alloc, &mut text, n, twice)?;
+    }
     text.extend_from_slice(main.as_bytes())?;
     Ok(text)
 }
 
 const BOX: &str = "DS 1; L NM; B 2 2 0 0; DF;";
 
-#[test]
-fn doubled_shapes_are_too_many(rt: HostRuntime) -> Result<(), Fail> {
-    let text = nested(rt.alloc(), BOX, 23, true, "E")?;
-    assert_eq!(rt;
-        shown(rt.alloc(), text.as_slice())?.as_slice(),
-        b"TooMany 90".as_slice()
-    );
-    let text = nested(rt.alloc(), BOX, 60, true, "C 60; E")?;
-    assert_eq!(rt;
-        shown(rt.alloc(), text.as_slice())?.as_slice(),
-        b"TooMany 90".as_slice()
-    );
-    Ok(())
+const EMPTY: &str = "DS 1; DF;";
+
+/// The first definition, the number of the last one, whether each calls the one before it twice, what stands behind them, and what all
+/// gives.
+const NESTED: [(&str, u32, bool, &str, &str); 6] = [
+    // doubled shapes are too many, and doubled nothing is nothing
+    (BOX, 23, true, "E", "TooMany 90"),
+    (BOX, 60, true, "C 60; E", "TooMany 90"),
+    (EMPTY, 63, true, "C 63; C 63; E", ""),
+    // depths up to 64
+    (EMPTY, 64, false, "C 63; E", ""),
+    (EMPTY, 64, false, "C 64; E", "TooDeep 191"),
+    (EMPTY, 65, false, "E", "TooDeep 192"),
+];
+
+/// Whether definitions that call one another give this.
+fn is_nested(
+    alloc: Global,
+    body: &str,
+    last: u32,
+    twice: bool,
+    main: &str,
+    want: &str,
+) -> Result<bool, AllocError> {
+    let text = nested(alloc, body, last, twice, main)?;
+    Ok(shown(alloc, text.as_slice())?.as_slice() == want.as_bytes())
 }
 
 #[test]
-fn doubled_nothing_is_nothing(rt: HostRuntime) -> Result<(), Fail> {
-    let text = nested(rt.alloc(), "DS 1; DF;", 63, true, "C 63; C 63; E")?;
-    assert_eq!(rt;
-        shown(rt.alloc(), text.as_slice())?.as_slice(),
-        b"".as_slice()
-    );
+fn definitions_call_one_another(rt: HostRuntime) -> Result<(), Fail> {
+    for (body, last, twice, main, want) in NESTED {
+        assert!(rt;
+            is_nested(rt.alloc(), body, last, twice, main, want)?,
+            "{last} {main}"
+        );
+    }
     Ok(())
+}
+
+/// Definitions of 2^21 boxes each, of which none is called.
+fn uncalled(alloc: Global) -> Result<Vec<u8>, AllocError> {
+    let mut text = nested(alloc, BOX, 22, true, "")?;
+    for n in 23..=62u32 {
+        text.extend_from_slice(format!(in alloc; "DS {n}; C 22; DF;")?.as_bytes())?;
+    }
+    text.extend_from_slice(b"E")?;
+    Ok(text)
 }
 
 #[test]
 fn what_is_not_called_costs_nothing(rt: HostRuntime) -> Result<(), Fail> {
-    let mut text = nested(rt.alloc(), BOX, 22, true, "")?;
-    for n in 23..=62 {
-        text.extend_from_slice(format!(in rt.alloc(); "DS {n}; C 22; DF;")?.as_bytes())?;
-    }
-    text.extend_from_slice(b"E")?;
-    assert_eq!(rt;
-        shown(rt.alloc(), text.as_slice())?.as_slice(),
-        b"".as_slice()
-    );
+    let text = uncalled(rt.alloc())?;
+    assert!(rt; shown(rt.alloc(), text.as_slice())?.is_empty());
     Ok(())
 }
 
-#[test]
-fn depths_up_to_64(rt: HostRuntime) -> Result<(), Fail> {
-    let text = nested(rt.alloc(), "DS 1; DF;", 64, false, "C 63; E")?;
-    assert_eq!(rt;
-        shown(rt.alloc(), text.as_slice())?.as_slice(),
-        b"".as_slice()
-    );
-    let text = nested(rt.alloc(), "DS 1; DF;", 64, false, "C 64; E")?;
-    assert_eq!(rt;
-        shown(rt.alloc(), text.as_slice())?.as_slice(),
-        b"TooDeep 191".as_slice()
-    );
-    let text = nested(rt.alloc(), "DS 1; DF;", 65, false, "E")?;
-    assert_eq!(rt;
-        shown(rt.alloc(), text.as_slice())?.as_slice(),
-        b"TooDeep 192".as_slice()
-    );
-    Ok(())
+/// Whether a layout has 2^15 shapes, each from 0 to 4.
+fn has_boxes(layout: &Layout) -> bool {
+    for shape in layout.shapes.items() {
+        if shape.rect.x0 != 0 || shape.rect.x1 != 4 {
+            return false;
+        }
+    }
+    layout.shapes.items().len() == 32_768
 }
 
 #[test]
 fn many_shapes_are_drawn(rt: HostRuntime) -> Result<(), Fail> {
     let text = nested(rt.alloc(), BOX, 16, true, "C 16 T 1 0; E")?;
-    match expanded(rt.alloc(), text.as_slice())? {
-        Some(Ok(layout)) => {
-            assert_eq!(rt; layout.shapes.items().len(), 32_768);
-            assert!(rt;
-                layout
-                    .shapes
-                    .items()
-                    .iter()
-                    .all(|shape| shape.rect.x0 == 0 && shape.rect.x1 == 4)
-            );
-        }
-        _ => {
-            assert!(rt; false);
-        }
-    }
+    let Some(Ok(layout)) = expanded(rt.alloc(), text.as_slice())? else {
+        assert!(rt; false);
+        return Ok(());
+    };
+    assert!(rt; has_boxes(&layout));
     Ok(())
 }

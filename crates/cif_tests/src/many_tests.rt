@@ -5,20 +5,28 @@ use geom_core::Layout;
 use std::alloc::{AllocError, Global};
 use std::test::Fail;
 
-/// Definitions of a box, of which each with an odd number calls the one before it, which has the next number; and then a call of each,
-/// from number 1 on, as many units to the right as its number says.
+/// Puts a definition of a box, which calls the definition with the next number where its own is odd.
+fn put_definition(alloc: Global, text: &mut String, n: u32) -> Result<(), AllocError> {
+    text.push_str(format!(in alloc; "DS {n};L NM;B 2 2 0 0;")?.as_str())?;
+    if n % 2 == 1 {
+        text.push_str(format!(in alloc; "C {};", n.saturating_add(1))?.as_str())?;
+    }
+    text.push_str("DF;")
+}
+
+/// Puts the call of a definition, as many units to the right as its number says.
+fn put_call(alloc: Global, text: &mut String, n: u32) -> Result<(), AllocError> {
+    text.push_str(format!(in alloc; "C {n} T {n} 0;")?.as_str())
+}
+
+/// Such definitions from number 100,000 down, and then a call of each, from number 1 on.
 fn text_of(alloc: Global) -> Result<String, AllocError> {
     let mut text = String::new(alloc);
     for k in 0..100_000u32 {
-        let n = 100_000 - k;
-        text.push_str(format!(in alloc; "DS {n};L NM;B 2 2 0 0;")?.as_str())?;
-        if n % 2 == 1 {
-            text.push_str(format!(in alloc; "C {};", n + 1)?.as_str())?;
-        }
-        text.push_str("DF;")?;
+        put_definition(alloc, &mut text, 100_000 - k)?;
     }
     for n in 1..=100_000u32 {
-        text.push_str(format!(in alloc; "C {n} T {n} 0;")?.as_str())?;
+        put_call(alloc, &mut text, n)?;
     }
     text.push_str("E")?;
     Ok(text)

@@ -1,4 +1,4 @@
-use Rattle.std.proofs.Common.{◌≡◌, ◌<◌, ◌≤◌, ◌+◌, ◌*◌, ℕ, List, [], ◌∷◌, length, Option, Some, None, Result, Ok, Err, refl, subst, arith}
+use Rattle.std.proofs.Common.{◌≡◌, ◌<◌, ◌≤◌, ℕ, List, [], ◌∷◌, length, Option, Some, None, Result, Ok, Err, refl, subst, arith}
 use Rattle.std.specs.List.{AllZip, filter}
 use Rattle.std.specs.Result.{IfOk}
 use Rattle.tech_rules.specs.Rules.{RuleValues}
@@ -8,6 +8,7 @@ use Rattle.yal_reader.specs.declared.file.YalFile.{YalFile}
 use Rattle.netlist_core.specs.Answers.{◌>>=◌, Agrees, unless}
 use Rattle.netlist_core.specs.Calls.{calls_fault, is_parent_module, only_parent, over}
 use Rattle.design_model.specs.Netlist.{Netlist}
+use Rattle.design_model.specs.Room.{HasRoom, least_height}
 use Rattle.netlist_core.specs.OnGrid.{calls_design, design_of, height_of, kind_for, kinds_for, on_grid, used_design, used_modules}
 use Rattle.netlist_core.specs.Signals.{PinWord, all_signals}
 use Rattle.design_model.specs.declared.design.CellKind.{CellKind}
@@ -16,16 +17,12 @@ use Rattle.netlist_core.specs.declared.fault.DesignFault.{DesignFault}
 use Rattle.netlist_core.proofs.EachLaws.{each-zip}
 use Rattle.netlist_core.proofs.KindLaws.{kind-high}
 
--- where there is a kind, its height has room for two pins and the space between them
-abbrev pub HasRoom : RuleValues → Netlist → Type 0
-HasRoom rules d = 0 < length d.kinds → 2 * rules.grid_pin + rules.vertical_space ≤ d.height
-
 no-answer : {A : Type 0} (fault : DesignFault) (a : A) → ◌≡◌ {A = Result A DesignFault} (Err fault) (Ok a) → ⊥
 no-answer fault a e = cc
 
 first-high : (rules : RuleValues) (height : ℕ) (used : List (ℕ × Module)) (kinds : List CellKind)
-    → AllZip (λ (m : ℕ × Module) (k : CellKind). 2 * rules.grid_pin + rules.vertical_space ≤ height) used kinds → 0 < length kinds
-    → 2 * rules.grid_pin + rules.vertical_space ≤ height
+    → AllZip (λ (m : ℕ × Module) (k : CellKind). least_height rules ≤ height) used kinds → 0 < length kinds
+    → least_height rules ≤ height
 first-high rules height [] [] h some = absurd (omega (arith, some))
 first-high rules height [] (k ∷ ks) h some = absurd h
 first-high rules height (m ∷ ms) [] h some = absurd h
@@ -40,7 +37,7 @@ used-high rules used signals calls d is = by (kinds_for rules used) refl is
     by (Err fault) good e = absurd (no-answer fault d e)
     by (Ok kinds) good e = subst (λ (d : Netlist). HasRoom rules d) (same e)
         (first-high rules (height_of used) used kinds
-        (each-zip (kind_for rules (height_of used)) (λ m k. 2 * rules.grid_pin + rules.vertical_space ≤ height_of used)
+        (each-zip (kind_for rules (height_of used)) (λ m k. least_height rules ≤ height_of used)
         (λ m k at. kind-high rules (height_of used) m.0 m.1 k at) used kinds good))
       where
         same : ◌≡◌ {A = Result Netlist DesignFault} (Ok (design_of used signals calls kinds)) (Ok d) → design_of used signals calls kinds ≡ d

@@ -1,4 +1,4 @@
-use Rattle.std.proofs.Common.{◌≡◌, ℕ, zero, suc, ◌+◌, ◌*◌, ◌/◌, ◌%◌, ◌<◌, ◌≤◌, List, [], ◌∷◌, true, false, Ok, All, refl, ap, sym, ◌∙◌, subst, arith}
+use Rattle.std.proofs.Common.{◌≡◌, ℕ, zero, suc, ◌*◌, ◌/◌, ◌%◌, ◌<◌, ◌≤◌, List, [], ◌∷◌, true, false, Ok, All, refl, ap, sym, ◌∙◌, subst, arith}
 use Rattle.std.proofs.Math.Nat.{mul-le-mul_right, mul-div-le}
 use Rattle.std.proofs.lemmas.List.{length-map}
 use Rattle.std.proofs.lemmas.List.Elements.{All-nil, All-cons}
@@ -9,6 +9,7 @@ use Rattle.yal_reader.specs.declared.file.Module.{Module}
 use Rattle.list_facts.proofs.Every.{every-weaker}
 use Rattle.netlist_core.specs.Cells.{grid_at, height_of_module, kind_at, kind_of, power_names, spots_of, terminal_in, terminal_names, terminals_of}
 use Rattle.design_model.specs.Netlist.{IsKind, IsPosition}
+use Rattle.design_model.specs.Room.{least_height}
 use Rattle.netlist_core.specs.Outline.{height_of_outline}
 use Rattle.design_model.specs.declared.design.CellKind.{CellKind}
 use Rattle.design_model.specs.declared.design.Position.{Position}
@@ -95,11 +96,11 @@ kind-low rules height n m k kept h =
 
 -- and it has room for two pins and the space between them
 pub kind-high : (rules : RuleValues) (height n : ℕ) (m : Module) (k : CellKind) → kind_of rules height n m ≡ Ok k
-    → 2 * rules.grid_pin + rules.vertical_space ≤ height
+    → least_height rules ≤ height
 kind-high rules height n m k h =
     let made : IsMade rules height n m k = kind-made rules height n m k h in
     let whole : IsFaultless rules height made.box (spots_of m.lines) made.positions = faultless rules height n made.box (spots_of m.lines) made.positions made.fault in
-    subst (λ (y : ℕ). 2 * rules.grid_pin + rules.vertical_space ≤ y) whole.same whole.high
+    subst (λ (y : ℕ). least_height rules ≤ y) whole.same whole.high
 
 -- a kind's terminals are those of its module
 pub kind-terminals : (rules : RuleValues) (height n : ℕ) (m : Module) (k : CellKind) → kind_of rules height n m ≡ Ok k → k.terminals ≡ terminals_of m.lines

@@ -1,4 +1,4 @@
-use Rattle.std.proofs.Common.{◌≡◌, ℕ, ◌+◌, ◌*◌, ◌%◌, ◌≤◌, ◌==◌, nat_lt, List, [], Bool, true, false, not, Option, Some, None, Result, Ok, refl, arith}
+use Rattle.std.proofs.Common.{◌≡◌, ℕ, ◌%◌, ◌≤◌, ◌==◌, nat_lt, List, [], Bool, true, false, not, Option, Some, None, Result, Ok, refl, arith}
 use Rattle.std.proofs.lemmas.Bool.Decides.{nat_tests}
 use Rattle.std.specs.List.{list_all}
 use Rattle.std.specs.Prelude.{if◌then◌else◌}
@@ -7,6 +7,7 @@ use Rattle.yal_reader.specs.declared.file.Module.{Module}
 use Rattle.netlist_core.specs.Answers.{◌>>=◌, unless, found}
 use Rattle.netlist_core.specs.Cells.{clashes, grid_positions, is_on_layer, grid_at, grid_of, kind_at, kind_fault, kind_of, positions_of, spots_of}
 use Rattle.netlist_core.specs.Outline.{outline_of}
+use Rattle.design_model.specs.Room.{least_height}
 use Rattle.design_model.specs.declared.design.CellKind.{CellKind}
 use Rattle.design_model.specs.declared.design.Position.{Position}
 use Rattle.netlist_core.specs.declared.fault.DesignFault.{DesignFault}
@@ -76,7 +77,7 @@ grid-made pitch box spots ps = by (box.width % pitch == 0) refl
 -- what a kind without a fault is
 pub record IsFaultless (rules : RuleValues) (height : ℕ) (box : Outline) (spots : List (ℕ × Spot)) (ps : List Position) : Type 0 where
   pub same : box.height ≡ height
-  pub high : 2 * rules.grid_pin + rules.vertical_space ≤ box.height
+  pub high : least_height rules ≤ box.height
   pub apart : clashes [] ps ≡ false
   pub layer : list_all (is_on_layer rules.yal) spots ≡ true
 
@@ -84,16 +85,16 @@ pub faultless : (rules : RuleValues) (height n : ℕ) (box : Outline) (spots : L
     → kind_fault rules height n box spots ps ≡ None → IsFaultless rules height box spots ps
 unfolding kind_fault
 faultless rules height n box spots ps =
-    by (box.height == height) refl (nat_lt box.height (2 * rules.grid_pin + rules.vertical_space)) refl (clashes [] ps) refl
+    by (box.height == height) refl (nat_lt box.height (least_height rules)) refl (clashes [] ps) refl
     (list_all (is_on_layer rules.yal) spots) refl
   where
     same-of : (box.height == height) ≡ true → box.height ≡ height
     same-of h = grind (arith, nat_tests)
 
-    least-of : nat_lt box.height (2 * rules.grid_pin + rules.vertical_space) ≡ false → 2 * rules.grid_pin + rules.vertical_space ≤ box.height
+    least-of : nat_lt box.height (least_height rules) ≡ false → least_height rules ≤ box.height
     least-of h = grind (arith, nat_tests)
 
-    by : (a : Bool) → (box.height == height) ≡ a → (b : Bool) → nat_lt box.height (2 * rules.grid_pin + rules.vertical_space) ≡ b
+    by : (a : Bool) → (box.height == height) ≡ a → (b : Bool) → nat_lt box.height (least_height rules) ≡ b
         → (c : Bool) → clashes [] ps ≡ c → (d : Bool) → list_all (is_on_layer rules.yal) spots ≡ d
         → (if not a then Some (faults.Height n) else if b then Some (faults.TooLow n) else if c then Some (faults.PinClash n) else if d then None else Some (faults.WrongLayer n)) ≡ None
         → IsFaultless rules height box spots ps

@@ -1,4 +1,4 @@
-use Rattle.std.specs.Prelude.{ℕ, ℤ, ◌+◌, ◌*◌, ◌/◌, ◌%◌, ◌-ℤ◌, unsigned_abs, int_lt, nat_lt, ◌==◌, List, [], ◌∷◌, ◌++◌, map, filter, Bool, true, false, not, ◌&&◌, ◌||◌, if◌then◌else◌, Option, None, Some, Result, Ok}
+use Rattle.std.specs.Prelude.{ℕ, ℤ, ◌/◌, ◌%◌, ◌-ℤ◌, unsigned_abs, int_lt, nat_lt, ◌==◌, List, [], ◌∷◌, ◌++◌, map, filter, Bool, true, false, not, ◌&&◌, ◌||◌, if◌then◌else◌, Option, None, Some, Result, Ok}
 use Rattle.std.specs.List.{list_any, list_all, filter_map}
 use Rattle.std.specs.Option.{option_map}
 use Rattle.std.specs.Ordering.{int_eq}
@@ -11,6 +11,7 @@ use Rattle.yal_reader.specs.declared.file.Line.{Line}
 use Rattle.yal_reader.specs.declared.file.Module.{Module}
 use Rattle.netlist_core.specs.Answers.{◌>>=◌, unless, found}
 use Rattle.netlist_core.specs.Outline.{outline_of, height_of_outline}
+use Rattle.design_model.specs.Room.{least_height}
 use Rattle.design_model.specs.declared.design.Position.{Position}
 use Rattle.design_model.specs.declared.design.Terminal.{Terminal}
 use Rattle.design_model.specs.declared.design.CellKind.{CellKind}
@@ -111,7 +112,7 @@ is_on_layer word spot = str_eq_ignore_ascii_case spot.1.layer word
 unfoldable pub kind_fault : RuleValues → ℕ → ℕ → Outline → List (ℕ × Spot) → List Position → Option DesignFault
 kind_fault rules height n box spots positions =
     if not (box.height == height) then Some (faults.Height n) else
-    if nat_lt box.height (2 * rules.grid_pin + rules.vertical_space) then Some (faults.TooLow n) else
+    if nat_lt box.height (least_height rules) then Some (faults.TooLow n) else
     if clashes [] positions then Some (faults.PinClash n) else
     if list_all (is_on_layer rules.yal) spots then None else Some (faults.WrongLayer n)
 

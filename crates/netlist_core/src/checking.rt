@@ -1,6 +1,7 @@
 ghost use Rattle.netlist_core.specs.Answers.{Agrees};
 ghost use Rattle.netlist_core.specs.Checked.{IsChecked};
 ghost use Rattle.netlist_core.specs.OnGrid.{calls_design, on_grid, used_design};
+ghost use Rattle.design_model.specs.Room.{HasRoom};
 ghost use Rattle.design_model.specs.SameNet.{SameNet};
 ghost use Rattle.netlist_core.specs.SignalWords.{parent_calls, word_of};
 ghost use Rattle.netlist_core.specs.Signals.{nets_of, pin_in};
@@ -41,7 +42,7 @@ pub fn to_design(alloc: Global, file: &YalFile, rules: &Rules) -> Result<Design,
     requires few { HasAtMost (2 ^ 32 - 1) file.now }
     ensures is { Agrees (λ design. design) result (on_grid rules.now file.now) }
     ensures nets { IfOk result (λ design. SameNet (word_of (parent_calls file.now)) design.pins) }
-    ensures high { IfOk result (λ design. 0 < length design.kinds → 2 * rules.now.grid_pin + rules.now.vertical_space ≤ design.height) }
+    ensures high { IfOk result (HasRoom rules.now) }
 {
     let parent = the_parent(file)?;
     calls_design(alloc, rules, file.modules.items(), parent.calls.items())

@@ -1,28 +1,44 @@
 //! The first thousand pairs, and a million shapes.
 
-ghost use Rattle.std.specs.Prelude.{◌≤◌};
+ghost use Rattle.std.specs.Prelude.{◌<◌, ◌≤◌, length};
 
-use crate::shapes::{grid, numbers, stairs};
+use crate::shapes::{On, grid, layer_of, numbers, stairs};
 use rule_check::{Pairs, close_pairs, out_of_row, overlaps};
+use std::alloc::{AllocError, Global};
 use std::test::Fail;
 use tech_rules::Rules;
 
+// The pairs of squares with these classes, of which each begins a step right of and above the one before.
+fn close_stairs(
+    alloc: Global,
+    on: On,
+    step: u32,
+    side: u32,
+    classes: &[u32],
+) -> Result<Pairs, AllocError>
+    requires few { length classes.now ≤ 1000000 }
+    requires flat { step ≤ 1000 }
+    requires some { 0 < side }
+{
+    let rules = Rules::sample(alloc)?;
+    let shapes = stairs(alloc, layer_of(&rules, on), classes.len(), step, side)?;
+    close_pairs(alloc, shapes.as_slice(), &rules, classes)
+}
+
 // So many squares in one place, all of one class but the first.
-fn star(rt: &HostRuntime, count: usize) -> Result<Pairs, Fail>
+fn star(alloc: Global, count: usize) -> Result<Pairs, AllocError>
     requires { count ≤ 1000000 }
 {
-    let rules = Rules::sample(rt.alloc())?;
-    let shapes = stairs(rt.alloc(), rules.horizontal_layer, count, 0, 600)?;
-    let mut classes = numbers(rt.alloc(), count, count)?;
+    let mut classes = numbers(alloc, count, count)?;
     if let Some(first) = classes.as_mut_slice().first_mut() {
         *first = 1;
     }
-    Ok(close_pairs(rt.alloc(), shapes.as_slice(), &rules, classes.as_slice())?)
+    close_stairs(alloc, On::Horizontal, 0, 600, classes.as_slice())
 }
 
 #[test]
 fn a_thousand_pairs_are_whole(rt: HostRuntime) -> Result<(), Fail> {
-    let pairs = star(&rt, 1001)?;
+    let pairs = star(rt.alloc(), 1001)?;
     assert_eq!(rt; pairs.list.len(), 1000);
     assert!(rt; pairs.whole);
     Ok(())
@@ -30,7 +46,7 @@ fn a_thousand_pairs_are_whole(rt: HostRuntime) -> Result<(), Fail> {
 
 #[test]
 fn a_thousand_and_one_are_not(rt: HostRuntime) -> Result<(), Fail> {
-    let pairs = star(&rt, 1002)?;
+    let pairs = star(rt.alloc(), 1002)?;
     assert_eq!(rt; pairs.list.len(), 1000);
     assert!(rt; !pairs.whole);
     Ok(())
@@ -39,10 +55,8 @@ fn a_thousand_and_one_are_not(rt: HostRuntime) -> Result<(), Fail> {
 // Squares of 200 that are 800 apart.
 #[test]
 fn a_million_that_keep_their_space(rt: HostRuntime) -> Result<(), Fail> {
-    let rules = Rules::sample(rt.alloc())?;
-    let shapes = stairs(rt.alloc(), rules.horizontal_layer, 1_000_000, 1000, 200)?;
     let classes = numbers(rt.alloc(), 1_000_000, 0)?;
-    let pairs = close_pairs(rt.alloc(), shapes.as_slice(), &rules, classes.as_slice())?;
+    let pairs = close_stairs(rt.alloc(), On::Horizontal, 1000, 200, classes.as_slice())?;
     assert_eq!(rt; pairs.list.len(), 0);
     assert!(rt; pairs.whole);
     Ok(())
@@ -50,10 +64,8 @@ fn a_million_that_keep_their_space(rt: HostRuntime) -> Result<(), Fail> {
 
 #[test]
 fn a_million_in_one_place_of_one_class(rt: HostRuntime) -> Result<(), Fail> {
-    let rules = Rules::sample(rt.alloc())?;
-    let shapes = stairs(rt.alloc(), rules.vertical_layer, 1_000_000, 0, 600)?;
     let classes = numbers(rt.alloc(), 1_000_000, 1_000_000)?;
-    let pairs = close_pairs(rt.alloc(), shapes.as_slice(), &rules, classes.as_slice())?;
+    let pairs = close_stairs(rt.alloc(), On::Vertical, 0, 600, classes.as_slice())?;
     assert_eq!(rt; pairs.list.len(), 0);
     assert!(rt; pairs.whole);
     Ok(())
@@ -61,10 +73,8 @@ fn a_million_in_one_place_of_one_class(rt: HostRuntime) -> Result<(), Fail> {
 
 #[test]
 fn a_million_in_one_place_of_different_classes(rt: HostRuntime) -> Result<(), Fail> {
-    let rules = Rules::sample(rt.alloc())?;
-    let shapes = stairs(rt.alloc(), rules.cut_layer, 1_000_000, 0, 600)?;
     let classes = numbers(rt.alloc(), 1_000_000, 0)?;
-    let pairs = close_pairs(rt.alloc(), shapes.as_slice(), &rules, classes.as_slice())?;
+    let pairs = close_stairs(rt.alloc(), On::Cut, 0, 600, classes.as_slice())?;
     assert_eq!(rt; pairs.list.len(), 1000);
     assert!(rt; !pairs.whole);
     assert_eq!(rt; pairs.list.as_slice().first().copied(), Some((0, 1)));

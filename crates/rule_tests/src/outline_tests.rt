@@ -1,60 +1,97 @@
 //! Outlines that overlap or are out of row.
 
-use crate::shapes::shape;
+use crate::shapes::{On, Placed, shapes_of};
 use rule_check::{out_of_row, overlaps};
+use std::alloc::{AllocError, Global};
 use std::test::Fail;
 use tech_rules::Rules;
 
+/// Shapes, and the pairs of them that a check finds.
+type Paired = (&'static [Placed], &'static [(u32, u32)]);
+
+/// Whether just these pairs of outlines overlap.
+fn do_overlap(alloc: Global, table: &[Placed], want: &[(u32, u32)]) -> Result<bool, AllocError> {
+    let rules = Rules::sample(alloc)?;
+    let shapes = shapes_of(alloc, &rules, table)?;
+    if shapes.len() > 100 {
+        return Ok(false);
+    }
+    let pairs = overlaps(alloc, shapes.as_slice(), &rules)?;
+    Ok(pairs.whole && pairs.list.as_slice() == want)
+}
+
+const OVERLAPS: [Paired; 3] = [
+    (&[], &[]),
+    // outlines that touch
+    (
+        &[
+            (On::Outline, 0, 0, 10, 10),
+            (On::Outline, 10, 0, 10, 10),
+            (On::Outline, 0, 10, 10, 10),
+            (On::Outline, 20, 10, 10, 10),
+        ],
+        &[],
+    ),
+    // outlines that share an inner point
+    (
+        &[
+            (On::Vertical, 0, 0, 100, 100),
+            (On::Outline, 0, 0, 10, 10),
+            (On::Outline, 50, 50, 10, 10),
+            (On::Outline, 9, 9, 42, 42),
+        ],
+        &[(1, 3), (2, 3)],
+    ),
+];
+
 #[test]
-fn outlines_that_touch_do_not_overlap(rt: HostRuntime) -> Result<(), Fail> {
-    let rules = Rules::sample(rt.alloc())?;
-    let shapes = [
-        shape(rules.outline_layer, 0, 0, 10, 10),
-        shape(rules.outline_layer, 10, 0, 10, 10),
-        shape(rules.outline_layer, 0, 10, 10, 10),
-        shape(rules.outline_layer, 20, 10, 10, 10),
-    ];
-    let pairs = overlaps(rt.alloc(), &shapes, &rules)?;
-    assert_eq!(rt; pairs.list.as_slice(), [].as_slice());
-    assert!(rt; pairs.whole);
-    let empty = overlaps(rt.alloc(), &[], &rules)?;
-    assert_eq!(rt; empty.list.as_slice(), [].as_slice());
+fn outlines_that_share_an_inner_point_overlap(rt: HostRuntime) -> Result<(), Fail> {
+    for (table, want) in OVERLAPS {
+        assert!(rt; do_overlap(rt.alloc(), table, want)?);
+    }
     Ok(())
 }
 
-#[test]
-fn outlines_that_share_an_inner_point(rt: HostRuntime) -> Result<(), Fail> {
-    let rules = Rules::sample(rt.alloc())?;
-    let shapes = [
-        shape(rules.vertical_layer, 0, 0, 100, 100),
-        shape(rules.outline_layer, 0, 0, 10, 10),
-        shape(rules.outline_layer, 50, 50, 10, 10),
-        shape(rules.outline_layer, 9, 9, 42, 42),
-    ];
-    let pairs = overlaps(rt.alloc(), &shapes, &rules)?;
-    assert_eq!(rt; pairs.list.as_slice(), [(1, 3), (2, 3)].as_slice());
-    Ok(())
+/// Whether just these pairs of outlines are out of row.
+fn are_out_of_row(
+    alloc: Global,
+    table: &[Placed],
+    want: &[(u32, u32)],
+) -> Result<bool, AllocError> {
+    let rules = Rules::sample(alloc)?;
+    let shapes = shapes_of(alloc, &rules, table)?;
+    if shapes.len() > 100 {
+        return Ok(false);
+    }
+    let pairs = out_of_row(alloc, shapes.as_slice(), &rules)?;
+    Ok(pairs.whole && pairs.list.as_slice() == want)
 }
+
+const ROWS: [Paired; 2] = [
+    (
+        &[
+            (On::Outline, 0, 0, 10, 10),
+            (On::Outline, 5, 0, 20, 10),
+            (On::Outline, 900, 10, 10, 7),
+            (On::Horizontal, 0, 5, 10, 10),
+        ],
+        &[],
+    ),
+    (
+        &[
+            (On::Outline, 0, 0, 10, 10),
+            (On::Outline, 500, 0, 10, 11),
+            (On::Outline, 900, 10, 10, 10),
+            (On::Outline, 0, 0, 10, 10),
+        ],
+        &[(0, 1), (1, 2), (1, 3)],
+    ),
+];
 
 #[test]
 fn outlines_in_rows_and_out_of_row(rt: HostRuntime) -> Result<(), Fail> {
-    let rules = Rules::sample(rt.alloc())?;
-    let rows = [
-        shape(rules.outline_layer, 0, 0, 10, 10),
-        shape(rules.outline_layer, 5, 0, 20, 10),
-        shape(rules.outline_layer, 900, 10, 10, 7),
-        shape(rules.horizontal_layer, 0, 5, 10, 10),
-    ];
-    let none = out_of_row(rt.alloc(), &rows, &rules)?;
-    assert_eq!(rt; none.list.as_slice(), [].as_slice());
-    assert!(rt; none.whole);
-    let shapes = [
-        shape(rules.outline_layer, 0, 0, 10, 10),
-        shape(rules.outline_layer, 500, 0, 10, 11),
-        shape(rules.outline_layer, 900, 10, 10, 10),
-        shape(rules.outline_layer, 0, 0, 10, 10),
-    ];
-    let pairs = out_of_row(rt.alloc(), &shapes, &rules)?;
-    assert_eq!(rt; pairs.list.as_slice(), [(0, 1), (1, 2), (1, 3)].as_slice());
+    for (table, want) in ROWS {
+        assert!(rt; are_out_of_row(rt.alloc(), table, want)?);
+    }
     Ok(())
 }

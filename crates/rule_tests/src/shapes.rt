@@ -5,6 +5,19 @@ ghost use Rattle.std.specs.Prelude.{◌≡◌, ◌<◌, ◌≤◌, ◌^◌, leng
 
 use geom_core::{LayerName, Rect, Shape};
 use std::alloc::{AllocError, Global};
+use tech_rules::Rules;
+
+/// A layer of the rules.
+#[derive(Clone, Copy)]
+pub enum On {
+    Horizontal,
+    Vertical,
+    Cut,
+    Outline,
+}
+
+/// A shape in a table: its layer, its lower left corner, its width and its height.
+pub type Placed = (On, u32, u32, u32, u32);
 
 // A rectangle whose lower left corner is at a place.
 pub fn shape(layer: LayerName, x: u32, y: u32, width: u32, height: u32) -> Shape
@@ -21,6 +34,35 @@ pub fn shape(layer: LayerName, x: u32, y: u32, width: u32, height: u32) -> Shape
             y1: i64::from(y) + i64::from(height),
         },
     }
+}
+
+pub fn layer_of(rules: &Rules, on: On) -> LayerName {
+    match on {
+        On::Horizontal => rules.horizontal_layer,
+        On::Vertical => rules.vertical_layer,
+        On::Cut => rules.cut_layer,
+        On::Outline => rules.outline_layer,
+    }
+}
+
+// The shape of a table's entry. A side of 0 counts as 1.
+fn shape_at(rules: &Rules, placed: &Placed) -> Shape
+    ensures { IsShapeInReach result }
+{
+    let (on, x, y, width, height) = *placed;
+    shape(layer_of(rules, on), x, y, width.max(1), height.max(1))
+}
+
+// The shapes of a table.
+pub fn shapes_of(alloc: Global, rules: &Rules, table: &[Placed]) -> Result<Vec<Shape>, AllocError>
+    ensures len { IfOk result (λ v. length v.items ≡ length table.now) }
+    ensures reach { IfOk result (λ v. All IsShapeInReach v.items) }
+{
+    let mut shapes = Vec::new(alloc);
+    for placed in table {
+        shapes.push(shape_at(rules, placed))?;
+    }
+    Ok(shapes)
 }
 
 // So many squares, of which each begins a step right of and above the one before.
