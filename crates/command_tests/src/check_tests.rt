@@ -137,16 +137,21 @@ fn is_usage(alloc: Global, text: &str) -> Result<bool, AllocError> {
     is_ended(alloc, text, &mut shelf, 2, "usage\n")
 }
 
+/// Words that are no command, one such in a line.
+const NO_COMMANDS: &str = "\
+check\n\
+check|d|r\n\
+check|d|r|c|x\n\
+check|d|r|c|--seed|1\n\
+Check|d|r|c";
+
 #[test]
 fn words_of_a_check(rt: HostRuntime) -> Result<(), Fail> {
-    let alloc = rt.alloc();
-    assert!(rt; is_usage(alloc, "check")?);
-    assert!(rt; is_usage(alloc, "check|d|r")?);
-    assert!(rt; is_usage(alloc, "check|d|r|c|x")?);
-    assert!(rt; is_usage(alloc, "check|d|r|c|--seed|1")?);
-    assert!(rt; is_usage(alloc, "Check|d|r|c")?);
-    let mut shelf = checked_shelf(alloc, JOINED, TWO_JOINED)?;
-    assert!(rt; is_ended(alloc, "check|--|d|r|c", &mut shelf, 0, "findings 0\n")?);
+    for words in NO_COMMANDS.split('\n') {
+        assert!(rt; is_usage(rt.alloc(), words)?, "{words}");
+    }
+    let mut shelf = checked_shelf(rt.alloc(), JOINED, TWO_JOINED)?;
+    assert!(rt; is_ended(rt.alloc(), "check|--|d|r|c", &mut shelf, 0, "findings 0\n")?);
     Ok(())
 }
 
@@ -162,15 +167,25 @@ fn is_first(
     is_ended(alloc, CHECK, &mut shelf, status, line)
 }
 
+/// Rules and designs, and the status and the line of their first cause.
+const FIRST: [(&str, &str, u8, &str); 3] = [
+    ("", "MODULE ;", 4, "rules Missing version\n"),
+    (RULES, "MODULE ;", 3, "yal Word 7\n"),
+    (RULES, INVERTER, 5, "design NoParent\n"),
+];
+
 /// The rules go before the design, and the design before the layout's file, also where that is not there.
 #[test]
 fn the_first_cause_is_said(rt: HostRuntime) -> Result<(), Fail> {
-    let alloc = rt.alloc();
-    assert!(rt; is_first(alloc, "", "MODULE ;", 4, "rules Missing version\n")?);
-    assert!(rt; is_first(alloc, RULES, "MODULE ;", 3, "yal Word 7\n")?);
-    assert!(rt; is_first(alloc, RULES, INVERTER, 5, "design NoParent\n")?);
-    let design = design_text(alloc, INVERTER, "u1 INV n1;\n")?;
-    assert!(rt; is_first(alloc, RULES, design.as_str(), 8, "read fault\n")?);
+    for case in &FIRST {
+        assert!(rt;
+            is_first(rt.alloc(), case.0, case.1, case.2, case.3)?,
+            "{}",
+            case.3
+        );
+    }
+    let design = design_text(rt.alloc(), INVERTER, "u1 INV n1;\n")?;
+    assert!(rt; is_first(rt.alloc(), RULES, design.as_str(), 8, "read fault\n")?);
     Ok(())
 }
 
@@ -179,21 +194,26 @@ fn is_text(shelf: &MemShelf, name: &str, text: &str) -> bool {
     shelf.get(name) == Some(text.as_bytes())
 }
 
-/// What was routed is checked, and nothing is written then or kept.
+/// Two crossed nets in two rows.
+const CROSSED: &str = "u1 BUF b;\nu2 BUF a;\nu3 INV a;\nu4 INV b;\n";
+
+/// What was routed is checked, and nothing is kept then.
 #[test]
 fn what_is_written_is_good(rt: HostRuntime) -> Result<(), Fail> {
-    let alloc = rt.alloc();
-    let calls = "u1 BUF b;\nu2 BUF a;\nu3 INV a;\nu4 INV b;\n";
-    let mut shelf = shelf_of(alloc, RULES, CELLS, calls)?;
-    assert!(rt; is_done(alloc, "route|d|r|c|--rows|2", &mut shelf)?);
-    let mut out = MemSink::new(alloc)?;
-    let end = ended(alloc, CHECK, &mut shelf, &mut out)?;
-    assert!(rt; end.status == 0);
-    assert!(rt; end.kept.is_empty());
-    let mut shelf = checked_shelf(alloc, JOINED, TWO_JOINED)?;
-    assert!(rt; is_ended(alloc, CHECK, &mut shelf, 0, "findings 0\n")?);
-    assert!(rt; is_text(&shelf, "c", TWO_JOINED));
-    assert!(rt; is_text(&shelf, "r", RULES));
+    let mut shelf = shelf_of(rt.alloc(), RULES, CELLS, CROSSED)?;
+    assert!(rt; is_done(rt.alloc(), "route|d|r|c|--rows|2", &mut shelf)?);
+    let mut out = MemSink::new(rt.alloc())?;
+    let end = ended(rt.alloc(), CHECK, &mut shelf, &mut out)?;
+    assert!(rt; end.status == 0 && end.kept.is_empty());
+    Ok(())
+}
+
+/// Nothing is written by a check.
+#[test]
+fn a_check_writes_nothing(rt: HostRuntime) -> Result<(), Fail> {
+    let mut shelf = checked_shelf(rt.alloc(), JOINED, TWO_JOINED)?;
+    assert!(rt; is_ended(rt.alloc(), CHECK, &mut shelf, 0, "findings 0\n")?);
+    assert!(rt; is_text(&shelf, "c", TWO_JOINED) && is_text(&shelf, "r", RULES));
     Ok(())
 }
 

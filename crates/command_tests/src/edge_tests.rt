@@ -55,16 +55,18 @@ fn is_usage(alloc: Global, text: &str) -> Result<bool, AllocError> {
     is_ended(alloc, text, &mut shelf, 2, "usage\n")
 }
 
+/// Words that are no command, one such in a line.
+const NO_COMMANDS: &str = "\
+route|d|r|o|--edge|--edge\n\
+route|d|r|o|--edge=x\n\
+route|d|r|o|--edge=true\n\
+route|d|r|o|--edge|true\n\
+check|d|r|o|--edge\n\
+make|1|5|r|o|--edge";
+
 #[test]
 fn the_flag_is_given_once_and_bare(rt: HostRuntime) -> Result<(), Fail> {
-    for words in [
-        "route|d|r|o|--edge|--edge",
-        "route|d|r|o|--edge=x",
-        "route|d|r|o|--edge=true",
-        "route|d|r|o|--edge|true",
-        "check|d|r|o|--edge",
-        "make|1|5|r|o|--edge",
-    ] {
+    for words in NO_COMMANDS.split('\n') {
         assert!(rt; is_usage(rt.alloc(), words)?, "{words}");
     }
     Ok(())

@@ -46,10 +46,16 @@ fn rules_that_are_refused(rt: HostRuntime) -> Result<(), Fail> {
     Ok(())
 }
 
-/// Whether the design of these modules and calls is refused with this line.
-fn is_no_design(alloc: Global, modules: &str, calls: &str, line: &str) -> Result<bool, AllocError> {
+/// Whether the design of these modules and calls is refused so.
+fn is_no_design(
+    alloc: Global,
+    modules: &str,
+    calls: &str,
+    fault: &str,
+) -> Result<bool, AllocError> {
+    let line = format!(in alloc; "design {fault}\n")?;
     let mut shelf = shelf_of(alloc, RULES, modules, calls)?;
-    is_refused_in(alloc, ROUTE, &mut shelf, 5, line)
+    is_refused_in(alloc, ROUTE, &mut shelf, 5, line.as_str())
 }
 
 /// A design with two PARENT modules.
@@ -59,23 +65,41 @@ fn two_parents(alloc: Global) -> Result<String, AllocError> {
     Ok(text)
 }
 
+/// An inverter whose pin lies between two columns.
+const OFF_GRID: &str =
+    "MODULE INV;\nTYPE STANDARD;\nDIMENSIONS 0 0 8 0 8 40 0 40;\nIOLIST;\na I 5 0 3 POLY;\nENDIOLIST;\nENDMODULE;\n";
+
+/// A cell without room for a pin.
+const LOW: &str =
+    "MODULE LOW;\nTYPE STANDARD;\nDIMENSIONS 0 0 8 0 8 10 0 10;\nIOLIST;\nENDIOLIST;\nENDMODULE;\n";
+
+/// Modules and calls that give no design, and what is printed behind `design`.
+const NO_DESIGNS: [(&str, &str, &str); 6] = [
+    (OFF_GRID, "u1 INV n1;\n", "OffGrid INV"),
+    (INVERTER, "u1 INV;\n", "SignalCount u1"),
+    (THROUGH, "u1 THR n n;\n", "SignalCount u1"),
+    (INVERTER, "u1 INV a;\nu2 BUF b;\n", "UnknownModule u2"),
+    (RING, "u1 ring a;\n", "NotStandard u1"),
+    (LOW, "u1 LOW;\n", "TooLow LOW"),
+];
+
 #[test]
 fn designs_that_are_refused(rt: HostRuntime) -> Result<(), Fail> {
-    let alloc = rt.alloc();
-    let off_grid =
-        "MODULE INV;\nTYPE STANDARD;\nDIMENSIONS 0 0 8 0 8 40 0 40;\nIOLIST;\na I 5 0 3 POLY;\nENDIOLIST;\nENDMODULE;\n";
-    assert!(rt; is_no_design(alloc, off_grid, "u1 INV n1;\n", "design OffGrid INV\n")?);
-    assert!(rt; is_no_design(alloc, INVERTER, "u1 INV;\n", "design SignalCount u1\n")?);
-    assert!(rt; is_no_design(alloc, THROUGH, "u1 THR n n;\n", "design SignalCount u1\n")?);
-    let calls = "u1 INV a;\nu2 BUF b;\n";
-    assert!(rt; is_no_design(alloc, INVERTER, calls, "design UnknownModule u2\n")?);
-    assert!(rt; is_no_design(alloc, RING, "u1 ring a;\n", "design NotStandard u1\n")?);
-    let low =
-        "MODULE LOW;\nTYPE STANDARD;\nDIMENSIONS 0 0 8 0 8 10 0 10;\nIOLIST;\nENDIOLIST;\nENDMODULE;\n";
-    assert!(rt; is_no_design(alloc, low, "u1 LOW;\n", "design TooLow LOW\n")?);
-    assert!(rt; is_refused(alloc, RULES, INVERTER, 5, "design NoParent\n")?);
-    let twice = two_parents(alloc)?;
-    assert!(rt; is_refused(alloc, RULES, twice.as_str(), 5, "design ManyParents\n")?);
+    for case in &NO_DESIGNS {
+        assert!(rt;
+            is_no_design(rt.alloc(), case.0, case.1, case.2)?,
+            "{}",
+            case.2
+        );
+    }
+    Ok(())
+}
+
+#[test]
+fn designs_without_one_parent(rt: HostRuntime) -> Result<(), Fail> {
+    assert!(rt; is_refused(rt.alloc(), RULES, INVERTER, 5, "design NoParent\n")?);
+    let twice = two_parents(rt.alloc())?;
+    assert!(rt; is_refused(rt.alloc(), RULES, twice.as_str(), 5, "design ManyParents\n")?);
     Ok(())
 }
 
@@ -93,17 +117,24 @@ fn is_no_network(alloc: Global, line: &str) -> Result<bool, AllocError> {
     }
 }
 
+/// Texts that are no YAL, and the lines that say so.
+const NO_YAL: [(&str, &str); 5] = [
+    ("MODULE ;", "yal Word 7\n"),
+    ("/*", "yal OpenComment 0\n"),
+    (
+        "MODULE a; TYPE STANDARD; DIMENSIONS 0 x;",
+        "yal Number 38\n",
+    ),
+    ("MODULE a; TYPE PAD; ENDMODULE; MODULE a;", "yal Twice 38\n"),
+    ("\u{e9}", "yal NotAscii 0\n"),
+];
+
 #[test]
 fn texts_that_are_no_yal(rt: HostRuntime) -> Result<(), Fail> {
-    let alloc = rt.alloc();
-    assert!(rt; is_no_network(alloc, "yal Ends 185\n")?);
-    assert!(rt; is_no_yal(alloc, "MODULE ;", "yal Word 7\n")?);
-    assert!(rt; is_no_yal(alloc, "/*", "yal OpenComment 0\n")?);
-    let word = "MODULE a; TYPE STANDARD; DIMENSIONS 0 x;";
-    assert!(rt; is_no_yal(alloc, word, "yal Number 38\n")?);
-    let twice = "MODULE a; TYPE PAD; ENDMODULE; MODULE a;";
-    assert!(rt; is_no_yal(alloc, twice, "yal Twice 38\n")?);
-    assert!(rt; is_no_yal(alloc, "\u{e9}", "yal NotAscii 0\n")?);
+    for case in &NO_YAL {
+        assert!(rt; is_no_yal(rt.alloc(), case.0, case.1)?, "{}", case.0);
+    }
+    assert!(rt; is_no_network(rt.alloc(), "yal Ends 185\n")?);
     Ok(())
 }
 
@@ -210,14 +241,22 @@ fn is_cut_off(alloc: Global, call: u64, front: &str) -> Result<bool, AllocError>
     is_ended_in(alloc, ROUTE, &mut shelf, &mut out, 5, front)
 }
 
+/// What is left of the line where its first put fails, its second, and so on: it is put word by word, each with what stands after it.
+const FRONTS: [&str; 5] = [
+    "",
+    "design",
+    "design ",
+    "design SignalCount",
+    "design SignalCount ",
+];
+
 #[test]
 fn a_failed_sink_keeps_the_status(rt: HostRuntime) -> Result<(), Fail> {
-    // The line is put word by word, each with what stands after it.
-    assert!(rt; is_cut_off(rt.alloc(), 0, "")?);
-    assert!(rt; is_cut_off(rt.alloc(), 1, "design")?);
-    assert!(rt; is_cut_off(rt.alloc(), 2, "design ")?);
-    assert!(rt; is_cut_off(rt.alloc(), 3, "design SignalCount")?);
-    assert!(rt; is_cut_off(rt.alloc(), 4, "design SignalCount ")?);
+    let mut call = 0u64;
+    for front in &FRONTS {
+        assert!(rt; is_cut_off(rt.alloc(), call, front)?, "at {call}");
+        call = call.saturating_add(1);
+    }
     Ok(())
 }
 

@@ -1,7 +1,10 @@
 //! Layouts with many findings or none, of files as large as they may be, and names of any bytes.
 
+ghost use Rattle.std.specs.Prelude.{◌≤◌};
+
 use crate::support::{
-    CHECK, TWO_JOINED, ended, is_done, is_ended, rules_with, shelf_of, text_with,
+    CHECK, TWO_JOINED, begins_so, ended, is_done, is_ended, rules_with, shelf_of, shelf_with_bytes,
+    text_with,
 };
 use layout_report::make_design;
 use samples::{BUFFER, CELLS, RULES};
@@ -74,38 +77,46 @@ fn is_clean(alloc: Global, words: &str, calls: &str) -> Result<bool, AllocError>
     Ok(routed && is_ended(alloc, CHECK, &mut shelf, 0, "findings 0\n")?)
 }
 
+/// Words that route, and the calls of cells that they route.
+const CLEAN: [(&str, &str); 6] = [
+    ("route|d|r|c", ""),
+    ("route|d|r|c", "u1 INV n1;\n"),
+    ("route|d|r|c", "u1 BUF n1;\nu2 BUF n1;\n"),
+    ("route|d|r|c|--rows|2", "u1 BUF n;\nu2 INV n;\n"),
+    (
+        "route|d|r|c|--rows|4",
+        "u1 BUF n;\nu2 INV p;\nu3 INV q;\nu4 INV n;\n",
+    ),
+    (
+        "route|d|r|c|--rows|4",
+        "u1 BUF n;\nu2 THR n;\nu3 INV q;\nu4 INV n;\n",
+    ),
+];
+
 #[test]
 fn layouts_that_are_routed_are_clean(rt: HostRuntime) -> Result<(), Fail> {
-    let alloc = rt.alloc();
-    for (words, calls) in [
-        ("route|d|r|c", ""),
-        ("route|d|r|c", "u1 INV n1;\n"),
-        ("route|d|r|c", "u1 BUF n1;\nu2 BUF n1;\n"),
-        ("route|d|r|c|--rows|2", "u1 BUF n;\nu2 INV n;\n"),
-        (
-            "route|d|r|c|--rows|4",
-            "u1 BUF n;\nu2 INV p;\nu3 INV q;\nu4 INV n;\n",
-        ),
-        (
-            "route|d|r|c|--rows|4",
-            "u1 BUF n;\nu2 THR n;\nu3 INV q;\nu4 INV n;\n",
-        ),
-    ] {
-        assert!(rt; is_clean(alloc, words, calls)?, "{calls}");
+    for case in &CLEAN {
+        assert!(rt; is_clean(rt.alloc(), case.0, case.1)?, "{}", case.1);
     }
     Ok(())
+}
+
+/// A shelf with these rules and a made design of so many instances.
+fn made_shelf(alloc: Global, rules: &str, seed: u64, instances: u32) -> Result<MemShelf, AllocError>
+    requires some { 1 ≤ instances }
+    requires few { instances ≤ 20000 }
+{
+    let sample = Rules::sample(alloc)?;
+    let design = make_design(alloc, &sample, seed, instances)?;
+    shelf_with_bytes(alloc, rules, design.as_slice())
 }
 
 /// The layout of a made design is good for the text that it is made of.
 #[test]
 fn a_made_layout_is_clean(rt: HostRuntime) -> Result<(), Fail> {
-    let alloc = rt.alloc();
-    let design = make_design(alloc, &Rules::sample(alloc)?, 1, 500)?;
-    let mut shelf = MemShelf::new(alloc)?;
-    shelf.set("r", RULES.as_bytes())?;
-    shelf.set("d", design.as_slice())?;
-    assert!(rt; is_done(alloc, "make|1|500|r|c", &mut shelf)?);
-    assert!(rt; is_ended(alloc, CHECK, &mut shelf, 0, "findings 0\n")?);
+    let mut shelf = made_shelf(rt.alloc(), RULES, 1, 500)?;
+    assert!(rt; is_done(rt.alloc(), "make|1|500|r|c", &mut shelf)?);
+    assert!(rt; is_ended(rt.alloc(), CHECK, &mut shelf, 0, "findings 0\n")?);
     Ok(())
 }
 
@@ -123,19 +134,19 @@ fn a_layout_of_too_many_bytes(rt: HostRuntime) -> Result<(), Fail> {
 /// A made design, routed twice with one seed: it is clean, and the texts are the same.
 #[test]
 fn a_made_design_in_three_rows(rt: HostRuntime) -> Result<(), Fail> {
-    let alloc = rt.alloc();
-    let rules = rules_with(alloc, "stages = 0", "stages = 20")?;
-    let design = make_design(alloc, &Rules::sample(alloc)?, 7, 60)?;
-    let mut shelf = MemShelf::new(alloc)?;
-    shelf.set("r", rules.as_bytes())?;
-    shelf.set("d", design.as_slice())?;
-    let mut out = MemSink::new(alloc)?;
-    let words = "route|d|r|c|--rows|3|--seed|7";
-    let status = ended(alloc, words, &mut shelf, &mut out)?.status;
-    assert!(rt; status == 0);
-    assert!(rt; out.bytes().starts_with(b"cells 60\nnets 75\nrows 3\n"));
-    assert!(rt; is_ended(alloc, CHECK, &mut shelf, 0, "findings 0\n")?);
-    assert!(rt; is_done(alloc, "route|d|r|o|--rows|3|--seed|7", &mut shelf)?);
+    let rules = rules_with(rt.alloc(), "stages = 0", "stages = 20")?;
+    let mut shelf = made_shelf(rt.alloc(), rules.as_str(), 7, 60)?;
+    let front = "cells 60\nnets 75\nrows 3\n";
+    assert!(rt;
+        begins_so(
+            rt.alloc(),
+            "route|d|r|c|--rows|3|--seed|7",
+            &mut shelf,
+            front
+        )?
+    );
+    assert!(rt; is_ended(rt.alloc(), CHECK, &mut shelf, 0, "findings 0\n")?);
+    assert!(rt; is_done(rt.alloc(), "route|d|r|o|--rows|3|--seed|7", &mut shelf)?);
     assert!(rt; shelf.get("o") == shelf.get("c"));
     Ok(())
 }

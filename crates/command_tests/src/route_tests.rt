@@ -35,19 +35,32 @@ fn is_layout(alloc: Global, modules: &str, calls: &str, want: &str) -> Result<bo
     )
 }
 
+/// Modules, calls and the layouts of these designs.
+const LAYOUTS: [(&str, &str, &str); 6] = [
+    (INVERTER, "u1 INV n1;\n", ONE_INVERTER),
+    // Two unjoined cells.
+    (INVERTER, "u1 INV n1;\nu2 INV n2;\n", TWO_INVERTERS),
+    ("", "", "(cellroute 1);\nE\n"),
+    // Two joined cells.
+    (BUFFER, "u1 BUF n1;\nu2 BUF n1;\n", TWO_JOINED),
+    // A terminal with two positions.
+    (THROUGH, "u1 THR n;\n", ONE_THROUGH),
+    (
+        POWERED,
+        "u1 PWI n1 VDD VSS;\nu2 PWI n2 VDD VSS;\n",
+        TWO_POWERED,
+    ),
+];
+
 #[test]
 fn designs_and_their_texts(rt: HostRuntime) -> Result<(), Fail> {
-    let alloc = rt.alloc();
-    assert!(rt; is_layout(alloc, INVERTER, "u1 INV n1;\n", ONE_INVERTER)?);
-    // Two unjoined cells.
-    assert!(rt; is_layout(alloc, INVERTER, "u1 INV n1;\nu2 INV n2;\n", TWO_INVERTERS)?);
-    assert!(rt; is_layout(alloc, "", "", "(cellroute 1);\nE\n")?);
-    // Two joined cells.
-    assert!(rt; is_layout(alloc, BUFFER, "u1 BUF n1;\nu2 BUF n1;\n", TWO_JOINED)?);
-    // A terminal with two positions.
-    assert!(rt; is_layout(alloc, THROUGH, "u1 THR n;\n", ONE_THROUGH)?);
-    let power = "u1 PWI n1 VDD VSS;\nu2 PWI n2 VDD VSS;\n";
-    assert!(rt; is_layout(alloc, POWERED, power, TWO_POWERED)?);
+    for case in &LAYOUTS {
+        assert!(rt;
+            is_layout(rt.alloc(), case.0, case.1, case.2)?,
+            "{}",
+            case.1
+        );
+    }
     Ok(())
 }
 
@@ -100,6 +113,11 @@ fn are_kept(alloc: Global, shelf: &MemShelf) -> Result<bool, AllocError> {
             && is_text(shelf, "r", RULES)
             && is_text(shelf, "other", "stays"),
     )
+}
+
+// The first bytes of a text.
+fn front(text: &str, count: usize) -> &[u8] {
+    &text.as_bytes()[..count.min(text.len())]
 }
 
 // Whether `route d r o` ends so where this call of the shelf fails, and leaves this under `o`.
@@ -186,14 +204,13 @@ fn is_cut(alloc: Global, case: &Cut) -> Result<bool, AllocError> {
     let mut shelf = shelf_of(alloc, RULES, case.modules, case.calls)?;
     shelf.most(case.most.max(1));
     shelf.fail_at(case.call)?;
-    let text = case.text.as_bytes();
-    let whole = case.held == text.len();
+    let whole = case.held == case.text.len();
     let ended = if whole {
         is_routed(alloc, &mut shelf)?
     } else {
         is_ended(alloc, ROUTE, &mut shelf, 9, "write fault\n")?
     };
-    Ok(ended && shelf.get("o") == Some(&text[..case.held.min(text.len())]))
+    Ok(ended && shelf.get("o") == Some(front(case.text, case.held)))
 }
 
 #[test]
@@ -204,19 +221,28 @@ fn texts_are_put_piece_by_piece(rt: HostRuntime) -> Result<(), Fail> {
     Ok(())
 }
 
+/// The status, the line, and how many bytes of which text are left where each call of the shelf fails: two takes of the rules, two of the design, `begin`, and
+/// two pieces.
+const FAILURES: [(u8, &str, &str, usize); 7] = [
+    (8, "read fault\n", "old", 3),
+    (8, "read fault\n", "old", 3),
+    (8, "read fault\n", "old", 3),
+    (8, "read fault\n", "old", 3),
+    (9, "write fault\n", "old", 3),
+    (9, "write fault\n", ONE_INVERTER, 0),
+    (9, "write fault\n", ONE_INVERTER, 100),
+];
+
 #[test]
 fn each_failure_of_the_shelf(rt: HostRuntime) -> Result<(), Fail> {
-    // Two takes of the rules, two of the design, `begin`, and two pieces.
-    for call in 0..4 {
+    let mut call = 0u64;
+    for case in &FAILURES {
         assert!(rt;
-            fails_at(rt.alloc(), call, 8, "read fault\n", b"old")?,
+            fails_at(rt.alloc(), call, case.0, case.1, front(case.2, case.3))?,
             "at {call}"
         );
+        call = call.saturating_add(1);
     }
-    assert!(rt; fails_at(rt.alloc(), 4, 9, "write fault\n", b"old")?);
-    assert!(rt; fails_at(rt.alloc(), 5, 9, "write fault\n", b"")?);
-    let piece = &ONE_INVERTER.as_bytes()[..100];
-    assert!(rt; fails_at(rt.alloc(), 6, 9, "write fault\n", piece)?);
     Ok(())
 }
 
@@ -231,40 +257,55 @@ fn has_copies(shelf: &MemShelf, copies: usize, last: &str) -> bool {
     }
 }
 
-// Whether these words lay out these calls so.
-fn is_threaded(
-    alloc: Global,
-    text: &str,
-    calls: &str,
+/// Words that route these calls, how many cells and feeds the layout calls, and where the last cell lies.
+struct Threaded {
+    words: &'static str,
+    calls: &'static str,
     copies: usize,
-    last: &str,
-) -> Result<bool, AllocError> {
-    let mut shelf = shelf_of(alloc, RULES, CELLS, calls)?;
-    Ok(is_done(alloc, text, &mut shelf)? && has_copies(&shelf, copies, last))
+    last: &'static str,
+}
+
+const THREADED: [Threaded; 4] = [
+    // A net across its own row.
+    Threaded {
+        words: "route|d|r|o|--rows|1",
+        calls: "u1 BUF n;\nu2 INV n;\n",
+        copies: 3,
+        last: "C 1 T 1600 1600;\n",
+    },
+    // Two crossed nets.
+    Threaded {
+        words: "route|d|r|o|--rows|2",
+        calls: "u1 BUF b;\nu2 BUF a;\nu3 INV a;\nu4 INV b;\n",
+        copies: 4,
+        last: "C 1 T 800 8000;\n",
+    },
+    // A net through four rows.
+    Threaded {
+        words: "route|d|r|o|--rows|4",
+        calls: "u1 BUF n;\nu2 INV p;\nu3 INV q;\nu4 INV n;\n",
+        copies: 6,
+        last: "C 1 T 0 15200;\n",
+    },
+    // A cell that leads through.
+    Threaded {
+        words: "route|d|r|o|--rows|4",
+        calls: "u1 BUF n;\nu2 THR n;\nu3 INV q;\nu4 INV n;\n",
+        copies: 5,
+        last: "C 1 T 0 15200;\n",
+    },
+];
+
+// Whether these calls are laid out so.
+fn is_threaded(alloc: Global, case: &Threaded) -> Result<bool, AllocError> {
+    let mut shelf = shelf_of(alloc, RULES, CELLS, case.calls)?;
+    Ok(is_done(alloc, case.words, &mut shelf)? && has_copies(&shelf, case.copies, case.last))
 }
 
 #[test]
 fn nets_through_rows_and_channels(rt: HostRuntime) -> Result<(), Fail> {
-    let alloc = rt.alloc();
-    // A net across its own row.
-    let row = "u1 BUF n;\nu2 INV n;\n";
-    assert!(rt; is_threaded(alloc, "route|d|r|o|--rows|1", row, 3, "C 1 T 1600 1600;\n")?);
-    // Two crossed nets.
-    let crossed = "u1 BUF b;\nu2 BUF a;\nu3 INV a;\nu4 INV b;\n";
-    assert!(rt;
-        is_threaded(
-            alloc,
-            "route|d|r|o|--rows|2",
-            crossed,
-            4,
-            "C 1 T 800 8000;\n"
-        )?
-    );
-    // A net through four rows.
-    let rows = "u1 BUF n;\nu2 INV p;\nu3 INV q;\nu4 INV n;\n";
-    assert!(rt; is_threaded(alloc, "route|d|r|o|--rows|4", rows, 6, "C 1 T 0 15200;\n")?);
-    // A cell that leads through.
-    let led = "u1 BUF n;\nu2 THR n;\nu3 INV q;\nu4 INV n;\n";
-    assert!(rt; is_threaded(alloc, "route|d|r|o|--rows|4", led, 5, "C 1 T 0 15200;\n")?);
+    for case in &THREADED {
+        assert!(rt; is_threaded(rt.alloc(), case)?, "{}", case.calls);
+    }
     Ok(())
 }

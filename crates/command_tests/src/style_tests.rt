@@ -3,13 +3,12 @@
 ghost use Rattle.choose_core.specs.Answers.{IsAsked};
 ghost use Rattle.std.specs.Prelude.{◌<◌, length};
 
-use crate::support::{ended, published, shelf_of, words};
-use choose_core::{Candidate, Choice, Chooser};
+use crate::support::{ended, named_style, shelf_of, words};
+use choose_core::{Candidate, Choice, Style};
 use commands::{Ended, run};
-use geom_core::Name;
 use greedy_router::{By, Routed};
 use samples::{BUFFER, CELLS, INVERTER, RULES};
-use shelf_io::{MemShelf, MemSink};
+use shelf_io::MemSink;
 use std::alloc::{AllocError, Global};
 use std::cell::Cell;
 use std::rc::Rc;
@@ -38,19 +37,33 @@ fn is_greedy(kept: &[Routed], channel: usize, tracks: u32, columns: u32) -> bool
 
 #[test]
 fn channels_are_kept(rt: HostRuntime) -> Result<(), Fail> {
-    let alloc = rt.alloc();
-    let crossed = ended_with(alloc, "route|d|r|o|--rows|2", CELLS, CROSSED)?;
+    let crossed = ended_with(rt.alloc(), "route|d|r|o|--rows|2", CELLS, CROSSED)?;
     assert_eq!(rt; crossed.status, 0);
     assert_eq!(rt; crossed.kept.len(), 3);
     assert!(rt; is_greedy(crossed.kept.as_slice(), 0, 0, 2));
     assert!(rt; is_greedy(crossed.kept.as_slice(), 1, 3, 3));
     assert!(rt; is_greedy(crossed.kept.as_slice(), 2, 0, 2));
-    // Two joined cells have one track.
-    let joined = ended_with(alloc, "route|d|r|o", BUFFER, "u1 BUF n1;\nu2 BUF n1;\n")?;
+    Ok(())
+}
+
+/// Two joined cells have one track.
+#[test]
+fn a_channel_of_two_joined_cells(rt: HostRuntime) -> Result<(), Fail> {
+    let joined = ended_with(
+        rt.alloc(),
+        "route|d|r|o",
+        BUFFER,
+        "u1 BUF n1;\nu2 BUF n1;\n",
+    )?;
     assert!(rt; is_greedy(joined.kept.as_slice(), 1, 1, 2));
-    let none = ended_with(alloc, "route|d|r|o|--style|none", CELLS, CROSSED)?;
+    Ok(())
+}
+
+#[test]
+fn no_channels_are_kept_of_what_is_refused(rt: HostRuntime) -> Result<(), Fail> {
+    let none = ended_with(rt.alloc(), "route|d|r|o|--style|none", CELLS, CROSSED)?;
     assert!(rt; none.status == 2 && none.kept.is_empty());
-    let refused = ended_with(alloc, "route|d|r|o", INVERTER, "u1 INV;\n")?;
+    let refused = ended_with(rt.alloc(), "route|d|r|o", INVERTER, "u1 INV;\n")?;
     assert!(rt; refused.status == 5 && refused.kept.is_empty());
     Ok(())
 }
@@ -67,22 +80,32 @@ fn channels_are_kept_of_what_is_not_written(rt: HostRuntime) -> Result<(), Fail>
     Ok(())
 }
 
+/// Words that name each style.
+const STYLED: [&str; 3] = [
+    "route|d|r|o|--rows|2|--style|near",
+    "route|d|r|o|--rows|2|--style|lean",
+    "route|d|r|o|--rows|2|--style|high",
+];
+
 #[test]
 fn each_style_routes(rt: HostRuntime) -> Result<(), Fail> {
-    for style in ["near", "lean", "high"] {
-        let text = format!(in rt.alloc(); "route|d|r|o|--rows|2|--style|{style}")?;
-        let done = ended_with(rt.alloc(), text.as_str(), CELLS, CROSSED)?;
-        assert!(rt; done.status == 0 && done.kept.len() == 3, "{style}");
+    for text in &STYLED {
+        let done = ended_with(rt.alloc(), text, CELLS, CROSSED)?;
+        assert!(rt; done.status == 0 && done.kept.len() == 3, "{text}");
     }
     Ok(())
 }
 
+/// The status with which these words end over the crossed nets with this one style.
+fn ended_by(alloc: Global, text: &str, style: Style) -> Result<u8, AllocError> {
+    let mut shelf = shelf_of(alloc, RULES, CELLS, CROSSED)?;
+    let mut out = MemSink::new(alloc)?;
+    let words = words(alloc, text)?;
+    Ok(run(alloc, words.as_slice(), &mut shelf, &mut out, &[style]).status)
+}
+
 /// How `route d r o --rows 2` ends over the crossed nets, with a chooser of the first candidate that counts how often it is asked.
-fn ended_by_counting(
-    alloc: Global,
-    shelf: &mut MemShelf,
-    calls: Rc<Cell<u32>>,
-) -> Result<u8, AllocError> {
+fn ended_by_counting(alloc: Global, calls: Rc<Cell<u32>>) -> Result<u8, AllocError> {
     let choice: Choice = Box::new(
         alloc,
         move |list: &[Candidate]| -> usize
@@ -93,23 +116,14 @@ fn ended_by_counting(
             0
         },
     )?;
-    let styles = [published(
-        alloc,
-        Chooser::new(Name::new(b"counting".to_vec(alloc)?), choice),
-    )];
-    let mut out = MemSink::new(alloc)?;
-    let words = words(alloc, "route|d|r|o|--rows|2|--style|counting")?;
-    Ok(run(alloc, words.as_slice(), shelf, &mut out, &styles).status)
+    let style = named_style(alloc, "counting", choice)?;
+    ended_by(alloc, "route|d|r|o|--rows|2|--style|counting", style)
 }
 
 #[test]
 fn a_choice_may_have_a_state(rt: HostRuntime) -> Result<(), Fail> {
-    let mut shelf = shelf_of(rt.alloc(), RULES, CELLS, CROSSED)?;
     let calls = Rc::new(rt.alloc(), Cell::new(0))?;
-    assert_eq!(rt;
-        ended_by_counting(rt.alloc(), &mut shelf, calls.clone()?)?,
-        0
-    );
-    assert!(rt; calls.get() > 0);
+    let status = ended_by_counting(rt.alloc(), calls.clone()?)?;
+    assert!(rt; status == 0 && calls.get() > 0);
     Ok(())
 }

@@ -1,7 +1,7 @@
 //! Shelves, words and designs for the tests.
 
 ghost use Rattle.choose_core.specs.Answers.{IsAsked};
-ghost use Rattle.std.specs.Prelude.{◌<◌, length};
+ghost use Rattle.std.specs.Prelude.{◌<◌, length, ℕ};
 
 use choose_core::{Candidate, Choice, Chooser, Manner, Plan, Style, high, lean, near};
 use commands::{Ended, Word, run};
@@ -47,12 +47,17 @@ pub fn rules_with(alloc: Global, old: &str, new: &str) -> Result<String, AllocEr
     text_with(alloc, RULES, old, new)
 }
 
-/// A shelf with the rules under `r` and the design under `d`.
-pub fn shelf_with(alloc: Global, rules: &str, design: &str) -> Result<MemShelf, AllocError> {
+/// A shelf with the rules under `r` and these bytes under `d`.
+pub fn shelf_with_bytes(alloc: Global, rules: &str, design: &[u8]) -> Result<MemShelf, AllocError> {
     let mut shelf = MemShelf::new(alloc)?;
     shelf.set("r", rules.as_bytes())?;
-    shelf.set("d", design.as_bytes())?;
+    shelf.set("d", design)?;
     Ok(shelf)
+}
+
+/// A shelf with the rules under `r` and the design under `d`.
+pub fn shelf_with(alloc: Global, rules: &str, design: &str) -> Result<MemShelf, AllocError> {
+    shelf_with_bytes(alloc, rules, design.as_bytes())
 }
 
 /// A shelf with these rules and the design of these modules and calls.
@@ -79,6 +84,51 @@ pub fn published(alloc: Global, chooser: Chooser) -> Style {
     }
 }
 
+/// That style of a choice, under a name.
+pub fn named_style(alloc: Global, name: &str, choice: Choice) -> Result<Style, AllocError>
+    requires callable { (list : _) → IsAsked list.now → Choice.pre choice list }
+    requires within { (list : _) (answer : ℕ) → IsAsked list.now → Choice.post choice list answer → answer < length list.now }
+{
+    let name = name.as_bytes().to_vec(alloc)?;
+    Ok(published(alloc, Chooser::new(Name::new(name), choice)))
+}
+
+/// The style `near`.
+fn near_style(alloc: Global) -> Result<Style, AllocError> {
+    let choice: Choice = Box::new(
+        alloc,
+        |list: &[Candidate]| -> usize
+            requires { IsAsked list.now }
+            ensures { result < length list.entry.now }
+        { near(list) },
+    )?;
+    named_style(alloc, "near", choice)
+}
+
+/// The style `lean`.
+fn lean_style(alloc: Global) -> Result<Style, AllocError> {
+    let choice: Choice = Box::new(
+        alloc,
+        |list: &[Candidate]| -> usize
+            requires { IsAsked list.now }
+            ensures { result < length list.entry.now }
+        { lean(list) },
+    )?;
+    named_style(alloc, "lean", choice)
+}
+
+/// The style `high`.
+fn high_style(alloc: Global) -> Result<Style, AllocError> {
+    let choice: Choice = Box::new(
+        alloc,
+        |list: &[Candidate]| -> usize
+            requires { IsAsked list.now }
+            ensures { result < length list.entry.now }
+        { high(list) },
+    )?;
+    named_style(alloc, "high", choice)
+}
+
 /// How these words end over this shelf and this sink, with the styles `near`, `lean` and `high`.
 pub fn ended(
     alloc: Global,
@@ -86,43 +136,11 @@ pub fn ended(
     shelf: &mut MemShelf,
     out: &mut MemSink,
 ) -> Result<Ended, AllocError> {
-    let near_choice: Choice = Box::new(
-        alloc,
-        |list: &[Candidate]| -> usize
-            requires { IsAsked list.now }
-            ensures { result < length list.entry.now }
-        { near(list) },
-    )?;
-    let lean_choice: Choice = Box::new(
-        alloc,
-        |list: &[Candidate]| -> usize
-            requires { IsAsked list.now }
-            ensures { result < length list.entry.now }
-        { lean(list) },
-    )?;
-    let high_choice: Choice = Box::new(
-        alloc,
-        |list: &[Candidate]| -> usize
-            requires { IsAsked list.now }
-            ensures { result < length list.entry.now }
-        { high(list) },
-    )?;
-    let styles = [
-        published(
-            alloc,
-            Chooser::new(Name::new(b"near".to_vec(alloc)?), near_choice),
-        ),
-        published(
-            alloc,
-            Chooser::new(Name::new(b"lean".to_vec(alloc)?), lean_choice),
-        ),
-        published(
-            alloc,
-            Chooser::new(Name::new(b"high".to_vec(alloc)?), high_choice),
-        ),
-    ];
     let words = words(alloc, text)?;
-    Ok(run(alloc, words.as_slice(), shelf, out, &styles))
+    let near = near_style(alloc)?;
+    let lean = lean_style(alloc)?;
+    let high = high_style(alloc)?;
+    Ok(run(alloc, words.as_slice(), shelf, out, &[near, lean, high]))
 }
 
 /// Whether these words end with this status over this shelf, and the sink holds this line then.
@@ -148,6 +166,18 @@ pub fn is_ended(
 ) -> Result<bool, AllocError> {
     let mut out = MemSink::new(alloc)?;
     is_ended_in(alloc, text, shelf, &mut out, status, line)
+}
+
+/// Whether these words end with 0 over this shelf, and print these lines first.
+pub fn begins_so(
+    alloc: Global,
+    words: &str,
+    shelf: &mut MemShelf,
+    front: &str,
+) -> Result<bool, AllocError> {
+    let mut out = MemSink::new(alloc)?;
+    let status = ended(alloc, words, shelf, &mut out)?.status;
+    Ok(status == 0 && out.bytes().starts_with(front.as_bytes()))
 }
 
 /// Whether these words end with status 0 over this shelf.

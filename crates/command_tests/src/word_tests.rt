@@ -62,22 +62,23 @@ fn is_lacking(alloc: Global, text: &str) -> Result<bool, AllocError> {
     is_ended(alloc, text, &mut shelf, 8, "read fault\n")
 }
 
+/// Words that are a command, and the file that it writes.
+const COMMANDS: [(&str, &str); 8] = [
+    ("route|--|d|r|o", "o"),
+    ("route|d|--|r|o", "o"),
+    ("route|d|r|--|--help", "--help"),
+    ("route|d|r|-", "-"),
+    ("route|d|r|", ""),
+    ("route|d|r|o|--seed|18446744073709551615", "o"),
+    ("route|--seed=0|d|r|o|--style|lean|--rows|1", "o"),
+    ("route|d|r|o|--style=high", "o"),
+];
+
 #[test]
 fn words_of_a_command(rt: HostRuntime) -> Result<(), Fail> {
-    assert!(rt; is_command(rt.alloc(), "route|--|d|r|o", "o")?);
-    assert!(rt; is_command(rt.alloc(), "route|d|--|r|o", "o")?);
-    assert!(rt; is_command(rt.alloc(), "route|d|r|--|--help", "--help")?);
-    assert!(rt; is_command(rt.alloc(), "route|d|r|-", "-")?);
-    assert!(rt; is_command(rt.alloc(), "route|d|r|", "")?);
-    assert!(rt; is_command(rt.alloc(), "route|d|r|o|--seed|18446744073709551615", "o")?);
-    assert!(rt;
-        is_command(
-            rt.alloc(),
-            "route|--seed=0|d|r|o|--style|lean|--rows|1",
-            "o"
-        )?
-    );
-    assert!(rt; is_command(rt.alloc(), "route|d|r|o|--style=high", "o")?);
+    for case in &COMMANDS {
+        assert!(rt; is_command(rt.alloc(), case.0, case.1)?, "{}", case.0);
+    }
     // An empty word names a file, which is not there.
     assert!(rt; is_lacking(rt.alloc(), "route||r|o")?);
     Ok(())
