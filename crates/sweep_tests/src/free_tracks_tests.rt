@@ -1,38 +1,14 @@
 //! Sweeps that begin with free tracks.
 
-use crate::choosers::near_chooser;
-use crate::worked_tests::channel_of;
-use choose_core::Manner;
-use greedy_router::{Swept, run_sweep};
+use crate::worked_tests::{End, channel_of, end_in};
 use std::alloc::Global;
 use std::test::Fail;
 
 // How the sweep of the vertical cycle ends that begins with a share of its cut density, which is 2: whether it is over, with how many
 // free tracks it began, how many columns it took and how many tracks it has.
-fn end_of(alloc: Global, share: u32, tracks: u32) -> Result<(bool, u32, usize, usize), Fail> {
+fn end_of(alloc: Global, share: u32, tracks: u32) -> Result<End, Fail> {
     let channel = channel_of(alloc, &[2, 1], &[1, 2])?;
-    let chooser = near_chooser(alloc)?;
-    let (over, sweep) = match run_sweep(
-        alloc,
-        &channel,
-        Manner::Published,
-        share,
-        &chooser,
-        tracks,
-        2,
-    )? {
-        Swept::Finished {
-            sweep,
-            wiring: _wiring,
-        } => (false, sweep),
-        Swept::Over { sweep } => (true, sweep),
-    };
-    Ok((
-        over,
-        sweep.begun,
-        sweep.columns.items().len(),
-        sweep.order.items().len(),
-    ))
+    end_in(alloc, &channel, share, tracks, 2)
 }
 
 // A third track is made where there are fewer: the pins of column 1 must not meet.

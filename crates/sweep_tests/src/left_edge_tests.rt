@@ -2,8 +2,8 @@
 
 use crate::choosers::{near_chooser, near_style};
 use crate::worked_tests::channel_of;
-use channel_model::Segment;
-use choose_core::Manner;
+use channel_model::{Channel, Segment};
+use choose_core::{Manner, Style};
 use greedy_router::{By, Routed, route_channels, route_edge};
 use std::alloc::Global;
 use std::test::Fail;
@@ -16,10 +16,19 @@ fn edge_routed(
     extra: u32,
 ) -> Result<Routed, Fail> {
     let channel = channel_of(alloc, top, bottom)?;
+    edge_routed_in(alloc, &channel, tracks, extra)
+}
+
+fn edge_routed_in(
+    alloc: Global,
+    channel: &Channel,
+    tracks: u32,
+    extra: u32,
+) -> Result<Routed, Fail> {
     let chooser = near_chooser(alloc)?;
     Ok(route_edge(
         alloc,
-        &channel,
+        channel,
         Manner::Published,
         0,
         &chooser,
@@ -66,18 +75,50 @@ fn a_constrained_channel_is_swept(rt: HostRuntime) -> Result<(), Fail> {
     Ok(())
 }
 
-#[test]
-fn channels_go_to_the_left_edges_where_that_is_asked(rt: HostRuntime) -> Result<(), Fail> {
-    let alloc = rt.alloc();
+// A vertical cycle, and two nets without a constraint.
+fn two_channels(alloc: Global) -> Result<Vec<Channel>, Fail> {
     let mut channels = Vec::new(alloc);
     channels.push(channel_of(alloc, &[2, 1], &[1, 2])?)?;
     channels.push(channel_of(alloc, &[0, 0, 0, 0], &[1, 2, 1, 2])?)?;
+    Ok(channels)
+}
+
+/// Two channels' routers, and the tracks of the second where the left-edge router has wired it.
+type Routers = Option<(By, By, Option<u32>)>;
+
+fn routers_of(routed: &[Routed]) -> Routers {
+    if routed.len() != 2 {
+        return None;
+    }
+    let tracks = match routed[1].by {
+        By::Edge => Some(routed[1].wiring.tracks),
+        _ => None,
+    };
+    Some((routed[0].by, routed[1].by, tracks))
+}
+
+fn routers_by(
+    alloc: Global,
+    channels: &[Channel],
+    style: &Style,
+    edge: bool,
+) -> Result<Routers, Fail> {
+    let routed = route_channels(alloc, channels, style, edge)?;
+    Ok(routers_of(&routed))
+}
+
+// By the style `near`, and by left edges where that is asked.
+fn routers(alloc: Global, channels: &[Channel], edge: bool) -> Result<Routers, Fail> {
     let style = near_style(alloc, 0, &[])?;
-    let swept = route_channels(alloc, &channels, &style, false)?;
-    let routed = route_channels(alloc, &channels, &style, true)?;
-    assert_eq!(rt; (swept.len(), routed.len()), (2, 2));
-    assert_eq!(rt; (swept[0].by, swept[1].by), (By::Greedy, By::Greedy));
-    assert_eq!(rt; (routed[0].by, routed[1].by), (By::Greedy, By::Edge));
-    assert_eq!(rt; routed[1].wiring.tracks, 2);
+    routers_by(alloc, channels, &style, edge)
+}
+
+#[test]
+fn channels_go_to_the_left_edges_where_that_is_asked(rt: HostRuntime) -> Result<(), Fail> {
+    let channels = two_channels(rt.alloc())?;
+    let swept = routers(rt.alloc(), &channels, false)?;
+    assert!(rt; swept == Some((By::Greedy, By::Greedy, None)));
+    let routed = routers(rt.alloc(), &channels, true)?;
+    assert!(rt; routed == Some((By::Greedy, By::Edge, Some(2))));
     Ok(())
 }

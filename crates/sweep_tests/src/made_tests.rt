@@ -9,9 +9,14 @@ use greedy_router::{By, route_channel};
 use std::alloc::Global;
 use std::test::Fail;
 
+/// How many nets a channel has, but at most 1,000.
+pub fn count_of_nets(alloc: Global, channel: &Channel) -> Result<u32, Fail> {
+    Ok(nets_of(alloc, channel)?.len().min(1000) as u32)
+}
+
 // Whether a channel is connected, and by which router.
 fn routed(alloc: Global, channel: &Channel, chooser: &Chooser) -> Result<(bool, By), Fail> {
-    let nets = nets_of(alloc, channel)?.len().min(1000) as u32;
+    let nets = count_of_nets(alloc, channel)?;
     let routed = route_channel(
         alloc,
         channel,
@@ -24,16 +29,27 @@ fn routed(alloc: Global, channel: &Channel, chooser: &Chooser) -> Result<(bool, 
     Ok((is_connected(alloc, channel, &routed.wiring)?, routed.by))
 }
 
+// By `near` or by `high`, by turns.
+fn routed_in_turn(alloc: Global, number: u32, channel: &Channel) -> Result<(bool, By), Fail> {
+    let chooser = if number % 2 == 0 {
+        near_chooser(alloc)?
+    } else {
+        high_chooser(alloc)?
+    };
+    routed(alloc, channel, &chooser)
+}
+
+// So of the channel made from a number.
+fn made_and_routed(alloc: Global, number: u32) -> Result<(bool, By), Fail> {
+    let channel = made_channel(alloc, number)?;
+    routed_in_turn(alloc, number, &channel)
+}
+
 #[test]
 fn made_channels_are_connected(rt: HostRuntime) -> Result<(), Fail> {
-    let alloc = rt.alloc();
-    let near = near_chooser(alloc)?;
-    let high = high_chooser(alloc)?;
     let mut greedy = 0u32;
     for number in 0u32..500 {
-        let channel = made_channel(alloc, number)?;
-        let chooser = if number % 2 == 0 { &near } else { &high };
-        let (connected, by) = routed(alloc, &channel, chooser)?;
+        let (connected, by) = made_and_routed(rt.alloc(), number)?;
         assert!(rt; connected, "channel {number}");
         if by == By::Greedy {
             greedy = greedy.saturating_add(1);

@@ -2,8 +2,8 @@
 
 use crate::choosers::{near_chooser, near_style};
 use channel_model::{Channel, Segment, Via, Wiring};
-use choose_core::Manner;
-use greedy_router::{By, Routed, Swept, route_channel, route_channels, run_sweep};
+use choose_core::{Chooser, Manner, Style};
+use greedy_router::{By, Routed, Sweep, Swept, route_channel, route_channels, run_sweep};
 use std::alloc::Global;
 use std::test::Fail;
 
@@ -12,46 +12,81 @@ pub fn channel_of(alloc: Global, top: &[u32], bottom: &[u32]) -> Result<Channel,
     Ok(Channel::new(top.to_vec(alloc)?, bottom.to_vec(alloc)?).ok_or("a channel")?)
 }
 
-// How a sweep ends: whether it is over, how many columns it takes and how many tracks it has.
+/// How a sweep ends: whether it is over, with how many free tracks it began, how many columns it takes and how many tracks it has.
+pub type End = (bool, u32, usize, usize);
+
+fn size_of(over: bool, sweep: &Sweep) -> End {
+    (
+        over,
+        sweep.begun,
+        sweep.columns.items().len(),
+        sweep.order.items().len(),
+    )
+}
+
+fn told(swept: &Swept) -> End {
+    match swept {
+        Swept::Finished { sweep, .. } => size_of(false, sweep),
+        Swept::Over { sweep } => size_of(true, sweep),
+    }
+}
+
+fn end_by(
+    alloc: Global,
+    channel: &Channel,
+    share: u32,
+    chooser: &Chooser,
+    tracks: u32,
+    extra: u32,
+) -> Result<End, Fail> {
+    let swept = run_sweep(
+        alloc,
+        channel,
+        Manner::Published,
+        share,
+        chooser,
+        tracks,
+        extra,
+    )?;
+    Ok(told(&swept))
+}
+
+/// How the sweep of a channel ends that begins with a share of its cut density as free tracks.
+pub fn end_in(
+    alloc: Global,
+    channel: &Channel,
+    share: u32,
+    tracks: u32,
+    extra: u32,
+) -> Result<End, Fail> {
+    let chooser = near_chooser(alloc)?;
+    end_by(alloc, channel, share, &chooser, tracks, extra)
+}
+
+// How that of the channel with these pins ends, without free tracks.
 fn end_of(
     alloc: Global,
     top: &[u32],
     bottom: &[u32],
     tracks: u32,
     extra: u32,
-) -> Result<(bool, usize, usize), Fail> {
+) -> Result<End, Fail> {
     let channel = channel_of(alloc, top, bottom)?;
-    let chooser = near_chooser(alloc)?;
-    let (over, sweep) = match run_sweep(
-        alloc,
-        &channel,
-        Manner::Published,
-        0,
-        &chooser,
-        tracks,
-        extra,
-    )? {
-        Swept::Finished {
-            sweep,
-            wiring: _wiring,
-        } => (false, sweep),
-        Swept::Over { sweep } => (true, sweep),
-    };
-    Ok((over, sweep.columns.items().len(), sweep.order.items().len()))
+    end_in(alloc, &channel, 0, tracks, extra)
 }
 
 // A vertical cycle: bottom 1, 2 and top 2, 1.
 #[test]
 fn the_limits_of_a_sweep(rt: HostRuntime) -> Result<(), Fail> {
     let alloc = rt.alloc();
-    assert_eq!(rt; end_of(alloc, &[2, 1], &[1, 2], 2, 2)?, (true, 2, 3));
-    assert_eq!(rt; end_of(alloc, &[2, 1], &[1, 2], 4, 0)?, (true, 2, 3));
-    assert_eq!(rt; end_of(alloc, &[2, 1], &[1, 2], 3, 1)?, (false, 3, 3));
+    assert_eq!(rt; end_of(alloc, &[2, 1], &[1, 2], 2, 2)?, (true, 0, 2, 3));
+    assert_eq!(rt; end_of(alloc, &[2, 1], &[1, 2], 4, 0)?, (true, 0, 2, 3));
+    assert_eq!(rt; end_of(alloc, &[2, 1], &[1, 2], 3, 1)?, (false, 0, 3, 3));
     assert_eq!(rt;
         end_of(alloc, &[0, 0, 0, 0], &[1, 1, 2, 2], 4, 2)?,
-        (false, 4, 1)
+        (false, 0, 4, 1)
     );
-    assert_eq!(rt; end_of(alloc, &[], &[], 0, 0)?, (false, 0, 0));
+    assert_eq!(rt; end_of(alloc, &[], &[], 0, 0)?, (false, 0, 0, 0));
     Ok(())
 }
 
@@ -92,10 +127,19 @@ fn via(net: u32, column: u32, track: u32) -> Via {
 
 fn routed_crossed(alloc: Global, tracks: u32, extra: u32) -> Result<Routed, Fail> {
     let channel = channel_of(alloc, &[2, 1], &[1, 2])?;
+    routed_by_near(alloc, &channel, tracks, extra)
+}
+
+fn routed_by_near(
+    alloc: Global,
+    channel: &Channel,
+    tracks: u32,
+    extra: u32,
+) -> Result<Routed, Fail> {
     let chooser = near_chooser(alloc)?;
     Ok(route_channel(
         alloc,
-        &channel,
+        channel,
         Manner::Published,
         0,
         &chooser,
@@ -164,19 +208,43 @@ fn the_plain_wiring_of_a_vertical_cycle(rt: HostRuntime) -> Result<(), Fail> {
     Ok(())
 }
 
-// Each channel within the limits of its nets.
-#[test]
-fn channels_in_their_order(rt: HostRuntime) -> Result<(), Fail> {
-    let alloc = rt.alloc();
+fn three_channels(alloc: Global) -> Result<Vec<Channel>, Fail> {
     let mut channels = Vec::new(alloc);
     channels.push(channel_of(alloc, &[2, 1], &[1, 2])?)?;
     channels.push(channel_of(alloc, &[0, 0], &[0, 0])?)?;
     channels.push(channel_of(alloc, &[3, 0], &[0, 3])?)?;
+    Ok(channels)
+}
+
+// Whether wirings have these tracks and columns.
+fn have_sizes(routed: &[Routed], sizes: &[(u32, u32)]) -> bool {
+    routed.len() == sizes.len()
+        && routed.iter().zip(sizes.iter()).all(|(one, size)| (one.wiring.tracks, one.wiring.columns)
+            == *size)
+}
+
+fn are_routed_by(
+    alloc: Global,
+    channels: &[Channel],
+    style: &Style,
+    sizes: &[(u32, u32)],
+) -> Result<bool, Fail> {
+    let routed = route_channels(alloc, channels, style, false)?;
+    Ok(have_sizes(&routed, sizes))
+}
+
+// Whether channels are routed in these sizes by the style `near`.
+fn are_routed(alloc: Global, channels: &[Channel], sizes: &[(u32, u32)]) -> Result<bool, Fail> {
     let style = near_style(alloc, 0, &[])?;
-    let routed = route_channels(alloc, &channels, &style, false)?;
-    assert_eq!(rt; routed.len(), 3);
-    assert_eq!(rt; (routed[0].wiring.tracks, routed[0].wiring.columns), (3, 3));
-    assert_eq!(rt; (routed[1].wiring.tracks, routed[1].wiring.columns), (0, 2));
-    assert_eq!(rt; (routed[2].wiring.tracks, routed[2].wiring.columns), (1, 2));
+    are_routed_by(alloc, channels, &style, sizes)
+}
+
+const SIZES: [(u32, u32); 3] = [(3, 3), (0, 2), (1, 2)];
+
+// Each channel within the limits of its nets.
+#[test]
+fn channels_in_their_order(rt: HostRuntime) -> Result<(), Fail> {
+    let channels = three_channels(rt.alloc())?;
+    assert!(rt; are_routed(rt.alloc(), &channels, &SIZES)?);
     Ok(())
 }
