@@ -1,5 +1,7 @@
 //! Channels made from numbers, each routed within the limits of its nets.
 
+ghost use Rattle.std.specs.Prelude.{◌≤◌, IfOk};
+
 use crate::choosers::{high_chooser, near_chooser};
 use crate::connected::is_connected;
 use crate::made::made_channel;
@@ -10,7 +12,9 @@ use std::alloc::Global;
 use std::test::Fail;
 
 /// How many nets a channel has, but at most 1,000.
-pub fn count_of_nets(alloc: Global, channel: &Channel) -> Result<u32, Fail> {
+pub fn count_of_nets(alloc: Global, channel: &Channel) -> Result<u32, Fail>
+    ensures { IfOk result (λ nets. nets ≤ 1000) }
+{
     Ok(nets_of(alloc, channel)?.len().min(1000) as u32)
 }
 
