@@ -42,6 +42,7 @@ fn styled(alloc: Global, name: &[u8], choice: Choice, plan: Plan) -> Result<Styl
     })
 }
 
+// The same of these words.
 fn obeyed(rt: &HostRuntime, words: &[Word]) -> Result<u8, AllocError> {
     let alloc = rt.alloc();
     let mut styles = Vec::with_capacity(alloc, 5)?;
