@@ -49,5 +49,11 @@ pub mod EndedLaws
 pub mod EdgeLaws
 -- the best of the sweeps that a plan tries
 pub mod PlanLaws
+-- lists that lie one behind another
+pub mod PackedLaws
+-- lists beside each other
+pub mod ZipLaws
+-- the records of columns, from lists that lie together
+pub mod ColumnsLaws
 -- the wiring of a worked sweep
 pub mod Worked

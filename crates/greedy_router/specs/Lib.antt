@@ -14,3 +14,7 @@ pub mod Tables
 pub mod Running
 -- which of two routed channels is kept
 pub mod Planning
+-- lists that lie one behind another
+pub mod Packed
+-- the records of columns, from lists that lie together
+pub mod Columns

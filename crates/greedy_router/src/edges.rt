@@ -7,6 +7,7 @@ ghost use Rattle.greedy_router.specs.declared.sweep.By.TheVariants.{Edge};
 ghost use Rattle.left_edge.specs.Columns.{IsConstrained, IsUnconstrained};
 ghost use Rattle.std.specs.Prelude.{◌≡◌, [], IfNone, IfOk, IfSome, ℕ, length, true};
 
+use crate::columns::Columns;
 use crate::routing::route_with;
 use crate::sweep::{By, Routed, Sweep};
 use channel_model::{Channel, Wiring};
@@ -26,7 +27,7 @@ fn unswept(alloc: Global, wiring: Wiring) -> Routed
         wiring,
         sweep: Sweep {
             begun: 0,
-            columns: Items::new(Vec::new(alloc)),
+            columns: Columns::new(alloc),
             order: Items::new(Vec::new(alloc)),
         },
     }

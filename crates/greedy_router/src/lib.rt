@@ -5,7 +5,9 @@
 
 mod begun;
 mod channels;
+mod columns;
 mod edges;
+mod packed;
 mod pieces;
 mod planning;
 mod routing;
@@ -16,6 +18,7 @@ mod tables;
 mod wiring;
 
 pub use channels::route_channels;
+pub use columns::{Columns, LentColumn};
 pub use edges::route_edge;
 pub use planning::route_best;
 pub use routing::route_channel;

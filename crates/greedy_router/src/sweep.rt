@@ -1,13 +1,13 @@
+use crate::columns::Columns;
 use channel_model::Wiring;
 use geom_core::Items;
-use greedy_column::Column;
 
 /// A sweep of a channel: how many free tracks it begins with, the records of its columns, from the left, and the ids of its tracks after
 /// the last of them, from bottom to top.
 #[derive(Debug, Drop)]
 pub struct Sweep {
     pub begun: u32,
-    pub columns: Items<Column>,
+    pub columns: Columns,
     pub order: Items<u32>,
 }
 

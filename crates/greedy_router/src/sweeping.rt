@@ -10,6 +10,7 @@ ghost use Rattle.std.specs.List.Sorted.{IsNonDecreasing};
 ghost use Rattle.std.specs.Prelude.{◌≡◌, ◌<◌, ◌≤◌, ◌+◌, ◌^◌, ℕ, IfOk, Contains, All, length};
 
 use crate::begun::begun_of;
+use crate::columns::Columns;
 use crate::running::{Run, run_columns};
 use crate::sweep::{Sweep, Swept};
 use crate::wiring::{Wires, wire_columns};
@@ -44,19 +45,35 @@ fn wiring(
     requires few_columns { length columns.now < 2 ^ 32 }
     ensures { IfOk result (λ wiring. wiring ≡ wiring_of channel.now (record { begun = begun; columns = columns.now; order = ids tracks.now })) }
 {
-    let Wires { segments, vias } = wire_columns(
-        alloc,
-        channel,
-        begun,
-        columns,
-        tracks,
-        room as usize,
-    )?;
+    let Wires {
+        mut segments,
+        mut vias,
+    } = wire_columns(alloc, channel, begun, columns, tracks, room as usize)?;
+    segments.shrink_to_fit();
+    vias.shrink_to_fit();
     Ok(Wiring {
         tracks: tracks.len() as u32,
         columns: columns.len() as u32,
         segments: Items::new(segments),
         vias: Items::new(vias),
+    })
+}
+
+// The sweep that these are the records of, and the tracks after the last of them.
+fn sweep_of(
+    alloc: Global,
+    begun: u32,
+    columns: &[Column],
+    tracks: &[Track],
+) -> Result<Sweep, AllocError>
+    ensures { IfOk result (λ sweep. sweep ≡ record { begun = begun; columns = columns.now; order = ids tracks.now }) }
+{
+    let order = ids(alloc, tracks)?;
+    let columns = Columns::pack(alloc, columns)?;
+    Ok(Sweep {
+        begun,
+        columns,
+        order: Items::new(order),
     })
 }
 
@@ -79,22 +96,15 @@ fn sweep_with<C: Chooses>(
         state,
         over,
     } = run_columns(alloc, channel, manner, begun, chooser, tracks, extra)?;
-    let columns = Items::new(columns);
-    let order = Items::new(ids(alloc, state.order.items())?);
-    let sweep = Sweep {
-        begun,
-        columns,
-        order,
-    };
+    let sweep = sweep_of(alloc, begun, columns.as_slice(), state.order.items())?;
     if over {
         return Ok(Swept::Over { sweep });
     }
-    let columns = sweep.columns.items();
     let wiring = wiring(
         alloc,
         channel,
         begun,
-        columns,
+        columns.as_slice(),
         state.order.items(),
         state.fresh,
     )?;

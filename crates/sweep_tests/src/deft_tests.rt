@@ -23,7 +23,7 @@ fn ends_with(
             let columns = channel.top.items().len().saturating_add(extra);
             Ok(
                 sweep.order.items() == order
-                    && sweep.columns.items().len() == columns
+                    && sweep.columns.len() == columns
                     && wiring.tracks as usize == order.len(),
             )
         }

@@ -50,7 +50,7 @@ fn lies(routed: &Routed, net: u32, track: u32, from: u32, to: u32) -> bool {
 
 fn is_unswept(routed: &Routed) -> bool {
     let sweep = &routed.sweep;
-    sweep.begun == 0 && sweep.columns.items().is_empty() && sweep.order.items().is_empty()
+    sweep.begun == 0 && sweep.columns.is_empty() && sweep.order.items().is_empty()
 }
 
 #[test]

@@ -19,6 +19,8 @@ mod made_tests;
 #[cfg(test)]
 mod plan_tests;
 #[cfg(test)]
+mod record_tests;
+#[cfg(test)]
 mod style_tests;
 #[cfg(test)]
 mod worked_tests;

@@ -19,7 +19,7 @@ fn size_of(over: bool, sweep: &Sweep) -> End {
     (
         over,
         sweep.begun,
-        sweep.columns.items().len(),
+        sweep.columns.len(),
         sweep.order.items().len(),
     )
 }
@@ -125,7 +125,8 @@ fn via(net: u32, column: u32, track: u32) -> Via {
     Via { net, column, track }
 }
 
-fn routed_crossed(alloc: Global, tracks: u32, extra: u32) -> Result<Routed, Fail> {
+/// The channel with bottom pins 1, 2 and top pins 2, 1, routed by the nearest.
+pub fn routed_crossed(alloc: Global, tracks: u32, extra: u32) -> Result<Routed, Fail> {
     let channel = channel_of(alloc, &[2, 1], &[1, 2])?;
     routed_by_near(alloc, &channel, tracks, extra)
 }
@@ -203,7 +204,7 @@ fn the_plain_wiring_of_a_vertical_cycle(rt: HostRuntime) -> Result<(), Fail> {
         via(2, 3, 4),
     ];
     assert!(rt; is_wiring(&routed.wiring, 4, 4, &segments, &vias));
-    assert_eq!(rt; routed.sweep.columns.items().len(), 2);
+    assert_eq!(rt; routed.sweep.columns.len(), 2);
     assert_eq!(rt; routed.sweep.order.items().len(), 3);
     Ok(())
 }
