@@ -1,10 +1,9 @@
-use Rattle.std.proofs.Common.{◌≡◌, ◌+◌, List, true, false, length, ap, ◌∙◌, arith, rules, refl}
+use Rattle.std.proofs.Common.{◌≡◌, ◌+◌, List, true, false, length, ap, arith, rules, refl}
 use Rattle.greedy_column.specs.declared.column.Track.{Track}
 use Rattle.greedy_column.specs.declared.column.Column.{Column}
 use Rattle.greedy_column.specs.Tracks.{ids}
 use Rattle.greedy_router.specs.Running.{is_past}
 use Rattle.greedy_router.specs.SweepWiring.{wiring_of}
-use Rattle.greedy_router.specs.declared.sweep.Sweep.{Sweep}
 use Rattle.greedy_router.proofs.GoingLaws.{run-ascending}
 use Rattle.greedy_router.proofs.EndedLaws.{run-over, run-finished, run-lessens, run-tracks, run-columns}
 use Rattle.greedy_router.proofs.sweeping.sweep_with.Goals as goal
