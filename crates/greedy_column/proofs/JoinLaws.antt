@@ -75,15 +75,10 @@ possible_joins-less spans pairs pair member =
 
 -- the joins end where none is possible, and go on with one that is picked
 module _ (may : List Candidate → ℕ → Type 0) (next : ℕ → Next) (pairs : List Span) where
-  pub joins_end : (first spans joined joins : List Span) → joins ≡ possible_joins spans pairs → length joins ≡ 0
+  pub joins_end : (first spans joined : List Span) → possible_joins spans pairs ≡ []
       → ((rest : List Span) → JoinsFollow may next pairs spans rest → JoinsFollow may next pairs first (joined ++ rest))
       → JoinsFollow may next pairs first joined
-  joins_end first spans joined joins is none so_far =
-      let empty : possible_joins spans pairs ≡ [] = sym is ∙ emptied joins none in
-      rw append-nil at (so_far [] empty) where
-        emptied : (xs : List Span) → length xs ≡ 0 → xs ≡ []
-        emptied [] none = refl
-        emptied (x ∷ xs) none = absurd (omega arith)
+  joins_end first spans joined none so_far = rw append-nil at (so_far [] none)
 
   pub joins_go_on : (first spans joined joins : List Span) (pair : Span) → joins ≡ possible_joins spans pairs → IsPicked may (join_offer next) joins pair
       → ((rest : List Span) → JoinsFollow may next pairs spans rest → JoinsFollow may next pairs first (joined ++ rest))

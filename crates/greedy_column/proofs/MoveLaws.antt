@@ -28,6 +28,16 @@ carried_on tracks start kept moves line target is =
     ∙ sym (moved-append (map (move_ids tracks) moves) (move_ids tracks (line, target) ∷ []) start)
     ∙ ap (λ (l : List (ℕ × ℕ)). moved l start) (sym (map-append (move_ids tracks) moves ((line, target) ∷ [])))
 
+-- where a kept track goes on, as its net, its options and its others are found
+pub goes_on : (may : List Candidate → ℕ → Type 0) (next : ℕ → Next) (tracks kept : List Track) (spans : List Span) (free : List ℕ) (line net : ℕ) (ahead : Next)
+    (others options : List ℕ) (target : ℕ) → net ≡ net_on tracks line
+    → ahead ≡ next net → others ≡ without line (own_lines net kept) → options ≡ move_options spans net line free → GoesTo may ahead others line options target
+    → GoesTo may (next (net_on tracks line)) (others_of_net tracks kept line) line (move_options spans (net_on tracks line) line free) target
+goes_on may next tracks kept spans free line net ahead others options target of_net is beside offered goes =
+    subst (λ n. GoesTo may (next n) (without line (own_lines n kept)) line (move_options spans n line free) target) of_net
+    (subst (λ l. GoesTo may (next net) (without line (own_lines net kept)) line l target) offered
+    (subst (λ l. GoesTo may (next net) l line options target) beside (subst (λ n. GoesTo may n others line options target) is goes)))
+
 module _ (may : List Candidate → ℕ → Type 0) (next : ℕ → Next) (tracks start : List Track) where
   -- the moves end where no line is left, and go on with a line that stays or moves
   pub moves_done : (kept : List Track) (lines rest : List ℕ) (first spans : List Span) (all free : List ℕ) (moves : List (ℕ × ℕ)) → length rest ≡ 0
@@ -36,34 +46,20 @@ module _ (may : List Candidate → ℕ → Type 0) (next : ℕ → Next) (tracks
   moves_done kept lines [] first spans all free moves none so_far = rw append-nil at (so_far [] refl)
   moves_done kept lines (line ∷ rest) first spans all free moves none so_far = absurd (omega arith)
 
-  -- where a kept track goes on, as its net, its options and its others are found
-  goes_on : (kept : List Track) (spans : List Span) (free : List ℕ) (line net : ℕ) (ahead : Next) (others options : List ℕ) (target : ℕ) → net ≡ net_on tracks line
-      → ahead ≡ next net → others ≡ without line (own_lines net kept) → options ≡ move_options spans net line free → GoesTo may ahead others line options target
-      → GoesTo may (next (net_on tracks line)) (others_of_net tracks kept line) line (move_options spans (net_on tracks line) line free) target
-  goes_on kept spans free line net ahead others options target of_net is beside offered goes =
-      subst (λ n. GoesTo may (next n) (without line (own_lines n kept)) line (move_options spans n line free) target) of_net
-      (subst (λ l. GoesTo may (next net) (without line (own_lines net kept)) line l target) offered
-      (subst (λ l. GoesTo may (next net) l line options target) beside (subst (λ n. GoesTo may n others line options target) is goes)))
-
-  pub moves_stay : (kept : List Track) (lines rest : List ℕ) (first spans : List Span) (all free : List ℕ) (moves : List (ℕ × ℕ)) (line net : ℕ) (ahead : Next)
-      (others options : List ℕ) (target : ℕ) → net ≡ net_on tracks line → ahead ≡ next net → others ≡ without line (own_lines net kept)
-      → options ≡ move_options spans net line free → GoesTo may ahead others line options target → target ≡ line
+  pub moves_stay : (kept : List Track) (lines rest : List ℕ) (first spans : List Span) (all free : List ℕ) (moves : List (ℕ × ℕ)) (line target : ℕ)
+      → GoesTo may (next (net_on tracks line)) (others_of_net tracks kept line) line (move_options spans (net_on tracks line) line free) target → target ≡ line
       → ((later : List (ℕ × ℕ)) → MovesFollow may next tracks kept (line ∷ rest) spans free later → MovesFollow may next tracks start lines first all (moves ++ later))
       → (later : List (ℕ × ℕ)) → MovesFollow may next tracks kept rest spans free later → MovesFollow may next tracks start lines first all (moves ++ later)
-  moves_stay kept lines rest first spans all free moves line net ahead others options target of_net is beside offered goes same so_far later follow =
+  moves_stay kept lines rest first spans all free moves line target goes same so_far later follow =
       so_far later (inl (
-        goes_on kept spans free line net ahead others options line of_net is beside offered (subst (λ t. GoesTo may ahead others line options t) same goes),
+        subst (λ t. GoesTo may (next (net_on tracks line)) (others_of_net tracks kept line) line (move_options spans (net_on tracks line) line free) t) same goes,
         follow,
       ))
 
-  pub moves_go : (kept : List Track) (lines rest : List ℕ) (first spans : List Span) (all free : List ℕ) (moves : List (ℕ × ℕ)) (line net : ℕ) (ahead : Next)
-      (others options : List ℕ) (target : ℕ) → net ≡ net_on tracks line → ahead ≡ next net → others ≡ without line (own_lines net kept)
-      → options ≡ move_options spans net line free → GoesTo may ahead others line options target → target ≢ line
+  pub moves_go : (kept : List Track) (lines rest : List ℕ) (first spans : List Span) (all free : List ℕ) (moves : List (ℕ × ℕ)) (line target : ℕ)
+      → GoesTo may (next (net_on tracks line)) (others_of_net tracks kept line) line (move_options spans (net_on tracks line) line free) target → target ≢ line
       → ((later : List (ℕ × ℕ)) → MovesFollow may next tracks kept (line ∷ rest) spans free later → MovesFollow may next tracks start lines first all (moves ++ later))
       → (later : List (ℕ × ℕ)) → MovesFollow may next tracks (carried tracks kept line target) rest (spans ++ piece_between (net_on tracks line) line target ∷ [])
       (without target free) later → MovesFollow may next tracks start lines first all ((moves ++ (line, target) ∷ []) ++ later)
-  moves_go kept lines rest first spans all free moves line net ahead others options target of_net is beside offered goes other so_far later follow =
-      rw append_assoc (so_far ((line, target) ∷ later) (inr (
-        target,
-        (later, goes_on kept spans free line net ahead others options target of_net is beside offered goes, other, refl, follow),
-      )))
+  moves_go kept lines rest first spans all free moves line target goes other so_far later follow =
+      rw append_assoc (so_far ((line, target) ∷ later) (inr (target, (later, goes, other, refl, follow))))

@@ -5,11 +5,10 @@ use Rattle.std.proofs.lemmas.List.Sorted.{Contains-permutation, IsPermutation-sy
 use Rattle.std.specs.List.{list_any}
 use Rattle.std.specs.List.Sorted.{IsNonDecreasingBy, IsPermutation, IsStableByKey, ties}
 use Rattle.std.specs.Ordering.{is_lt, nat_cmp}
-use Rattle.choose_core.specs.declared.candidate.Next.{Next}
 use Rattle.greedy_column.specs.declared.column.Track.{Track}
 use Rattle.greedy_column.specs.declared.move_order.Waiting.{Waiting}
 use Rattle.greedy_column.specs.Lines.{held_lines, net_on}
-use Rattle.greedy_column.specs.Moving.{AreOrdered, IsOrderAhead, behind_on, is_split}
+use Rattle.greedy_column.specs.Moving.{AreOrdered, is_split}
 use Rattle.greedy_column.proofs.Members.{in_first, in_later, in_map_back}
 
 -- a filter of what a map gives
@@ -89,19 +88,13 @@ module _ (key : ℕ → ℕ) where
             (subst (λ (l : List Waiting). IsStableByKey (λ (w : Waiting). w.behind) nat_cmp found l) whole stable));
       }
 
--- the order that looks ahead, as it is found
-pub IsOrderAhead-from_parts : (next : ℕ → Next) (kept : List Track) (nets held split rest others order : List ℕ) → held ≡ held_lines kept
-    → ((line : ℕ) → Contains (held_lines kept) line → list_any (λ n. eqb n (net_on kept line)) nets ≡ is_split kept line)
-    → split ≡ filter (λ line. list_any (λ n. eqb n (net_on kept line)) nets) held
-    → rest ≡ filter (λ line. not (list_any (λ n. eqb n (net_on kept line)) nets)) held
-    → AreOrdered (behind_on next kept) rest others → order ≡ split ++ others → IsOrderAhead next kept order
-IsOrderAhead-from_parts next kept nets held split rest others order held_are tells split_are rest_are ordered told =
-    let among : ℕ → Bool = λ line. list_any (λ n. eqb n (net_on kept line)) nets in
-    record {
-      others = others;
-      split_first = told ∙ ap (λ l. l ++ others) (split_are ∙ ap (filter among) held_are ∙ filter_same among (is_split kept) (held_lines kept) tells);
-      farthest_first = subst (λ l. AreOrdered (behind_on next kept) l others)
-          (rest_are ∙ ap (filter (λ line. not (among line))) held_are
-          ∙ filter_same (λ line. not (among line)) (λ line. not (is_split kept line)) (held_lines kept) (λ line member. ap not (tells line member)))
-          ordered;
-    }
+-- the lines of split nets, and the others, as they are found
+module _ (kept : List Track) (nets : List ℕ)
+    (tells : (line : ℕ) → Contains (held_lines kept) line → list_any (λ n. eqb n (net_on kept line)) nets ≡ is_split kept line) where
+  pub split_found : filter (λ line. list_any (λ n. eqb n (net_on kept line)) nets) (held_lines kept) ≡ filter (is_split kept) (held_lines kept)
+  split_found = filter_same (λ line. list_any (λ n. eqb n (net_on kept line)) nets) (is_split kept) (held_lines kept) tells
+
+  pub others_found : filter (λ line. not (list_any (λ n. eqb n (net_on kept line)) nets)) (held_lines kept)
+      ≡ filter (λ line. not (is_split kept line)) (held_lines kept)
+  others_found = filter_same (λ line. not (list_any (λ n. eqb n (net_on kept line)) nets)) (λ line. not (is_split kept line)) (held_lines kept)
+      (λ line member. ap not (tells line member))

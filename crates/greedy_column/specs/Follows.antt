@@ -40,6 +40,28 @@ pub record AreEnded (tracks : List Track) (ending ended : List ℕ) : Type 0 whe
   pub ascending : IsStrictlyIncreasing ended
   pub members : (id : ℕ) → Contains ended id ↔ Contains (map (id_on tracks) ending) id
 
+-- Step 2, over these verticals, which are `drawn` after it: the joins are told by ids, and are found by lines.
+pub record AreJoinsTold (may : List Candidate → ℕ → Type 0) (next : ℕ → Next) (now : List Track) (spans drawn : List Span) (joins : List (ℕ × ℕ)) : Type 0 where
+  pub joined : List Span
+  pub follow : JoinsFollow may next (neighbours now) spans joined
+  pub grown : drawn ≡ spans ++ joined
+  pub told : joins ≡ map (ids_of now) joined
+
+-- Step 3, over these verticals
+pub record AreEndsTold (may : List Candidate → ℕ → Type 0) (next : ℕ → Next) (now : List Track) (drawn : List Span) (ended : List ℕ) : Type 0 where
+  pub ending : List ℕ
+  pub follow : EndsFollow may next now drawn (groups (joined_pairs drawn (neighbours now)) (held_lines now)) ending
+  pub told : AreEnded now ending ended
+
+-- Step 4, over the tracks that are kept and these verticals
+pub record AreMovesTold (manner : Manner) (may : List Candidate → ℕ → Type 0) (next : ℕ → Next) (now kept : List Track) (drawn : List Span)
+    (moves : List (ℕ × ℕ)) : Type 0 where
+  pub order : List ℕ
+  pub moving : List (ℕ × ℕ)
+  pub ordered : IsOrderOfMoves manner next kept order
+  pub follow : MovesFollow may next now kept order drawn (free_lines now) moving
+  pub told : moves ≡ map (move_ids now) moving
+
 -- Steps 2 to 4, over the tracks that the pins have entered and the verticals of these. The joins, ends and moves are told by
 -- ids, and are found by lines.
 pub record FollowsOn (manner : Manner) (may : List Candidate → ℕ → Type 0) (next : ℕ → Next) (now : List Track) (spans : List Span)

@@ -57,6 +57,11 @@ is_clear spans piece = list_all (passes piece) spans
 abbrev pub possible_joins : List Span → List Span → List Span
 possible_joins spans pairs = filter (λ pair. not (is_joined spans pair) && is_clear spans pair) pairs
 
+-- the next of some joins: none where there is none, else one that is picked
+abbrev pub IsNextJoin : (List Candidate → ℕ → Type 0) → (ℕ → Next) → List Span → Option Span → Type 0
+IsNextJoin may next joins None = joins ≡ []
+IsNextJoin may next joins (Some pair) = IsPicked may (join_offer next) joins pair
+
 -- Step 2: while a join is possible, one is picked, and becomes a vertical.
 abbrev pub JoinsFollow : (List Candidate → ℕ → Type 0) → (ℕ → Next) → List Span → List Span → List Span → Type 0
 JoinsFollow may next pairs spans [] = possible_joins spans pairs ≡ []

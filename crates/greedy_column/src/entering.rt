@@ -3,10 +3,10 @@ ghost use Rattle.greedy_column.specs.Lines.{holds_track, open_lines, own_lines};
 ghost use Rattle.std.specs.Prelude.{◌≡◌, ◌<◌, ◌+◌, ◌^◌, ◌||◌, IfOk, length};
 
 use crate::column::{Made, Track};
-use crate::lines::{holds_track, id_on, open_lines, own_lines};
+use crate::lines::{holds_track, id_on, open_lines};
 use crate::pairing::enter_pair;
 use crate::places::any_place;
-use crate::question::{Question, pick_line};
+use crate::question::{Question, pick_own};
 use choose_core::{Ask, Chooses, Manner, Next};
 use geom_core::Items;
 use std::alloc::{AllocError, Global};
@@ -203,8 +203,7 @@ fn enter_alone<C: Chooses>(
         let made = vec![in alloc; Made { id: fresh, below }]?;
         return Ok(entry_at(edge, made, fresh));
     }
-    let own = own_lines(alloc, before, pin.net)?;
-    let line = pick_line(alloc, chooser, question, &own, &lines)?;
+    let line = pick_own(alloc, chooser, question, before, pin.net, &lines)?;
     Ok(entry_at(edge, Vec::new(alloc), id_on(before, line)))
 }
 

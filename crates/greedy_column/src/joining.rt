@@ -1,5 +1,5 @@
 ghost use Rattle.greedy_column.specs.Uses.{next_after};
-ghost use Rattle.greedy_column.specs.Joining.{JoinsFollow, StandAbove, ids_of, neighbours, pair_of, possible_joins};
+ghost use Rattle.greedy_column.specs.Joining.{IsNextJoin, JoinsFollow, StandAbove, ids_of, neighbours, pair_of, possible_joins};
 ghost use Rattle.greedy_column.specs.Offers.{IsPicked, join_offer};
 ghost use Rattle.std.specs.BTreeMap.{get};
 ghost use Rattle.std.specs.Ordering.{nat_cmp};
@@ -125,6 +125,28 @@ fn join_offers(
     Ok(offers)
 }
 
+// The next join, where one is possible.
+fn next_join<C: Chooses>(
+    alloc: Global,
+    chooser: &C,
+    ahead: &Ahead,
+    column: u32,
+    pairs: &[Span],
+    spans: &[Span],
+) -> Result<Option<Span>, AllocError>
+    requires few { length pairs.now < 2 ^ 32 }
+    requires above { StandAbove pairs.now }
+    ensures { IfOk result (λ join.
+        IsNextJoin (C.answers chooser.now) (next_after ahead.now.uses.items column) (possible_joins spans.now pairs.now) join) }
+{
+    let joins = possible_joins(alloc, spans, pairs)?;
+    if joins.is_empty() {
+        return Ok(None);
+    }
+    let pair = pick_join(alloc, chooser, ahead, column, &joins)?;
+    Ok(Some(pair))
+}
+
 // The joins of a column, in their order: while one is possible, one is picked, and becomes a vertical.
 pub fn join_all<C: Chooses>(
     alloc: Global,
@@ -142,11 +164,9 @@ pub fn join_all<C: Chooses>(
 {
     let mut joined = Vec::new(alloc);
     loop {
-        let joins = possible_joins(alloc, spans, pairs)?;
-        if joins.is_empty() {
+        let Some(pair) = next_join(alloc, chooser, ahead, column, pairs, spans)? else {
             return Ok(joined);
-        }
-        let pair = pick_join(alloc, chooser, ahead, column, &joins)?;
+        };
         spans.push(pair)?;
         joined.push(pair)?;
     }

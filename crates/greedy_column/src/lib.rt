@@ -7,6 +7,7 @@ mod ending;
 mod entering;
 mod freeing;
 mod going_on;
+mod grouping;
 mod joining;
 mod lines;
 mod move_order;

@@ -56,13 +56,22 @@ fn order_ahead(
     requires few { length kept.now + 1 < 2 ^ 32 }
     ensures { IfOk result (λ lines. IsOrderAhead (next_after ahead.now.uses.items column) kept.now lines.items) }
 {
-    let nets = split_nets(alloc, kept)?;
-    let held = held_lines(alloc, kept)?;
-    let parted = part(alloc, kept, &nets, &held)?;
+    let parted = parted_lines(alloc, kept)?;
     let others = farthest_first(alloc, ahead, column, kept, &parted.others)?;
     let mut lines = parted.split;
     lines.extend_from_slice(&others)?;
     Ok(lines)
+}
+
+// The lines that nets hold, parted by whether these are split.
+fn parted_lines(alloc: Global, kept: &[Track]) -> Result<Parted, AllocError>
+    requires { length kept.now + 1 < 2 ^ 32 }
+    ensures split { IfOk result (λ parted. parted.split.items ≡ filter (is_split kept.now) (held_lines kept.now)) }
+    ensures others { IfOk result (λ parted. parted.others.items ≡ filter (λ line. not (is_split kept.now line)) (held_lines kept.now)) }
+{
+    let nets = split_nets(alloc, kept)?;
+    let held = held_lines(alloc, kept)?;
+    part(alloc, kept, &nets, &held)
 }
 
 // The nets that hold more than one track, in ascending order.

@@ -1,10 +1,10 @@
 ghost use Rattle.greedy_column.specs.Uses.{next_after};
-ghost use Rattle.greedy_column.specs.Lines.{AreLines, own_lines};
+ghost use Rattle.greedy_column.specs.Lines.{AreLines, net_on, own_lines};
 ghost use Rattle.greedy_column.specs.Replay.{moved};
 ghost use Rattle.greedy_column.specs.Tracks.{held_by};
-ghost use Rattle.greedy_column.specs.Moving.{GoesTo, MovesFollow, move_ids, move_options, piece_between, without};
+ghost use Rattle.greedy_column.specs.Moving.{GoesTo, MovesFollow, carried, move_ids, move_options, others_of_net, piece_between, without};
 ghost use Rattle.greedy_column.specs.Offers.{move_question};
-ghost use Rattle.std.specs.Prelude.{◌≡◌, ◌<◌, ◌+◌, ◌^◌, IfOk, length, map};
+ghost use Rattle.std.specs.Prelude.{◌≡◌, ◌<◌, ◌+◌, ◌++◌, ◌∷◌, ◌^◌, [], IfOk, OnOk, length, map};
 
 use crate::ahead::Ahead;
 use crate::column::Track;
@@ -70,9 +70,17 @@ fn target_of<C: Chooses>(
         return Ok(line);
     }
     let others = other_lines(alloc, kept, net, line)?;
-    let mut lines = vec![in alloc; line]?;
-    lines.extend_from_slice(options)?;
+    let lines = with_own(alloc, line, options)?;
     pick_line(alloc, chooser, move_question(line, next), &others, &lines)
+}
+
+// A line, and then others.
+fn with_own(alloc: Global, line: u32, others: &[u32]) -> Result<Vec<u32>, AllocError>
+    ensures { IfOk result (λ lines. lines.items ≡ line ∷ others.now) }
+{
+    let mut lines = vec![in alloc; line]?;
+    lines.extend_from_slice(others)?;
+    Ok(lines)
 }
 
 // The other lines on which a net holds tracks.
@@ -99,6 +107,29 @@ fn without(alloc: Global, line: u32, lines: &[u32]) -> Result<Vec<u32>, AllocErr
         .collect(alloc)
 }
 
+// The line on which the kept track of a line goes on.
+fn line_after<C: Chooses>(
+    alloc: Global,
+    chooser: &C,
+    ahead: &Ahead,
+    column: u32,
+    tracks: &[Track],
+    kept: &[Track],
+    spans: &[Span],
+    free: &[u32],
+    line: u32,
+) -> Result<u32, AllocError>
+    requires few { length kept.now + 1 < 2 ^ 32 }
+    requires free { length free.now + 1 < 2 ^ 32 }
+    ensures { IfOk result (λ target. GoesTo (C.answers chooser.now) (next_after ahead.now.uses.items column (net_on tracks.now line))
+        (others_of_net tracks.now kept.now line) line (move_options spans.now (net_on tracks.now line) line free.now) target) }
+{
+    let net = net_on(tracks, line);
+    let next = ahead.next(net, column);
+    let options = move_options(alloc, spans, net, line, free)?;
+    target_of(alloc, chooser, next, net, kept, line, &options)
+}
+
 // The moves of a column, as lines, in their order, by which the kept tracks are carried along.
 pub fn move_all<C: Chooses>(
     alloc: Global,
@@ -122,19 +153,36 @@ pub fn move_all<C: Chooses>(
     let mut rest = lines;
     while let Some((line, later)) = rest.split_first() {
         rest = later;
-        let net = net_on(tracks, *line);
-        let next = ahead.next(net, column);
-        let options = move_options(alloc, spans, net, *line, &free)?;
-        let target = target_of(alloc, chooser, next, net, kept, *line, &options)?;
+        let target = line_after(
+            alloc, chooser, ahead, column, tracks, kept, spans, &free, *line,
+        )?;
         if target == *line {
             continue;
         }
-        spans.push(piece_between(net, *line, target))?;
-        free = without(alloc, target, &free)?;
+        go_to(alloc, tracks, *line, target, spans, &mut free, kept)?;
         moves.push((*line, target))?;
-        carry(kept, &[(id_on(tracks, *line), id_on(tracks, target))]);
     }
     Ok(moves)
+}
+
+// One move between lines: it becomes a vertical, its line is free no more, and the kept tracks are carried along.
+fn go_to(
+    alloc: Global,
+    tracks: &[Track],
+    line: u32,
+    target: u32,
+    spans: &mut Vec<Span>,
+    free: &mut Vec<u32>,
+    kept: &mut [Track],
+) -> Result<(), AllocError>
+    ensures spans { OnOk result (spans.new.items ≡ spans.old.items ++ piece_between (net_on tracks.now line) line target ∷ []) }
+    ensures free { OnOk result (free.new.items ≡ without target free.old.items) }
+    ensures kept { OnOk result (kept.new ≡ carried tracks.now kept.old line target) }
+{
+    spans.push(piece_between(net_on(tracks, line), line, target))?;
+    *free = without(alloc, target, free)?;
+    carry(kept, &[(id_on(tracks, line), id_on(tracks, target))]);
+    Ok(())
 }
 
 // The ids of the moves' lines.

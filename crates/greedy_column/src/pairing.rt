@@ -4,9 +4,9 @@ ghost use Rattle.std.specs.Prelude.{◌≡◌, ◌<◌, ◌+◌, ◌^◌, ℕ, C
 
 use crate::column::{Made, Track};
 use crate::entering::{Edge, Entries, Newcomer, Pin};
-use crate::lines::{above_lowest, below_line, holds_track, id_on, own_lines};
+use crate::lines::{above_lowest, below_line, holds_track, id_on};
 use crate::places::{any_place, place_for, place_of_new};
-use crate::question::pick_line;
+use crate::question::pick_own;
 use choose_core::{Chooses, Manner};
 use geom_core::Items;
 use std::alloc::{AllocError, Global};
@@ -90,18 +90,11 @@ fn enter_partners<C: Chooses>(
     requires partners { (line : ℕ) → Contains partnered.now line → 0 < length (below_line line lowers.now) }
     ensures { IfOk result (λ entries. EntersPartners (C.answers chooser.now) top bottom before.now lowers.now partnered.now entries) }
 {
-    let top_own = own_lines(alloc, before, top.net)?;
     let question = top.top_question(before.len());
-    let line = pick_line(alloc, chooser, question, &top_own, partnered)?;
+    let line = pick_own(alloc, chooser, question, before, top.net, partnered)?;
     let partners = below_line(alloc, line, lowers)?;
-    let bottom_own = own_lines(alloc, before, bottom.net)?;
-    let below = pick_line(
-        alloc,
-        chooser,
-        bottom.bottom_question(),
-        &bottom_own,
-        &partners,
-    )?;
+    let question = bottom.bottom_question();
+    let below = pick_own(alloc, chooser, question, before, bottom.net, &partners)?;
     Ok(Entries {
         made: Items::new(Vec::new(alloc)),
         top: id_on(before, line),
@@ -125,8 +118,8 @@ fn enter_above<C: Chooses>(
     requires within { LieWithin (length before.now) lowers.now }
     ensures { IfOk result (λ entries. EntersAbove manner (C.answers chooser.now) top bottom before.now fresh lowers.now entries) }
 {
-    let own = own_lines(alloc, before, bottom.net)?;
-    let line = pick_line(alloc, chooser, bottom.bottom_question(), &own, lowers)?;
+    let question = bottom.bottom_question();
+    let line = pick_own(alloc, chooser, question, before, bottom.net, lowers)?;
     let most = before.len() as u32;
     let below = place_for(manner, top, Edge::Upper, before, line, most);
     let made = vec![in alloc; Made { id: fresh, below }]?;
@@ -153,9 +146,8 @@ fn enter_below<C: Chooses>(
     requires within { LieWithin (length before.now) uppers.now }
     ensures { IfOk result (λ entries. EntersBelow manner (C.answers chooser.now) top bottom before.now fresh uppers.now entries) }
 {
-    let own = own_lines(alloc, before, top.net)?;
     let question = top.top_question(before.len());
-    let line = pick_line(alloc, chooser, question, &own, uppers)?;
+    let line = pick_own(alloc, chooser, question, before, top.net, uppers)?;
     let below = place_for(manner, bottom, Edge::Lower, before, 0, line - 1);
     let made = vec![in alloc; Made { id: fresh, below }]?;
     Ok(Entries {

@@ -1,7 +1,9 @@
-ghost use Rattle.greedy_column.specs.Lines.{AreLines};
+ghost use Rattle.greedy_column.specs.Lines.{AreLines, own_lines};
 ghost use Rattle.greedy_column.specs.Offers.{IsPicked, distance, gap_to, least_distance, offer, pull_to};
-ghost use Rattle.std.specs.Prelude.{◌≡◌, ◌<◌, ◌≤◌, ◌^◌, Contains, IfOk, length, map};
+ghost use Rattle.std.specs.Prelude.{◌≡◌, ◌<◌, ◌≤◌, ◌+◌, ◌^◌, Contains, IfOk, length, map};
 
+use crate::column::Track;
+use crate::lines::own_lines;
 use choose_core::{Ask, Candidate, Chooses, Next};
 use std::alloc::{AllocError, Global};
 
@@ -81,6 +83,25 @@ pub fn pick_line<C: Chooses>(
 {
     let offers = offers(alloc, question, others, lines)?;
     Ok(lines[chooser.choose(&offers)])
+}
+
+// One of these lines of a net, beside the tracks that it holds, picked by the chooser.
+pub fn pick_own<C: Chooses>(
+    alloc: Global,
+    chooser: &C,
+    question: Question,
+    tracks: &[Track],
+    net: u32,
+    lines: &[u32],
+) -> Result<u32, AllocError>
+    requires tracks { length tracks.now + 1 < 2 ^ 32 }
+    requires some { 0 < length lines.now }
+    requires few { length lines.now < 2 ^ 32 }
+    ensures picked { IfOk result (λ line. IsPicked (C.answers chooser.now) (offer question (own_lines net tracks.now)) lines.now line) }
+    ensures member { IfOk result (λ line. Contains lines.now line) }
+{
+    let own = own_lines(alloc, tracks, net)?;
+    pick_line(alloc, chooser, question, &own, lines)
 }
 
 // Some tracks as they are offered.

@@ -119,7 +119,37 @@ fn column_of<C: Chooses>(
     let top_pin = pin_of(ahead, column, top);
     let bottom_pin = pin_of(ahead, column, bottom);
     let entries = enter(alloc, chooser, manner, before, fresh, top_pin, bottom_pin)?;
-    let now = entered(alloc, before, &entries, top, bottom)?;
+    let outcome = outcome_of(
+        alloc, chooser, ahead, column, manner, before, &entries, straight, top, bottom,
+    )?;
+    Ok(taken_from(entries, straight, outcome))
+}
+
+// What steps 2 to 4 do, over the tracks that the pins of these nets have entered.
+fn outcome_of<C: Chooses>(
+    alloc: Global,
+    chooser: &C,
+    ahead: &Ahead,
+    column: u32,
+    manner: Manner,
+    before: &[Track],
+    entries: &Entries,
+    straight: bool,
+    top: u32,
+    bottom: u32,
+) -> Result<Outcome, AllocError>
+    requires few { length before.now + 4 < 2 ^ 32 }
+    requires placed { (fresh : ℕ) × AreMadeFrom fresh (length before.now) entries.now.made }
+    requires made { length entries.now.made ≤ 2 }
+    ensures follows { IfOk result (λ outcome.
+        let now = with_nets top entries.now.top bottom entries.now.bottom (with_made before.now entries.now.made) in
+        FollowsOn manner (C.answers chooser.now) (next_after ahead.now.uses.items column) now
+        (map (span_in (ids now)) (verticals_of_pins straight top bottom entries.now.top entries.now.bottom))
+        outcome.joins outcome.ended outcome.moves) }
+    ensures tracks { IfOk result (λ outcome. outcome.tracks ≡ moved outcome.moves (freed outcome.ended
+        (with_nets top entries.now.top bottom entries.now.bottom (with_made before.now entries.now.made)))) }
+{
+    let now = entered(alloc, before, entries, top, bottom)?;
     let spans = pin_spans(
         alloc,
         &now,
@@ -129,8 +159,7 @@ fn column_of<C: Chooses>(
         entries.top,
         entries.bottom,
     )?;
-    let outcome = go_on(alloc, chooser, ahead, column, manner, &now, spans)?;
-    Ok(taken_from(entries, straight, outcome))
+    go_on(alloc, chooser, ahead, column, manner, &now, spans)
 }
 
 // A column's record and the tracks after it, from what its steps do.

@@ -1,6 +1,6 @@
 use Rattle.std.proofs.Common.{◌≡◌, ◌++◌, length}
 use Rattle.greedy_column.specs.Ending.{chain_from}
-use Rattle.greedy_column.proofs.ending.chain.Given as goal
+use Rattle.greedy_column.proofs.grouping.chain.Given as goal
 
 abbrev pub invariant-loop-pair : goal.invariant-loop-pair
 invariant-loop-pair l = l.group.items ++ chain_from l.rest l.line ≡ chain_from l.joined l.first

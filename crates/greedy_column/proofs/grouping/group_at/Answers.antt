@@ -1,6 +1,6 @@
 use Rattle.std.proofs.Common.{sym, ◌∙◌}
 use Rattle.greedy_column.proofs.PairLaws.{chain_from-alone}
-use Rattle.greedy_column.proofs.ending.group_at.Goals as goal
+use Rattle.greedy_column.proofs.grouping.group_at.Goals as goal
 
 pub returns : goal.returns
 returns c =

@@ -3,7 +3,7 @@ use Rattle.std.specs.List.{list_any}
 use Rattle.greedy_column.specs.declared.span.Span.{Span}
 use Rattle.greedy_column.specs.Joining.{is_joined}
 use Rattle.greedy_column.proofs.SortedLaws.{any_map, any_filter}
-use Rattle.greedy_column.proofs.ending.split_nets.Goals as goal
+use Rattle.greedy_column.proofs.grouping.split_nets.Goals as goal
 
 pub returns-clause-nets : goal.returns-clause-nets
 returns-clause-nets c = λ net.

@@ -2,7 +2,7 @@ use Rattle.std.proofs.Common.{◌≡◌, ◌∙◌, ap, rules, List, ℕ, map, e
 use Rattle.std.specs.List.{list_any}
 use Rattle.greedy_column.specs.declared.span.Span.{Span}
 use Rattle.greedy_column.proofs.SortedLaws.{any_map}
-use Rattle.greedy_column.proofs.ending.lower_lines.Goals as goal
+use Rattle.greedy_column.proofs.grouping.lower_lines.Goals as goal
 
 pub returns-clause-lines : goal.returns-clause-lines
 returns-clause-lines c = λ line.
