@@ -12,4 +12,5 @@ pub mod InRows
 pub mod Keys
 pub mod Document
 pub mod StatedView
+pub mod Sections
 pub mod RulesOf

@@ -2,67 +2,49 @@ use Rattle.std.specs.Prelude.{◌≡◌, ◌⊎◌, ℕ, ◌+◌, ◌%◌, List,
 use Rattle.std.specs.Str.{bytes_eq}
 use Rattle.geom_core.specs.LayerText.{is_layer_text}
 use Rattle.toml.specs.Data.{Members}
-use Rattle.tech_rules.specs.Document.{document_of, number_of, start_of, text_of}
+use Rattle.tech_rules.specs.Document.{document_of, number_of, text_of}
 use Rattle.tech_rules.specs.Rules.{RuleValues, pad, is_yal_word}
+use Rattle.tech_rules.specs.Sections.{and_then, annealing_in, cut_in, grid_in, wires_in}
 use Rattle.tech_rules.specs.declared.fault.RulesFault.{RulesFault}
 use Rattle.tech_rules.specs.declared.fault.RulesFault.TheVariants.{Toml, Tight, Memory}
-use Rattle.tech_rules.specs.declared.key.Key.TheVariants.{Version, Yal, GridColumn, GridTrack, GridCenti, GridPin, HorizontalLayer, HorizontalWidth, HorizontalSpace, VerticalLayer, VerticalWidth, VerticalSpace, CutLayer, CutSize, CutEnclose, CutSpace, OutlineLayer, AnnealTemperature, AnnealStages, AnnealMoves, AnnealRowCost, AnnealLengthCost}
-
-abbrev pub and_then : {A B : Type 0} → Result A RulesFault → (A → Result B RulesFault) → Result B RulesFault
-and_then (Ok a) next = next a
-and_then (Err fault) next = Err fault
+use Rattle.tech_rules.specs.declared.key.Key.TheVariants.{Version, Yal, HorizontalLayer, HorizontalWidth, HorizontalSpace, VerticalLayer, VerticalWidth, VerticalSpace, OutlineLayer}
 
 -- the values that a document states, each in its range, or the fault of the first key that has one
 abbrev pub values_in : Members → Result RuleValues RulesFault
 values_in document =
     and_then (number_of document Version 1 1) (λ version.
     and_then (text_of document Yal is_yal_word) (λ yal.
-    and_then (number_of document GridColumn 2 1000) (λ grid_column.
-    and_then (number_of document GridTrack 2 1000) (λ grid_track.
-    and_then (number_of document GridCenti 4 1000) (λ grid_centi.
-    and_then (number_of document GridPin 1 1000) (λ grid_pin.
-    and_then (text_of document HorizontalLayer is_layer_text) (λ horizontal_layer.
-    and_then (number_of document HorizontalWidth 1 1000) (λ horizontal_width.
-    and_then (number_of document HorizontalSpace 1 1000) (λ horizontal_space.
-    and_then (text_of document VerticalLayer is_layer_text) (λ vertical_layer.
-    and_then (number_of document VerticalWidth 1 1000) (λ vertical_width.
-    and_then (number_of document VerticalSpace 1 1000) (λ vertical_space.
-    and_then (text_of document CutLayer is_layer_text) (λ cut_layer.
-    and_then (number_of document CutSize 1 1000) (λ cut_size.
-    and_then (number_of document CutEnclose 0 1000) (λ cut_enclose.
-    and_then (number_of document CutSpace 1 1000) (λ cut_space.
+    and_then (grid_in document) (λ grid.
+    and_then (wires_in document HorizontalLayer HorizontalWidth HorizontalSpace) (λ horizontal.
+    and_then (wires_in document VerticalLayer VerticalWidth VerticalSpace) (λ vertical.
+    and_then (cut_in document) (λ cut.
     and_then (text_of document OutlineLayer is_layer_text) (λ outline_layer.
-    and_then (number_of document AnnealTemperature 1 1000000000) (λ anneal_temperature.
-    and_then (number_of document AnnealStages 0 1000) (λ anneal_stages.
-    and_then (number_of document AnnealMoves 0 1000) (λ anneal_moves.
-    and_then (number_of document AnnealRowCost 0 1000) (λ anneal_row_cost.
-    and_then (number_of document AnnealLengthCost 0 1000) (λ anneal_length_cost.
-    and_then (start_of document) (λ anneal_start.
+    and_then (annealing_in document) (λ annealing.
     Ok (record {
       version = version;
       yal = yal;
-      grid_column = grid_column;
-      grid_track = grid_track;
-      grid_centi = grid_centi;
-      grid_pin = grid_pin;
-      horizontal_layer = horizontal_layer;
-      horizontal_width = horizontal_width;
-      horizontal_space = horizontal_space;
-      vertical_layer = vertical_layer;
-      vertical_width = vertical_width;
-      vertical_space = vertical_space;
-      cut_layer = cut_layer;
-      cut_size = cut_size;
-      cut_enclose = cut_enclose;
-      cut_space = cut_space;
+      grid_column = grid.column;
+      grid_track = grid.track;
+      grid_centi = grid.centi;
+      grid_pin = grid.pin;
+      horizontal_layer = horizontal.layer;
+      horizontal_width = horizontal.width;
+      horizontal_space = horizontal.space;
+      vertical_layer = vertical.layer;
+      vertical_width = vertical.width;
+      vertical_space = vertical.space;
+      cut_layer = cut.layer;
+      cut_size = cut.size;
+      cut_enclose = cut.enclose;
+      cut_space = cut.space;
       outline_layer = outline_layer;
-      anneal_temperature = anneal_temperature;
-      anneal_stages = anneal_stages;
-      anneal_moves = anneal_moves;
-      anneal_row_cost = anneal_row_cost;
-      anneal_length_cost = anneal_length_cost;
-      anneal_start = anneal_start;
-    }))))))))))))))))))))))))
+      anneal_temperature = annealing.temperature;
+      anneal_stages = annealing.stages;
+      anneal_moves = annealing.moves;
+      anneal_row_cost = annealing.row_cost;
+      anneal_length_cost = annealing.length_cost;
+      anneal_start = annealing.start;
+    })))))))))
 
 -- whether the four layers have different names
 abbrev pub are_different : RuleValues → Bool

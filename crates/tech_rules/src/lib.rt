@@ -6,6 +6,7 @@ mod fault;
 mod key;
 mod reading;
 mod rules;
+mod sections;
 mod stated;
 
 pub use fault::RulesFault;

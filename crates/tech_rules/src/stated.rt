@@ -5,7 +5,8 @@ ghost use Rattle.tech_rules.specs.Rules.{AreDifferent, ValidRules};
 ghost use Rattle.tech_rules.specs.RulesOf.{are_different, broken_rule, values_in};
 ghost use Rattle.toml.specs.View.{table_view};
 
-use crate::document::{layer, number, start_by, word};
+use crate::document::{layer, number, word};
+use crate::sections::{annealing_in, cut_in, grid_in, wires_in};
 use crate::{Key, Rules, RulesFault, StartBy};
 use geom_core::{LayerName, Name};
 use std::alloc::{AllocError, Global};
@@ -56,30 +57,48 @@ impl<'t> Model for Stated<'t> {
 pub fn values_in(table: &Table) -> Result<Stated, RulesFault>
     ensures { result ≡ values_in (table_view table.now) }
 {
+    let version = number(table, Key::Version, 1, 1)?;
+    let yal = word(table, Key::Yal)?;
+    let grid = grid_in(table)?;
+    let horizontal = wires_in(
+        table,
+        Key::HorizontalLayer,
+        Key::HorizontalWidth,
+        Key::HorizontalSpace,
+    )?;
+    let vertical = wires_in(
+        table,
+        Key::VerticalLayer,
+        Key::VerticalWidth,
+        Key::VerticalSpace,
+    )?;
+    let cut = cut_in(table)?;
+    let outline_layer = layer(table, Key::OutlineLayer)?;
+    let annealing = annealing_in(table)?;
     Ok(Stated {
-        version: number(table, Key::Version, 1, 1)?,
-        yal: word(table, Key::Yal)?,
-        grid_column: number(table, Key::GridColumn, 2, 1000)?,
-        grid_track: number(table, Key::GridTrack, 2, 1000)?,
-        grid_centi: number(table, Key::GridCenti, 4, 1000)?,
-        grid_pin: number(table, Key::GridPin, 1, 1000)?,
-        horizontal_layer: layer(table, Key::HorizontalLayer)?,
-        horizontal_width: number(table, Key::HorizontalWidth, 1, 1000)?,
-        horizontal_space: number(table, Key::HorizontalSpace, 1, 1000)?,
-        vertical_layer: layer(table, Key::VerticalLayer)?,
-        vertical_width: number(table, Key::VerticalWidth, 1, 1000)?,
-        vertical_space: number(table, Key::VerticalSpace, 1, 1000)?,
-        cut_layer: layer(table, Key::CutLayer)?,
-        cut_size: number(table, Key::CutSize, 1, 1000)?,
-        cut_enclose: number(table, Key::CutEnclose, 0, 1000)?,
-        cut_space: number(table, Key::CutSpace, 1, 1000)?,
-        outline_layer: layer(table, Key::OutlineLayer)?,
-        anneal_temperature: number(table, Key::AnnealTemperature, 1, 1000000000)?,
-        anneal_stages: number(table, Key::AnnealStages, 0, 1000)?,
-        anneal_moves: number(table, Key::AnnealMoves, 0, 1000)?,
-        anneal_row_cost: number(table, Key::AnnealRowCost, 0, 1000)?,
-        anneal_length_cost: number(table, Key::AnnealLengthCost, 0, 1000)?,
-        anneal_start: start_by(table)?,
+        version,
+        yal,
+        grid_column: grid.column,
+        grid_track: grid.track,
+        grid_centi: grid.centi,
+        grid_pin: grid.pin,
+        horizontal_layer: horizontal.layer,
+        horizontal_width: horizontal.width,
+        horizontal_space: horizontal.space,
+        vertical_layer: vertical.layer,
+        vertical_width: vertical.width,
+        vertical_space: vertical.space,
+        cut_layer: cut.layer,
+        cut_size: cut.size,
+        cut_enclose: cut.enclose,
+        cut_space: cut.space,
+        outline_layer,
+        anneal_temperature: annealing.temperature,
+        anneal_stages: annealing.stages,
+        anneal_moves: annealing.moves,
+        anneal_row_cost: annealing.row_cost,
+        anneal_length_cost: annealing.length_cost,
+        anneal_start: annealing.start,
     })
 }
 
