@@ -1,12 +1,14 @@
-ghost use Rattle.netlist_core.specs.Answers.{Agrees};
+ghost use Rattle.netlist_core.specs.Answers.{unless, Agrees};
+ghost use Rattle.netlist_core.specs.Calls.{calls_fault, over};
 ghost use Rattle.netlist_core.specs.Checked.{IsChecked};
-ghost use Rattle.netlist_core.specs.OnGrid.{calls_design, on_grid, used_design};
+ghost use Rattle.netlist_core.specs.OnGrid.{calls_design, on_grid, used_design, used_modules};
 ghost use Rattle.design_model.specs.Room.{HasRoom};
 ghost use Rattle.design_model.specs.SameNet.{SameNet};
 ghost use Rattle.netlist_core.specs.SignalWords.{parent_calls, word_of};
-ghost use Rattle.netlist_core.specs.Signals.{nets_of, pin_in};
+ghost use Rattle.netlist_core.specs.Signals.{all_signals, nets_of, pin_in};
+ghost use Rattle.netlist_core.specs.declared.fault.Count.TheVariants.{Pins};
 ghost use Rattle.std.specs.List.{AllByRecursion, IsDistinct};
-ghost use Rattle.std.specs.Prelude.{◌≡◌, ◌<◌, ◌≤◌, ◌+◌, ◌-◌, ◌*◌, ◌^◌, length, map, IfOk};
+ghost use Rattle.std.specs.Prelude.{◌≡◌, ◌<◌, ◌≤◌, ◌+◌, ◌-◌, ◌*◌, ◌^◌, length, map, IfOk, None};
 ghost use Rattle.std.specs.Str.{bytes_eq};
 ghost use Rattle.yal_reader.specs.Kept.{call_names, module_names, HasAtMost, IsKept, IsKeptCall, IsKeptModule, IsShort};
 
@@ -73,7 +75,30 @@ fn calls_design(
         Some(fault) => return Err(fault),
         None => {}
     }
-    let signals = signals_of(alloc, &library, calls)?;
+    called_design(alloc, rules, &library, modules, calls)
+}
+
+// The design of these calls, each of which fits its module; the library of the modules is given.
+fn called_design(
+    alloc: Global,
+    rules: &Rules,
+    library: &Library,
+    modules: &[Module],
+    calls: &[Call],
+) -> Result<Design, DesignFault>
+    requires library { library.now ≡ modules.now }
+    requires fits { calls_fault modules.now calls.now ≡ None }
+    requires few_calls { length calls.now ≤ 20000 }
+    requires kept { AllByRecursion IsKeptModule modules.now }
+    requires short { AllByRecursion (IsShort (2 ^ 32 - 1)) modules.now }
+    requires few { length modules.now ≤ 2 ^ 32 - 1 }
+    requires modules { IsDistinct bytes_eq (module_names modules.now) }
+    requires names { AllByRecursion IsKeptCall calls.now }
+    requires calls { IsDistinct bytes_eq (call_names calls.now) }
+    ensures is { Agrees (λ design. design) result (unless (over Pins 200000 (length (all_signals modules.now calls.now))) (used_design rules.now (used_modules modules.now calls.now) (all_signals modules.now calls.now) calls.now)) }
+    ensures nets { IfOk result (λ design. SameNet (word_of calls.now) design.pins) }
+{
+    let signals = signals_of(alloc, library, calls)?;
     if signals.len() > MOST_PINS {
         return Err(DesignFault::Limit(Count::Pins, signals.len() as u64));
     }

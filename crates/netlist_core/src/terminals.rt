@@ -43,9 +43,25 @@ pub fn pinout_of<'a>(alloc: Global, lines: &'a [Line]) -> Result<Pinout<'a>, All
 {
     let names = terminal_names(alloc, lines)?;
     let power = power_names(alloc, lines)?;
+    pinout_with(alloc, lines, &names, &power)
+}
+
+// The terminals of these lines and their spots, where the names of the terminals and of those of power are given.
+fn pinout_with<'a>(
+    alloc: Global,
+    lines: &'a [Line],
+    names: &IndexSet<&[u8]>,
+    power: &IndexSet<&[u8]>,
+) -> Result<Pinout<'a>, AllocError>
+    requires few { length (texts names.now.keys) < 2 ^ 32 }
+    requires names { texts names.now.keys ≡ terminal_names lines.now }
+    requires power { texts power.now.keys ≡ power_names lines.now }
+    ensures terminals { IfOk result (λ pinout. pinout.terminals.items ≡ terminals_of lines.entry.now) }
+    ensures spots { IfOk result (λ pinout. pinout.spots.items ≡ spots_of lines.entry.now) }
+{
     Ok(Pinout {
-        terminals: terminals(alloc, &names, &power)?,
-        spots: spots(alloc, lines, &names, &power)?,
+        terminals: terminals(alloc, names, power)?,
+        spots: spots(alloc, lines, names, power)?,
     })
 }
 
