@@ -31,30 +31,32 @@ fn lists_and_names_keep_and_lend_their_items(rt: HostRuntime) -> Result<(), Fail
     Ok(())
 }
 
-/// Whether these bytes are the text of a layer name.
-fn is_layer_name(bytes: &[u8]) -> bool {
-    match LayerName::new(bytes) {
-        Some(layer) => layer.text() == bytes,
-        None => false,
-    }
-}
+/// Bytes, and whether they are a layer name.
+const LAYER_NAMES: [(&[u8], bool); 9] = [
+    (b"NM", true),
+    (b"N", true),
+    (b"0AZ9", true),
+    (b"", false),
+    (b"NMNPX", false),
+    (b"nm", false),
+    (b"N ", false),
+    (b"N-", false),
+    (b"\xc4", false),
+];
 
-/// Whether layer names are as they should.
-fn are_layer_names() -> bool {
-    is_layer_name(b"NM")
-        && is_layer_name(b"N")
-        && is_layer_name(b"0AZ9")
-        && LayerName::new(b"").is_none()
-        && LayerName::new(b"NMNPX").is_none()
-        && LayerName::new(b"nm").is_none()
-        && LayerName::new(b"N ").is_none()
-        && LayerName::new(b"N-").is_none()
-        && LayerName::new(b"\xc4").is_none()
+/// Whether bytes are the text of a layer name, or are none, as is wanted.
+fn is_layer_name(bytes: &[u8], wanted: bool) -> bool {
+    match LayerName::new(bytes) {
+        Some(layer) => wanted && layer.text() == bytes,
+        None => !wanted,
+    }
 }
 
 #[test]
 fn layer_names_are_one_to_four_digits_or_capitals(rt: HostRuntime) {
-    assert!(rt; are_layer_names());
+    for (bytes, wanted) in LAYER_NAMES {
+        assert!(rt; is_layer_name(bytes, wanted));
+    }
 }
 
 /// Whether two rectangles that share a corner touch, and one that is far from the first does not.

@@ -73,16 +73,7 @@ fn is_fault(alloc: Global, text: &[u8], want: &str) -> Result<bool, AllocError> 
     Ok(fault(alloc, text)?.as_str() == want)
 }
 
-/// Whether the sample text has this fault with a piece replaced.
-fn is_fault_with(alloc: Global, old: &str, new: &str, want: &str) -> Result<bool, AllocError> {
-    let Some((before, after)) = RULES.split_once(old) else {
-        return Ok(false);
-    };
-    let text = format!(in alloc; "{before}{new}{after}")?;
-    is_fault(alloc, text.as_bytes(), want)
-}
-
-/// Whether a case has its fault.
+/// Whether the sample text with a piece replaced has the fault of a case.
 fn is_case(alloc: Global, case: &str) -> Result<bool, AllocError> {
     let Some((want, change)) = case.split_once(": ") else {
         return Ok(false);
@@ -90,7 +81,11 @@ fn is_case(alloc: Global, case: &str) -> Result<bool, AllocError> {
     let Some((old, new)) = change.split_once(" => ") else {
         return Ok(false);
     };
-    is_fault_with(alloc, old, new, want)
+    let Some((before, after)) = RULES.split_once(old) else {
+        return Ok(false);
+    };
+    let text = format!(in alloc; "{before}{new}{after}")?;
+    is_fault(alloc, text.as_bytes(), want)
 }
 
 #[test]
@@ -103,19 +98,16 @@ fn each_fault_comes_where_it_should(rt: HostRuntime) -> Result<(), Fail> {
     Ok(())
 }
 
-/// All fields of rules.
-fn shown(alloc: Global, rules: &Rules) -> Result<String, AllocError> {
-    format!(in alloc; "{rules:?}")
-}
-
 /// All fields of the sample rules.
 fn shown_sample(alloc: Global) -> Result<String, AllocError> {
-    shown(alloc, &Rules::sample(alloc)?)
+    let rules = Rules::sample(alloc)?;
+    format!(in alloc; "{rules:?}")
 }
 
 /// All fields of the rules of the sample text.
 fn shown_text(alloc: Global) -> Result<String, Fail> {
-    Ok(shown(alloc, &read_rules(alloc, RULES.as_bytes())?)?)
+    let rules = read_rules(alloc, RULES.as_bytes())?;
+    Ok(format!(in alloc; "{rules:?}")?)
 }
 
 /// Whether rules have the pad, the word for the layer and the outline's layer of the sample.

@@ -26,58 +26,69 @@ fn design_shelf(alloc: Global, text: &[u8]) -> Result<MemShelf, AllocError> {
     Ok(shelf)
 }
 
-/// A shelf with a file of 5,000 bytes, whose call of this number fails.
-fn long_shelf(alloc: Global, mark: u64) -> Result<MemShelf, AllocError> {
-    let text = numbered(alloc, 5000)?;
-    let mut shelf = design_shelf(alloc, text.as_slice())?;
+/// A shelf with this file, whose call of this number fails.
+fn marked_shelf(alloc: Global, text: &[u8], mark: u64) -> Result<MemShelf, AllocError> {
+    let mut shelf = design_shelf(alloc, text)?;
     shelf.fail_at(mark)?;
     Ok(shelf)
 }
 
+/// How a file of at most so many bytes is loaded.
+fn loading<S: Shelf>(
+    alloc: Global,
+    shelf: &mut S,
+    name: &str,
+    limit: u32,
+    text: &[u8],
+) -> &'static str {
+    match load(alloc, shelf, name, u64::from(limit)) {
+        Ok(loaded) => if loaded.as_slice() == text {
+            "this text"
+        } else {
+            "another text"
+        },
+        Err(LoadFault::ReadFault) => "read fault",
+        Err(LoadFault::TooLong) => "too long",
+        Err(LoadFault::Memory) => "no memory",
+    }
+}
+
 /// Whether this text is loaded.
 fn is_loaded<S: Shelf>(alloc: Global, shelf: &mut S, name: &str, text: &[u8]) -> bool {
-    match load(alloc, shelf, name, 5000) {
-        Ok(loaded) => loaded.as_slice() == text,
-        Err(_) => false,
-    }
+    loading(alloc, shelf, name, 5000, text) == "this text"
 }
 
-/// Whether a file of 5,000 bytes is loaded where the call of this number fails.
-fn is_long_loaded(alloc: Global, mark: u64) -> Result<bool, AllocError> {
+/// How a shelf with a file of 5,000 bytes under "design" answers where the call of this number fails. It is taken in pieces of 4,096, 904 and 0 bytes.
+const LOADS: [(u64, &str, u32, &str); 6] = [
+    (0, "design", 5000, "read fault"),
+    (1, "design", 5000, "read fault"),
+    (2, "design", 5000, "read fault"),
+    (3, "design", 5000, "this text"),
+    (9, "rules", 5000, "read fault"),
+    (9, "design", 4999, "too long"),
+];
+
+/// Whether such a shelf answers so.
+fn is_loading(
+    alloc: Global,
+    mark: u64,
+    name: &str,
+    limit: u32,
+    want: &str,
+) -> Result<bool, AllocError> {
     let text = numbered(alloc, 5000)?;
-    let mut shelf = long_shelf(alloc, mark)?;
-    Ok(is_loaded(alloc, &mut shelf, "design", text.as_slice()))
+    let mut shelf = marked_shelf(alloc, text.as_slice(), mark)?;
+    Ok(loading(alloc, &mut shelf, name, limit, text.as_slice()) == want)
 }
 
-/// Whether a file can't be read.
-fn is_read_fault<S: Shelf>(alloc: Global, shelf: &mut S, name: &str) -> bool {
-    matches!(load(alloc, shelf, name, 5000), Err(LoadFault::ReadFault))
-}
-
-/// Whether a file of a shelf with one of 5,000 bytes can't be read where the call of this number fails.
-fn is_fault_at(alloc: Global, mark: u64, name: &str) -> Result<bool, AllocError> {
-    let mut shelf = long_shelf(alloc, mark)?;
-    Ok(is_read_fault(alloc, &mut shelf, name))
-}
-
-/// Whether a file of 5,000 bytes is too long by one.
-fn is_too_long(alloc: Global) -> Result<bool, AllocError> {
-    let mut shelf = long_shelf(alloc, 9)?;
-    Ok(matches!(
-        load(alloc, &mut shelf, "design", 4999),
-        Err(LoadFault::TooLong)
-    ))
-}
-
-/// A file of 5,000 bytes is taken in pieces of 4,096, 904 and 0 bytes.
 #[test]
 fn load_gives_a_file_or_says_why_not(rt: HostRuntime) -> Result<(), Fail> {
-    for mark in 0..3 {
-        assert!(rt; is_fault_at(rt.alloc(), mark, "design")?, "at {mark}");
+    for (mark, name, limit, want) in LOADS {
+        assert!(rt;
+            is_loading(rt.alloc(), mark, name, limit, want)?,
+            "{name} at {mark}"
+        );
     }
-    assert!(rt; is_long_loaded(rt.alloc(), 3)?);
-    assert!(rt; is_fault_at(rt.alloc(), 9, "rules")?);
-    assert!(rt; is_too_long(rt.alloc())?);
     Ok(())
 }
 
@@ -212,7 +223,7 @@ fn own_path(rt: &HostRuntime) -> io::Result<PathBuf> {
 
 /// Whether nothing is loaded from a path or put there.
 fn is_lacking<S: Shelf>(alloc: Global, shelf: &mut S, path: &str) -> bool {
-    is_read_fault(alloc, shelf, path) && shelf.put(path, b"x") == Err(Failed)
+    loading(alloc, shelf, path, 5000, b"") == "read fault" && shelf.put(path, b"x") == Err(Failed)
 }
 
 /// Whether a path is begun and a text put there.

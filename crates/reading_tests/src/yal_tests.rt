@@ -3,7 +3,7 @@
 use std::alloc::{AllocError, Global};
 use std::fmt::Debug;
 use std::test::Fail;
-use yal_reader::{Call, Line, Module, Spot, YalFault, YalFile, read_yal};
+use yal_reader::{Call, Line, Module, YalFault, YalFile, read_yal};
 
 /// A design of one cell and one instance, of 220 bytes.
 const DESIGN: &str =
@@ -23,68 +23,54 @@ fn is_answer(alloc: Global, text: &[u8], want: &str) -> Result<bool, AllocError>
     Ok(answer(alloc, text)?.as_str() == want)
 }
 
-/// How the design reads when it is cut: as so many modules, as a word at fault, or as a text that ends in a module.
-#[derive(Clone, Copy)]
-enum Cut {
-    Modules(usize),
-    Word(u64),
-    Ends,
-}
-
-/// The cuts of the design from one length to another, and how they read.
-const CUTS: [(usize, usize, Cut); 29] = [
-    (0, 0, Cut::Modules(0)),
-    (1, 5, Cut::Word(0)),
-    (6, 12, Cut::Ends),
-    (13, 15, Cut::Word(12)),
-    (16, 17, Cut::Ends),
-    (18, 24, Cut::Word(17)),
-    (25, 27, Cut::Ends),
-    (28, 36, Cut::Word(27)),
-    (37, 57, Cut::Ends),
-    (58, 62, Cut::Word(57)),
-    (63, 92, Cut::Ends),
-    (93, 100, Cut::Word(92)),
-    (101, 101, Cut::Ends),
-    (102, 103, Cut::Modules(1)),
-    (104, 108, Cut::Word(103)),
-    (109, 115, Cut::Ends),
-    (116, 118, Cut::Word(115)),
-    (119, 120, Cut::Ends),
-    (121, 125, Cut::Word(120)),
-    (126, 128, Cut::Ends),
-    (129, 137, Cut::Word(128)),
-    (138, 158, Cut::Ends),
-    (159, 163, Cut::Word(158)),
-    (164, 177, Cut::Ends),
-    (178, 183, Cut::Word(177)),
-    (184, 209, Cut::Ends),
-    (210, 217, Cut::Word(209)),
-    (218, 218, Cut::Ends),
-    (219, 220, Cut::Modules(2)),
+/// How the design reads when it is cut, from one length to another: as so many modules, as a word at fault, or as a text that ends in a module, after all of its bytes.
+const CUTS: [(usize, usize, &str); 29] = [
+    (0, 0, "0"),
+    (1, 5, "Word 0"),
+    (6, 12, "Ends"),
+    (13, 15, "Word 12"),
+    (16, 17, "Ends"),
+    (18, 24, "Word 17"),
+    (25, 27, "Ends"),
+    (28, 36, "Word 27"),
+    (37, 57, "Ends"),
+    (58, 62, "Word 57"),
+    (63, 92, "Ends"),
+    (93, 100, "Word 92"),
+    (101, 101, "Ends"),
+    (102, 103, "1"),
+    (104, 108, "Word 103"),
+    (109, 115, "Ends"),
+    (116, 118, "Word 115"),
+    (119, 120, "Ends"),
+    (121, 125, "Word 120"),
+    (126, 128, "Ends"),
+    (129, 137, "Word 128"),
+    (138, 158, "Ends"),
+    (159, 163, "Word 158"),
+    (164, 177, "Ends"),
+    (178, 183, "Word 177"),
+    (184, 209, "Ends"),
+    (210, 217, "Word 209"),
+    (218, 218, "Ends"),
+    (219, 220, "2"),
 ];
 
-/// How a cut reads that leaves so many bytes.
-fn cut_answer(alloc: Global, cut: Cut, length: usize) -> Result<String, AllocError> {
-    match cut {
-        Cut::Modules(modules) => format!(in alloc; "{modules}"),
-        Cut::Word(at) => format!(in alloc; "Word {at}"),
-        Cut::Ends => format!(in alloc; "Ends {length}"),
-    }
-}
-
 /// Whether the design reads so when it is cut after so many bytes.
-fn is_cut(alloc: Global, cut: Cut, length: usize) -> Result<bool, AllocError> {
+fn is_cut(alloc: Global, length: usize, want: &str) -> Result<bool, AllocError> {
     let Some(text) = DESIGN.as_bytes().get(..length) else {
         return Ok(false);
     };
-    is_answer(alloc, text, cut_answer(alloc, cut, length)?.as_str())
+    if want == "Ends" {
+        return is_answer(alloc, text, format!(in alloc; "Ends {length}")?.as_str());
+    }
+    is_answer(alloc, text, want)
 }
 
 /// Whether the design reads so when it is cut after each number of bytes from one to another.
-fn are_cut(alloc: Global, first: usize, last: usize, cut: Cut) -> Result<bool, AllocError> {
+fn are_cut(alloc: Global, first: usize, last: usize, want: &str) -> Result<bool, AllocError> {
     for length in first..=last {
-        if !is_cut(alloc, cut, length)? {
+        if !is_cut(alloc, length, want)? {
             return Ok(false);
         }
     }
@@ -94,8 +80,8 @@ fn are_cut(alloc: Global, first: usize, last: usize, cut: Cut) -> Result<bool, A
 #[test]
 fn the_design_is_cut_after_each_byte(rt: HostRuntime) -> Result<(), Fail> {
     let mut next = 0;
-    for (first, last, cut) in CUTS {
-        assert!(rt; first == next && last < 1000 && are_cut(rt.alloc(), first, last, cut)?);
+    for (first, last, want) in CUTS {
+        assert!(rt; first == next && last < 1000 && are_cut(rt.alloc(), first, last, want)?);
         next = last + 1;
     }
     assert!(rt; next == DESIGN.len() + 1);
@@ -166,14 +152,6 @@ Word 46 | MODULE a;TYPE STANDARD;PLACEMENT;ENDPLACEMENT b;\n\
 Ends 49 | MODULE a;TYPE STANDARD;CRITICALNETS;ENDPLACEMENT;\n\
 Ends 51 | MODULE a;TYPE STANDARD;CRITICALNETS;ENDCRITICALNETS";
 
-/// Whether a line tells the fault of its text.
-fn is_fault(alloc: Global, line: &str) -> Result<bool, AllocError> {
-    let Some((fault, text)) = line.split_once(" | ") else {
-        return Ok(false);
-    };
-    is_answer(alloc, text.as_bytes(), fault)
-}
-
 /// Whether the design reads so behind these bytes.
 fn is_answer_behind(alloc: Global, bytes: &[u8], want: &str) -> Result<bool, AllocError> {
     let mut text = bytes.to_vec(alloc)?;
@@ -184,7 +162,8 @@ fn is_answer_behind(alloc: Global, bytes: &[u8], want: &str) -> Result<bool, All
 #[test]
 fn each_fault_has_its_kind_and_place(rt: HostRuntime) -> Result<(), Fail> {
     for line in FAULTS.split('\n') {
-        assert!(rt; is_fault(rt.alloc(), line)?, "{line}");
+        let (fault, text) = line.split_once(" | ").unwrap_or(("", line));
+        assert!(rt; is_answer(rt.alloc(), text.as_bytes(), fault)?, "{line}");
     }
     // What stands before a design comes first.
     assert!(rt; is_answer_behind(rt.alloc(), b"/*", "OpenComment 0")?);
@@ -205,19 +184,14 @@ fn put_value<D: Debug>(alloc: Global, text: &mut Vec<u8>, value: &D) -> Result<(
     put(text, format!(in alloc; "{value:?}")?.as_bytes())
 }
 
-/// Puts the numbers and the layer of a spot at the end of a text.
-fn put_spot(alloc: Global, text: &mut Vec<u8>, spot: &Spot) -> Result<(), AllocError> {
-    put_value(alloc, text, &spot.x)?;
-    put_value(alloc, text, &spot.y)?;
-    put(text, spot.layer.items())
-}
-
 /// Puts a line of a module at the end of a text, with a comma behind it.
 fn put_line(alloc: Global, text: &mut Vec<u8>, line: &Line) -> Result<(), AllocError> {
     put(text, line.name.items())?;
     put_value(alloc, text, &line.flow)?;
     if let Some(spot) = &line.spot {
-        put_spot(alloc, text, spot)?;
+        put_value(alloc, text, &spot.x)?;
+        put_value(alloc, text, &spot.y)?;
+        put(text, spot.layer.items())?;
     }
     put(text, b",")
 }
@@ -232,19 +206,13 @@ fn put_call(text: &mut Vec<u8>, call: &Call) -> Result<(), AllocError> {
     put(text, b",")
 }
 
-/// Puts the name, the kind and the corners of a module at the end of a text.
-fn put_head(alloc: Global, text: &mut Vec<u8>, module: &Module) -> Result<(), AllocError> {
+/// Puts a module at the end of a text: its name, its kind and its corners, its lines, and its calls, with a stroke behind each.
+fn put_module(alloc: Global, text: &mut Vec<u8>, module: &Module) -> Result<(), AllocError> {
     put(text, module.name.items())?;
     put_value(alloc, text, &module.kind)?;
     for corner in module.corners.items() {
         put_value(alloc, text, corner)?;
     }
-    Ok(())
-}
-
-/// Puts a module at the end of a text: its head, its lines and its calls, each list with a stroke behind it.
-fn put_module(alloc: Global, text: &mut Vec<u8>, module: &Module) -> Result<(), AllocError> {
-    put_head(alloc, text, module)?;
     put(text, b"/")?;
     for line in module.lines.items() {
         put_line(alloc, text, line)?;
@@ -281,18 +249,11 @@ fn is_file(alloc: Global, text: &str, want: &str) -> Result<bool, Fail> {
     Ok(shown(alloc, &file)?.as_slice() == want.as_bytes())
 }
 
-/// Whether a line tells what its text holds.
-fn is_file_line(alloc: Global, line: &str) -> Result<bool, Fail> {
-    let Some((text, want)) = line.split_once(" | ") else {
-        return Ok(false);
-    };
-    is_file(alloc, text, want)
-}
-
 #[test]
 fn files_hold_what_their_texts_say(rt: HostRuntime) -> Result<(), Fail> {
     for line in FILES.split('\n') {
-        assert!(rt; is_file_line(rt.alloc(), line)?, "{line}");
+        let (text, want) = line.split_once(" | ").unwrap_or((line, ""));
+        assert!(rt; is_file(rt.alloc(), text, want)?, "{line}");
     }
     assert!(rt; is_file(rt.alloc(), "", "")?);
     let want = "INV Standard 0 0 8 0 8 40 0 40 / a I 4 0 POLY , / / top Parent / / u1 INV n1 , / ";
