@@ -39,31 +39,24 @@ const OTHER: &str =
 /// A module with corners that cross over and nothing else.
 const BARE: &str = "MODULE BOW; TYPE STANDARD; DIMENSIONS 0 0 8 40 8 0 0 40; ENDMODULE;";
 
-/// Names, and the texts of their modules.
-const MODULES: [(&str, &str); 13] = [
-    ("INV", INVERTER),
-    ("BUF", BUFFER),
-    ("DRV", DRIVER),
-    ("THR", THROUGH),
-    ("BOW", BOW),
-    ("OFF", OFF),
-    ("TALL", TALL),
-    ("LOW", LOW),
-    ("CLASH", CLASH),
-    ("METAL", METAL),
-    ("PAD", PAD),
-    ("OTHER", OTHER),
-    ("BARE", BARE),
-];
-
 /// The text of a module.
 fn module(name: &str) -> &'static str {
-    for (known, text) in MODULES {
-        if known == name {
-            return text;
-        }
+    match name {
+        "INV" => INVERTER,
+        "BUF" => BUFFER,
+        "DRV" => DRIVER,
+        "THR" => THROUGH,
+        "BOW" => BOW,
+        "OFF" => OFF,
+        "TALL" => TALL,
+        "LOW" => LOW,
+        "CLASH" => CLASH,
+        "METAL" => METAL,
+        "PAD" => PAD,
+        "OTHER" => OTHER,
+        "BARE" => BARE,
+        _ => "",
     }
-    ""
 }
 
 /// The text of modules with blanks between their names.
