@@ -1,13 +1,16 @@
 ghost use Rattle.design_model.specs.CellsMatch.{cell_names, instance_names};
 ghost use Rattle.layout_check.specs.NetFaults.{pairs_of_firsts};
+ghost use Rattle.layout_check.specs.declared.finding.Finding.TheVariants.{Doubled, Missing, Strange};
 ghost use Rattle.list_facts.specs.Names.{mentions, place_among};
 ghost use Rattle.list_facts.specs.Texts.{texts};
 ghost use Rattle.rule_check.specs.Failing.{failing};
 ghost use Rattle.std.specs.List.{list_any, range_with_len};
-ghost use Rattle.std.specs.Prelude.{◌≡◌, ◌<◌, ◌≤◌, ◌^◌, length, map, not, true, IfOk};
+ghost use Rattle.std.specs.Prelude.{◌≡◌, ◌<◌, ◌≤◌, ◌^◌, ◌++◌, ℕ, length, map, not, true, IfOk, OnOk};
 ghost use Rattle.std.specs.Str.{bytes_eq};
 
+use crate::finding::Finding;
 use crate::groups::differing_pairs;
+use crate::telling::{put_doubled, put_missing, put_strange};
 use design_model::Design;
 use geom_core::Layout;
 use indexmap::IndexSet;
@@ -47,8 +50,8 @@ pub fn different<'a>(alloc: Global, names: &[&'a [u8]]) -> Result<IndexSet<&'a [
     Ok(set)
 }
 
-/// The numbers of the names of a list that are not among others. The one error is want of memory.
-pub fn not_among(
+// The numbers of the names of a list that are not among others. The one error is want of memory.
+fn not_among(
     alloc: Global,
     names: &[&[u8]],
     others: &IndexSet<&[u8]>,
@@ -64,6 +67,49 @@ pub fn not_among(
         numbers.push(k as u32)?;
     }
     Ok(numbers)
+}
+
+/// Tells which of these names of instances no cell has; the names of cells are given. The one error is want of memory.
+pub fn tell_missing(
+    alloc: Global,
+    findings: &mut Vec<Finding>,
+    instances: &[&[u8]],
+    cells: &IndexSet<&[u8]>,
+) -> Result<(), AllocError>
+    requires { length instances.now < 2 ^ 32 }
+    ensures { OnOk result (findings.new.items ≡ findings.old.items ++ map Missing (failing (λ name. not (list_any (bytes_eq name) (texts cells.now.keys))) (texts instances.now))) }
+{
+    let missing = not_among(alloc, instances, cells)?;
+    put_missing(findings, missing.as_slice())
+}
+
+/// Tells which of these names of cells no instance has; the names of instances are given. The one error is want of memory.
+pub fn tell_strange(
+    alloc: Global,
+    findings: &mut Vec<Finding>,
+    cells: &[&[u8]],
+    instances: &IndexSet<&[u8]>,
+) -> Result<(), AllocError>
+    requires { length cells.now < 2 ^ 32 }
+    ensures { OnOk result (findings.new.items ≡ findings.old.items ++ map Strange (failing (λ name. not (list_any (bytes_eq name) (texts instances.now.keys))) (texts cells.now))) }
+{
+    let strange = not_among(alloc, cells, instances)?;
+    put_strange(findings, strange.as_slice())
+}
+
+/// Tells which of these names of cells repeat an earlier one; the different ones are given. The one error is want of memory.
+pub fn tell_doubled(
+    alloc: Global,
+    findings: &mut Vec<Finding>,
+    cells: &[&[u8]],
+    set: &IndexSet<&[u8]>,
+) -> Result<(), AllocError>
+    requires few { length cells.now < 2 ^ 32 }
+    requires set { texts set.now.keys ≡ mentions (texts cells.now) }
+    ensures { OnOk result (findings.new.items ≡ findings.old.items ++ map (λ (p : ℕ × ℕ). Doubled p.0 p.1) (pairs_of_firsts bytes_eq (λ name other. true) (texts cells.now))) }
+{
+    let doubled = repeated(alloc, cells, set)?;
+    put_doubled(findings, doubled.as_slice())
 }
 
 /// The place of each name of a list among others, of which there are fewer than 2^32. The one error is want of memory.
@@ -82,9 +128,9 @@ pub fn places(
     Ok(numbers)
 }
 
-/// The first of each name of a list with each later one of that name; the different names of the list are given. The one error is want of
-/// memory.
-pub fn repeated(
+// The first of each name of a list with each later one of that name; the different names of the list are given. The one error is want of
+// memory.
+fn repeated(
     alloc: Global,
     names: &[&[u8]],
     set: &IndexSet<&[u8]>,
