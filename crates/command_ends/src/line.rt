@@ -2,15 +2,18 @@
 
 ghost use Rattle.command_ends.specs.Gains.{Gains};
 ghost use Rattle.command_ends.specs.Line.{fault_word, kind_word, limited_word, line, line_of, meaning_word, refusal_words, stop_words, text_word};
+ghost use Rattle.command_ends.specs.declared.refusal.Refusal.TheVariants.{Design};
 ghost use Rattle.shelf_io.specs.Count.{Rose};
 ghost use Rattle.shelf_io.specs.Told.{EndsWithin, Refines, appended};
-ghost use Rattle.std.specs.Prelude.{◌≡◌, ◌≤◌, OnErr, OnOk};
+ghost use Rattle.std.specs.Fmt.{decimal};
+ghost use Rattle.std.specs.Prelude.{◌≡◌, ◌≤◌, ◌∷◌, [], OnErr, OnOk};
 
 use crate::putting::{put_one, put_three, put_two};
 use crate::refusal::{Limited, Refusal};
 use crate::stop::Stop;
 use cif_reader::ExpandKind;
 use cif_text::CifKind;
+use geom_core::Name;
 use itoa::Buffer;
 use netlist_core::{Count, DesignFault};
 use shelf_io::{Failed, Sink};
@@ -104,6 +107,38 @@ fn limited_word(what: Limited) -> &'static str
     }
 }
 
+// Puts the line of two words and a number.
+fn put_numbered<K: Sink>(
+    out: &mut K,
+    first: &[u8],
+    second: &[u8],
+    number: u64,
+) -> Result<(), Failed>
+    ensures whole { OnOk result (Refines (K.written out.new) (appended (K.written out.old) (line (first.now ∷ second.now ∷ decimal number ∷ [])))) }
+    ensures front { OnErr result (EndsWithin (K.written out.old) (line (first.now ∷ second.now ∷ decimal number ∷ [])) (K.written out.new)) }
+    ensures quiet { OnOk result (K.faults out.new ≡ K.faults out.old) }
+    ensures cause { OnErr result (Rose (K.faults out.old) (K.faults out.new)) }
+    ensures later { K.faults out.old ≤ K.faults out.new }
+{
+    let mut digits = Buffer::new();
+    put_three(out, first, second, digits.format(number).as_bytes())
+}
+
+// Puts the line of the fault of a design, with the name that it speaks of.
+#[tactic(auto, unfolding(crate::specs::Line::refusal_words))]
+fn put_design<K: Sink>(out: &mut K, fault: DesignFault, name: &Option<Name>) -> Result<(), Failed>
+    ensures whole { OnOk result (Refines (K.written out.new) (appended (K.written out.old) (line (refusal_words (Design fault name.now))))) }
+    ensures front { OnErr result (EndsWithin (K.written out.old) (line (refusal_words (Design fault name.now))) (K.written out.new)) }
+    ensures quiet { OnOk result (K.faults out.new ≡ K.faults out.old) }
+    ensures cause { OnErr result (Rose (K.faults out.old) (K.faults out.new)) }
+    ensures later { K.faults out.old ≤ K.faults out.new }
+{
+    match name {
+        None => put_two(out, b"design", fault_word(fault).as_bytes()),
+        Some(name) => put_three(out, b"design", fault_word(fault).as_bytes(), name.items()),
+    }
+}
+
 // Puts the line of a refusal.
 #[tactic(auto, unfolding(crate::specs::Line::refusal_words))]
 fn put_refusal<K: Sink>(out: &mut K, refusal: &Refusal) -> Result<(), Failed>
@@ -113,43 +148,26 @@ fn put_refusal<K: Sink>(out: &mut K, refusal: &Refusal) -> Result<(), Failed>
     ensures cause { OnErr result (Rose (K.faults out.old) (K.faults out.new)) }
     ensures later { K.faults out.old ≤ K.faults out.new }
 {
-    let mut digits = Buffer::new();
     match refusal {
         Refusal::Usage => put_one(out, b"usage"),
         Refusal::Toml => put_two(out, b"rules", b"Toml"),
         Refusal::Missing(key) => put_three(out, b"rules", b"Missing", key.name().as_bytes()),
         Refusal::Range(key) => put_three(out, b"rules", b"Range", key.name().as_bytes()),
-        Refusal::Tight(rule) => put_three(out, b"rules", b"Tight", digits.format(*rule).as_bytes()),
-        Refusal::Yal(kind, at) => put_three(
-            out,
-            b"yal",
-            kind_word(*kind).as_bytes(),
-            digits.format(*at).as_bytes(),
-        ),
-        Refusal::Design(fault, None) => put_two(out, b"design", fault_word(*fault).as_bytes()),
-        Refusal::Design(fault, Some(name)) => put_three(
-            out,
-            b"design",
-            fault_word(*fault).as_bytes(),
-            name.items(),
-        ),
-        Refusal::Cif(kind, at) => put_three(
-            out,
-            b"cif",
-            text_word(*kind).as_bytes(),
-            digits.format(*at).as_bytes(),
-        ),
-        Refusal::Meaning(kind, at) => put_three(
+        Refusal::Tight(rule) => put_numbered(out, b"rules", b"Tight", u64::from(*rule)),
+        Refusal::Yal(kind, at) => put_numbered(out, b"yal", kind_word(*kind).as_bytes(), *at),
+        Refusal::Design(fault, name) => put_design(out, *fault, name),
+        Refusal::Cif(kind, at) => put_numbered(out, b"cif", text_word(*kind).as_bytes(), *at),
+        Refusal::Meaning(kind, at) => put_numbered(
             out,
             b"cif",
             meaning_word(*kind).as_bytes(),
-            digits.format(*at).as_bytes(),
+            u64::from(*at),
         ),
-        Refusal::Limit(what, number) => put_three(
+        Refusal::Limit(what, number) => put_numbered(
             out,
             b"limit",
             limited_word(*what).as_bytes(),
-            digits.format(*number).as_bytes(),
+            *number,
         ),
         Refusal::Memory => put_one(out, b"memory"),
     }
