@@ -44,7 +44,7 @@ fn a_constrained_channel_by_the_style(rt: HostRuntime) -> Result<(), Fail> {
         assert!(rt; routed.by == wanted.0);
         assert_eq!(rt; routed.wiring.tracks, wanted.1);
         assert_eq!(rt; routed.wiring.columns, wanted.2);
-        assert!(rt; (number == 1) != routed.sweep.columns.items().is_empty());
+        assert!(rt; (number == 1) != routed.sweep.columns.is_empty());
     }
     Ok(())
 }

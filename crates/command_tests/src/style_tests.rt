@@ -30,7 +30,7 @@ fn is_greedy(kept: &[Routed], channel: usize, tracks: u32, columns: u32) -> bool
         Some(routed) => routed.by == By::Greedy
             && routed.wiring.tracks == tracks
             && routed.wiring.columns == columns
-            && routed.sweep.columns.items().len() == columns as usize,
+            && routed.sweep.columns.len() == columns as usize,
         None => false,
     }
 }
