@@ -2,9 +2,11 @@
 #![tactic(auto)]
 
 mod kept;
+mod laying;
 mod limits;
 mod placing;
 mod prepared;
+mod routing;
 mod summarizing;
 
 pub use prepared::{Prepared, Told, lay_out};

@@ -8,7 +8,7 @@ ghost use Rattle.command_jobs.specs.Rows.{job_of, rows_for, rows_of, schedule_of
 ghost use Rattle.command_ends.specs.Status.{refusal_status};
 ghost use Rattle.command_jobs.specs.Summarized.{cost_for};
 ghost use Rattle.command_jobs.specs.Text.{rows_with_feeds};
-ghost use Rattle.feed_cells.specs.Fed.{IsFed, cells_in};
+ghost use Rattle.feed_cells.specs.Fed.{IsFed, cells_in, fed_rows};
 ghost use Rattle.feed_cells.specs.Placement.{placement_of};
 ghost use Rattle.row_model.specs.Rows.{ArePlaced};
 ghost use Rattle.std.specs.Prelude.{◌≡◌, ◌≢◌, ◌≤◌, Ok, IfErr, IfOk};
@@ -19,7 +19,7 @@ use command_words::{RowCount, Wanted};
 use design_model::Design;
 use feed_cells::{FedRows, Placement, insert_feeds, place};
 use row_model::{Rows, Weights, cost, default_rows, start};
-use std::alloc::Global;
+use std::alloc::{AllocError, Global};
 use tech_rules::Rules;
 
 /// The number of rows of a design's layout. Takes no memory.
@@ -72,6 +72,25 @@ fn annealed_rows(
     }
 }
 
+// Rows with feeds, and by what placement.
+#[derive(Drop)]
+struct FedSeats {
+    placement: Placement,
+    fed: FedRows,
+}
+
+// Rows of a design with feeds.
+fn feed_seats(alloc: Global, design: &Design, seats: &Rows) -> Result<FedSeats, AllocError>
+    requires { ArePlaced design.now seats.now }
+    ensures is { IfOk result (λ made. made.fed ≡ fed_rows design.now seats.now) }
+    ensures fed { IfOk result (λ made. IsFed design.now made.fed) }
+    ensures placement { IfOk result (λ made. made.placement ≡ placement_of design.now (cells_in made.fed.rows)) }
+{
+    let placement = place(alloc, design, seats)?;
+    let fed = insert_feeds(alloc, design, seats, &placement)?;
+    Ok(FedSeats { placement, fed })
+}
+
 /// Rows with feeds, by what placement, and what the rows cost.
 #[derive(Drop)]
 pub struct FedDesign {
@@ -95,9 +114,8 @@ pub fn feed_rows(
     ensures command { IfErr result (λ refusal. refusal_status refusal ≢ 2) }
 {
     let seats = annealed_rows(alloc, design, rules, wanted)?;
-    let placement = place(alloc, design, &seats)?;
-    let fed = insert_feeds(alloc, design, &seats, &placement)?;
     let cost = cost(alloc, design, &seats, schedule_of(rules).weights)?;
+    let FedSeats { placement, fed } = feed_seats(alloc, design, &seats)?;
     Ok(FedDesign {
         placement,
         fed,

@@ -2,7 +2,7 @@ use Rattle.std.proofs.Common.{◌∙◌, subst}
 use Rattle.feed_cells.specs.Fed.{Fed}
 use Rattle.pin_assign.specs.ChannelTables.{AreTablesFor}
 use Rattle.command_jobs.proofs.RoutedLaws.{routed-wired, routed-within, told-routed}
-use Rattle.command_jobs.proofs.prepared.route_tabled.Goals as goal
+use Rattle.command_jobs.proofs.routing.route_tabled.Goals as goal
 
 pub returns-clause-kept : goal.returns-clause-kept
 returns-clause-kept g c =

@@ -3,7 +3,7 @@ use Rattle.feed_cells.specs.Fed.{Fed}
 use Rattle.pin_assign.specs.Bounds.{bound_of}
 use Rattle.command_jobs.specs.Limits.{size_refusal}
 use Rattle.command_jobs.proofs.SizeLaws.{unrefused-within}
-use Rattle.command_jobs.proofs.prepared.route_rows.Goals as goal
+use Rattle.command_jobs.proofs.routing.route_rows.Goals as goal
 
 pub tables_of_channels-requires-clause-narrow : goal.tables_of_channels-requires-clause-narrow
 tables_of_channels-requires-clause-narrow g c =
