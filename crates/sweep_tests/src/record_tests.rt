@@ -57,7 +57,10 @@ fn has(columns: &Columns, number: usize, wanted: &LentColumn) -> bool {
 // Whether these are the records, with none at their end and none far beyond it.
 fn are_wanted(columns: &Columns, wanted: &[LentColumn]) -> bool {
     columns.len() == wanted.len()
-        && wanted.iter().enumerate().all(|(number, one)| has(columns, number, one))
+        && wanted
+            .iter()
+            .enumerate()
+            .all(|(number, one)| has(columns, number, one))
         && columns.column(wanted.len()).is_none()
         && columns.column(usize::MAX).is_none()
 }
