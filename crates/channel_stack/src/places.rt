@@ -61,7 +61,7 @@ fn placed_row(
     requires { items_width design.now items.now < 2 ^ 39 }
     ensures { IfOk result (λ placed. placed.items ≡ placed_from rules.now design.now base 0 items.now) }
 {
-    let mut placed = Vec::new(alloc);
+    let mut placed = Vec::with_capacity(alloc, items.len())?;
     let mut left = 0;
     let mut rest = items;
     while let Some((item, after)) = rest.split_first() {

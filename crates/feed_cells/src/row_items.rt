@@ -22,6 +22,7 @@ pub fn row_items(alloc: Global, seats: &[Seat], feeds: &Lists<u32>) -> Result<Ve
         rest = after;
     }
     push_feeds(&mut items, feeds.at(place))?;
+    items.shrink_to_fit();
     Ok(items)
 }
 

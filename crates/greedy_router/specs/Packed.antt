@@ -1,4 +1,4 @@
-use Rattle.std.specs.Prelude.{◌≡◌, ◌≤◌, ℕ, zero, suc, List, [], ◌∷◌, get_or, slice_range}
+use Rattle.std.specs.Prelude.{◌≡◌, ◌<◌, ◌≤◌, ◌^◌, ℕ, zero, suc, List, [], ◌∷◌, get_or, slice_range}
 
 -- lists that lie one behind another from a place on, by where each of them ends
 abbrev pub lists_in : {A : Type 0} → ℕ → List ℕ → List A → List (List A)
@@ -14,3 +14,8 @@ AreEnds from (end ∷ ends) all = (from ≤ end) × AreEnds end ends all
 abbrev pub begin_of : ℕ → List ℕ → ℕ → ℕ
 begin_of from ends zero = from
 begin_of from ends (suc number) = get_or ends number 0
+
+-- so they end, and four bytes tell where
+pub record IsPacked (ends : List ℕ) (all : ℕ) : Type 0 where
+  pub cut : AreEnds 0 ends all
+  pub few : all < 2 ^ 32

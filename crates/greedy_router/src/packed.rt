@@ -4,13 +4,16 @@ ghost use Rattle.std.specs.Prelude.{◌≡◌, ◌<◌, ◌≤◌, ◌++◌, ◌
 use std::alloc::{AllocError, Global};
 use std::marker::Model;
 
+/// The most items of all lists, so that four bytes tell where each list ends.
+const MOST_ITEMS: usize = u32::MAX as usize;
+
 /// Lists that lie one behind another in one piece of memory, so that each takes little more room than its items. Contracts see the list
 /// of them.
 #[derive(Debug, Drop)]
 pub struct PackedLists<T> {
     items: Vec<T>,
     // Where each list ends.
-    ends: Vec<usize>,
+    ends: Vec<u32>,
 }
 
 impl<T> Model for PackedLists<T> {
@@ -18,22 +21,22 @@ impl<T> Model for PackedLists<T> {
 
     ghost Value = { List (List T) };
 
-    ghost use Rattle.greedy_router.specs.Packed.{AreEnds, lists_in};
+    ghost use Rattle.greedy_router.specs.Packed.{IsPacked, lists_in};
     ghost use Rattle.std.specs.Prelude.{length};
 
     ghost view = { λ a. lists_in 0 a.ends.items a.items.items };
 
-    ghost invariant = { λ a. AreEnds 0 a.ends.items (length a.items.items) };
+    ghost invariant = { λ a. IsPacked a.ends.items (length a.items.items) };
 }
 
 // Where a list begins.
-fn begin_of(ends: &[usize], number: usize) -> usize
+fn begin_of(ends: &[u32], number: usize) -> usize
     requires { number ≤ length ends.now }
     ensures { result ≡ begin_of 0 ends.now number }
 {
     match number {
         0 => 0,
-        _ => ends[number - 1],
+        _ => ends[number - 1] as usize,
     }
 }
 
@@ -47,12 +50,12 @@ fn part<T>(items: &[T], from: usize, to: usize) -> &[T]
 }
 
 // A list by its number.
-fn list_at<'a, T>(items: &'a [T], ends: &[usize], number: usize) -> &'a [T]
+fn list_at<'a, T>(items: &'a [T], ends: &[u32], number: usize) -> &'a [T]
     requires ends { AreEnds 0 ends.now (length items.now) }
     requires there { number < length ends.now }
     ensures { slice_get (lists_in 0 ends.now items.now) number ≡ Some result.now }
 {
-    part(items, begin_of(ends, number), ends[number])
+    part(items, begin_of(ends, number), ends[number] as usize)
 }
 
 impl<T: Copy> PackedLists<T> {
@@ -66,14 +69,18 @@ impl<T: Copy> PackedLists<T> {
         }
     }
 
-    /// Puts a list behind the others. The one error is want of memory, and nothing has changed then.
+    /// Puts a list behind the others. The one error is want of memory, which is also answered where all lists would have more than 2^32 - 1
+    /// items; nothing has changed then.
     pub fn push(&mut self, list: &[T]) -> Result<(), AllocError>
         ensures pushed { OnOk result (self.new ≡ self.old ++ list.now ∷ []) }
         ensures err { OnErr result (self.new ≡ self.old) }
     {
+        if list.len() > MOST_ITEMS - self.items.len() {
+            return Err(AllocError);
+        }
         self.ends.reserve(1)?;
         self.items.extend_from_slice(list)?;
-        self.ends.push_reserved(self.items.len());
+        self.ends.push_reserved(self.items.len() as u32);
         Ok(())
     }
 
