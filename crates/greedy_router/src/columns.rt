@@ -128,7 +128,8 @@ impl Columns {
         }
     }
 
-    /// The records of these columns. The one error is want of memory.
+    /// The records of these columns. The one error is want of memory, which is also answered where the lists of one kind have more than
+    /// 2^32 - 1 items in all.
     pub fn pack(alloc: Global, columns: &[Column]) -> Result<Columns, AllocError>
         ensures { IfOk result (λ packed. packed ≡ columns.now) }
     {
