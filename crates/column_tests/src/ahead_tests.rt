@@ -2,7 +2,8 @@
 //! nets cross one place.
 
 use crate::chooser_tests::deft_chooser;
-use crate::column_tables::{NOTHING, Wanted, first_other_of};
+use crate::column_tables::{Case, NOTHING, Wanted, first_unlike};
+use crate::long_channel::{FOURTEEN_BOTTOM, FOURTEEN_FROM_FIVE, FOURTEEN_FROM_NONE, FOURTEEN_TOP};
 use choose_core::Manner;
 use std::test::Fail;
 
@@ -51,42 +52,6 @@ const CROSSED_FROM_TWO: [Wanted<'static>; 3] = [
         ..NOTHING
     },
 ];
-
-#[test]
-fn the_crossed_channel_from_none(rt: HostRuntime) -> Result<(), Fail> {
-    let chooser = deft_chooser(rt.alloc())?;
-    assert_eq!(rt;
-        first_other_of(
-            rt.alloc(),
-            CROSSED_TOP,
-            CROSSED_BOTTOM,
-            Manner::LookingAhead,
-            0,
-            &chooser,
-            &CROSSED_FROM_NONE
-        )?,
-        3
-    );
-    Ok(())
-}
-
-#[test]
-fn the_crossed_channel_from_two(rt: HostRuntime) -> Result<(), Fail> {
-    let chooser = deft_chooser(rt.alloc())?;
-    assert_eq!(rt;
-        first_other_of(
-            rt.alloc(),
-            CROSSED_TOP,
-            CROSSED_BOTTOM,
-            Manner::LookingAhead,
-            2,
-            &chooser,
-            &CROSSED_FROM_TWO
-        )?,
-        3
-    );
-    Ok(())
-}
 
 // A channel of ten columns.
 const TEN_TOP: &[u32] = &[1, 3, 5, 4, 0, 2, 2, 5, 0, 2];
@@ -216,38 +181,51 @@ const TEN_FROM_FOUR: [Wanted<'static>; 11] = [
     },
 ];
 
-#[test]
-fn a_channel_of_ten_columns_from_none(rt: HostRuntime) -> Result<(), Fail> {
-    let chooser = deft_chooser(rt.alloc())?;
-    assert_eq!(rt;
-        first_other_of(
-            rt.alloc(),
-            TEN_TOP,
-            TEN_BOTTOM,
-            Manner::LookingAhead,
-            0,
-            &chooser,
-            &TEN_FROM_NONE
-        )?,
-        11
-    );
-    Ok(())
-}
+const LOOKING_AHEAD: [Case<'static>; 6] = [
+    Case {
+        top: CROSSED_TOP,
+        bottom: CROSSED_BOTTOM,
+        begun: 0,
+        wanted: &CROSSED_FROM_NONE,
+    },
+    Case {
+        top: CROSSED_TOP,
+        bottom: CROSSED_BOTTOM,
+        begun: 2,
+        wanted: &CROSSED_FROM_TWO,
+    },
+    Case {
+        top: TEN_TOP,
+        bottom: TEN_BOTTOM,
+        begun: 0,
+        wanted: &TEN_FROM_NONE,
+    },
+    Case {
+        top: TEN_TOP,
+        bottom: TEN_BOTTOM,
+        begun: 4,
+        wanted: &TEN_FROM_FOUR,
+    },
+    Case {
+        top: FOURTEEN_TOP,
+        bottom: FOURTEEN_BOTTOM,
+        begun: 0,
+        wanted: &FOURTEEN_FROM_NONE,
+    },
+    Case {
+        top: FOURTEEN_TOP,
+        bottom: FOURTEEN_BOTTOM,
+        begun: 5,
+        wanted: &FOURTEEN_FROM_FIVE,
+    },
+];
 
 #[test]
-fn a_channel_of_ten_columns_from_four(rt: HostRuntime) -> Result<(), Fail> {
+fn channels_from_no_track_and_from_free_ones(rt: HostRuntime) -> Result<(), Fail> {
     let chooser = deft_chooser(rt.alloc())?;
     assert_eq!(rt;
-        first_other_of(
-            rt.alloc(),
-            TEN_TOP,
-            TEN_BOTTOM,
-            Manner::LookingAhead,
-            4,
-            &chooser,
-            &TEN_FROM_FOUR
-        )?,
-        11
+        first_unlike(rt.alloc(), Manner::LookingAhead, &chooser, &LOOKING_AHEAD)?,
+        6
     );
     Ok(())
 }

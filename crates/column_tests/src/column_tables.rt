@@ -33,6 +33,15 @@ pub const NOTHING: Wanted<'static> = Wanted {
     moves: &[],
 };
 
+/// A channel, with how many free tracks its sweep begins, and the records of its columns.
+#[derive(Clone, Copy)]
+pub struct Case<'a> {
+    pub top: &'a [u32],
+    pub bottom: &'a [u32],
+    pub begun: u32,
+    pub wanted: &'a [Wanted<'a>],
+}
+
 fn is_wanted(done: &Column, wanted: &Wanted) -> bool {
     are_made(done, wanted.made)
         && (done.top, done.bottom, done.straight) == (wanted.top, wanted.bottom, wanted.straight)
@@ -135,4 +144,29 @@ fn first_other_in(
         }
     }
     Ok(wanted.len())
+}
+
+/// The number of the first case in which a column's record in a manner is another one than is wanted, or how many cases there are.
+pub fn first_unlike(
+    alloc: Global,
+    manner: Manner,
+    chooser: &Chooser,
+    cases: &[Case],
+) -> Result<usize, Fail> {
+    for (number, case) in cases.iter().enumerate() {
+        if case.begun > 1000
+            || first_other_of(
+                alloc,
+                case.top,
+                case.bottom,
+                manner,
+                case.begun,
+                chooser,
+                case.wanted,
+            )? != case.wanted.len()
+        {
+            return Ok(number);
+        }
+    }
+    Ok(cases.len())
 }

@@ -8,7 +8,7 @@ mod chooser_tests;
 #[cfg(test)]
 mod column_tables;
 #[cfg(test)]
-mod long_ahead_tests;
+mod long_channel;
 #[cfg(test)]
 mod wide_tests;
 #[cfg(test)]

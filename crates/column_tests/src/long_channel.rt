@@ -1,17 +1,16 @@
 //! Records of a channel of fourteen columns under `deft` in the manner that looks ahead, column by column, from no track and from five
 //! free ones.
 
-use crate::chooser_tests::deft_chooser;
-use crate::column_tables::{NOTHING, Wanted, first_other_of};
-use choose_core::Manner;
-use std::test::Fail;
+use crate::column_tables::{NOTHING, Wanted};
 
-// A channel of fourteen columns.
-const FOURTEEN_TOP: &[u32] = &[5, 1, 0, 4, 6, 4, 2, 1, 3, 4, 0, 1, 2, 6];
+/// The top pins of the channel.
+pub const FOURTEEN_TOP: &[u32] = &[5, 1, 0, 4, 6, 4, 2, 1, 3, 4, 0, 1, 2, 6];
 
-const FOURTEEN_BOTTOM: &[u32] = &[6, 0, 6, 1, 1, 0, 5, 0, 0, 1, 0, 1, 3, 0];
+/// Its bottom pins.
+pub const FOURTEEN_BOTTOM: &[u32] = &[6, 0, 6, 1, 1, 0, 5, 0, 0, 1, 0, 1, 3, 0];
 
-const FOURTEEN_FROM_NONE: [Wanted<'static>; 14] = [
+/// Its records from no track.
+pub const FOURTEEN_FROM_NONE: [Wanted<'static>; 14] = [
     Wanted {
         made: &[(1, 0), (2, 1)],
         top: 2,
@@ -76,7 +75,8 @@ const FOURTEEN_FROM_NONE: [Wanted<'static>; 14] = [
     },
 ];
 
-const FOURTEEN_FROM_FIVE: [Wanted<'static>; 14] = [
+/// Its records from five free tracks.
+pub const FOURTEEN_FROM_FIVE: [Wanted<'static>; 14] = [
     Wanted {
         top: 5,
         bottom: 1,
@@ -149,39 +149,3 @@ const FOURTEEN_FROM_FIVE: [Wanted<'static>; 14] = [
         ..NOTHING
     },
 ];
-
-#[test]
-fn a_channel_of_fourteen_columns_from_none(rt: HostRuntime) -> Result<(), Fail> {
-    let chooser = deft_chooser(rt.alloc())?;
-    assert_eq!(rt;
-        first_other_of(
-            rt.alloc(),
-            FOURTEEN_TOP,
-            FOURTEEN_BOTTOM,
-            Manner::LookingAhead,
-            0,
-            &chooser,
-            &FOURTEEN_FROM_NONE
-        )?,
-        14
-    );
-    Ok(())
-}
-
-#[test]
-fn a_channel_of_fourteen_columns_from_five(rt: HostRuntime) -> Result<(), Fail> {
-    let chooser = deft_chooser(rt.alloc())?;
-    assert_eq!(rt;
-        first_other_of(
-            rt.alloc(),
-            FOURTEEN_TOP,
-            FOURTEEN_BOTTOM,
-            Manner::LookingAhead,
-            5,
-            &chooser,
-            &FOURTEEN_FROM_FIVE
-        )?,
-        14
-    );
-    Ok(())
-}
