@@ -4,10 +4,13 @@ ghost use Rattle.greedy_column.specs.Ahead.{IsAhead};
 ghost use Rattle.greedy_column.specs.State.{IsState};
 ghost use Rattle.std.specs.Prelude.{◌<◌, ◌+◌, ◌^◌};
 
+use crate::chooser_tests::counting_chooser;
 use channel_model::Channel;
 use choose_core::{Chooser, Manner};
 use greedy_column::{Ahead, Column, ColumnState, step};
 use std::alloc::Global;
+use std::cell::Cell;
+use std::rc::Rc;
 use std::test::Fail;
 
 /// What a column's record is to be.
@@ -96,6 +99,18 @@ pub fn first_other(
     first_other_of(alloc, top, bottom, Manner::Published, 0, chooser, wanted)
 }
 
+/// The same of a chooser that counts in a cell how often it is asked.
+pub fn first_other_counted(
+    alloc: Global,
+    calls: &Rc<Cell<u32>>,
+    top: &[u32],
+    bottom: &[u32],
+    wanted: &[Wanted],
+) -> Result<usize, Fail> {
+    let chooser = counting_chooser(alloc, calls.clone()?)?;
+    first_other(alloc, top, bottom, &chooser, wanted)
+}
+
 /// The same in a manner, from so many free tracks.
 pub fn first_other_of(
     alloc: Global,
@@ -108,25 +123,46 @@ pub fn first_other_of(
 ) -> Result<usize, Fail>
     requires { begun + 1 < 2 ^ 32 }
 {
-    let channel = Channel::new(top.to_vec(alloc)?, bottom.to_vec(alloc)?).ok_or("a channel")?;
-    let ahead = Ahead::new(alloc, &channel)?;
-    let state = ColumnState::new(alloc, begun)?;
-    first_other_in(alloc, &channel, &ahead, state, manner, chooser, wanted)
+    let channel = channel_of(alloc, top, bottom)?;
+    first_other_along(alloc, &channel, manner, begun, chooser, wanted)
 }
 
-// The same, of a channel and from a state.
+// The channel of these pins.
+fn channel_of(alloc: Global, top: &[u32], bottom: &[u32]) -> Result<Channel, Fail> {
+    let top = top.to_vec(alloc)?;
+    let bottom = bottom.to_vec(alloc)?;
+    Ok(Channel::new(top, bottom).ok_or("a channel")?)
+}
+
+// The same of a channel.
+fn first_other_along(
+    alloc: Global,
+    channel: &Channel,
+    manner: Manner,
+    begun: u32,
+    chooser: &Chooser,
+    wanted: &[Wanted],
+) -> Result<usize, Fail>
+    requires { begun + 1 < 2 ^ 32 }
+{
+    let ahead = Ahead::new(alloc, channel)?;
+    first_other_in(alloc, channel, &ahead, manner, begun, chooser, wanted)
+}
+
+// The same, with what lies ahead in it.
 fn first_other_in(
     alloc: Global,
     channel: &Channel,
     ahead: &Ahead,
-    mut state: ColumnState,
     manner: Manner,
+    begun: u32,
     chooser: &Chooser,
     wanted: &[Wanted],
 ) -> Result<usize, Fail>
+    requires few { begun + 1 < 2 ^ 32 }
     requires ahead { IsAhead channel.now ahead.now }
-    requires state { IsState channel.now state }
 {
+    let mut state = ColumnState::new(alloc, begun)?;
     for (column, one) in wanted.iter().enumerate() {
         if column > 1000
             || !next_is(

@@ -1,7 +1,7 @@
 //! Records of small channels under the nearest and the last candidate, column by column.
 
-use crate::chooser_tests::{counting_chooser, last_chooser, nearest_chooser};
-use crate::column_tables::{Case, NOTHING, Wanted, first_other, first_unlike};
+use crate::chooser_tests::{last_chooser, nearest_chooser};
+use crate::column_tables::{Case, NOTHING, Wanted, first_other_counted, first_unlike};
 use choose_core::Manner;
 use std::cell::Cell;
 use std::rc::Rc;
@@ -230,9 +230,8 @@ fn small_channels_under_the_last(rt: HostRuntime) -> Result<(), Fail> {
 #[test]
 fn a_chooser_is_asked_at_each_choice(rt: HostRuntime) -> Result<(), Fail> {
     let calls = Rc::new(rt.alloc(), Cell::new(0))?;
-    let chooser = counting_chooser(rt.alloc(), calls.clone()?)?;
     assert_eq!(rt;
-        first_other(rt.alloc(), &[2, 1], &[1, 2], &chooser, &CROSSED)?,
+        first_other_counted(rt.alloc(), &calls, &[2, 1], &[1, 2], &CROSSED)?,
         3
     );
     assert_eq!(rt; calls.get(), 2);
