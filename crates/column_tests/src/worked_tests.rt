@@ -108,7 +108,7 @@ const NEW_FOR_THE_BOTTOM: [Wanted<'static>; 3] = [
     },
 ];
 
-// A net enters a track, and another one beside it ends at once.
+// Two nets enter new tracks, and the upper one ends in the next column.
 const BOTH: Wanted<'static> = Wanted {
     made: &[(1, 0), (2, 1)],
     top: 2,
