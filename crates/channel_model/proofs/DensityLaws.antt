@@ -63,12 +63,6 @@ carried_none [] = refl
 carried_none (s ∷ spans) =
     omega (arith, carried_none spans, none_carried s.first s.last, sum_by-cons (λ s. cond (is_carried 0 s) 1 0) s spans)
 
--- how many first columns are a column, and likewise last columns
-pub count_by-map : {X : Type 0} (f : X → ℕ) (c : ℕ) (xs : List X) → count_by (λ n. eqb n c) (map f xs) ≡ count_by (λ x. eqb (f x) c) xs
-count_by-map f c [] = refl
-count_by-map f c (x ∷ xs) =
-    omega (arith, count_by-map f c xs, sum_by-cons (λ n. cond (eqb n c) 1 0) (f x) (map f xs), sum_by-cons (λ x. cond (eqb (f x) c) 1 0) x xs)
-
 -- the spans of one more net
 pub spans_of-more : (pins : Pins) (nets : List ℕ) (i : ℕ) → i < length nets
     → spans_of pins (take (i + 1) nets) ≡ spans_of pins (take i nets) ++ option_to_list (span_of pins (get_or nets i 0))

@@ -8,19 +8,16 @@ use Rattle.std.proofs.lemmas.List.Kept.{IsStrictlyIncreasing-filter}
 use Rattle.std.proofs.lemmas.List.Sums.{sum_by-cons}
 use Rattle.std.specs.List.{count_by, fold, range_with_len}
 use Rattle.std.specs.List.Sorted.{IsStrictlyIncreasing}
+use Rattle.list_facts.proofs.Greatest.{greatest-first}
+use Rattle.list_facts.proofs.Ranges.{range-increasing}
 use Rattle.channel_model.specs.Nets.{AreNets, StandsIn, has_pin, nets_of}
 use Rattle.channel_model.specs.Pins.{Pins, pin_count}
 use Rattle.channel_model.proofs.ListingLaws.{Contains-filter}
 use Rattle.channel_model.proofs.NetLists.{AreNets-one}
 
--- the greatest of numbers is at least the one to begin with, and each of them
-begun-most : (a : ℕ) (xs : List ℕ) → a ≤ fold max a xs
-begun-most a [] = omega arith
-begun-most a (x ∷ xs) = let more = begun-most (max a x) xs in omega arith
-
 each-most : (a : ℕ) (xs : List ℕ) (k : ℕ) → k < length xs → get_or xs k 0 ≤ fold max a xs
 each-most a [] k within = absurd (omega arith)
-each-most a (x ∷ xs) zero within = let more = begun-most (max a x) xs in omega arith
+each-most a (x ∷ xs) zero within = let more = greatest-first (max a x) xs in omega arith
 each-most a (x ∷ xs) (suc k) within = each-most (max a x) xs k (omega arith)
 
 -- a number that stands in a list is counted, and one that is counted stands there
@@ -97,13 +94,6 @@ most-standing pins net stands = grade (elim stands.1.1 [
         let there : get_or (pins.top ++ pins.bottom) member.0 0 ≡ net = get_or_default (pins.top ++ pins.bottom) member.0 0 net member.1 ∙ member.2 in
         omega arith
 
--- numbers from one on rise, and each number from 1 to the last is among them
-rising-range : (a n : ℕ) → IsStrictlyIncreasing (range_with_len a n)
-rising-range a n k within =
-    let many = length-range_with_len a n in
-    let here = get_or-range_with_len a n k 0 (omega arith) in
-    let next = get_or-range_with_len a n (k + 1) 0 (omega arith) in omega arith
-
 range-has : (n net : ℕ) → 0 < net → net ≤ n → Contains (range_with_len 1 n) net
 range-has n net some few =
     let at : get_or (range_with_len 1 n) (net - 1) 0 ≡ net = (let here = get_or-range_with_len 1 n (net - 1) 0 (omega arith) in omega arith) in
@@ -127,7 +117,7 @@ unfolding nets_of
 nets-are pins =
     let all : List ℕ = range_with_len 1 (fold max 0 (pins.top ++ pins.bottom)) in
     record {
-      ascending = IsStrictlyIncreasing-filter (has_pin pins) all (rising-range 1 (fold max 0 (pins.top ++ pins.bottom)));
+      ascending = IsStrictlyIncreasing-filter (has_pin pins) all (range-increasing 1 (fold max 0 (pins.top ++ pins.bottom)));
       standing = λ net member.
           standing-pin pins net
           (range-some (fold max 0 (pins.top ++ pins.bottom)) net

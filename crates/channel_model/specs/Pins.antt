@@ -1,5 +1,6 @@
 use Rattle.std.specs.Prelude.{◌≡◌, ◌≢◌, ◌<◌, ◌≤◌, ◌+◌, ◌==◌, ◌&&◌, ◌||◌, not, Bool, ℕ, List, length, count_by}
 use Rattle.std.specs.List.{list_all}
+use Rattle.limits.specs.declared.TheConstants.{MOST_COLUMNS}
 
 -- the nets of the pins along the two edges of a channel, column by column, with 0 where there is no pin
 pub record Pins : Type 0 where
@@ -29,5 +30,5 @@ ArePaired pins = (net : ℕ) → 0 < net → pin_count pins net ≢ 1
 -- two lists of pins make a channel
 pub record IsChannel (pins : Pins) : Type 0 where
   pub matched : length pins.top ≡ length pins.bottom
-  pub within : length pins.top ≤ 4000000
+  pub within : length pins.top ≤ MOST_COLUMNS
   pub paired : ArePaired pins

@@ -3,6 +3,7 @@ ghost use Rattle.std.specs.List.{list_all};
 ghost use Rattle.std.specs.Prelude.{◌≡◌, ◌<◌, ◌+◌, ◌^◌, ◌↔◌, ◌==◌, IsSome, IfSome, length, count_by};
 
 use geom_core::Items;
+use limits::MOST_COLUMNS;
 use std::marker::Model;
 
 /// A channel between two rows: for each column the net of the pin at its upper edge and that of the pin at its lower edge,
@@ -24,9 +25,6 @@ impl Model for Channel {
 
     ghost invariant = { IsValid };
 }
-
-/// The most columns of a channel.
-pub const MOST_COLUMNS: usize = 4_000_000;
 
 impl Channel {
     /// The channel with these pins. `None` exactly where the lengths differ, a length is above 4,000,000, or a net has one

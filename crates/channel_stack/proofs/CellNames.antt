@@ -14,7 +14,7 @@ use Rattle.design_model.specs.CellsMatch.{cell_names, instance_names}
 use Rattle.design_model.specs.Netlist.{Netlist, IsNetlist}
 use Rattle.design_model.specs.declared.design.Inst.{Inst}
 use Rattle.list_facts.proofs.Different.{place-get}
-use Rattle.list_facts.proofs.Mentioned.{bytes_one, bytes_same}
+use Rattle.list_facts.proofs.Mentioned.{bytes_one, bytes_same, names-flip}
 use Rattle.channel_model.specs.declared.wiring.Wiring.{Wiring}
 use Rattle.wire_geom.specs.Drawing.{drawing}
 use Rattle.row_model.specs.Rows.{ArePlaced, all_instances, instances_in}
@@ -22,7 +22,7 @@ use Rattle.feed_cells.specs.Fed.{Fed, cells_in, item_width, seats_in}
 use Rattle.feed_cells.specs.declared.fed.Item.{Item}
 use Rattle.feed_cells.specs.declared.fed.Item.TheVariants.{Cell, Feed}
 use Rattle.wire_geom.proofs.ListLaws.{map-at}
-use Rattle.layout_laws.specs.Plans.{channel_height}
+use Rattle.layout_laws.specs.Heights.{channel_height}
 use Rattle.channel_stack.specs.Layouts.{item_shapes, layout_of, row_cells, row_shapes, stacked_cells}
 use Rattle.channel_stack.specs.declared.placed.PlacedItem.{PlacedItem}
 use Rattle.channel_stack.specs.Stack.{channel_bases, drawings, item_place, placed_from, placed_rows, row_bases, stack_of}
@@ -89,16 +89,6 @@ names-range value at from (x ∷ xs) same =
 -- the names of all instances are those at their numbers
 names-are : (d : Netlist) → map (name_at d) (range_with_len 0 (length d.instances)) ≡ instance_names d
 names-are d = names-range name_in (slice_get d.instances) 0 d.instances (λ k n is. ap (slice_get d.instances) (omega arith))
-
--- the test of two names does not heed their order
-names-flip : (v w : List ℕ) → bytes_eq v w ≡ bytes_eq w v
-names-flip v w = by (bytes_eq v w) (bytes_eq w v) refl refl
-  where
-    by : (a b : Bool) → bytes_eq v w ≡ a → bytes_eq w v ≡ b → a ≡ b
-    by true true one other = refl
-    by false false one other = refl
-    by true false one other = absurd (both_ways (bytes_eq w v) other (subst (λ (x : List ℕ). bytes_eq x v ≡ true) (bytes_one v w one) (bytes_same v)))
-    by false true one other = absurd (both_ways (bytes_eq v w) one (subst (λ (x : List ℕ). bytes_eq x w ≡ true) (bytes_one w v other) (bytes_same w)))
 
 module _ (r : RuleValues) (d : Netlist) (is : IsNetlist d) (fed : Fed) (placed : ArePlaced d (cells_in fed.rows)) (ws : List Wiring) (each : length ws ≡ length fed.rows + 1) where
   -- the cells of the layout have the names of the seats' instances

@@ -9,12 +9,12 @@ use Rattle.row_model.specs.Rows.{ArePlaced}
 use Rattle.row_model.specs.declared.rows.Seat.{Seat}
 use Rattle.feed_cells.specs.Fed.{Fed, IsFed, fed_rows, cells_in}
 use Rattle.feed_cells.proofs.FedLaws.{cells-fed}
-use Rattle.layout_laws.specs.Labels.{IsLabelled}
-use Rattle.layout_laws.specs.Plans.{plan_drawn}
+use Rattle.layout_laws.proofs.Labels.{IsLabelled}
+use Rattle.layout_laws.proofs.Plans.{plan_drawn}
 use Rattle.layout_laws.proofs.LabelLaws.{labelled-nets, labelled-spaced, labelled-wide}
 use Rattle.layout_laws.proofs.PlanLaws.{plan-apart, plan-wide}
 use Rattle.layout_laws.proofs.ThreadLaws.{plan-chained}
-use Rattle.channel_stack.specs.Planned.{net_at, plan_of}
+use Rattle.channel_stack.proofs.Planned.{net_at, plan_of}
 use Rattle.channel_stack.specs.Routed.{AreWired}
 use Rattle.channel_stack.proofs.LayoutDraws.{stack-draws}
 use Rattle.channel_stack.proofs.LayoutRows.{stack-in_rows}

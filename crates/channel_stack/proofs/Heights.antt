@@ -5,7 +5,7 @@ use Rattle.list_facts.proofs.Every.{every-weaker}
 use Rattle.channel_model.specs.declared.wiring.Wiring.{Wiring}
 use Rattle.feed_cells.specs.Fed.{Fed, IsFed, items_width}
 use Rattle.feed_cells.specs.declared.fed.Item.{Item}
-use Rattle.layout_laws.specs.Plans.{channel_height}
+use Rattle.layout_laws.specs.Heights.{channel_height}
 use Rattle.design_model.specs.Netlist.{Netlist}
 use Rattle.tech_rules.specs.Rules.{RuleValues, ValidRules}
 use Rattle.channel_stack.specs.Routed.{IsRouted, IsWithin}
@@ -42,7 +42,7 @@ rows-fit r d fed ws valid is_fed routed =
     fits : (items : List Item) → items_width d items ≤ fed.width → items_width d items < 2 ^ 39
     fits items within =
         let units = width-small r d fed ws valid routed in
-        let product : fed.width * 1 ≤ fed.width * r.grid_column = mul-le-mul (same-width within) (omega (arith, valid.ranges.grid_column)) in
+        let product : fed.width * 1 ≤ fed.width * r.grid.column = mul-le-mul (same-width within) (omega (arith, valid.ranges.grid.column)) in
         omega arith
       where
         same-width : items_width d items ≤ fed.width → fed.width ≤ fed.width

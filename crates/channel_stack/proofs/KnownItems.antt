@@ -5,7 +5,8 @@ use Rattle.std.proofs.lemmas.List.Sorted.{Contains-permutation, IsPermutation-sy
 use Rattle.std.proofs.lemmas.Option.{slice_get_within}
 use Rattle.std.specs.List.{AllByRecursion, range_with_len}
 use Rattle.std.specs.Prelude.{slice_get}
-use Rattle.list_facts.proofs.Members.{map-cases, map-member, member-cases, member-head, member-tail}
+use Rattle.list_facts.proofs.Places.{at-place}
+use Rattle.list_facts.proofs.Members.{map-cases, map-member, member-cases, member-head, member-tail, get-contains, member-place}
 use Rattle.tech_rules.specs.Rules.{RuleValues, ValidRules}
 use Rattle.design_model.specs.Netlist.{Netlist, IsNetlist, IsKind, IsPosition}
 use Rattle.design_model.specs.Drawing.{drawing_of}
@@ -23,9 +24,8 @@ use Rattle.row_model.specs.declared.rows.Seat.{Seat}
 use Rattle.feed_cells.specs.Fed.{Fed, cells_in, seats_in}
 use Rattle.feed_cells.specs.declared.fed.Item.{Item}
 use Rattle.feed_cells.specs.declared.fed.Item.TheVariants.{Cell, Feed}
-use Rattle.layout_laws.proofs.ListPlaces.{at-contains, contains-at}
 use Rattle.channel_stack.specs.Layouts.{item_shapes, kind_drawing}
-use Rattle.channel_stack.specs.Planned.{seat_drawn, seat_of}
+use Rattle.channel_stack.proofs.Planned.{seat_drawn, seat_of}
 use Rattle.channel_stack.specs.Stack.{item_place}
 use Rattle.channel_stack.proofs.PlacedShapes.{cell-drawn, feed-drawn}
 
@@ -43,23 +43,17 @@ abbrev pub IsKnown : Netlist → Item → Type 0
 IsKnown d (Cell s) = KnownCell d s
 IsKnown d (Feed net) = Unit {0}
 
--- what stands at a place within a list
-at-place : {A : Type 0} (xs : List A) (k : ℕ) → k < length xs → (x : A) × (slice_get xs k ≡ Some x)
-at-place [] k within = absurd (omega arith)
-at-place (x ∷ xs) zero within = (x, refl)
-at-place (x ∷ xs) (suc k) within = at-place xs k (omega arith)
-
 -- the kind of an instance
 pub instance-known : (d : Netlist) → IsNetlist d → (s : Seat) (inst : Inst) → slice_get d.instances s.instance ≡ Some inst → KnownCell d s
 instance-known d is s inst at =
-    let kind = at-place d.kinds inst.kind (All-contains (λ (i : Inst). i.kind < length d.kinds) d.instances inst is.instances (at-contains d.instances s.instance inst at)) in
+    let kind = at-place d.kinds inst.kind (All-contains (λ (i : Inst). i.kind < length d.kinds) d.instances inst is.instances (get-contains d.instances s.instance inst at)) in
     record {
       inst = inst;
       kind = kind.0;
       is_instance = at;
       is_kind = kind.1;
       is_kind_of = ap (λ (o : Option Inst). kind_in o) at ∙ kind.1;
-      good = All-contains IsKind d.kinds kind.0 is.kinds (at-contains d.kinds inst.kind kind.0 kind.1);
+      good = All-contains IsKind d.kinds kind.0 is.kinds (get-contains d.kinds inst.kind kind.0 kind.1);
     }
   where
     kind_in : Option Inst → Option CellKind
@@ -109,7 +103,7 @@ seated-in : (rows : List (List Item)) (items : List Item) (s : Seat) (instance :
     → SeatedAt rows instance
 seated-in rows items s instance row member own =
     let split : SeatSplit items s = in-seat items s member in
-    let place : (k : ℕ) × (slice_get rows k ≡ Some items) = contains-at rows items row in
+    let place : (k : ℕ) × (slice_get rows k ≡ Some items) = member-place rows items row in
     record {
       row = place.0;
       front = split.front;
@@ -162,7 +156,7 @@ module _ (d : Netlist) (fed : Fed) (placed : ArePlaced d (cells_in fed.rows)) wh
   rows-known is =
       every-from-get (AllByRecursion (IsKnown d)) fed.rows
       (λ k items at. every-from-get (IsKnown d) items
-      (λ j item there. item-known is items (at-contains fed.rows k items at) item (at-contains items j item there)))
+      (λ j item there. item-known is items (get-contains fed.rows k items at) item (get-contains items j item there)))
 
 -- the drawing of a cell's kind, copied to the cell's place, is that of its seat
 pub known-drawn : (r : RuleValues) → ValidRules r → (d : Netlist) → HasRoom r d → (s : Seat)
@@ -171,7 +165,7 @@ pub known-drawn : (r : RuleValues) → ValidRules r → (d : Netlist) → HasRoo
     ≡ map (λ (a : Drawn). a.shape) (seat_drawn r base d.height left (seat_of r d (Cell s)))
 known-drawn r valid d room s known base left =
     let some : 0 < length d.kinds = (let w = slice_get_within d.kinds known.inst.kind known.kind known.is_kind in omega arith) in
-    let high : r.grid_pin ≤ d.height = (let h = room some in omega arith) in
+    let high : r.grid.pin ≤ d.height = (let h = room some in omega arith) in
     cell-drawn r valid d high s known.kind base left known.is_kind_of
     (All-weaker (IsPosition known.kind) (λ (p : Position). p.column < known.kind.columns) (λ p is. is.column) known.kind.positions known.good.positions)
 

@@ -20,9 +20,10 @@ use Rattle.row_model.specs.declared.rows.Seat.{Seat}
 use Rattle.feed_cells.specs.Fed.{Fed, cells_in, item_width, items_width}
 use Rattle.feed_cells.specs.declared.fed.Item.{Item}
 use Rattle.feed_cells.specs.declared.fed.Item.TheVariants.{Cell, Feed}
-use Rattle.layout_laws.specs.Plans.{channel_height, plan_drawn, row_base}
+use Rattle.layout_laws.specs.Heights.{channel_height}
+use Rattle.layout_laws.proofs.Plans.{plan_drawn, row_base}
 use Rattle.channel_stack.specs.Layouts.{cell_at, channel_shapes, instance_cells, item_cells, item_shapes, kind_cells, layout_of, row_cells, row_shapes, stacked_cells}
-use Rattle.channel_stack.specs.Planned.{plan_of, row_drawn, seat_drawn, seat_of}
+use Rattle.channel_stack.proofs.Planned.{plan_of, row_drawn, seat_drawn, seat_of}
 use Rattle.channel_stack.specs.declared.placed.PlacedItem.{PlacedItem}
 use Rattle.channel_stack.specs.Stack.{channel_bases, drawings, item_place, placed_from, placed_rows, row_bases, stack_of}
 use Rattle.channel_stack.proofs.KnownItems.{IsKnown, KnownCell, item-drawn, rows-known}

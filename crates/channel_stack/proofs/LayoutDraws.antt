@@ -1,7 +1,7 @@
 use Rattle.std.proofs.Common.{◌≡◌, refl, ap, sym, ◌∙◌, ℕ, suc, ◌+◌, List, ◌∷◌, ◌++◌, length, map, Some, Option, arith}
 use Rattle.std.proofs.lemmas.List.Elements.{Contains-append_right}
 use Rattle.std.specs.Prelude.{slice_get}
-use Rattle.list_facts.proofs.Members.{member-head}
+use Rattle.list_facts.proofs.Members.{member-head, get-contains}
 use Rattle.tech_rules.specs.Rules.{RuleValues, ValidRules}
 use Rattle.design_model.specs.Netlist.{Netlist, IsNetlist}
 use Rattle.design_model.specs.declared.design.CellKind.{CellKind}
@@ -14,12 +14,11 @@ use Rattle.row_model.specs.declared.rows.Seat.{Seat}
 use Rattle.feed_cells.specs.Fed.{Fed, cells_in, items_width}
 use Rattle.feed_cells.specs.declared.fed.Item.{Item}
 use Rattle.feed_cells.specs.declared.fed.Item.TheVariants.{Cell}
-use Rattle.layout_laws.proofs.ListPlaces.{at-contains}
 use Rattle.wire_geom.proofs.ListLaws.{map-at}
-use Rattle.layout_laws.specs.Plans.{plan_drawn, row_base}
+use Rattle.layout_laws.proofs.Plans.{plan_drawn, row_base}
 use Rattle.channel_stack.specs.Layouts.{cell_at}
-use Rattle.channel_stack.specs.Planned.{plan_of, seat_drawn, seat_of, upright_drawn, upright_of}
-use Rattle.channel_stack.specs.Shown.{DrawsSeat, DrawsSeats}
+use Rattle.channel_stack.proofs.Planned.{plan_of, seat_drawn, seat_of, upright_drawn, upright_of}
+use Rattle.channel_stack.proofs.Shown.{DrawsSeat, DrawsSeats}
 use Rattle.channel_stack.specs.Stack.{item_place}
 use Rattle.channel_stack.proofs.KnownItems.{KnownCell, item-known}
 use Rattle.channel_stack.proofs.LayoutCells.{CellStands, cell-stands}
@@ -64,7 +63,7 @@ seat-draws r d fed ws k front s known c = record {
 pub cell-known : (d : Netlist) → IsNetlist d → (fed : Fed) → ArePlaced d (cells_in fed.rows)
     → (k : ℕ) (front : List Item) (s : Seat) (back : List Item) → slice_get fed.rows k ≡ Some (front ++ Cell s ∷ back) → KnownCell d s
 cell-known d is fed placed k front s back at =
-    item-known d fed placed is (front ++ Cell s ∷ back) (at-contains fed.rows k (front ++ Cell s ∷ back) at) (Cell s)
+    item-known d fed placed is (front ++ Cell s ∷ back) (get-contains fed.rows k (front ++ Cell s ∷ back) at) (Cell s)
     (Contains-append_right front (Cell s ∷ back) (Cell s) (member-head (Cell s) back))
 
 -- the positions of all seats are drawn where they stand in the plan

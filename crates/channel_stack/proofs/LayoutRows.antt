@@ -4,6 +4,7 @@ use Rattle.std.proofs.lemmas.Bool.{cases_lt}
 use Rattle.std.proofs.lemmas.Int.{ints}
 use Rattle.std.proofs.lemmas.Option.{none-some, same_Some, slice_get_within}
 use Rattle.std.specs.Prelude.{pos, slice_get, ◌⊎◌, ◌≤ℤ◌}
+use Rattle.list_facts.proofs.Members.{get-contains, map-cases}
 use Rattle.geom_core.specs.Extent.{Extent}
 use Rattle.geom_core.specs.declared.layout.Shape.{Shape}
 use Rattle.tech_rules.specs.InRows.{InRows, SameRow, IsBelow}
@@ -13,17 +14,18 @@ use Rattle.design_model.specs.Netlist.{Netlist, IsNetlist}
 use Rattle.design_model.specs.Room.{HasRoom}
 use Rattle.channel_model.specs.Elements.{elements}
 use Rattle.channel_model.specs.declared.wiring.Wiring.{Wiring}
-use Rattle.wire_geom.proofs.ListLaws.{Contains-flat_map_cases, Contains-map_cases}
+use Rattle.wire_geom.proofs.ListLaws.{Contains-flat_map_cases}
 use Rattle.wire_geom.specs.Drawing.{Mask, on_horizontal, on_vertical, on_cut, name_of, drawn_by, drawn_of, drawing, pieces_of}
 use Rattle.wire_geom.specs.Grid.{scaled}
 use Rattle.wire_geom.specs.declared.drawn.Drawn.{Drawn}
 use Rattle.row_model.specs.Rows.{ArePlaced}
 use Rattle.feed_cells.specs.Fed.{Fed, cells_in}
 use Rattle.feed_cells.specs.declared.fed.Item.{Item}
-use Rattle.layout_laws.proofs.ListPlaces.{at-contains, at-map}
-use Rattle.layout_laws.specs.Plans.{channel_height, plan_drawn}
-use Rattle.layout_laws.specs.Seats.{Seat, Upright}
-use Rattle.channel_stack.specs.Planned.{outline_drawn, plan_of, row_drawn, seat_drawn, seat_of, upright_drawn}
+use Rattle.layout_laws.proofs.ListPlaces.{at-map}
+use Rattle.layout_laws.specs.Heights.{channel_height}
+use Rattle.layout_laws.proofs.Plans.{plan_drawn}
+use Rattle.layout_laws.proofs.Seats.{Seat, Upright}
+use Rattle.channel_stack.proofs.Planned.{outline_drawn, plan_of, row_drawn, seat_drawn, seat_of, upright_drawn}
 use Rattle.channel_stack.proofs.LayoutShapes.{levels, plan-levels, stack-shapes, stack_layout}
 use Rattle.channel_stack.proofs.ListParts.{in-either}
 
@@ -34,12 +36,12 @@ data Follows (a b : Extent) : Type 0 where
 
 -- an outline, and where it stands: in a row, from a column on, or no lower than a height
 abbrev IsOutline : RuleValues → Drawn → Type 0
-IsOutline r a = a.shape.layer ≡ r.outline_layer
+IsOutline r a = a.shape.layer ≡ r.outline.layer
 
 record InRow (r : RuleValues) (base height left : ℕ) (a : Drawn) : Type 0 where
   pub low : a.shape.rect.y0 ≡ scaled r (2 * base)
   pub high : a.shape.rect.y1 ≡ scaled r (2 * (base + height))
-  pub from : scaled r (2 * (left * r.grid_column)) ≤ℤ a.shape.rect.x0
+  pub from : scaled r (2 * (left * r.grid.column)) ≤ℤ a.shape.rect.x0
 
 abbrev AreInRow : RuleValues → ℕ → ℕ → ℕ → List Drawn → Type 0
 AreInRow r base height left ds = (i : ℕ) (a : Drawn) → slice_get ds i ≡ Some a → IsOutline r a → InRow r base height left a
@@ -72,19 +74,19 @@ order-append r xs ys first second across i j a b before at_a at_b out other =
 
 -- a greater number of half units is greater in half centimicrons
 scaled-up : (r : RuleValues) (a b : ℕ) → a ≤ b → scaled r a ≤ℤ scaled r b
-scaled-up r a b le = let product : a * r.grid_centi ≤ b * r.grid_centi = mul-le-mul_right {m = a} {n = b} r.grid_centi le in omega (arith, ints)
+scaled-up r a b le = let product : a * r.grid.centi ≤ b * r.grid.centi = mul-le-mul_right {m = a} {n = b} r.grid.centi le in omega (arith, ints)
 
 module _ (r : RuleValues) (valid : ValidRules r) where
   -- wires and cuts are no outlines
-  mask-other : (mask : Mask) → name_of r mask ≡ r.outline_layer → ⊥
+  mask-other : (mask : Mask) → name_of r mask ≡ r.outline.layer → ⊥
   mask-other on_horizontal is = valid.layers.horizontal_outline is
   mask-other on_vertical is = valid.layers.vertical_outline is
   mask-other on_cut is = valid.layers.cut_outline is
 
   drawing-wires : (base : ℕ) (w : Wiring) → AreWires r (drawing r base w)
   drawing-wires base w i a at out =
-      let of = Contains-flat_map_cases (drawn_by r base w.tracks) (elements w) a (at-contains (drawing r base w) i a at) in
-      let piece = Contains-map_cases (drawn_of r) (pieces_of r base w.tracks of.0) a of.2 in
+      let of = Contains-flat_map_cases (drawn_by r base w.tracks) (elements w) a (get-contains (drawing r base w) i a at) in
+      let piece = map-cases (drawn_of r) (pieces_of r base w.tracks of.0) a of.2 in
       mask-other piece.0.mask (ap (λ (x : Drawn). x.shape.layer) piece.2 ∙ out)
 
   -- uprights are no outlines
@@ -106,8 +108,8 @@ module _ (r : RuleValues) (valid : ValidRules r) where
   -- an outline farther to the right is one from here on
   row-nearer : (base height left right : ℕ) (a : Drawn) → left ≤ right → InRow r base height right a → InRow r base height left a
   row-nearer base height left right a le a_in =
-      let columns : left * r.grid_column ≤ right * r.grid_column = mul-le-mul_right {m = left} {n = right} r.grid_column le in
-      let up = scaled-up r (2 * (left * r.grid_column)) (2 * (right * r.grid_column)) (omega arith) in
+      let columns : left * r.grid.column ≤ right * r.grid.column = mul-le-mul_right {m = left} {n = right} r.grid.column le in
+      let up = scaled-up r (2 * (left * r.grid.column)) (2 * (right * r.grid.column)) (omega arith) in
       record { low = a_in.low; high = a_in.high; from = (let e = a_in.from in omega (arith, ints)) }
 
   -- the outlines of a row stand in it
@@ -116,7 +118,7 @@ module _ (r : RuleValues) (valid : ValidRules r) where
   row-in base height left (seat ∷ seats) i a at out =
       elim (in-either (seat_drawn r base height left seat) (row_drawn r base height (left + seat.width) seats) i a at) [
         | inl here ↦ subst (InRow r base height left) (sym (seat-outline base height left seat i a here out))
-            (record { low = refl; high = refl; from = scaled-up r (2 * (left * r.grid_column)) (2 * (left * r.grid_column)) (omega arith) })
+            (record { low = refl; high = refl; from = scaled-up r (2 * (left * r.grid.column)) (2 * (left * r.grid.column)) (omega arith) })
         | inr there ↦ row-nearer base height left (left + seat.width) a (omega arith) (row-in base height (left + seat.width) seats there.0 a there.2 out)
       ]
 
@@ -194,7 +196,7 @@ module _ (r : RuleValues) (valid : ValidRules r) (d : Netlist) (is : IsNetlist d
     (fed : Fed) (placed : ArePlaced d (cells_in fed.rows)) (ws : List Wiring) (each : length ws ≡ length fed.rows + 1) where
   -- an outline of the layout follows an earlier one
   shapes-follow : (i j : ℕ) (s t : Shape) → i < j → slice_get (stack_layout r d fed ws).shapes i ≡ Some s → slice_get (stack_layout r d fed ws).shapes j ≡ Some t
-      → s.layer ≡ r.outline_layer → t.layer ≡ r.outline_layer → Follows s.rect t.rect
+      → s.layer ≡ r.outline.layer → t.layer ≡ r.outline.layer → Follows s.rect t.rect
   shapes-follow i j s t before at_s at_t out other =
       let shapes = stack-shapes r valid d is room fed placed ws each in
       let plan : List Drawn = plan_drawn r (plan_of r d fed ws) in
@@ -206,7 +208,7 @@ module _ (r : RuleValues) (valid : ValidRules r) (d : Netlist) (is : IsNetlist d
 
   -- two different outlines follow one another in one order or the other
   either-follows : (i j : ℕ) (s t : Shape) → i ≢ j → slice_get (stack_layout r d fed ws).shapes i ≡ Some s → slice_get (stack_layout r d fed ws).shapes j ≡ Some t
-      → s.layer ≡ r.outline_layer → t.layer ≡ r.outline_layer → Follows s.rect t.rect ⊎ Follows t.rect s.rect
+      → s.layer ≡ r.outline.layer → t.layer ≡ r.outline.layer → Follows s.rect t.rect ⊎ Follows t.rect s.rect
   either-follows i j s t differ at_s at_t out other =
       elim (cases_lt i j) [
         | inl low ↦ inl (shapes-follow i j s t low at_s at_t out other)

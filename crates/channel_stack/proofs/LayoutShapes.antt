@@ -14,9 +14,10 @@ use Rattle.row_model.specs.Rows.{ArePlaced}
 use Rattle.feed_cells.specs.Fed.{Fed, cells_in, item_width}
 use Rattle.feed_cells.specs.declared.fed.Item.{Item}
 use Rattle.feed_cells.specs.declared.fed.Item.TheVariants.{Cell, Feed}
-use Rattle.layout_laws.specs.Plans.{Plan, channel_height, drawn_to, plan_drawn}
+use Rattle.layout_laws.specs.Heights.{channel_height}
+use Rattle.layout_laws.proofs.Plans.{Plan, drawn_to, plan_drawn}
 use Rattle.channel_stack.specs.Layouts.{channel_shapes, layout_of, row_shapes, stacked_shapes}
-use Rattle.channel_stack.specs.Planned.{plan_of, row_drawn, seat_drawn, seat_of, wiring_at}
+use Rattle.channel_stack.proofs.Planned.{plan_of, row_drawn, seat_drawn, seat_of, wiring_at}
 use Rattle.channel_stack.specs.Stack.{channel_bases, drawings, placed_from, placed_rows, row_bases, stack_of}
 use Rattle.channel_stack.proofs.KnownItems.{IsKnown, item-drawn, rows-known}
 

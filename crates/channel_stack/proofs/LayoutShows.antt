@@ -7,7 +7,7 @@ use Rattle.std.specs.Option.{is_some}
 use Rattle.std.specs.Prelude.{slice_get}
 use Rattle.geom_core.specs.declared.layout.Cell as layouts
 use Rattle.design_model.proofs.DesignPins.{pin-found}
-use Rattle.list_facts.proofs.Members.{map-cases}
+use Rattle.list_facts.proofs.Members.{map-cases, get-contains, member-place}
 use Rattle.geom_core.specs.declared.layout.Shape.{Shape}
 use Rattle.tech_rules.specs.Rules.{RuleValues, ValidRules}
 use Rattle.geom_core.specs.Moving.{moved_shape}
@@ -31,13 +31,12 @@ use Rattle.feed_cells.specs.Fed.{Fed, cells_in, items_width}
 use Rattle.feed_cells.specs.declared.fed.Item.{Item}
 use Rattle.feed_cells.specs.declared.fed.Item.TheVariants.{Cell}
 use Rattle.pin_assign.proofs.EdgeLaws.{EdgePosition, edge-position}
-use Rattle.layout_laws.proofs.ListPlaces.{at-contains, contains-at}
 use Rattle.wire_geom.proofs.ListLaws.{map-at}
-use Rattle.layout_laws.specs.Labels.{ShowsPins}
-use Rattle.layout_laws.specs.Plans.{plan_drawn, row_base}
+use Rattle.layout_laws.proofs.Labels.{ShowsPins}
+use Rattle.layout_laws.proofs.Plans.{plan_drawn, row_base}
 use Rattle.channel_stack.specs.Layouts.{cell_at, channel_shapes}
-use Rattle.channel_stack.specs.Planned.{net_at, net_found, plan_of, seat_drawn, seat_of, upright_drawn, upright_of}
-use Rattle.channel_stack.specs.Shown.{DrawsPosition, DrawsSeat}
+use Rattle.channel_stack.proofs.Planned.{net_at, net_found, plan_of, seat_drawn, seat_of, upright_drawn, upright_of}
+use Rattle.channel_stack.proofs.Shown.{DrawsPosition, DrawsSeat}
 use Rattle.channel_stack.specs.Stack.{item_place}
 use Rattle.channel_stack.proofs.CellNames.{named-once, stack-names}
 use Rattle.channel_stack.proofs.KnownItems.{KnownCell, SeatedAt, known-drawn, seated}
@@ -105,18 +104,6 @@ module _ (r : RuleValues) (valid : ValidRules r) (d : Netlist) (is : IsNetlist d
         is = same_Some copy cell (sym at_cell ∙ ap (slice_get (stack_layout r d fed ws).cells) one ∙ stands.at);
       }
 
-  -- each cell is that of an instance's seat
-  pub every-cell : (number : ℕ) (copy : layouts.Cell) → slice_get (stack_layout r d fed ws).cells number ≡ Some copy
-      → (instance : ℕ) × (inst : Inst) × IsCellOf r d fed ws number instance copy inst
-  every-cell number copy at_cell =
-      let names : List (List ℕ) = cell_names (stack_layout r d fed ws) in
-      let named : Contains names copy.name = at-contains names number copy.name (map-at (λ (c : layouts.Cell). c.name) (stack_layout r d fed ws).cells number copy at_cell) in
-      let listed : Contains (instance_names d) copy.name =
-      Contains-permutation names (instance_names d) copy.name (IsPermutation-sym (instance_names d) names (stack-names r d is fed placed ws each)) named in
-      let inst = map-cases (λ (i : Inst). i.name) d.instances copy.name listed in
-      let place = contains-at d.instances inst.0 inst.1 in
-      (place.0, inst.0, cell-is number place.0 copy inst.0 at_cell place.1 (sym inst.2))
-
   -- the kind of the cell's instance
   same-kind : (number instance : ℕ) (copy : layouts.Cell) (inst : Inst) (kind : CellKind) → slice_get d.kinds inst.kind ≡ Some kind
       → (c : IsCellOf r d fed ws number instance copy inst) → c.known.kind ≡ kind
@@ -125,7 +112,7 @@ module _ (r : RuleValues) (valid : ValidRules r) (d : Netlist) (is : IsNetlist d
 
   -- the shape with a terminal's drawing is a vertical wire of the terminal's net
   pub stack-drawn : (cell instance terminal i : ℕ) → Draws d (stack_layout r d fed ws) cell instance terminal i
-      → (a : Drawn) × (slice_get (plan_drawn r (plan_of r d fed ws)) i ≡ Some a) × (a.shape.layer ≡ r.vertical_layer) × (a.net ≡ net_at d instance terminal)
+      → (a : Drawn) × (slice_get (plan_drawn r (plan_of r d fed ws)) i ≡ Some a) × (a.shape.layer ≡ r.vertical.layer) × (a.net ≡ net_at d instance terminal)
   stack-drawn cell instance terminal i dr =
       let c : IsCellOf r d fed ws cell instance dr.copy dr.inst = cell-is cell instance dr.copy dr.inst dr.is_cell dr.is_instance dr.named in
       let base : ℕ = row_base r (plan_of r d fed ws) c.row in
@@ -210,7 +197,7 @@ module _ (r : RuleValues) (valid : ValidRules r) (d : Netlist) (is : IsNetlist d
   stack-cells = record {
     names = stack-names r d is fed placed ws each;
     copies = λ cell inst kind has_cell has_inst named is_kind.
-        let n = contains-at (stack_layout r d fed ws).cells cell has_cell in
-        let m = contains-at d.instances inst has_inst in
+        let n = member-place (stack_layout r d fed ws).cells cell has_cell in
+        let m = member-place d.instances inst has_inst in
         stack-copy n.0 m.0 cell inst kind n.1 m.1 named is_kind;
   }

@@ -2,8 +2,6 @@
 pub mod StackBounds
 -- how high and how wide routed designs are
 pub mod Heights
--- a worked layout
-pub mod Worked
 -- the lower edges of channels
 pub mod PlanBases
 -- the items of a row, and the wires that are drawn for them
@@ -44,3 +42,7 @@ pub mod LayoutShows
 pub mod LayoutRows
 -- wired channels make a good layout
 pub mod GoodStack
+-- the layout as a plan of rows and channels, with the nets of its rectangles
+pub mod Planned
+-- which shapes draw the positions of seats
+pub mod Shown

@@ -17,12 +17,12 @@ use Rattle.row_model.specs.Stands.{turned_column, positions_in}
 use Rattle.row_model.specs.Widths.{kind_of, columns_of, width_of}
 use Rattle.row_model.specs.declared.rows.Seat as seats
 use Rattle.feed_cells.specs.declared.fed.Item.TheVariants.{Cell, Feed}
-use Rattle.layout_laws.specs.Seats.{Upright}
-use Rattle.layout_laws.specs.Uprights.{upright_rect}
+use Rattle.layout_laws.proofs.Seats.{Upright}
+use Rattle.layout_laws.proofs.Uprights.{upright_rect}
 use Rattle.wire_geom.specs.declared.drawn.Drawn.{Drawn}
 use Rattle.channel_stack.specs.Stack.{corner_column, place_at, item_place}
 use Rattle.channel_stack.specs.Layouts.{feed_outline, feed_wire, feed_drawing}
-use Rattle.channel_stack.specs.Planned.{feed_upright, upright_of, seat_of, outline_drawn, upright_drawn, seat_drawn}
+use Rattle.channel_stack.proofs.Planned.{feed_upright, upright_of, seat_of, outline_drawn, upright_drawn, seat_drawn}
 
 -- the sum of scaled numbers
 scaled-sum : (a b n c : ℕ) → a + b ≡ n → pos (a * c) +ℤ pos (b * c) ≡ pos (n * c)
@@ -42,36 +42,36 @@ extent-same : (a b c d a' b' c' d' : ℤ) → a ≡ a' → b ≡ b' → c ≡ c'
 extent-same a b c d a' b' c' d' ea eb ec ed = cc
 
 -- a rectangle at an upright place
-upright-moved : (r : RuleValues) (base column x0 y0 x1 y1 a0 b0 a1 b1 : ℕ) → x0 + 2 * (column * r.grid_column) ≡ a0 → y0 + 2 * base ≡ b0
-    → x1 + 2 * (column * r.grid_column) ≡ a1 → y1 + 2 * base ≡ b1
-    → moved (turn_at (place_at r base false column)) (extent_of r.grid_centi x0 y0 x1 y1) ≡ extent_of r.grid_centi a0 b0 a1 b1
+upright-moved : (r : RuleValues) (base column x0 y0 x1 y1 a0 b0 a1 b1 : ℕ) → x0 + 2 * (column * r.grid.column) ≡ a0 → y0 + 2 * base ≡ b0
+    → x1 + 2 * (column * r.grid.column) ≡ a1 → y1 + 2 * base ≡ b1
+    → moved (turn_at (place_at r base false column)) (extent_of r.grid.centi x0 y0 x1 y1) ≡ extent_of r.grid.centi a0 b0 a1 b1
 upright-moved r base column x0 y0 x1 y1 a0 b0 a1 b1 left low right high =
     extent-same _ _ _ _ _ _ _ _
-    (scaled-sum x0 (2 * (column * r.grid_column)) a0 r.grid_centi left) (scaled-sum y0 (2 * base) b0 r.grid_centi low)
-    (scaled-sum x1 (2 * (column * r.grid_column)) a1 r.grid_centi right) (scaled-sum y1 (2 * base) b1 r.grid_centi high)
+    (scaled-sum x0 (2 * (column * r.grid.column)) a0 r.grid.centi left) (scaled-sum y0 (2 * base) b0 r.grid.centi low)
+    (scaled-sum x1 (2 * (column * r.grid.column)) a1 r.grid.centi right) (scaled-sum y1 (2 * base) b1 r.grid.centi high)
 
 -- a rectangle at a mirrored place
-mirrored-moved : (r : RuleValues) (base column x0 y0 x1 y1 a0 b0 a1 b1 : ℕ) → a0 + x1 ≡ 2 * (column * r.grid_column) → y0 + 2 * base ≡ b0
-    → a1 + x0 ≡ 2 * (column * r.grid_column) → y1 + 2 * base ≡ b1
-    → moved (turn_at (place_at r base true column)) (extent_of r.grid_centi x0 y0 x1 y1) ≡ extent_of r.grid_centi a0 b0 a1 b1
+mirrored-moved : (r : RuleValues) (base column x0 y0 x1 y1 a0 b0 a1 b1 : ℕ) → a0 + x1 ≡ 2 * (column * r.grid.column) → y0 + 2 * base ≡ b0
+    → a1 + x0 ≡ 2 * (column * r.grid.column) → y1 + 2 * base ≡ b1
+    → moved (turn_at (place_at r base true column)) (extent_of r.grid.centi x0 y0 x1 y1) ≡ extent_of r.grid.centi a0 b0 a1 b1
 mirrored-moved r base column x0 y0 x1 y1 a0 b0 a1 b1 left low right high =
     extent-same _ _ _ _ _ _ _ _
-    (scaled-difference x1 (2 * (column * r.grid_column)) a0 r.grid_centi left) (scaled-sum y0 (2 * base) b0 r.grid_centi low)
-    (scaled-difference x0 (2 * (column * r.grid_column)) a1 r.grid_centi right) (scaled-sum y1 (2 * base) b1 r.grid_centi high)
+    (scaled-difference x1 (2 * (column * r.grid.column)) a0 r.grid.centi left) (scaled-sum y0 (2 * base) b0 r.grid.centi low)
+    (scaled-difference x0 (2 * (column * r.grid.column)) a1 r.grid.centi right) (scaled-sum y1 (2 * base) b1 r.grid.centi high)
 
 -- the rectangle of a pin in this column of its cell
 abbrev pin_rect : RuleValues → ℕ → ℕ → Bool → Extent
-pin_rect r height column top = extent_of r.grid_centi
-    (middle_of r.grid_column column - r.vertical_width) (pin_low r.grid_pin height top)
-    (middle_of r.grid_column column + r.vertical_width) (pin_high r.grid_pin height top)
+pin_rect r height column top = extent_of r.grid.centi
+    (middle_of r.grid.column column - r.vertical.width) (pin_low r.grid.pin height top)
+    (middle_of r.grid.column column + r.vertical.width) (pin_high r.grid.pin height top)
 
-module _ (r : RuleValues) (valid : ValidRules r) (d : Netlist) (high : r.grid_pin ≤ d.height) where
+module _ (r : RuleValues) (valid : ValidRules r) (d : Netlist) (high : r.grid.pin ≤ d.height) where
   -- the upright of a pin on an edge
   abbrev pin_upright : Bool → Upright
-  pin_upright top = record { column = 0; low = if top then d.height - r.grid_pin else 0; high = if top then d.height else r.grid_pin; net = 0 }
+  pin_upright top = record { column = 0; low = if top then d.height - r.grid.pin else 0; high = if top then d.height else r.grid.pin; net = 0 }
 
   -- a vertical wire is not wider than a column
-  narrow : r.vertical_width ≤ r.grid_column
+  narrow : r.vertical.width ≤ r.grid.column
   narrow = let a = valid.pad_vertical in let b = valid.column_vertical in omega arith
 
   -- a pin stands in its column of the row
@@ -79,37 +79,37 @@ module _ (r : RuleValues) (valid : ValidRules r) (d : Netlist) (high : r.grid_pi
       → moved (turn_at (place_at r base mirror (corner_column mirror left columns))) (pin_rect r d.height column top)
       ≡ upright_rect r base (pin_upright top) (left + turned_column mirror columns column)
   pin-moved base left columns column false true within =
-      let parts : (left + column) * r.grid_column ≡ left * r.grid_column + column * r.grid_column = add-mul left column r.grid_column in
-      let room : r.vertical_width ≤ r.grid_column = narrow in
+      let parts : (left + column) * r.grid.column ≡ left * r.grid.column + column * r.grid.column = add-mul left column r.grid.column in
+      let room : r.vertical.width ≤ r.grid.column = narrow in
       upright-moved r base left _ _ _ _ _ _ _ _ (omega arith) (omega arith) (omega arith) (omega arith)
   pin-moved base left columns column false false within =
-      let parts : (left + column) * r.grid_column ≡ left * r.grid_column + column * r.grid_column = add-mul left column r.grid_column in
-      let room : r.vertical_width ≤ r.grid_column = narrow in
+      let parts : (left + column) * r.grid.column ≡ left * r.grid.column + column * r.grid.column = add-mul left column r.grid.column in
+      let room : r.vertical.width ≤ r.grid.column = narrow in
       upright-moved r base left _ _ _ _ _ _ _ _ (omega arith) (omega arith) (omega arith) (omega arith)
   pin-moved base left columns column true true within =
       let other : ℕ = columns - 1 - column in
-      let all : (left + columns) * r.grid_column ≡ (left + other) * r.grid_column + (1 + column) * r.grid_column =
-      ap (λ (n : ℕ). n * r.grid_column) (omega arith) ∙ add-mul (left + other) (1 + column) r.grid_column in
-      let last : (1 + column) * r.grid_column ≡ 1 * r.grid_column + column * r.grid_column = add-mul 1 column r.grid_column in
-      let room : r.vertical_width ≤ r.grid_column = narrow in
+      let all : (left + columns) * r.grid.column ≡ (left + other) * r.grid.column + (1 + column) * r.grid.column =
+      ap (λ (n : ℕ). n * r.grid.column) (omega arith) ∙ add-mul (left + other) (1 + column) r.grid.column in
+      let last : (1 + column) * r.grid.column ≡ 1 * r.grid.column + column * r.grid.column = add-mul 1 column r.grid.column in
+      let room : r.vertical.width ≤ r.grid.column = narrow in
       mirrored-moved r base (left + columns) _ _ _ _ _ _ _ _ (omega arith) (omega arith) (omega arith) (omega arith)
   pin-moved base left columns column true false within =
       let other : ℕ = columns - 1 - column in
-      let all : (left + columns) * r.grid_column ≡ (left + other) * r.grid_column + (1 + column) * r.grid_column =
-      ap (λ (n : ℕ). n * r.grid_column) (omega arith) ∙ add-mul (left + other) (1 + column) r.grid_column in
-      let last : (1 + column) * r.grid_column ≡ 1 * r.grid_column + column * r.grid_column = add-mul 1 column r.grid_column in
-      let room : r.vertical_width ≤ r.grid_column = narrow in
+      let all : (left + columns) * r.grid.column ≡ (left + other) * r.grid.column + (1 + column) * r.grid.column =
+      ap (λ (n : ℕ). n * r.grid.column) (omega arith) ∙ add-mul (left + other) (1 + column) r.grid.column in
+      let last : (1 + column) * r.grid.column ≡ 1 * r.grid.column + column * r.grid.column = add-mul 1 column r.grid.column in
+      let room : r.vertical.width ≤ r.grid.column = narrow in
       mirrored-moved r base (left + columns) _ _ _ _ _ _ _ _ (omega arith) (omega arith) (omega arith) (omega arith)
 
   -- a cell's outline lies between the cell's columns of the row
   outline-moved : (base left columns : ℕ) (mirror : Bool)
-      → moved (turn_at (place_at r base mirror (corner_column mirror left columns))) (extent_of r.grid_centi 0 0 (2 * (columns * r.grid_column)) (2 * d.height))
+      → moved (turn_at (place_at r base mirror (corner_column mirror left columns))) (extent_of r.grid.centi 0 0 (2 * (columns * r.grid.column)) (2 * d.height))
       ≡ (outline_drawn r base d.height left (left + columns)).shape.rect
   outline-moved base left columns false =
-      let parts : (left + columns) * r.grid_column ≡ left * r.grid_column + columns * r.grid_column = add-mul left columns r.grid_column in
+      let parts : (left + columns) * r.grid.column ≡ left * r.grid.column + columns * r.grid.column = add-mul left columns r.grid.column in
       upright-moved r base left _ _ _ _ _ _ _ _ (omega arith) (omega arith) (omega arith) (omega arith)
   outline-moved base left columns true =
-      let parts : (left + columns) * r.grid_column ≡ left * r.grid_column + columns * r.grid_column = add-mul left columns r.grid_column in
+      let parts : (left + columns) * r.grid.column ≡ left * r.grid.column + columns * r.grid.column = add-mul left columns r.grid.column in
       mirrored-moved r base (left + columns) _ _ _ _ _ _ _ _ (omega arith) (omega arith) (omega arith) (omega arith)
 
   -- the drawings of a cell's positions are its uprights
@@ -122,9 +122,9 @@ module _ (r : RuleValues) (valid : ValidRules r) (d : Netlist) (high : r.grid_pi
       let width : ℕ = columns_of d s.instance in
       let here = pin-moved base left width p.column s.mirror p.top (All-head (λ (q : Position). q.column < width) p ps all) in
       let more = pins-drawn s base left ps (All-tail (λ (q : Position). q.column < width) p ps all) in
-      ap (λ (e : Extent). record { layer = r.vertical_layer; rect = e }
+      ap (λ (e : Extent). record { layer = r.vertical.layer; rect = e }
       ∷ map (moved_shape (turn_at (place_at r base s.mirror (corner_column s.mirror left width)))) (map (position_shape r d.height) ps)) here
-      ∙ ap (λ (l : List Shape). record { layer = r.vertical_layer; rect = upright_rect r base (pin_upright p.top) (left + turned_column s.mirror width p.column) } ∷ l) more
+      ∙ ap (λ (l : List Shape). record { layer = r.vertical.layer; rect = upright_rect r base (pin_upright p.top) (left + turned_column s.mirror width p.column) } ∷ l) more
 
   -- the drawing of a kind, copied to a cell's place, is that of the cell's seat
   pub cell-drawn : (s : seats.Seat) (kind : CellKind) (base left : ℕ) → kind_of d s.instance ≡ Some kind
@@ -135,11 +135,11 @@ module _ (r : RuleValues) (valid : ValidRules r) (d : Netlist) (high : r.grid_pi
   cell-drawn s kind base left is within =
       let width : columns_of d s.instance ≡ kind.columns = ap width_of is in
       let outline =
-      ap (λ (n : ℕ). moved (turn_at (place_at r base s.mirror (corner_column s.mirror left (columns_of d s.instance)))) (extent_of r.grid_centi 0 0 (2 * (n * r.grid_column)) (2 * d.height))) (sym width)
+      ap (λ (n : ℕ). moved (turn_at (place_at r base s.mirror (corner_column s.mirror left (columns_of d s.instance)))) (extent_of r.grid.centi 0 0 (2 * (n * r.grid.column)) (2 * d.height))) (sym width)
       ∙ outline-moved base left (columns_of d s.instance) s.mirror in
       let pins = pins-drawn s base left kind.positions (subst (λ (n : ℕ). All (λ (p : Position). p.column < n) kind.positions) (sym width) within) in
       let place = turn_at (item_place r d base left (Cell s)) in
-      ap (λ (e : Extent). record { layer = r.outline_layer; rect = e } ∷ map (moved_shape place) (map (position_shape r d.height) kind.positions)) outline
+      ap (λ (e : Extent). record { layer = r.outline.layer; rect = e } ∷ map (moved_shape place) (map (position_shape r d.height) kind.positions)) outline
       ∙ ap (λ (l : List Shape). (outline_drawn r base d.height left (left + columns_of d s.instance)).shape ∷ l) pins
       ∙ ap (λ (ps : List Position). (outline_drawn r base d.height left (left + columns_of d s.instance)).shape
       ∷ map (λ (a : Drawn). a.shape) (map (upright_drawn r base left) (map (upright_of r d s) ps))) (sym (ap positions_in is))
@@ -150,13 +150,13 @@ pub feed-drawn : (r : RuleValues) → ValidRules r → (d : Netlist) (net base l
     ≡ map (λ (a : Drawn). a.shape) (seat_drawn r base d.height left (seat_of r d (Feed net)))
 unfolding feed_drawing
 feed-drawn r valid d net base left =
-    let next : (left + 1) * r.grid_column ≡ left * r.grid_column + 1 * r.grid_column = add-mul left 1 r.grid_column in
-    let same : (left + 0) * r.grid_column ≡ left * r.grid_column = ap (λ (n : ℕ). n * r.grid_column) (omega arith) in
-    let room : r.vertical_width ≤ r.grid_column = (let a = valid.pad_vertical in let b = valid.column_vertical in omega arith) in
+    let next : (left + 1) * r.grid.column ≡ left * r.grid.column + 1 * r.grid.column = add-mul left 1 r.grid.column in
+    let same : (left + 0) * r.grid.column ≡ left * r.grid.column = ap (λ (n : ℕ). n * r.grid.column) (omega arith) in
+    let room : r.vertical.width ≤ r.grid.column = (let a = valid.pad_vertical in let b = valid.column_vertical in omega arith) in
     let place = turn_at (item_place r d base left (Feed net)) in
     let outline : moved place (feed_outline r d.height).rect ≡ (outline_drawn r base d.height left (left + 1)).shape.rect =
     upright-moved r base left _ _ _ _ _ _ _ _ (omega arith) (omega arith) (omega arith) (omega arith) in
     let wire : moved place (feed_wire r d.height).rect ≡ upright_rect r base (feed_upright d.height net) (left + 0) =
     upright-moved r base left _ _ _ _ _ _ _ _ (omega arith) (omega arith) (omega arith) (omega arith) in
-    ap (λ (e : Extent). record { layer = r.outline_layer; rect = e } ∷ (moved_shape place (feed_wire r d.height) ∷ [])) outline
-    ∙ ap (λ (e : Extent). (outline_drawn r base d.height left (left + 1)).shape ∷ (record { layer = r.vertical_layer; rect = e } ∷ [])) wire
+    ap (λ (e : Extent). record { layer = r.outline.layer; rect = e } ∷ (moved_shape place (feed_wire r d.height) ∷ [])) outline
+    ∙ ap (λ (e : Extent). (outline_drawn r base d.height left (left + 1)).shape ∷ (record { layer = r.vertical.layer; rect = e } ∷ [])) wire

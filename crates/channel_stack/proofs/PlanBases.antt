@@ -3,8 +3,8 @@ use Rattle.std.proofs.lemmas.Option.{slice_get-get_or, unwrap_or-slice_get}
 use Rattle.std.specs.Prelude.{slice_get, slice_index}
 use Rattle.tech_rules.specs.Rules.{RuleValues}
 use Rattle.channel_model.specs.declared.wiring.Wiring.{Wiring}
-use Rattle.layout_laws.specs.Plans.{channel_height}
-use Rattle.channel_stack.specs.Planned.{no_wiring, wiring_at}
+use Rattle.layout_laws.specs.Heights.{channel_height}
+use Rattle.channel_stack.proofs.Planned.{no_wiring, wiring_at}
 use Rattle.channel_stack.specs.Stack.{channel_bases}
 
 -- a channel begins a row's height above the channel before it

@@ -14,15 +14,15 @@ use Rattle.row_model.specs.declared.rows.Seat as seats
 use Rattle.feed_cells.specs.Fed.{Fed, cells_in, item_width, items_width}
 use Rattle.feed_cells.specs.declared.fed.Item.{Item}
 use Rattle.feed_cells.specs.declared.fed.Item.TheVariants.{Cell, Feed}
-use Rattle.pin_assign.specs.Entries.{EntryIn}
-use Rattle.pin_assign.specs.Sources.{Source, of_pin, of_feed, source_net, SourceEnters, IsOver, IsPinOver, StandsOver, first_over, later_over}
+use Rattle.pin_assign.proofs.EntryForms.{EntryIn}
+use Rattle.pin_assign.proofs.Sources.{Source, of_pin, of_feed, source_net, SourceEnters, IsOver, IsPinOver, StandsOver, first_over, later_over}
 use Rattle.pin_assign.specs.Tables.{table_of}
 use Rattle.pin_assign.proofs.CauseLaws.{entry-from}
 use Rattle.pin_assign.proofs.EdgeLaws.{edge-position, position-listed}
 use Rattle.pin_assign.proofs.TableLaws.{bottom-cause, bottom-effect, top-cause, top-effect}
-use Rattle.layout_laws.specs.Seats.{ComesToLower, ComesToUpper, LowerNet, UpperNet, Upright, UprightAt}
+use Rattle.layout_laws.proofs.Seats.{ComesToLower, ComesToUpper, LowerNet, UpperNet, Upright, UprightAt}
 use Rattle.wire_geom.specs.Edges.{bottom_entry, top_entry}
-use Rattle.channel_stack.specs.Planned.{feed_upright, net_at, net_found, row_seats, seat_of, upright_of}
+use Rattle.channel_stack.proofs.Planned.{feed_upright, net_at, net_found, row_seats, seat_of, upright_of}
 use Rattle.channel_stack.proofs.RowItems.{row_at, row-there, upright-stands}
 
 -- a wire comes to the upper edge where `top` holds, else to the lower one
@@ -31,8 +31,8 @@ Comes height true u = ComesToUpper height u
 Comes height false u = ComesToLower u
 
 pub position-comes : (r : RuleValues) (d : Netlist) (s : seats.Seat) (top : Bool) (p : Position) → is_on top p ≡ true → Comes d.height top (upright_of r d s p)
-position-comes r d s true p on = ap (λ (b : Bool). cond b d.height r.grid_pin) on
-position-comes r d s false p on = ap (λ (b : Bool). cond b (d.height - r.grid_pin) 0) (not-true p.top on)
+position-comes r d s true p on = ap (λ (b : Bool). cond b d.height r.grid.pin) on
+position-comes r d s false p on = ap (λ (b : Bool). cond b (d.height - r.grid.pin) 0) (not-true p.top on)
 
 pub feed-comes : (height : ℕ) (top : Bool) (net : ℕ) → Comes height top (feed_upright height net)
 feed-comes height true net = refl

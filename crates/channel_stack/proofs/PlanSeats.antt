@@ -2,7 +2,7 @@ use Rattle.std.proofs.Common.{◌≡◌, inl, inr, refl, sym, ap, ◌∙◌, sub
 use Rattle.std.proofs.lemmas.List.Elements.{All-contains}
 use Rattle.std.proofs.lemmas.Option.{same_Some}
 use Rattle.std.specs.Prelude.{slice_get}
-use Rattle.list_facts.proofs.Members.{map-cases, member-cases}
+use Rattle.list_facts.proofs.Members.{map-cases, member-cases, member-place}
 use Rattle.row_model.proofs.WidthLaws.{kind-good}
 use Rattle.tech_rules.specs.Rules.{RuleValues, ValidRules}
 use Rattle.design_model.specs.Room.{least_height}
@@ -15,9 +15,8 @@ use Rattle.row_model.specs.declared.rows.Seat as seats
 use Rattle.feed_cells.specs.declared.fed.Item.{Item}
 use Rattle.feed_cells.specs.declared.fed.Item.TheVariants.{Cell, Feed}
 use Rattle.pin_assign.proofs.EdgeLaws.{turned-once, turned-within}
-use Rattle.layout_laws.specs.Seats.{AreParted, FitsRow, IsSeat, Upright}
-use Rattle.layout_laws.proofs.ListPlaces.{contains-at}
-use Rattle.channel_stack.specs.Planned.{feed_upright, high_of, low_of, net_at, seat_of, upright_of}
+use Rattle.layout_laws.proofs.Seats.{AreParted, FitsRow, IsSeat, Upright}
+use Rattle.channel_stack.proofs.Planned.{feed_upright, high_of, low_of, net_at, seat_of, upright_of}
 
 module _ (d : Netlist) (good : IsNetlist d) where
   -- a position lies in its cell's columns
@@ -35,8 +34,8 @@ module _ (d : Netlist) (good : IsNetlist d) where
       by : (k : Option CellKind) → kind_of d instance ≡ k → Contains (positions_in k) p → Contains (positions_in k) q → p ≡ q
       by None is member other = absurd (omega (arith, member.1))
       by (Some kind) is member other =
-          let first = contains-at kind.positions p member in
-          let second = contains-at kind.positions q other in
+          let first = member-place kind.positions p member in
+          let second = member-place kind.positions q other in
           let one = (kind-good d good instance kind is).apart first.0 second.0 p q first.1 second.1 side column in
           same_Some p q (sym first.1 ∙ ap (slice_get kind.positions) one ∙ second.1)
 
@@ -52,7 +51,7 @@ position-fits : (r : RuleValues) → ValidRules r → (height : ℕ) → least_h
     → FitsRow r height (record { column = column; low = low_of r height p; high = high_of r height p; net = net })
 position-fits r valid height room column net p = by p.top
   where
-    by : (top : Bool) → FitsRow r height (record { column = column; low = cond top (height - r.grid_pin) 0; high = cond top height r.grid_pin; net = net })
+    by : (top : Bool) → FitsRow r height (record { column = column; low = cond top (height - r.grid.pin) 0; high = cond top height r.grid.pin; net = net })
     by true = record {
       long = omega (arith, valid.pin_vertical, room);
       within = omega arith;
@@ -68,11 +67,11 @@ position-fits r valid height room column net p = by p.top
 
 -- positions of two edges are parted
 sides-parted : (r : RuleValues) (height : ℕ) → least_height r ≤ height → (p q : Position)
-    → (p.top ≡ q.top) ⊎ (high_of r height p + r.vertical_space ≤ low_of r height q) ⊎ (high_of r height q + r.vertical_space ≤ low_of r height p)
+    → (p.top ≡ q.top) ⊎ (high_of r height p + r.vertical.space ≤ low_of r height q) ⊎ (high_of r height q + r.vertical.space ≤ low_of r height p)
 sides-parted r height room p q = by p.top q.top
   where
-    by : (a b : Bool) → (a ≡ b) ⊎ (cond a height r.grid_pin + r.vertical_space ≤ cond b (height - r.grid_pin) 0)
-        ⊎ (cond b height r.grid_pin + r.vertical_space ≤ cond a (height - r.grid_pin) 0)
+    by : (a b : Bool) → (a ≡ b) ⊎ (cond a height r.grid.pin + r.vertical.space ≤ cond b (height - r.grid.pin) 0)
+        ⊎ (cond b height r.grid.pin + r.vertical.space ≤ cond a (height - r.grid.pin) 0)
     by true true = inl refl
     by false false = inl refl
     by true false = inr (inr (omega (arith, room)))

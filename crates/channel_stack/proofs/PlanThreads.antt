@@ -3,7 +3,7 @@ use Rattle.std.proofs.lemmas.List.Elements.{All-contains}
 use Rattle.std.proofs.lemmas.Option.{slice_get-get_or}
 use Rattle.std.specs.Option.{option_map}
 use Rattle.std.specs.Prelude.{slice_get}
-use Rattle.pin_assign.specs.Causes.{CrossesBy}
+use Rattle.pin_assign.proofs.Causes.{CrossesBy}
 use Rattle.geom_core.specs.declared.layout.Layout.{Layout}
 use Rattle.tech_rules.specs.Rules.{RuleValues, ValidRules}
 use Rattle.design_model.specs.Netlist.{Netlist, IsNetlist}
@@ -13,11 +13,12 @@ use Rattle.channel_model.specs.declared.wiring.Wiring.{Wiring}
 use Rattle.row_model.specs.Rows.{ArePlaced}
 use Rattle.row_model.specs.Stands.{positions_of, row_of}
 use Rattle.row_model.specs.declared.rows.Seat as seats
-use Rattle.feed_cells.specs.Channels.{first_channel, last_channel}
+use Rattle.feed_cells.specs.Channels.{first_channel}
+use Rattle.feed_cells.proofs.ChannelSpans.{last_channel}
 use Rattle.feed_cells.specs.Crossings.{crossing_of, is_across, lowest}
 use Rattle.feed_cells.specs.Fed.{Fed, cells_in, fed_row, fed_rows}
 use Rattle.feed_cells.specs.Feeds.{is_fed}
-use Rattle.feed_cells.specs.Touching.{Touches}
+use Rattle.feed_cells.proofs.Touching.{Touches}
 use Rattle.feed_cells.specs.declared.crossing.Crossing.{Crossing}
 use Rattle.feed_cells.specs.declared.crossing.Crossing.TheVariants.{Alone, One, Many}
 use Rattle.feed_cells.specs.declared.fed.Item.{Item}
@@ -27,12 +28,12 @@ use Rattle.feed_cells.proofs.FedLaws.{cells-fed, fed-long, fed-row}
 use Rattle.feed_cells.proofs.NetLaws.{across-stands, across-within, alone-same, fed-net, fed-stands, inside-stands}
 use Rattle.pin_assign.specs.Entering.{enters}
 use Rattle.pin_assign.proofs.EnteringLaws.{crossed-by, enters-lowest}
-use Rattle.layout_laws.specs.Chains.{AreTogether, same}
-use Rattle.layout_laws.specs.Plans.{Plan, plan_drawn}
-use Rattle.layout_laws.specs.Threads.{AreThreaded, IsCrossed, Entering, EntersBelow, into_above, into_below, IsLone, Threads}
+use Rattle.layout_laws.proofs.Chains.{AreTogether, same}
+use Rattle.layout_laws.proofs.Plans.{Plan, plan_drawn}
+use Rattle.layout_laws.proofs.Threads.{AreThreaded, IsCrossed, Entering, EntersBelow, into_above, into_below, IsLone, Threads}
 use Rattle.wire_geom.specs.declared.drawn.Drawn.{Drawn}
-use Rattle.channel_stack.specs.Planned.{feed_upright, net_at, plan_of, upright_of}
-use Rattle.channel_stack.specs.Shown.{DrawsSeats}
+use Rattle.channel_stack.proofs.Planned.{feed_upright, net_at, plan_of, upright_of}
+use Rattle.channel_stack.proofs.Shown.{DrawsSeats}
 use Rattle.channel_stack.proofs.PlanEntries.{net-is}
 use Rattle.channel_stack.proofs.PositionPins.{position-pin}
 use Rattle.channel_stack.proofs.RowItems.{at-split, split-at}

@@ -10,10 +10,10 @@ use Rattle.row_model.specs.declared.rows.Seat as seats
 use Rattle.feed_cells.specs.Fed.{Fed, item_width, items_width, seats_in}
 use Rattle.feed_cells.specs.declared.fed.Item.{Item}
 use Rattle.feed_cells.specs.declared.fed.Item.TheVariants.{Cell, Feed}
-use Rattle.layout_laws.specs.Seats.{Upright, UprightAt, here, further}
-use Rattle.layout_laws.specs.Uprights.{IsWired}
+use Rattle.layout_laws.proofs.Seats.{Upright, UprightAt, here, further}
+use Rattle.layout_laws.proofs.Uprights.{IsWired}
 use Rattle.wire_geom.specs.declared.drawn.Drawn.{Drawn}
-use Rattle.channel_stack.specs.Planned.{outline_drawn, row_drawn, seat_drawn, seat_of, upright_drawn}
+use Rattle.channel_stack.proofs.Planned.{outline_drawn, row_drawn, seat_drawn, seat_of, upright_drawn}
 
 -- the items of row k, none where there is no such row
 abbrev pub row_at : Fed → ℕ → List Item
@@ -105,7 +105,7 @@ module _ (r : RuleValues) (d : Netlist) where
 
     module _ (valid : ValidRules r) where
       -- outlines are no wires
-      outline-unwired : (a : Drawn) → a.shape.layer ≡ r.outline_layer → IsWired r a → ⊥
+      outline-unwired : (a : Drawn) → a.shape.layer ≡ r.outline.layer → IsWired r a → ⊥
       outline-unwired a on (inl (inl wire)) = valid.layers.horizontal_outline (sym wire ∙ on)
       outline-unwired a on (inl (inr wire)) = valid.layers.vertical_outline (sym wire ∙ on)
       outline-unwired a on (inr cut) = valid.layers.cut_outline (sym cut ∙ on)

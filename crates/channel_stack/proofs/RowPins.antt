@@ -11,15 +11,15 @@ use Rattle.row_model.specs.declared.rows.Seat.{Seat}
 use Rattle.row_model.proofs.StandLaws.{stand-is, stand-there}
 use Rattle.feed_cells.specs.Crossings.{crossing_of, is_across, is_in}
 use Rattle.feed_cells.specs.Fed.{Fed, cells_in, fed_rows, items_width, seats_in}
-use Rattle.feed_cells.specs.Standing.{IsFeed, Stands, seated, feeding}
+use Rattle.feed_cells.proofs.Standing.{IsFeed, Stands, seated, feeding}
 use Rattle.feed_cells.specs.declared.fed.Item.{Item}
 use Rattle.feed_cells.specs.declared.fed.Item.TheVariants.{Cell, Feed}
 use Rattle.feed_cells.proofs.CrossingLaws.{fed-across}
 use Rattle.feed_cells.proofs.FedLaws.{cells-fed, fed-row-some, item-stands}
 use Rattle.feed_cells.proofs.NetLaws.{across-beside}
 use Rattle.pin_assign.specs.Entering.{enters}
-use Rattle.pin_assign.specs.Places.{TablePlace, StandsAt, channel_facing, entry_at}
-use Rattle.pin_assign.specs.Sources.{Source, of_feed, of_pin, source_net, IsOver}
+use Rattle.pin_assign.proofs.TablePlaces.{TablePlace, StandsAt, channel_facing, entry_at}
+use Rattle.pin_assign.proofs.Sources.{Source, of_feed, of_pin, source_net, IsOver}
 use Rattle.pin_assign.specs.Tables.{table_of}
 use Rattle.pin_assign.proofs.BesideLaws.{cells-row, feed-item, row-of_stand}
 use Rattle.pin_assign.proofs.EnteringLaws.{entered-is}

@@ -1,6 +1,6 @@
 use Rattle.std.proofs.Common.{◌≡◌, refl, sym, ap, ◌∙◌, subst, ℕ, suc, ◌+◌, ◌*◌, ◌<◌, List, [], ◌∷◌, ◌++◌, length, map, true, false, Some, Contains, arith}
 use Rattle.std.specs.Prelude.{slice_get, slice_index}
-use Rattle.list_facts.proofs.Members.{map-cases, map-member, member-head}
+use Rattle.list_facts.proofs.Members.{map-cases, map-member, member-head, member-place}
 use Rattle.geom_core.specs.declared.layout.Layout.{Layout}
 use Rattle.tech_rules.specs.Rules.{RuleValues, ValidRules}
 use Rattle.design_model.specs.Joined.{Draws}
@@ -16,19 +16,18 @@ use Rattle.feed_cells.specs.Fed.{Fed, cells_in, items_width}
 use Rattle.feed_cells.specs.declared.fed.Item.{Item}
 use Rattle.feed_cells.specs.declared.fed.Item.TheVariants.{Cell, Feed}
 use Rattle.pin_assign.specs.Entering.{enters}
-use Rattle.pin_assign.specs.Sources.{of_feed, of_pin}
+use Rattle.pin_assign.proofs.Sources.{of_feed, of_pin}
 use Rattle.pin_assign.specs.Tables.{table_of}
 use Rattle.pin_assign.proofs.BesideLaws.{edge-own}
-use Rattle.layout_laws.specs.Chains.{AreTogether, tied}
-use Rattle.layout_laws.specs.Plans.{row_base, plan_drawn}
-use Rattle.layout_laws.specs.Seats.{ComesToLower, ComesToUpper, Upright}
-use Rattle.layout_laws.specs.Threads.{EntersBelow, EntersAbove}
-use Rattle.layout_laws.specs.Uprights.{IsWired}
-use Rattle.layout_laws.proofs.ListPlaces.{contains-at}
+use Rattle.layout_laws.proofs.Chains.{AreTogether, tied}
+use Rattle.layout_laws.proofs.Plans.{row_base, plan_drawn}
+use Rattle.layout_laws.proofs.Seats.{ComesToLower, ComesToUpper, Upright}
+use Rattle.layout_laws.proofs.Threads.{EntersBelow, EntersAbove}
+use Rattle.layout_laws.proofs.Uprights.{IsWired}
 use Rattle.wire_geom.specs.Grid.{scaled}
 use Rattle.wire_geom.specs.declared.drawn.Drawn.{Drawn}
-use Rattle.channel_stack.specs.Planned.{feed_upright, plan_of, row_drawn, seat_of, upright_drawn, upright_of}
-use Rattle.channel_stack.specs.Shown.{DrawsSeats}
+use Rattle.channel_stack.proofs.Planned.{feed_upright, plan_of, row_drawn, seat_of, upright_drawn, upright_of}
+use Rattle.channel_stack.proofs.Shown.{DrawsSeats}
 use Rattle.channel_stack.proofs.PlanEntries.{lower-entry, pin-wire, upper-entry}
 use Rattle.channel_stack.proofs.PlanSeats.{feed-only}
 use Rattle.channel_stack.proofs.RowItems.{row_at, row-is, row-there, wire-listed, wire-of}
@@ -82,8 +81,8 @@ module _ (r : RuleValues) (d : Netlist) (fed : Fed) (ws : List Wiring) where
       → AreTogether d l (plan_drawn r (plan_of r d fed ws)) (wire_at k front (upright_of r d s p)) (wire_at k front (upright_of r d s q))
   drawn-together l draws k front back s within at p q in_p in_q same =
       let seat = draws.seat k front s back within at in
-      let place_p = contains-at (positions_of d s.instance) p in_p in
-      let place_q = contains-at (positions_of d s.instance) q in_q in
+      let place_p = member-place (positions_of d s.instance) p in_p in
+      let place_q = member-place (positions_of d s.instance) q in_q in
       let first = seat.positions place_p.0 p place_p.1 in
       let second = seat.positions place_q.0 q place_q.1 in
       tied (record {

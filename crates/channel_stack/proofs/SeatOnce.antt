@@ -4,6 +4,7 @@ use Rattle.std.proofs.lemmas.List.Elements.{filter_map-append}
 use Rattle.std.proofs.lemmas.Option.{none-some, same_Some}
 use Rattle.std.specs.List.{AllByRecursion, IsDistinct}
 use Rattle.std.specs.Prelude.{nat_eq, slice_get}
+use Rattle.list_facts.proofs.Distinct.{first-distinct, second-distinct}
 use Rattle.list_facts.proofs.Every.{every-left}
 use Rattle.design_model.specs.Netlist.{Netlist}
 use Rattle.row_model.specs.Rows.{all_instances, instances_in, ArePlaced}
@@ -21,23 +22,12 @@ use Rattle.pin_assign.proofs.BesideLaws.{row-cells}
 pub seats-split : (front back : List Item) (s : Seat) → seats_in (front ++ Cell s ∷ back) ≡ seats_in front ++ s ∷ seats_in back
 seats-split front back s = filter_map-append seat_in front (Cell s ∷ back)
 
--- a list without equal numbers has none in its front, and none behind it
-distinct-front : (xs ys : List ℕ) → IsDistinct nat_eq (xs ++ ys) → IsDistinct nat_eq xs
-unfolding IsDistinct
-distinct-front [] ys different = tt
-distinct-front (x ∷ xs) ys different = (every-left (λ (y : ℕ). nat_eq x y ≡ false) xs ys different.0, distinct-front xs ys different.1)
-
-distinct-behind : (xs ys : List ℕ) → IsDistinct nat_eq (xs ++ ys) → IsDistinct nat_eq ys
-unfolding IsDistinct
-distinct-behind [] ys different = different
-distinct-behind (x ∷ xs) ys different = distinct-behind xs ys different.1
-
 -- the instances of one row differ
 row-distinct : (rows : List (List Seat)) (k : ℕ) (row : List Seat) → IsDistinct nat_eq (all_instances rows) → slice_get rows k ≡ Some row → IsDistinct nat_eq (instances_in row)
 row-distinct [] k row different at = absurd (none-some row at)
 row-distinct (first ∷ rows) zero row different at =
-    subst (λ (seats : List Seat). IsDistinct nat_eq (instances_in seats)) (same_Some first row at) (distinct-front (instances_in first) (all_instances rows) different)
-row-distinct (first ∷ rows) (suc k) row different at = row-distinct rows k row (distinct-behind (instances_in first) (all_instances rows) different) at
+    subst (λ (seats : List Seat). IsDistinct nat_eq (instances_in seats)) (same_Some first row at) (first-distinct (instances_in first) (all_instances rows) different)
+row-distinct (first ∷ rows) (suc k) row different at = row-distinct rows k row (second-distinct (instances_in first) (all_instances rows) different) at
 
 -- what holds of all instances of a row holds of that of a seat
 at-seat : (P : ℕ → Type 0) (front : List Item) (s : Seat) (back : List Item) → AllByRecursion P (instances_in (seats_in (front ++ Cell s ∷ back))) → P s.instance

@@ -6,6 +6,7 @@ use Rattle.std.proofs.lemmas.List.Sums.{sum_by-cons}
 use Rattle.std.proofs.lemmas.Option.{same_Some, slice_get-map, slice_get_within}
 use Rattle.std.specs.List.{AllByRecursion, range_with_len}
 use Rattle.std.specs.Prelude.{slice_get, option_map}
+use Rattle.list_facts.proofs.Greatest.{greatest-first}
 use Rattle.list_facts.proofs.Places.{at-place}
 use Rattle.list_facts.proofs.Every.{every-from-get}
 use Rattle.tech_rules.specs.Rules.{RuleValues, ValidRules}
@@ -16,7 +17,7 @@ use Rattle.feed_cells.specs.Fed.{Fed, IsFed, cells_in, fed_rows, items_width, ne
 use Rattle.feed_cells.specs.declared.fed.Item.{Item}
 use Rattle.feed_cells.proofs.FedLaws.{fed-width}
 use Rattle.pin_assign.specs.Bounds.{bound_of, channels_height, channels_width, most_nets}
-use Rattle.layout_laws.specs.Plans.{channel_height}
+use Rattle.layout_laws.specs.Heights.{channel_height}
 use Rattle.channel_stack.specs.Routed.{IsRouted}
 use Rattle.channel_stack.specs.Stack.{channel_bases, row_bases, stack_top, most_columns, total_columns}
 
@@ -56,11 +57,11 @@ rows-below r height top base (w ∷ (v ∷ ws)) low =
     (omega (arith, channel-below r height base w (v ∷ ws)), rows-below r height top (base + channel_height r w + height) (v ∷ ws) low)
 
 -- one channel more
-heights-more : (r : RuleValues) (n : ℕ) (ns : List ℕ) → channels_height r (n ∷ ns) ≡ (most_tracks n + 1) * r.grid_track + channels_height r ns
-heights-more r n ns = sum_by-cons (λ (x : ℕ). x) ((most_tracks n + 1) * r.grid_track) (map (λ (m : ℕ). (most_tracks m + 1) * r.grid_track) ns)
+heights-more : (r : RuleValues) (n : ℕ) (ns : List ℕ) → channels_height r (n ∷ ns) ≡ (most_tracks n + 1) * r.grid.track + channels_height r ns
+heights-more r n ns = sum_by-cons (λ (x : ℕ). x) ((most_tracks n + 1) * r.grid.track) (map (λ (m : ℕ). (most_tracks m + 1) * r.grid.track) ns)
 
-channel-low : (r : RuleValues) (n : ℕ) (w : Wiring) → w.tracks ≤ most_tracks n → channel_height r w ≤ (most_tracks n + 1) * r.grid_track
-channel-low r n w few = let more : w.tracks + 1 ≤ most_tracks n + 1 = omega arith in mul-le-mul_right r.grid_track more
+channel-low : (r : RuleValues) (n : ℕ) (w : Wiring) → w.tracks ≤ most_tracks n → channel_height r w ≤ (most_tracks n + 1) * r.grid.track
+channel-low r n w few = let more : w.tracks + 1 ≤ most_tracks n + 1 = omega arith in mul-le-mul_right r.grid.track more
 
 next-row : (rows height : ℕ) → suc rows * height ≡ rows * height + height
 next-row rows height =
@@ -90,15 +91,11 @@ greatest-within : (bound first : ℕ) (ws : List Wiring) → first ≤ bound →
 greatest-within bound first [] low all = low
 greatest-within bound first (w ∷ ws) low all = let here : w.columns ≤ bound = all.0 in greatest-within bound (max first w.columns) ws (omega arith) all.1
 
-first-within : (first : ℕ) (ns : List ℕ) → first ≤ fold max first ns
-first-within first [] = omega arith
-first-within first (n ∷ ns) = let more : max first n ≤ fold max (max first n) ns = first-within (max first n) ns in omega arith
-
 number-within : (first : ℕ) (ns : List ℕ) (k n : ℕ) → slice_get ns k ≡ Some n → n ≤ fold max first ns
 number-within first [] k n at = cc
 number-within first (m ∷ ns) zero n at =
     let same : m ≡ n = same_Some m n at in
-    let more : max first m ≤ fold max (max first m) ns = first-within (max first m) ns in
+    let more : max first m ≤ fold max (max first m) ns = greatest-first (max first m) ns in
     omega arith
 number-within first (m ∷ ns) (suc k) n at = number-within (max first m) ns k n at
 
@@ -150,16 +147,16 @@ columns-within r d fed ws is routed = greatest-within (channels_width fed) 0 ws 
 
 -- what keeps the numbers of a stack's layout small: its width and height, those of its rows, and its bases
 pub record IsBounded (r : RuleValues) (d : Netlist) (fed : Fed) (ws : List Wiring) : Type 0 where
-  pub height : stack_top r d.height 0 ws * r.grid_centi ≤ 1000000000
-  pub columns : most_columns ws * r.grid_column * r.grid_centi ≤ 1000000000
-  pub width : fed.width * r.grid_column * r.grid_centi ≤ 1000000000
+  pub height : stack_top r d.height 0 ws * r.grid.centi ≤ 1000000000
+  pub columns : most_columns ws * r.grid.column * r.grid.centi ≤ 1000000000
+  pub width : fed.width * r.grid.column * r.grid.centi ≤ 1000000000
   pub rows : AllByRecursion (λ (items : List Item). items_width d items ≤ fed.width) fed.rows
   pub channel_bases : AllByRecursion (λ (base : ℕ). base ≤ stack_top r d.height 0 ws) (channel_bases r d.height 0 ws)
   pub row_bases : AllByRecursion (λ (base : ℕ). base ≤ stack_top r d.height 0 ws) (row_bases r d.height 0 ws)
 
 -- a stack is no higher than its bound
 pub top-bounded : (r : RuleValues) (d : Netlist) (fed : Fed) (ws : List Wiring) → IsFed d fed → IsRouted r d fed ws
-    → stack_top r d.height 0 ws * r.grid_centi ≤ (bound_of r d fed).height
+    → stack_top r d.height 0 ws * r.grid.centi ≤ (bound_of r d fed).height
 unfolding bound_of
 top-bounded r d fed ws is routed =
     let low : stack_top r d.height 0 ws ≤ length fed.rows * d.height + channels_height r fed.nets =
@@ -167,25 +164,25 @@ top-bounded r d fed ws is routed =
     top-bound r d.height 0 (length fed.rows) ws fed.nets routed.each (nets-counted d fed is)
     (λ (k n : ℕ) (w : Wiring) (a : slice_get ws k ≡ Some w) (b : slice_get fed.nets k ≡ Some n). routed.tracks k n w a b) in
     omega arith in
-    mul-le-mul_right r.grid_centi low
+    mul-le-mul_right r.grid.centi low
 
 top-within : (r : RuleValues) (d : Netlist) (fed : Fed) (ws : List Wiring) → IsFed d fed → IsRouted r d fed ws
-    → stack_top r d.height 0 ws * r.grid_centi ≤ 1000000000
+    → stack_top r d.height 0 ws * r.grid.centi ≤ 1000000000
 top-within r d fed ws is routed =
-    let low : stack_top r d.height 0 ws * r.grid_centi ≤ (bound_of r d fed).height = top-bounded r d fed ws is routed in
+    let low : stack_top r d.height 0 ws * r.grid.centi ≤ (bound_of r d fed).height = top-bounded r d fed ws is routed in
     let limit : (bound_of r d fed).height ≤ 1000000000 = routed.height in
     omega arith
 
 -- nor wider
 columns-bounded : (r : RuleValues) (d : Netlist) (fed : Fed) (columns : ℕ) → columns ≤ channels_width fed
-    → columns * r.grid_column * r.grid_centi ≤ (bound_of r d fed).width
+    → columns * r.grid.column * r.grid.centi ≤ (bound_of r d fed).width
 unfolding bound_of
 columns-bounded r d fed columns narrow =
-    let across : columns * r.grid_column ≤ channels_width fed * r.grid_column = mul-le-mul_right r.grid_column narrow in
-    mul-le-mul_right r.grid_centi across
+    let across : columns * r.grid.column ≤ channels_width fed * r.grid.column = mul-le-mul_right r.grid.column narrow in
+    mul-le-mul_right r.grid.centi across
 
 pub width-bounded : (r : RuleValues) (d : Netlist) (fed : Fed) (ws : List Wiring) → IsFed d fed → IsRouted r d fed ws
-    → most_columns ws * r.grid_column * r.grid_centi ≤ (bound_of r d fed).width
+    → most_columns ws * r.grid.column * r.grid.centi ≤ (bound_of r d fed).width
 width-bounded r d fed ws is routed = columns-bounded r d fed (most_columns ws) (columns-within r d fed ws is routed)
 
 -- and its wirings have no more columns together
@@ -204,9 +201,9 @@ grid-bounded r d fed ws is routed =
 
 -- columns of at most the bound's are narrow
 width-within : (r : RuleValues) (d : Netlist) (fed : Fed) (ws : List Wiring) → IsRouted r d fed ws → (columns : ℕ)
-    → columns ≤ channels_width fed → columns * r.grid_column * r.grid_centi ≤ 1000000000
+    → columns ≤ channels_width fed → columns * r.grid.column * r.grid.centi ≤ 1000000000
 width-within r d fed ws routed columns narrow =
-    let low : columns * r.grid_column * r.grid_centi ≤ (bound_of r d fed).width = columns-bounded r d fed columns narrow in
+    let low : columns * r.grid.column * r.grid.centi ≤ (bound_of r d fed).width = columns-bounded r d fed columns narrow in
     let limit : (bound_of r d fed).width ≤ 1000000000 = routed.width in
     omega arith
 
@@ -226,18 +223,12 @@ units-small units centi fine near = let product : units * 4 ≤ units * centi = 
 
 pub top-small : (r : RuleValues) (d : Netlist) (fed : Fed) (ws : List Wiring) → ValidRules r → IsFed d fed → IsRouted r d fed ws
     → stack_top r d.height 0 ws ≤ 250000000
-top-small r d fed ws valid is routed = units-small (stack_top r d.height 0 ws) r.grid_centi valid.ranges.grid_centi.0 (top-within r d fed ws is routed)
-
-pub columns-small : (r : RuleValues) (d : Netlist) (fed : Fed) (ws : List Wiring) → ValidRules r → IsFed d fed → IsRouted r d fed ws
-    → most_columns ws * r.grid_column ≤ 250000000
-columns-small r d fed ws valid is routed =
-    units-small (most_columns ws * r.grid_column) r.grid_centi valid.ranges.grid_centi.0
-    (width-within r d fed ws routed (most_columns ws) (columns-within r d fed ws is routed))
+top-small r d fed ws valid is routed = units-small (stack_top r d.height 0 ws) r.grid.centi valid.ranges.grid.centi.0 (top-within r d fed ws is routed)
 
 -- a row is no wider than so many units
-pub width-small : (r : RuleValues) (d : Netlist) (fed : Fed) (ws : List Wiring) → ValidRules r → IsRouted r d fed ws → fed.width * r.grid_column ≤ 250000000
+pub width-small : (r : RuleValues) (d : Netlist) (fed : Fed) (ws : List Wiring) → ValidRules r → IsRouted r d fed ws → fed.width * r.grid.column ≤ 250000000
 width-small r d fed ws valid routed =
-    units-small (fed.width * r.grid_column) r.grid_centi valid.ranges.grid_centi.0 (width-within r d fed ws routed fed.width (omega arith))
+    units-small (fed.width * r.grid.column) r.grid.centi valid.ranges.grid.centi.0 (width-within r d fed ws routed fed.width (omega arith))
 
 -- a row is no higher than the stack
 pub height-within : (r : RuleValues) (d : Netlist) (fed : Fed) (ws : List Wiring) → IsFed d fed → length ws ≡ length fed.rows + 1

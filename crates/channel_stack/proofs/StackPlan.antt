@@ -2,7 +2,7 @@ use Rattle.std.proofs.Common.{◌≡◌, ◌∙◌, sym, ap, subst, ℕ, ◌+◌
 use Rattle.std.proofs.lemmas.List.Elements.{All-contains, All-from_recursion}
 use Rattle.std.specs.Prelude.{◌==◌, slice_get}
 use Rattle.design_model.proofs.DesignPins.{pin-within}
-use Rattle.list_facts.proofs.Members.{find-member, map-cases}
+use Rattle.list_facts.proofs.Members.{find-member, map-cases, member-place}
 use Rattle.list_facts.proofs.Ranges.{image-at}
 use Rattle.list_facts.proofs.Every.{every-get}
 use Rattle.tech_rules.specs.Rules.{RuleValues, ValidRules}
@@ -15,16 +15,16 @@ use Rattle.row_model.specs.Rows.{ArePlaced}
 use Rattle.row_model.specs.declared.rows.Seat as seats
 use Rattle.row_model.proofs.PlacedLaws.{IsWithin, rows-within}
 use Rattle.feed_cells.specs.Fed.{Fed, fed_rows}
-use Rattle.feed_cells.specs.Standing.{Stands, seated, feeding}
+use Rattle.feed_cells.proofs.Standing.{Stands, seated, feeding}
 use Rattle.feed_cells.specs.declared.fed.Item.{Item}
 use Rattle.feed_cells.proofs.FedLaws.{fed-row-some, item-stands}
 use Rattle.pin_assign.specs.Tables.{table_of}
-use Rattle.layout_laws.specs.Plans.{IsPlan, channel_height}
-use Rattle.layout_laws.specs.Seats.{IsSeat, UprightAt}
-use Rattle.layout_laws.specs.Uprights.{DrawUprights}
-use Rattle.layout_laws.proofs.ListPlaces.{contains-at}
+use Rattle.layout_laws.specs.Heights.{channel_height}
+use Rattle.layout_laws.proofs.Plans.{IsPlan}
+use Rattle.layout_laws.proofs.Seats.{IsSeat, UprightAt}
+use Rattle.layout_laws.proofs.Uprights.{DrawUprights}
 use Rattle.wire_geom.specs.declared.drawn.Drawn.{Drawn}
-use Rattle.channel_stack.specs.Planned.{base_at, plan_of, row_drawn, seat_of, wiring_at}
+use Rattle.channel_stack.proofs.Planned.{base_at, plan_of, row_drawn, seat_of, wiring_at}
 use Rattle.channel_stack.specs.Routed.{AreWired}
 use Rattle.channel_stack.proofs.PlanBases.{bases-next, wiring-there}
 use Rattle.channel_stack.proofs.PlanEntries.{lower-net, upper-net}
@@ -50,7 +50,7 @@ module _ (d : Netlist) (good : IsNetlist d) (rows : List (List seats.Seat)) (pla
       )
   instance-of k row item at (feeding net feed is) =
       let found = find-member (λ (p : Pin). p.net == net) d.pins (good.used net (omega (arith, feed.some)) feed.few) in
-      let there = contains-at d.pins found.0 found.1 in
+      let there = member-place d.pins found.0 found.1 in
       (found.0.instance, pin-within d good there.0 found.0 there.1)
 
   row-some : (k : ℕ) → k < length (fed_rows d rows).rows → (item : Item) → Contains (row_at (fed_rows d rows) k) item → 0 < length d.kinds

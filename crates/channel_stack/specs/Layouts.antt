@@ -19,12 +19,12 @@ use Rattle.channel_stack.specs.declared.placed.PlacedItem.{PlacedItem}
 
 -- the drawing of a feed: its outline, and a vertical wire from its lower edge to its upper one in its middle
 abbrev pub feed_outline : RuleValues → ℕ → Shape
-feed_outline r height = record { layer = r.outline_layer; rect = extent_of r.grid_centi 0 0 (2 * r.grid_column) (2 * height) }
+feed_outline r height = record { layer = r.outline.layer; rect = extent_of r.grid.centi 0 0 (2 * r.grid.column) (2 * height) }
 
 abbrev pub feed_wire : RuleValues → ℕ → Shape
 feed_wire r height = record {
-  layer = r.vertical_layer;
-  rect = extent_of r.grid_centi (middle_of r.grid_column 0 - r.vertical_width) 0 (middle_of r.grid_column 0 + r.vertical_width) (2 * height);
+  layer = r.vertical.layer;
+  rect = extent_of r.grid.centi (middle_of r.grid.column 0 - r.vertical.width) 0 (middle_of r.grid.column 0 + r.vertical.width) (2 * height);
 }
 
 unfoldable pub feed_drawing : RuleValues → ℕ → List Shape

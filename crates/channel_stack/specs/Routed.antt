@@ -1,4 +1,5 @@
 use Rattle.std.specs.Prelude.{◌≡◌, ◌≤◌, ℕ, ◌+◌, List, length, All, Some, slice_get}
+use Rattle.limits.specs.declared.TheConstants.{MOST_SIZE}
 use Rattle.channel_model.specs.Elements.{elements}
 use Rattle.channel_model.specs.Limits.{most_extra, most_tracks}
 use Rattle.channel_model.specs.Pins.{Pins}
@@ -23,8 +24,8 @@ pub record IsRouted (r : RuleValues) (d : Netlist) (fed : Fed) (ws : List Wiring
   pub on_grid : (k : ℕ) (w : Wiring) → slice_get ws k ≡ Some w → All (IsOnGrid w.columns w.tracks) (elements w)
   pub tracks : (k nets : ℕ) (w : Wiring) → slice_get ws k ≡ Some w → slice_get fed.nets k ≡ Some nets → w.tracks ≤ most_tracks nets
   pub columns : (k nets : ℕ) (w : Wiring) → slice_get ws k ≡ Some w → slice_get fed.nets k ≡ Some nets → w.columns ≤ fed.width + most_extra nets
-  pub width : (bound_of r d fed).width ≤ 1000000000
-  pub height : (bound_of r d fed).height ≤ 1000000000
+  pub width : (bound_of r d fed).width ≤ MOST_SIZE
+  pub height : (bound_of r d fed).height ≤ MOST_SIZE
 
 -- a stack is within the layout's bound: its width, its height, and the columns of all its wirings together
 pub record IsWithin (r : RuleValues) (d : Netlist) (fed : Fed) (ws : List Wiring) (placed : Stacked) : Type 0 where

@@ -6,7 +6,7 @@ use Rattle.channel_model.specs.declared.wiring.Wiring.{Wiring}
 use Rattle.feed_cells.specs.Fed.{Fed, item_width}
 use Rattle.feed_cells.specs.declared.fed.Item.{Item}
 use Rattle.feed_cells.specs.declared.fed.Item.TheVariants.{Cell, Feed}
-use Rattle.layout_laws.specs.Plans.{channel_height}
+use Rattle.layout_laws.specs.Heights.{channel_height}
 use Rattle.wire_geom.specs.Drawing.{drawing}
 use Rattle.wire_geom.specs.declared.drawn.Drawn.{Drawn}
 use Rattle.channel_stack.specs.declared.placed.PlacedItem.{PlacedItem}
@@ -30,7 +30,7 @@ stack_top r height base (w ∷ (v ∷ ws)) = stack_top r height (base + channel_
 
 -- a number of units in half centimicrons
 abbrev pub in_halves : RuleValues → ℕ → ℕ
-in_halves r units = 2 * units * r.grid_centi
+in_halves r units = 2 * units * r.grid.centi
 
 -- the place of an item of so many columns that begins in column `left` of a row: of a mirrored cell that of its right edge
 abbrev pub is_mirrored : Item → Bool
@@ -42,7 +42,7 @@ corner_column mirror left width = if mirror then left + width else left
 
 abbrev pub place_at : RuleValues → ℕ → Bool → ℕ → Place
 place_at r base mirror column = record {
-  dx = pos (in_halves r (column * r.grid_column));
+  dx = pos (in_halves r (column * r.grid.column));
   dy = pos (in_halves r base);
   mirror = mirror;
 }
@@ -90,8 +90,8 @@ stack_of r d fed ws = record {
   row_base = row_bases r d.height 0 ws;
   cells = placed_rows r d fed.rows (row_bases r d.height 0 ws);
   shapes = drawings r ws (channel_bases r d.height 0 ws);
-  width = most_columns ws * r.grid_column * r.grid_centi;
-  height = stack_top r d.height 0 ws * r.grid_centi;
+  width = most_columns ws * r.grid.column * r.grid.centi;
+  height = stack_top r d.height 0 ws * r.grid.centi;
 }
 
 -- the same without the rectangles of channels

@@ -1,19 +1,20 @@
 //! The edges of channels and rows.
 
 ghost use Rattle.channel_stack.specs.Stack.{channel_bases, row_bases, stack_top, most_columns};
-ghost use Rattle.layout_laws.specs.Plans.{channel_height};
+ghost use Rattle.layout_laws.specs.Heights.{channel_height};
 ghost use Rattle.std.specs.Prelude.{◌≡◌, ◌<◌, ◌≤◌, ◌*◌, ◌^◌, IfOk};
 
 use channel_model::Wiring;
+use limits::MOST_LENGTH;
 use std::alloc::{AllocError, Global};
 use tech_rules::Rules;
 
 // The height of a channel in units.
 fn channel_height(wiring: &Wiring, rules: &Rules) -> u64
     ensures height { result ≡ channel_height rules.now wiring.now }
-    ensures few { result ≤ 2 ^ 32 * 1000 }
+    ensures few { result ≤ 2 ^ 32 * MOST_LENGTH }
 {
-    (u64::from(wiring.tracks) + 1) * u64::from(rules.grid_track)
+    (u64::from(wiring.tracks) + 1) * u64::from(rules.grid.track)
 }
 
 /// The lower edges of the channels in units, with rows of this height between them. The one error is want of memory.

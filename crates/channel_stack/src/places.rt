@@ -27,8 +27,8 @@ fn place_at(rules: &Rules, base: u32, mirror: bool, column: u64) -> Place
     requires { column < 2 ^ 40 }
     ensures { result ≡ place_at rules.now base mirror column }
 {
-    let centi = u64::from(rules.grid_centi);
-    let across = column * u64::from(rules.grid_column);
+    let centi = u64::from(rules.grid.centi);
+    let across = column * u64::from(rules.grid.column);
     Place {
         dx: (2 * across * centi) as i64,
         dy: (2 * u64::from(base) * centi) as i64,

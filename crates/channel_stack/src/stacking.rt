@@ -69,14 +69,14 @@ pub fn lay(
     ensures good { IfOk result (λ _. HasRoom rules.now design.now → AreWired design.now fed.now wirings.now
         → Good rules.now design.now (layout_of rules.now design.now (stack_of rules.now design.now fed.now wirings.now))) }
 {
-    let centi = u64::from(rules.grid_centi);
+    let centi = u64::from(rules.grid.centi);
     let height = design.height;
     let channel_base = channel_bases(alloc, wirings, height, rules)?;
     let row_base = row_bases(alloc, wirings, height, rules)?;
     let cells = placed_rows(alloc, design, rules, fed.rows.items(), row_base.as_slice())?;
     let columns = u64::from(most_columns(wirings));
     Ok(Laid {
-        width: columns * u64::from(rules.grid_column) * centi,
+        width: columns * u64::from(rules.grid.column) * centi,
         height: stack_top(wirings, height, rules) * centi,
         channel_base: Items::new(channel_base),
         row_base: Items::new(row_base),

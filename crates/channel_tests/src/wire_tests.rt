@@ -4,13 +4,14 @@ ghost use Rattle.channel_model.specs.Elements.{elements};
 ghost use Rattle.channel_model.specs.Wired.{IsOnGrid};
 ghost use Rattle.std.specs.List.{All};
 ghost use Rattle.std.specs.Prelude.{◌≡◌, IfOk};
-ghost use Rattle.wire_geom.specs.Samples.{joined_pins, near_vias};
+ghost use Rattle.channel_tests.specs.Samples.{joined_pins, near_vias};
 
 use channel_model::{Segment, Via, Wiring};
 use geom_core::{Items, Name};
+use samples::sample_rules;
 use std::alloc::{AllocError, Global};
 use std::test::Fail;
-use tech_rules::{Rules, StartBy};
+use tech_rules::{Cut, Grid, Rules, Wires};
 use wire_geom::{Drawn, draw};
 
 // Two pins side by side, joined on the one track above them.
@@ -66,31 +67,34 @@ fn via(net: u32, column: u32, track: u32) -> Via
 
 // Rules in which wires are as wide as pads, and pads and cuts with their spaces fill a column and a track.
 fn tight_rules(alloc: Global) -> Result<Rules, AllocError> {
-    let sample = Rules::sample(alloc)?;
+    let sample = sample_rules(alloc)?;
     Ok(Rules {
         version: 1,
         yal: Name::new(b"POLY".to_vec(alloc)?),
-        grid_column: 8,
-        grid_track: 8,
-        grid_centi: 4,
-        grid_pin: 4,
-        horizontal_layer: sample.horizontal_layer,
-        horizontal_width: 4,
-        horizontal_space: 4,
-        vertical_layer: sample.vertical_layer,
-        vertical_width: 4,
-        vertical_space: 4,
-        cut_layer: sample.cut_layer,
-        cut_size: 2,
-        cut_enclose: 1,
-        cut_space: 6,
-        outline_layer: sample.outline_layer,
-        anneal_temperature: 1,
-        anneal_stages: 0,
-        anneal_moves: 0,
-        anneal_row_cost: 0,
-        anneal_length_cost: 0,
-        anneal_start: StartBy::Width,
+        grid: Grid {
+            column: 8,
+            track: 8,
+            centi: 4,
+            pin: 4,
+        },
+        horizontal: Wires {
+            width: 4,
+            space: 4,
+            ..sample.horizontal
+        },
+        vertical: Wires {
+            width: 4,
+            space: 4,
+            ..sample.vertical
+        },
+        cut: Cut {
+            size: 2,
+            enclose: 1,
+            space: 6,
+            ..sample.cut
+        },
+        outline: sample.outline,
+        annealing: sample.annealing,
     })
 }
 
@@ -149,7 +153,7 @@ fn are_joined(alloc: Global, rules: &Rules) -> Result<bool, AllocError> {
 
 #[test]
 fn two_joined_pins_are_drawn_as_nine_boxes(rt: HostRuntime) -> Result<(), Fail> {
-    let rules = Rules::sample(rt.alloc())?;
+    let rules = sample_rules(rt.alloc())?;
     assert!(rt; are_joined(rt.alloc(), &rules)?);
     Ok(())
 }

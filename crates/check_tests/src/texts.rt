@@ -3,16 +3,15 @@
 ghost use Rattle.design_model.specs.Room.{HasRoom};
 ghost use Rattle.layout_check.specs.Measured.{IsMeasured};
 ghost use Rattle.std.specs.Prelude.{IfOk, IfSome};
-ghost use Rattle.tech_rules.specs.Sample.{sample};
+ghost use Rattle.samples.specs.Sample.{sample};
 
 use cif_reader::expand;
 use cif_text::read_commands;
 use design_model::Design;
 use geom_core::Layout;
 use layout_check::{Finding, check};
-use samples::{BUFFER, designed};
+use samples::{BUFFER, designed, sample_rules};
 use std::alloc::{AllocError, Global};
-use tech_rules::Rules;
 
 /// The symbol of BUF.
 pub const SYMBOL: &str =
@@ -63,7 +62,7 @@ pub fn findings_of(
     calls: &str,
     text: &[u8],
 ) -> Result<Option<Vec<Finding>>, AllocError> {
-    let rules = Rules::sample(alloc)?;
+    let rules = sample_rules(alloc)?;
     let Some(design) = sampled(alloc, modules, calls)? else {
         return Ok(None);
     };

@@ -1,4 +1,4 @@
-use Rattle.std.proofs.Common.{◌≡◌, refl, ap, sym, ℕ, suc, ℤ, ◌+◌, List, [], ◌∷◌, length, Option, Some, None, Result, Ok, Err}
+use Rattle.std.proofs.Common.{◌≡◌, refl, ap, sym, subst, ℕ, suc, ℤ, ◌+◌, List, [], ◌∷◌, length, Option, Some, None, Result, Ok, Err}
 use Rattle.std.specs.Prelude.{if◌then◌else◌, Bool, true, false, nat_lt}
 use Rattle.geom_core.specs.declared.layout.Layout.{Layout}
 use Rattle.cif_text.specs.declared.command.Command.{Command}
@@ -10,7 +10,7 @@ use Rattle.cif_reader.specs.declared.fault.ExpandKind.{ExpandKind}
 use Rattle.cif_reader.specs.declared.fault.ExpandKind.TheVariants as kinds
 use Rattle.cif_reader.specs.Limits.{first_far, numbers_of, too_many, far_or_many, limit_passed, most_shapes, deepest, depth_given, shapes_so_far, shapes_given}
 use Rattle.cif_reader.specs.Expansion.{Progress, unless_refused, progress_to, deep, given_by, advance, refused_at, progress, at_first, expansion}
-use Rattle.cif_reader.specs.Agreement.{Agrees}
+use Rattle.cif_reader.proofs.Agreement.{Agrees}
 
 -- the refusals that are limits
 abbrev IsLimit : Option ExpandKind → Type 0
@@ -103,3 +103,7 @@ unfolding expansion meaning
 expansion-agrees cs =
     next-agrees state_of (λ (l : Layout). l) (progress 0 at_first cs) (run 0 at_first.state cs) (λ p. Ok (layout_of p.state)) (λ s. Ok (layout_of s))
     (progress-agrees 0 at_first cs) (λ p. refl)
+
+-- a layout that they give is what they mean
+pub expansion-means : (cs : List Command) (l : Layout) → expansion cs ≡ Ok l → meaning cs ≡ Ok l
+expansion-means cs l is = subst (λ e. Agrees (λ (m : Layout). m) e (meaning cs)) is (expansion-agrees cs)

@@ -4,6 +4,7 @@ use Rattle.std.proofs.lemmas.Bool.Decides.{nat_tests}
 use Rattle.std.specs.List.{AllByRecursion}
 use Rattle.std.specs.Option.{ForSome}
 use Rattle.std.specs.Prelude.{nat_lt, option_map}
+use Rattle.list_facts.proofs.Every.{every-append}
 use Rattle.geom_core.specs.declared.layout.Shape.{Shape}
 use Rattle.geom_core.specs.Extent.{Extent}
 use Rattle.geom_core.specs.Reach.{IsExtentInReach}
@@ -163,15 +164,11 @@ all-more : (e f : Extent) → ((s : Extent) → Spans e s → Spans f s) → (sh
 all-more e f more [] h = tt
 all-more e f more (s ∷ ss) h = (more s.rect h.0, all-more e f more ss h.1)
 
-pub all-both : {A : Type 0} (P : A → Type 0) (xs ys : List A) → AllByRecursion P xs → AllByRecursion P ys → AllByRecursion P (xs ++ ys)
-all-both P [] ys first second = second
-all-both P (x ∷ xs) ys first second = (first.0, all-both P xs ys first.1 second)
-
 pub around-joined : (a b : Option Extent) (xs ys : List Shape) → AreAround a xs → AreAround b ys → AreAround (joined a b) (xs ++ ys)
 around-joined None b xs ys first second = rw first second
 around-joined (Some e) None xs ys first second = rw (second, append-nil) first
 around-joined (Some e) (Some f) xs ys first second =
-    all-both (λ s. Spans (around_both e f) s.rect) xs ys (all-more e (around_both e f) (spans-first e f) xs first)
+    every-append (λ s. Spans (around_both e f) s.rect) xs ys (all-more e (around_both e f) (spans-first e f) xs first)
     (all-more f (around_both e f) (spans-second e f) ys second)
 
 pub reach-joined : (times : ℕ) (a b : Option Extent) → ForSome a (ReachesWithin times) → ForSome b (ReachesWithin times) → ForSome (joined a b) (ReachesWithin times)

@@ -46,14 +46,6 @@ pub record IsUpTo (all : List Command) (s : Standing) (at : ℕ) (rest : List Co
   pub done : progress 0 at_first all ≡ progress at (seen s) rest
   pub count : at + length rest ≡ length all
 
-pub up-to-first : (all : List Command) (s : Standing) → AreSound false all → seen s ≡ at_first → IsStanding s → s.definition ≡ None → IsUpTo all s 0 all
-up-to-first all s sound first is outside = record {
-  is = is;
-  left = rw outside (left-of false all sound);
-  done = ap (λ (p : Progress). progress 0 p all) (sym first);
-  count = omega arith;
-}
-
 pub next-left : (all : List Command) (s : Standing) (at : ℕ) (rest cs : List Command) (c : Command) → IsUpTo all s at rest → rest ≡ c ∷ cs
     → IsNext (is_some s.definition) c cs
 next-left all s at rest cs c h is = next-of (is_some s.definition) c cs (subst (AreLeft (is_some s.definition)) is h.left)

@@ -5,6 +5,7 @@ use Rattle.std.proofs.lemmas.List.{length-map}
 use Rattle.std.specs.List.{AllByRecursion}
 use Rattle.std.specs.Option.{ForSome}
 use Rattle.std.specs.Prelude.{if◌then◌else◌, max, nat_lt, option_map}
+use Rattle.list_facts.proofs.Every.{every-append}
 use Rattle.geom_core.specs.declared.layout.Shape.{Shape}
 use Rattle.geom_core.specs.Extent.{Extent}
 use Rattle.geom_core.specs.Moving.{moved_shape}
@@ -23,7 +24,7 @@ use Rattle.cif_reader.specs.Limits.{deepest, most_shapes, first_far, sides_of, f
 use Rattle.cif_reader.specs.Sides.{IsProper, IsNearTurn}
 use Rattle.cif_reader.specs.Table.{items_drawn, symbols_behind, symbol_at, IsItem, IsKeptBehind, AreAround, ReachesWithin}
 use Rattle.cif_reader.specs.Within.{IsShapeWithin}
-use Rattle.cif_reader.proofs.BoundLemmas.{all-both, around-moved, reaches-moved, around-joined, reach-joined, reach-most}
+use Rattle.cif_reader.proofs.BoundLemmas.{around-moved, reaches-moved, around-joined, reach-joined, reach-most}
 use Rattle.cif_reader.proofs.TableLemmas.{IsCopied, behind-length, drawn-push}
 use Rattle.cif_reader.proofs.CallLemmas.{shapes-at}
 use Rattle.cif_reader.proofs.WithinLaws.{near-first, near-shape, near-shapes, far-none, few-none}
@@ -48,10 +49,10 @@ item-grows symbols old new item count bounds depth shapes has kept is_drawn is_c
       drawn = drawn;
       depth_is = has.depth_is;
       is = record {
-        items = rw has.items (all-both (IsItem (length symbols)) old.items.items (item ∷ []) kept.items (fits, tt));
+        items = rw has.items (every-append (IsItem (length symbols)) old.items.items (item ∷ []) kept.items (fits, tt));
         count = rw drawn (omega arith);
         few = omega arith;
-        near = rw drawn (all-both IsShapeWithin (items_drawn symbols old.items.items) shapes kept.near near);
+        near = rw drawn (every-append IsShapeWithin (items_drawn symbols old.items.items) shapes kept.near near);
         around = rw (drawn, has.bounds_are) (around-joined old.bounds bounds (items_drawn symbols old.items.items) shapes kept.around around);
         reach = rw has.bounds_are (reach-joined new.depth old.bounds bounds
             (reach-most old.depth new.depth old.bounds (omega arith) kept.reach) (reach-most depth new.depth bounds (omega arith) reach));

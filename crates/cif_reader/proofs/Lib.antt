@@ -28,3 +28,5 @@ pub mod BehindLemmas
 pub mod ExpandLemmas
 -- the places of symbols, when one more is entered
 pub mod PlacesLaws
+-- it is what they mean, within the limits
+pub mod Agreement

@@ -87,11 +87,6 @@ pub kept-at : (table : List Kept) (i : ℕ) (kept : Kept) → AreKeptBehind [] t
     → IsKeptBehind (symbols_behind [] (take i table)) kept
 kept-at table i kept all below is = kept-behind [] table i kept all below is
 
--- items, one after another
-pub drawn-own : (symbols : List Symbol) (shape : Shape) (more : List Item) → items_drawn symbols (items.Own shape ∷ more) ≡ (shape ∷ []) ++ items_drawn symbols more
-unfolding items_drawn
-drawn-own symbols shape more = refl
-
 pub drawn-push : (symbols : List Symbol) (before : List Item) (item : Item) → items_drawn symbols (before ++ (item ∷ [])) ≡ items_drawn symbols before ++ items_drawn symbols (item ∷ [])
 unfolding items_drawn
 drawn-push symbols [] item = refl

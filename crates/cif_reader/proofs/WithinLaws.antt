@@ -2,6 +2,7 @@ use Rattle.std.proofs.Common.{◌≡◌, refl, ap, sym, subst, ◌∙◌, ℕ, s
 use Rattle.std.proofs.lemmas.Bool.Decides.{nat_tests}
 use Rattle.std.specs.List.{AllByRecursion}
 use Rattle.std.specs.Prelude.{if◌then◌else◌, nat_lt, nat_abs}
+use Rattle.list_facts.proofs.Every.{every-append, every-weaker}
 use Rattle.geom_core.specs.declared.layout.Shape.{Shape}
 use Rattle.geom_core.specs.declared.layout.Cell.{Cell}
 use Rattle.geom_core.specs.declared.layout.Layout.{Layout}
@@ -21,14 +22,6 @@ use Rattle.cif_reader.specs.Limits.{farthest, most_shapes, first_far, coordinate
 use Rattle.cif_reader.specs.Expansion.{Progress, unless_refused, progress_to, deep, given_by, advance, refused_at, progress, at_first, expansion}
 use Rattle.cif_reader.specs.Within.{IsNotFar, IsShapeWithin, IsCellWithin, IsLayoutWithin}
 use Rattle.cif_reader.proofs.AgreementLaws.{progress-state}
-
-each : {A : Type 0} (P Q : A → Type 0) → ((x : A) → P x → Q x) → (xs : List A) → AllByRecursion P xs → AllByRecursion Q xs
-each P Q weaker [] all = tt
-each P Q weaker (x ∷ xs) all = (weaker x all.0, each P Q weaker xs all.1)
-
-both : {A : Type 0} (P : A → Type 0) (xs ys : List A) → AllByRecursion P xs → AllByRecursion P ys → AllByRecursion P (xs ++ ys)
-both P [] ys first second = second
-both P (x ∷ xs) ys first second = (first.0, both P xs ys first.1 second)
 
 -- numbers of which none is far
 pub near-first : (z : ℤ) (zs : List ℤ) → first_far (z ∷ zs) ≡ None → IsNotFar z × (first_far zs ≡ None)
@@ -64,10 +57,6 @@ few-shapes : (s : State) (c : Command) → too_many s c ≡ None → length (sha
 few-shapes s c none =
     let few = few-none (nat_lt most_shapes (length (shapes_so_far s s.inside) + shapes_given s c)) _ none in grind (arith, nat_tests)
 
-found-some : {A : Type 0} (fault : Unmeant) (o : Option A) (y : A) → found fault o ≡ Ok y → o ≡ Some y
-found-some fault (Some y) z h = cc
-found-some fault None z h = cc
-
 -- the main level is within the limits; its cells are at most so many
 record StateWithin (most : ℕ) (s : State) : Type 0 where
   few : length s.shapes ≤ most_shapes
@@ -96,9 +85,9 @@ more-within most s cells shapes h few near within one =
     let before : length s.cells ≤ most = h.few_cells in
     record {
       few = rw whole few;
-      shapes = both IsShapeWithin s.shapes shapes h.shapes near;
-      cells = rw whole (both (IsCellWithin (length s.shapes + length shapes)) s.cells cells
-          (each _ _ (cell-later (length s.shapes) (length s.shapes + length shapes) (omega arith)) s.cells h.cells) within);
+      shapes = every-append IsShapeWithin s.shapes shapes h.shapes near;
+      cells = rw whole (every-append (IsCellWithin (length s.shapes + length shapes)) s.cells cells
+          (every-weaker _ _ (cell-later (length s.shapes) (length s.shapes + length shapes) (omega arith)) s.cells h.cells) within);
       few_cells = rw count (omega arith);
     }
 

@@ -2,8 +2,6 @@
 pub mod Limits
 -- the layout that commands give, or the first refusal
 pub mod Expansion
--- it is what they mean, within the limits
-pub mod Agreement
 -- what every layout keeps that commands give
 pub mod Within
 -- what a command gives the level in which it stands

@@ -1,4 +1,5 @@
 use Rattle.std.specs.Prelude.{if◌then◌else◌, ℕ, suc, ℤ, ◌==◌, nat_lt, nat_abs, List, [], ◌∷◌, ◌++◌, length, ◌+◌, Option, Some, None}
+use Rattle.limits.specs.declared.TheConstants.{DEEPEST, FARTHEST, MOST_SHAPES}
 use Rattle.geom_core.specs.declared.layout.Shape.{Shape}
 use Rattle.geom_core.specs.Extent.{Extent}
 use Rattle.geom_core.specs.Turning.{Turning}
@@ -11,13 +12,13 @@ use Rattle.cif_reader.specs.declared.fault.ExpandKind.TheVariants as kinds
 
 -- the product's own: no coordinate is farther from 0 than so many half centimicrons, no level has more shapes, and none is deeper
 abbrev pub farthest : ℕ
-farthest = 4000000000
+farthest = FARTHEST
 
 abbrev pub most_shapes : ℕ
-most_shapes = 4000000
+most_shapes = MOST_SHAPES
 
 abbrev pub deepest : ℕ
-deepest = 64
+deepest = DEEPEST
 
 -- the first number that is too far
 abbrev pub first_far : List ℤ → Option ℤ

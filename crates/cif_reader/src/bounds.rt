@@ -8,7 +8,7 @@ ghost use Rattle.std.specs.Int.{int_max, int_min};
 ghost use Rattle.std.specs.Option.{ForSome};
 ghost use Rattle.std.specs.Prelude.{◌≡◌, ◌≤ℤ◌, ◌<ℤ◌, option_map};
 
-use crate::limits::{far_side, wide};
+use crate::limit_passing::{far_side, wide};
 use geom_core::{Rect, Turn, moved};
 
 #[tactic(auto, using(crate::proofs::ScaleLemmas::read_back))]

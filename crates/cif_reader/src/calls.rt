@@ -10,12 +10,13 @@ ghost use Rattle.std.specs.Prelude.{◌≡◌, ◌==◌, ◌≤◌, ◌<◌, ◌
 
 use crate::bounds::{are_near, moved_bounds};
 use crate::fault::ExpandKind;
-use crate::limits::{DEEPEST, first_far, is_far, limit_passed, narrow};
+use crate::limit_passing::{first_far, is_far, limit_passed, narrow};
 use crate::places::{Places, place_of};
 use crate::refusal::Refusal;
 use crate::scales::WideTurn;
 use crate::table::{Kept, drawn, push_moved};
 use geom_core::{Shape, Turn};
+use limits::DEEPEST;
 use std::alloc::{AllocError, Global};
 
 /// A call that a level may have: the place of its symbol, and its turn.

@@ -1,6 +1,7 @@
 ghost use Rattle.cif_reader.specs.Expanding.{Expands, fault_of};
 ghost use Rattle.cif_reader.specs.Expansion.{expansion};
 ghost use Rattle.cif_reader.specs.Within.{IsLayoutWithin};
+ghost use Rattle.cif_text.specs.Bodies.{IsDrawnBy};
 ghost use Rattle.cif_text.specs.Sound.{AreSound};
 ghost use Rattle.std.specs.Prelude.{◌≡◌, ◌^◌, ◌<◌, false, length, IfOk};
 
@@ -38,6 +39,7 @@ pub fn expand(alloc: Global, commands: &[Command]) -> Result<Layout, ExpandFault
     requires sound { AreSound false commands.now }
     requires few { length commands.now < 2 ^ 32 }
     ensures expands { Expands result (expansion commands.now) }
+    ensures drawn { IfOk result (λ layout. IsDrawnBy commands.now layout) }
     ensures within { IfOk result (λ layout. IsLayoutWithin (length commands.now) layout) }
 {
     let mut standing = at_first(alloc);

@@ -11,7 +11,7 @@ ghost use Rattle.std.specs.Prelude.{◌≡◌, ◌+◌, ◌≤◌, ◌∷◌, []
 
 use crate::bounds::{joined, moved_bounds};
 use crate::calls::{called, depth_above};
-use crate::limits::boxed;
+use crate::limit_passing::boxed;
 use crate::places::Places;
 use crate::refusal::Refusal;
 use crate::scales::{WideSides, WideTurn};

@@ -11,7 +11,7 @@ mod expanding;
 mod fault;
 mod growing;
 mod inside;
-mod limits;
+mod limit_passing;
 mod outside;
 mod places;
 mod refusal;

@@ -12,7 +12,7 @@ ghost use Rattle.std.specs.Prelude.{◌≡◌, ◌≤◌, ◌<◌, ◌∷◌, []
 
 use crate::calls::{Call, called, depth_above, push_copy};
 use crate::fault::ExpandKind;
-use crate::limits::boxed;
+use crate::limit_passing::boxed;
 use crate::places::Places;
 use crate::refusal::Refusal;
 use crate::scales::{WideSides, WideTurn, box_around, scaled_extent, scaled_turning};

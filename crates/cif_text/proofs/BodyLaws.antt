@@ -1,6 +1,8 @@
-use Rattle.std.proofs.Common.{◌≡◌, refl, ap, sym, ◌∙◌, append_assoc, ℕ, List, [], ◌∷◌, ◌++◌, Bool, true, false, Option, Some, None, Result, Ok, Err}
+use Rattle.std.proofs.Common.{◌≡◌, refl, ap, sym, subst, arith, ◌+◌, length, ◌∙◌, append_assoc, ℕ, List, [], ◌∷◌, ◌++◌, Bool, true, false, Option, Some, None, Result, Ok, Err}
+use Rattle.std.proofs.lemmas.List.{length-append}
 use Rattle.std.specs.List.{list_all}
 use Rattle.std.specs.Prelude.{◌==◌, ◌&&◌, if◌then◌else◌}
+use Rattle.geom_core.specs.declared.layout.Cell.{Cell}
 use Rattle.geom_core.specs.declared.layout.Shape.{Shape}
 use Rattle.cif_text.specs.declared.command.Command.{Command}
 use Rattle.cif_text.specs.declared.command.Command.TheVariants as commands
@@ -8,12 +10,16 @@ use Rattle.cif_text.specs.InOrder.{◌>>=◌}
 use Rattle.cif_text.specs.Symbols.{Symbol, symbol_of}
 use Rattle.cif_text.specs.CifReads.{is_open_behind}
 use Rattle.cif_text.specs.Meaning.{Unmeant, undefined, found, called}
-use Rattle.cif_text.specs.Bodies.{layer_behind, name_behind, drawn_by, drawn_by_all, last_layer, last_name, outside, finishes_none, IsDefined}
+use Rattle.cif_text.specs.Bodies.{layer_behind, name_behind, drawn_by, drawn_by_all, last_layer, last_name, last_waiting, waiting_behind, cells_by, cells_by_all, outside, finishes_none, IsDefined}
 
 -- a step that gives something gives it from what the step before gave
 pub given : {A B x : Type 0} (r : Result A x) (f : A → Result B x) (y : B) → (r >>= f) ≡ Ok y → (a : A) × (r ≡ Ok a) × (f a ≡ Ok y)
 given (Ok a) f y h = (a, refl, h)
 given (Err e) f y h = cc
+
+three-steps : {A B C D x : Type 0} (r : Result A x) (s : Result B x) (f : B → Result C x) (g : A → C → D) (a : A) (b : B) (c : C) → r ≡ Ok a → s ≡ Ok b
+    → f b ≡ Ok c → (r >>= λ v. s >>= λ w. f w >>= λ z. Ok (g v z)) ≡ Ok (g a c)
+three-steps r s f g a b c first second third = rw (first, second, third) refl
 
 -- one command more
 pub layer-push : (layer : Option (List ℕ)) (xs : List Command) (c : Command) → last_layer layer (xs ++ (c ∷ [])) ≡ layer_behind (last_layer layer xs) c
@@ -50,6 +56,38 @@ draws-join symbols a b layer (x ∷ xs) ys shapes more h last =
     let longer = draws-join symbols a b (layer_behind layer x) xs ys others.0 more others.1 last in
     let whole : first.0 ++ others.0 ≡ shapes = cc others.2 in
     rw (first.1, longer) (ap Ok (sym (append_assoc first.0 others.0 more) ∙ ap (λ (ss : List Shape). ss ++ more) whole))
+
+pub waiting-join : (waiting : Option (List ℕ)) (xs ys : List Command) → last_waiting waiting (xs ++ ys) ≡ last_waiting (last_waiting waiting xs) ys
+waiting-join waiting [] ys = refl
+waiting-join waiting (x ∷ xs) ys = waiting-join (waiting_behind waiting x) xs ys
+
+-- the cells of commands, in two parts
+pub cells-join : (symbols : List Symbol) (layer waiting : Option (List ℕ)) (first : ℕ) (xs ys : List Command) (shapes : List Shape) (cells more : List Cell)
+    → drawn_by_all symbols 1 1 layer xs ≡ Ok shapes → cells_by_all symbols layer waiting first xs ≡ Ok cells
+    → cells_by_all symbols (last_layer layer xs) (last_waiting waiting xs) (first + length shapes) ys ≡ Ok more
+    → cells_by_all symbols layer waiting first (xs ++ ys) ≡ Ok (cells ++ more)
+cells-join symbols layer waiting first [] ys shapes cells more draws h last =
+    let no_shapes : [] ≡ shapes = cc in
+    let none : [] ≡ cells = cc in
+    let same : first + length shapes ≡ first = omega (arith, ap length no_shapes) in
+    subst (λ (n : ℕ). cells_by_all symbols layer waiting n ys ≡ Ok more) same last ∙ ap (λ (cs : List Cell). Ok (cs ++ more)) none
+cells-join symbols layer waiting first (x ∷ xs) ys shapes cells more draws h last =
+    let own = given (cells_by symbols waiting first x) _ cells h in
+    let drawn = given (drawn_by symbols 1 1 layer x) _ cells own.2 in
+    let others = given (cells_by_all symbols (layer_behind layer x) (waiting_behind waiting x) (first + length drawn.0) xs) _ cells drawn.2 in
+    let front = given (drawn_by symbols 1 1 layer x) _ shapes draws in
+    let rest = given (drawn_by_all symbols 1 1 (layer_behind layer x) xs) _ shapes front.2 in
+    let all_shapes : front.0 ++ rest.0 ≡ shapes = cc rest.2 in
+    let one : front.0 ≡ drawn.0 = cc (front.1, drawn.1) in
+    let many : first + length shapes ≡ (first + length drawn.0) + length rest.0 =
+    omega (arith, ap length all_shapes, ap length one, length-append front.0 rest.0) in
+    let longer = cells-join symbols (layer_behind layer x) (waiting_behind waiting x) (first + length drawn.0) xs ys rest.0 others.0 more rest.1 others.1
+    (subst (λ (n : ℕ). cells_by_all symbols (last_layer (layer_behind layer x) xs) (last_waiting (waiting_behind waiting x) xs) n ys ≡ Ok more) many last) in
+    let whole : own.0 ++ others.0 ≡ cells = cc others.2 in
+    three-steps (cells_by symbols waiting first x) (drawn_by symbols 1 1 layer x)
+    (λ ss. cells_by_all symbols (layer_behind layer x) (waiting_behind waiting x) (first + length ss) (xs ++ ys)) (λ (front last : List Cell). front ++ last) own.0 drawn.0
+    (others.0 ++ more) own.1 drawn.1 longer
+    ∙ ap Ok (sym (append_assoc own.0 others.0 more) ∙ ap (λ (cs : List Cell). cs ++ more) whole)
 
 -- where more symbols have ended
 symbol-more : (n : ℕ) (symbols later : List Symbol) (y : Symbol) → symbol_of n symbols ≡ Some y → symbol_of n (symbols ++ later) ≡ Some y
@@ -88,6 +126,35 @@ draws-more symbols later a b layer (c ∷ cs) shapes h =
     let others = given (drawn_by_all symbols a b (layer_behind layer c) cs) _ shapes first.2 in
     rw (drawn-more symbols later a b layer c first.0 first.1, draws-more symbols later a b (layer_behind layer c) cs others.0 others.1) others.2
 
+cells_by-more : (symbols later : List Symbol) (waiting : Option (List ℕ)) (first : ℕ) (c : Command) (cells : List Cell)
+    → cells_by symbols waiting first c ≡ Ok cells → cells_by (symbols ++ later) waiting first c ≡ Ok cells
+cells_by-more symbols later waiting first (commands.Call n flip quarters dx dy) cells h =
+    let call = given (called 1 1 symbols n flip quarters dx dy) _ cells h in
+    let symbol = given (found (undefined n) (symbol_of n symbols)) _ call.0 call.1 in
+    let there = symbol-more n symbols later symbol.0 (found-some (undefined n) (symbol_of n symbols) symbol.0 symbol.1) in
+    rw (there, symbol.2) call.2
+cells_by-more symbols later waiting first (commands.Box long wide cx cy upright) cells h = h
+cells_by-more symbols later waiting first (commands.Layer name) cells h = h
+cells_by-more symbols later waiting first (commands.Start n x y) cells h = h
+cells_by-more symbols later waiting first commands.Finish cells h = h
+cells_by-more symbols later waiting first commands.Comment cells h = h
+cells_by-more symbols later waiting first (commands.User kind text) cells h = h
+cells_by-more symbols later waiting first commands.End cells h = h
+
+pub cells-more : (symbols later : List Symbol) (layer waiting : Option (List ℕ)) (first : ℕ) (cs : List Command) (cells : List Cell)
+    → cells_by_all symbols layer waiting first cs ≡ Ok cells → cells_by_all (symbols ++ later) layer waiting first cs ≡ Ok cells
+cells-more symbols later layer waiting first [] cells h = h
+cells-more symbols later layer waiting first (c ∷ cs) cells h =
+    let own = given (cells_by symbols waiting first c) _ cells h in
+    let drawn = given (drawn_by symbols 1 1 layer c) _ cells own.2 in
+    let others = given (cells_by_all symbols (layer_behind layer c) (waiting_behind waiting c) (first + length drawn.0) cs) _ cells drawn.2 in
+    let whole : own.0 ++ others.0 ≡ cells = cc others.2 in
+    three-steps (cells_by (symbols ++ later) waiting first c) (drawn_by (symbols ++ later) 1 1 layer c)
+    (λ ss. cells_by_all (symbols ++ later) (layer_behind layer c) (waiting_behind waiting c) (first + length ss) cs) (λ (front last : List Cell). front ++ last) own.0 drawn.0
+    others.0 (cells_by-more symbols later waiting first c own.0 own.1) (drawn-more symbols later 1 1 layer c drawn.0 drawn.1)
+    (cells-more symbols later (layer_behind layer c) (waiting_behind waiting c) (first + length drawn.0) cs others.0 others.1)
+    ∙ ap Ok whole
+
 -- whether a definition is open behind commands
 abbrev pub is_open : Bool → List Command → Bool
 is_open b [] = b
@@ -99,7 +166,8 @@ open-push b (x ∷ xs) c = open-push (is_open_behind b x) xs c
 
 pub outside-push : (b : Bool) (xs : List Command) (c : Command) → outside b (xs ++ (c ∷ [])) ≡ outside b xs ++ outside (is_open b xs) (c ∷ [])
 outside-push b [] c = refl
-outside-push b (commands.Start n x y ∷ xs) c = outside-push true xs c
+outside-push true (commands.Start n x y ∷ xs) c = outside-push true xs c
+outside-push false (commands.Start n x y ∷ xs) c = ap (λ (cs : List Command). commands.Start n x y ∷ cs) (outside-push true xs c)
 outside-push b (commands.Finish ∷ xs) c = outside-push false xs c
 outside-push true (commands.Box long wide cx cy upright ∷ xs) c = outside-push true xs c
 outside-push true (commands.Layer name ∷ xs) c = outside-push true xs c

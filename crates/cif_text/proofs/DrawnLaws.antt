@@ -1,7 +1,8 @@
-use Rattle.std.proofs.Common.{◌≡◌, refl, ap, sym, subst, ◌∙◌, append_assoc, ℕ, suc, ℤ, List, [], ◌∷◌, ◌++◌, Bool, true, false, Option, Some, None, Result, Ok, Err}
+use Rattle.std.proofs.Common.{◌≡◌, refl, ap, sym, subst, arith, ◌+◌, ◌∙◌, append_assoc, ℕ, suc, ℤ, List, [], ◌∷◌, ◌++◌, Bool, true, false, Option, Some, None, Result, Ok, Err}
 use Rattle.std.proofs.lemmas.List.{append-nil}
 use Rattle.std.specs.List.{list_all}
 use Rattle.std.specs.Prelude.{length}
+use Rattle.geom_core.specs.declared.layout.Cell.{Cell}
 use Rattle.geom_core.specs.declared.layout.Shape.{Shape}
 use Rattle.geom_core.specs.declared.layout.Layout.{Layout}
 use Rattle.geom_core.specs.Turning.{Turning}
@@ -12,8 +13,8 @@ use Rattle.cif_text.specs.Scales.{box_around}
 use Rattle.cif_text.specs.Symbols.{Symbol, Definition, State, symbol_of, moved_shapes}
 use Rattle.cif_text.specs.CifReads.{is_open_behind}
 use Rattle.cif_text.specs.Meaning.{Unmeant, box_shape, called, cells_of, drawn, drawn_inside, named_inside, empty_symbol, started, finished, with_inside, at_command, step, step_in, step_outside, run, nothing, layout_of, meaning}
-use Rattle.cif_text.specs.Bodies.{layer_behind, name_behind, drawn_by, drawn_by_all, last_layer, last_name, outside, finishes_none, IsDefined, IsDrawnBy}
-use Rattle.cif_text.proofs.BodyLaws.{given, layer-push, layer-join, name-push, closed-push, draws-join, draws-more, is_open, open-push, outside-push, defined-push, snoc-parts}
+use Rattle.cif_text.specs.Bodies.{layer_behind, name_behind, drawn_by, drawn_by_all, last_layer, last_name, last_waiting, cells_by_all, outside, finishes_none, IsDefined, IsDrawnBy}
+use Rattle.cif_text.proofs.BodyLaws.{given, layer-push, layer-join, name-push, closed-push, waiting-join, cells-join, cells-more, draws-join, draws-more, is_open, open-push, outside-push, defined-push, snoc-parts}
 
 -- a definition is open behind commands: it has so far what the commands behind its start give it
 record IsOpened (done : List Command) (symbols : List Symbol) (d : Definition) : Type 0 where
@@ -34,6 +35,8 @@ record Made (done : List Command) (s : State) : Type 0 where
   defined : (earlier later : List Symbol) (y : Symbol) → s.symbols ≡ earlier ++ (y ∷ later) → IsDefined done earlier y
   draws : drawn_by_all s.symbols 1 1 None (outside false done) ≡ Ok s.shapes
   layer : last_layer None (outside false done) ≡ s.layer
+  waiting : last_waiting None (outside false done) ≡ s.waiting
+  cells : cells_by_all s.symbols None None 0 (outside false done) ≡ Ok s.cells
   opened : Opened done s.symbols s.inside
 
 -- the main level is left as it is by a command inside a definition
@@ -58,6 +61,8 @@ made-inside done c s d e more h some more_to_come none still number a b draws sh
       defined = λ earlier later y at. defined-push done c earlier y (h.defined earlier later y at);
       draws = rw same h.draws;
       layer = rw same h.layer;
+      waiting = rw same h.waiting;
+      cells = rw same h.cells;
       opened = (
         open-push false done c ∙ ap (λ (x : Bool). is_open_behind x c) o.0 ∙ still,
         record {
@@ -95,6 +100,8 @@ made-finish done s d h some =
           (λ fewer all. defined-push done commands.Finish earlier y (h.defined earlier fewer y all));
       draws = rw same (draws-more s.symbols (d.symbol ∷ []) 1 1 None (outside false done) s.shapes h.draws);
       layer = rw same h.layer;
+      waiting = rw same h.waiting;
+      cells = rw same (cells-more s.symbols (d.symbol ∷ []) None None 0 (outside false done) s.cells h.cells);
       opened = open-push false done commands.Finish;
     }
 
@@ -104,12 +111,16 @@ made-start : (done : List Command) (s : State) (n a b : ℕ) → Made done s →
     (record s { waiting = None; inside = Some (record { symbol = empty_symbol n; a = a; b = b; layer = None }) })
 made-start done s n a b h none =
     let o : Opened done s.symbols None = subst (Opened done s.symbols) none h.opened in
-    let same : outside false (done ++ (commands.Start n a b ∷ [])) ≡ outside false done =
-    outside-push false done (commands.Start n a b) ∙ append-nil (outside false done) in
+    let same : outside false (done ++ (commands.Start n a b ∷ [])) ≡ outside false done ++ (commands.Start n a b ∷ []) =
+    outside-push false done (commands.Start n a b) ∙ ap (λ (x : Bool). outside false done ++ outside x (commands.Start n a b ∷ [])) o in
     record {
       defined = λ earlier later y at. defined-push done (commands.Start n a b) earlier y (h.defined earlier later y at);
-      draws = rw same h.draws;
-      layer = rw same h.layer;
+      draws = rw same (draws-join s.symbols 1 1 None (outside false done) (commands.Start n a b ∷ []) s.shapes [] h.draws refl
+          ∙ ap (λ (ss : List Shape). Ok ss) (append-nil s.shapes));
+      layer = rw same (layer-join None (outside false done) (commands.Start n a b ∷ []) ∙ h.layer);
+      waiting = rw same (waiting-join None (outside false done) (commands.Start n a b ∷ []));
+      cells = rw same (cells-join s.symbols None None 0 (outside false done) (commands.Start n a b ∷ []) s.shapes s.cells [] h.draws h.cells refl
+          ∙ ap (λ (cs : List Cell). Ok cs) (append-nil s.cells));
       opened = (
         open-push false done (commands.Start n a b),
         record { before = done; body = []; stands = refl; closed = refl; draws = refl; layer = refl; named = refl },
@@ -117,20 +128,28 @@ made-start done s n a b h none =
     }
 
 -- a further command of the main level
-made-outside : (done : List Command) (c : Command) (s t : State) (more : List Shape) → Made done s → s.inside ≡ None
+made-outside : (done : List Command) (c : Command) (s t : State) (more : List Shape) (more_cells : List Cell) → Made done s → s.inside ≡ None
     → is_open_behind false c ≡ false → t.symbols ≡ s.symbols → t.inside ≡ None
     → drawn_by_all s.symbols 1 1 s.layer (outside false (c ∷ [])) ≡ Ok more → t.shapes ≡ s.shapes ++ more
     → t.layer ≡ last_layer s.layer (outside false (c ∷ []))
+    → t.waiting ≡ last_waiting s.waiting (outside false (c ∷ []))
+    → cells_by_all s.symbols s.layer s.waiting (length s.shapes) (outside false (c ∷ [])) ≡ Ok more_cells → t.cells ≡ s.cells ++ more_cells
     → Made (done ++ (c ∷ [])) t
-made-outside done c s t more h none still symbols inside draws shapes layer =
+made-outside done c s t more more_cells h none still symbols inside draws shapes layer waiting cells all_cells =
     let o : Opened done s.symbols None = subst (Opened done s.symbols) none h.opened in
     let same : outside false (done ++ (c ∷ [])) ≡ outside false done ++ outside false (c ∷ []) =
     outside-push false done c ∙ ap (λ (b : Bool). outside false done ++ outside b (c ∷ [])) o in
     let last : drawn_by_all s.symbols 1 1 (last_layer None (outside false done)) (outside false (c ∷ [])) ≡ Ok more = rw h.layer draws in
+    let before : 0 + length s.shapes ≡ length s.shapes = omega arith in
+    let last_cells : cells_by_all s.symbols (last_layer None (outside false done)) (last_waiting None (outside false done)) (0 + length s.shapes) (outside false (c ∷ []))
+    ≡ Ok more_cells = rw (h.layer, h.waiting, before) cells in
     record {
       defined = λ earlier later y at. defined-push done c earlier y (h.defined earlier later y (sym symbols ∙ at));
       draws = rw (symbols, same, shapes) (draws-join s.symbols 1 1 None (outside false done) (outside false (c ∷ [])) s.shapes more h.draws last);
       layer = rw same (layer-join None (outside false done) (outside false (c ∷ [])) ∙ rw h.layer (sym layer));
+      waiting = rw same (waiting-join None (outside false done) (outside false (c ∷ [])) ∙ rw h.waiting (sym waiting));
+      cells = rw (symbols, same, all_cells)
+          (cells-join s.symbols None None 0 (outside false done) (outside false (c ∷ [])) s.shapes s.cells more_cells h.draws h.cells last_cells);
       opened = subst (Opened (done ++ (c ∷ [])) t.symbols) (sym inside) (open-push false done c ∙ ap (λ (x : Bool). is_open_behind x c) o ∙ still);
     }
 
@@ -142,6 +161,11 @@ draws-box symbols a b layer long wide cx cy upright shape is = rw is refl
 draws-call : (symbols : List Symbol) (a b : ℕ) (layer : Option (List ℕ)) (n : ℕ) (flip : Bool) (quarters : ℕ) (dx dy : ℤ) (call : Symbol × Turning)
     → called a b symbols n flip quarters dx dy ≡ Ok call → drawn_by symbols a b layer (commands.Call n flip quarters dx dy) ≡ Ok (moved_shapes call.1 call.0.shapes)
 draws-call symbols a b layer n flip quarters dx dy call is = rw is refl
+
+cells-call : (symbols : List Symbol) (layer waiting : Option (List ℕ)) (first n : ℕ) (flip : Bool) (quarters : ℕ) (dx dy : ℤ) (call : Symbol × Turning) (own : List Cell)
+    → called 1 1 symbols n flip quarters dx dy ≡ Ok call → cells_of waiting call.0 call.1 first ≡ Ok own
+    → cells_by_all symbols layer waiting first (commands.Call n flip quarters dx dy ∷ []) ≡ Ok (own ++ [])
+cells-call symbols layer waiting first n flip quarters dx dy call own is cells = rw (is, cells) refl
 
 draws-one : (symbols : List Symbol) (a b : ℕ) (layer : Option (List ℕ)) (c : Command) (more : List Shape)
     → drawn_by symbols a b layer c ≡ Ok more → drawn_by_all symbols a b layer (c ∷ []) ≡ Ok more
@@ -199,10 +223,13 @@ step-inside done commands.End s t d h some is = made-inside-same done commands.E
 made-outside-same : (done : List Command) (c : Command) (s t u : State) → Made done s → s.inside ≡ None
     → is_open_behind false c ≡ false → t.symbols ≡ s.symbols → t.inside ≡ None → t.shapes ≡ s.shapes
     → drawn_by_all s.symbols 1 1 s.layer (outside false (c ∷ [])) ≡ Ok [] → t.layer ≡ last_layer s.layer (outside false (c ∷ []))
+    → t.waiting ≡ last_waiting s.waiting (outside false (c ∷ []))
+    → cells_by_all s.symbols s.layer s.waiting (length s.shapes) (outside false (c ∷ [])) ≡ Ok [] → t.cells ≡ s.cells
     → t ≡ u → Made (done ++ (c ∷ [])) u
-made-outside-same done c s t u h none still symbols inside shapes draws layer is =
+made-outside-same done c s t u h none still symbols inside shapes draws layer waiting cells same_cells is =
     subst (Made (done ++ (c ∷ []))) is
-    (made-outside done c s t [] h none still symbols inside draws (shapes ∙ sym (append-nil s.shapes)) layer)
+    (made-outside done c s t [] [] h none still symbols inside draws (shapes ∙ sym (append-nil s.shapes)) layer waiting cells
+    (same_cells ∙ sym (append-nil s.cells)))
 
 step-start : (done : List Command) (n a b : ℕ) (s t : State) (there : Option Symbol) → Made done s → s.inside ≡ None → started s n a b there ≡ Ok t
     → Made (done ++ (commands.Start n a b ∷ [])) t
@@ -216,30 +243,32 @@ step-outside done (commands.Box long wide cx cy upright) s t h none is =
     let shape = given (box_shape 1 1 s.layer (box_around long wide cx cy upright)) (λ shape. Ok (drawn s [] (shape ∷ []))) t is in
     let state : drawn s [] (shape.0 ∷ []) ≡ t = cc shape.2 in
     subst (Made (done ++ (commands.Box long wide cx cy upright ∷ []))) state
-    (made-outside done (commands.Box long wide cx cy upright) s (drawn s [] (shape.0 ∷ [])) (shape.0 ∷ []) h none refl refl none
+    (made-outside done (commands.Box long wide cx cy upright) s (drawn s [] (shape.0 ∷ [])) (shape.0 ∷ []) [] h none refl refl none
     (draws-one s.symbols 1 1 s.layer (commands.Box long wide cx cy upright) (shape.0 ∷ [])
-    (draws-box s.symbols 1 1 s.layer long wide cx cy upright shape.0 shape.1)) refl refl)
+    (draws-box s.symbols 1 1 s.layer long wide cx cy upright shape.0 shape.1)) refl refl refl
+    (rw (draws-box s.symbols 1 1 s.layer long wide cx cy upright shape.0 shape.1) refl) refl)
 step-outside done (commands.Call n flip quarters dx dy) s t h none is =
     let call = given (called 1 1 s.symbols n flip quarters dx dy) _ t is in
     let cells = given (cells_of s.waiting call.0.0 call.0.1 (length s.shapes)) _ t call.2 in
     let shapes = moved_shapes call.0.1 call.0.0.shapes in
     let state : drawn s cells.0 shapes ≡ t = cc cells.2 in
     subst (Made (done ++ (commands.Call n flip quarters dx dy ∷ []))) state
-    (made-outside done (commands.Call n flip quarters dx dy) s (drawn s cells.0 shapes) shapes h none refl refl none
+    (made-outside done (commands.Call n flip quarters dx dy) s (drawn s cells.0 shapes) shapes (cells.0 ++ []) h none refl refl none
     (draws-one s.symbols 1 1 s.layer (commands.Call n flip quarters dx dy) shapes
-    (draws-call s.symbols 1 1 s.layer n flip quarters dx dy call.0 call.1)) refl refl)
+    (draws-call s.symbols 1 1 s.layer n flip quarters dx dy call.0 call.1)) refl refl refl
+    (cells-call s.symbols s.layer s.waiting (length s.shapes) n flip quarters dx dy call.0 cells.0 call.1 cells.1) (ap (λ (cs : List Cell). s.cells ++ cs) (sym (append-nil cells.0))))
 step-outside done (commands.Layer name) s t h none is =
-    made-outside-same done (commands.Layer name) s (record s { layer = Some name; waiting = None }) t h none refl refl none refl refl refl (cc is)
+    made-outside-same done (commands.Layer name) s (record s { layer = Some name; waiting = None }) t h none refl refl none refl refl refl refl refl refl (cc is)
 step-outside done (commands.Start n a b) s t h none is = step-start done n a b s t (symbol_of n s.symbols) h none is
-step-outside done commands.Finish s t h none is = made-outside-same done commands.Finish s s t h none refl refl none refl refl refl (cc is)
-step-outside done commands.Comment s t h none is = made-outside-same done commands.Comment s s t h none refl refl none refl refl refl (cc is)
+step-outside done commands.Finish s t h none is = made-outside-same done commands.Finish s s t h none refl refl none refl refl refl refl refl refl (cc is)
+step-outside done commands.Comment s t h none is = made-outside-same done commands.Comment s s t h none refl refl none refl refl refl refl refl refl (cc is)
 step-outside done (commands.User users.SymbolName name) s t h none is =
-    made-outside-same done (commands.User users.SymbolName name) s (record s { waiting = None }) t h none refl refl none refl refl refl (cc is)
+    made-outside-same done (commands.User users.SymbolName name) s (record s { waiting = None }) t h none refl refl none refl refl refl refl refl refl (cc is)
 step-outside done (commands.User users.InstanceName name) s t h none is =
-    made-outside-same done (commands.User users.InstanceName name) s (record s { waiting = Some name }) t h none refl refl none refl refl refl (cc is)
+    made-outside-same done (commands.User users.InstanceName name) s (record s { waiting = Some name }) t h none refl refl none refl refl refl refl refl refl (cc is)
 step-outside done (commands.User users.Other name) s t h none is =
-    made-outside-same done (commands.User users.Other name) s s t h none refl refl none refl refl refl (cc is)
-step-outside done commands.End s t h none is = made-outside-same done commands.End s s t h none refl refl none refl refl refl (cc is)
+    made-outside-same done (commands.User users.Other name) s s t h none refl refl none refl refl refl refl refl refl (cc is)
+step-outside done commands.End s t h none is = made-outside-same done commands.End s s t h none refl refl none refl refl refl refl refl refl (cc is)
 
 step-made : (done : List Command) (c : Command) (s t : State) → Made done s → step s c ≡ Ok t → Made (done ++ (c ∷ [])) t
 unfolding step
@@ -272,6 +301,8 @@ meaning-drawn cs l is =
       defined = λ earlier later y at. none-defined earlier later y at;
       draws = refl;
       layer = refl;
+      waiting = refl;
+      cells = refl;
       opened = refl;
     } in
     let made = run-made cs [] 0 nothing whole.0 start whole.1 in
@@ -280,6 +311,7 @@ meaning-drawn cs l is =
       symbols = whole.0.symbols;
       defined = made.defined;
       draws = made.draws ∙ ap (λ (found : Layout). Ok found.shapes) same;
+      cells = made.cells ∙ ap (λ (found : Layout). Ok found.cells) same;
     }
   where
     none-defined : (earlier later : List Symbol) (y : Symbol) → [] ≡ earlier ++ (y ∷ later) → IsDefined [] earlier y

@@ -17,7 +17,8 @@ use Rattle.cif_text.specs.InOrder.{◌>>=◌}
 use Rattle.cif_text.specs.Numbers.{greatest, natural, number}
 use Rattle.cif_text.specs.Forms.{box_end, box_form, layer_of, layer_form, start_form, definition_form, naming, user_form}
 use Rattle.cif_text.specs.Calls.{Step, translate, point_of, step_of, steps_of, after_all, at_rest, call_of, call_form}
-use Rattle.cif_text.specs.Printable.{IsNear, IsSize, IsNatural, IsPart, IsNameText}
+use Rattle.cif_text.specs.Printable.{IsNear, IsSize, IsNatural, IsPart}
+use Rattle.cif_text.proofs.PrintableTexts.{IsNameText}
 use Rattle.cif_text.proofs.SpanLemmas.{and-both, begins-other, ends-other, span-all, skip-blank}
 use Rattle.cif_text.proofs.NumberLemmas.{blank-gap, separator-gap, begins-decimal, number-apart, number-skipped, positive-apart, positive-skipped, natural-skipped}
 

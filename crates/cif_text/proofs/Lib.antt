@@ -30,3 +30,8 @@ pub mod SoundLemmas
 pub mod PlaceLaws
 -- the counts of steps and commands do not matter
 pub mod FuelLaws
+pub mod WrittenLayout
+-- commands that can be printed
+pub mod PrintableTexts
+-- steps of a call as moves, one after another
+pub mod Moves

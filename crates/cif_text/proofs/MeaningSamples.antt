@@ -5,7 +5,7 @@ use Rattle.geom_core.specs.declared.layout.Layout.{Layout}
 use Rattle.cif_text.specs.declared.command.Command.{Command}
 use Rattle.cif_text.specs.declared.fault.CifKind.{CifKind}
 use Rattle.cif_text.specs.Written.{WrittenSymbol, MainItem, alone, copy, layout_commands}
-use Rattle.cif_text.specs.WrittenLayout.{written_layout}
+use Rattle.cif_text.proofs.WrittenLayout.{written_layout}
 use Rattle.cif_text.proofs.Samples.{inverter}
 use Rattle.cif_text.specs.Numbers.{natural, positive, number}
 use Rattle.cif_text.specs.Forms.{box_end, box_form, layer_form, start_form, definition_form, user_form}

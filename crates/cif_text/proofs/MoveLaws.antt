@@ -5,7 +5,8 @@ use Rattle.cif_text.specs.Bytes.{is_blank, is_separator, skip}
 use Rattle.cif_text.specs.InOrder.{◌>>=◌}
 use Rattle.cif_text.specs.Numbers.{Wrong, natural}
 use Rattle.cif_text.specs.Calls.{Step, step_of, steps_of, after, after_all, at_rest, call_of, call_form}
-use Rattle.cif_text.specs.Transforms.{IsWithin, followed, moves_from, moves_of, call_by_moves}
+use Rattle.cif_text.specs.Transforms.{IsWithin, followed, moves_of}
+use Rattle.cif_text.proofs.Moves.{moves_from, call_by_moves}
 use Rattle.cif_text.proofs.FuelLaws.{span-rest, step-leaves, steps-enough}
 
 -- a step leaves fewer bytes

@@ -11,7 +11,8 @@ use Rattle.cif_text.specs.declared.command.Command.TheVariants as commands
 use Rattle.cif_text.specs.declared.command.UserKind.TheVariants as users
 use Rattle.cif_text.specs.Numbers.{greatest}
 use Rattle.cif_text.specs.Printing.{blanked, bytes_of, upright_parts, flip_parts, quarter_parts}
-use Rattle.cif_text.specs.Printable.{is_plain_byte, IsNear, IsSize, IsPrintable}
+use Rattle.cif_text.specs.Printable.{IsNear, IsSize}
+use Rattle.cif_text.proofs.PrintableTexts.{is_plain_byte, IsPrintable}
 use Rattle.cif_text.proofs.SpanLemmas.{and-both, list_all-weaker, list_all-joined}
 use Rattle.cif_text.proofs.NumberLemmas.{decimal-all}
 

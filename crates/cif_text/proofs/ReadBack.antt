@@ -8,7 +8,7 @@ use Rattle.cif_text.specs.Bytes.{is_ascii_byte, is_between, not_semicolon, span,
 use Rattle.cif_text.specs.Commands.{after_comment, is_left_out, form_of, may_stand, cut_of, command_at}
 use Rattle.cif_text.specs.CifReads.{is_end, is_open_behind, commands_at, cif_reads}
 use Rattle.cif_text.specs.Printing.{bytes_of, end_of, line, text_of}
-use Rattle.cif_text.specs.Printable.{is_plain_byte, IsPrintable, IsText}
+use Rattle.cif_text.proofs.PrintableTexts.{is_plain_byte, IsPrintable, IsText}
 use Rattle.cif_text.proofs.SpanLemmas.{and-both, both-and, span-append, list_all-weaker, list_all-joined}
 use Rattle.cif_text.proofs.FormLemmas.{box-is, layer-is, start-is, finish-is, call-is, symbol-is, instance-is}
 use Rattle.cif_text.proofs.PlainLemmas.{bytes-plain}

@@ -14,10 +14,6 @@ abbrev pub with_front : List Command → Result (List Command) Fault → Result 
 with_front front (Ok others) = Ok (front ++ others)
 with_front front (Err fault) = Err fault
 
-pub front-none : (r : Result (List Command) Fault) → with_front [] r ≡ r
-front-none (Ok others) = refl
-front-none (Err fault) = refl
-
 -- a command leaves fewer bytes
 shorter : (inside : Bool) (bytes : List ℕ) (c : Command) (rest : List ℕ) → command_at inside bytes ≡ Ok (c, rest) → length rest < length bytes
 shorter inside [] c rest is = cc

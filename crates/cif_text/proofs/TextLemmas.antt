@@ -5,10 +5,10 @@ use Rattle.std.specs.Prelude.{Option, Some, slice_get, ◌&&◌, ◌==◌, nat_l
 use Rattle.cif_text.specs.declared.command.Command.{Command}
 use Rattle.cif_text.specs.Bytes.{is_white, begins, without_tail}
 use Rattle.cif_text.specs.Printing.{line, text_of}
-use Rattle.cif_text.specs.Printable.{is_plain_byte, IsNameText}
+use Rattle.cif_text.proofs.PrintableTexts.{is_plain_byte, IsNameText}
 use Rattle.cif_text.specs.Symbols.{symbol_of}
 use Rattle.cif_text.specs.Written.{WrittenSymbol, MainItem, alone, copy, shape_commands, copy_commands, items_commands, layer_after}
-use Rattle.cif_text.specs.WrittenLayout.{symbol_at, symbols_from}
+use Rattle.cif_text.proofs.WrittenLayout.{symbol_at, symbols_from}
 use Rattle.cif_text.proofs.SpanLemmas.{and-both, skip-stop, list_all-weaker}
 
 -- the text of commands in two parts

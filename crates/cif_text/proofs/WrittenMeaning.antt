@@ -5,6 +5,7 @@ use Rattle.std.proofs.lemmas.Slice.Eq.{bytes_eq-Decides}
 use Rattle.std.specs.List.{AllByRecursion}
 use Rattle.std.specs.Str.{bytes_eq}
 use Rattle.std.specs.Prelude.{Result, Ok, Option, Some, None, IsSome, if◌then◌else◌, ◌==◌, unwrap_or}
+use Rattle.list_facts.proofs.Mentioned.{bytes_one}
 use Rattle.geom_core.specs.declared.layout.Shape.{Shape}
 use Rattle.geom_core.specs.declared.layout.Cell.{Cell}
 use Rattle.geom_core.specs.declared.turn.Place.{Place}
@@ -18,7 +19,7 @@ use Rattle.cif_text.specs.Symbols.{Symbol, State, symbol_of}
 use Rattle.cif_text.specs.Meaning.{Unmeant, no_symbol_name, found, box_shape, called, layout_of, step, run, meaning}
 use Rattle.cif_text.specs.Written.{WrittenSymbol, MainItem, alone, copy, box_of, call_to, change, shape_commands, shapes_commands, symbol_commands, symbols_commands, copy_commands, items_commands, layout_commands}
 use Rattle.geom_core.specs.Moving.{turn_at}
-use Rattle.cif_text.specs.WrittenLayout.{symbol_at, symbols_from, copied_shapes, cell_of, item_shapes, item_cells, items_shapes, items_cells, written_layout, IsBox, IsShape, IsWhole, IsDrawn, IsCopy, IsItem, IsWritable}
+use Rattle.cif_text.proofs.WrittenLayout.{symbol_at, symbols_from, copied_shapes, cell_of, item_shapes, item_cells, items_shapes, items_cells, written_layout, IsBox, IsShape, IsWhole, IsDrawn, IsCopy, IsItem, IsWritable}
 use Rattle.cif_text.proofs.WrittenText.{box-drawn, call-whole}
 
 -- some commands lead from a state to another, whatever comes before and behind them
@@ -62,15 +63,12 @@ scaled-one : (z : ℤ) → scaled 1 1 z ≡ Some z
 scaled-one (pos n) = rw (natural-one n) refl
 scaled-one (negsuc n) = rw (natural-one (suc n)) refl
 
-same-bytes : (xs ys : List ℕ) → bytes_eq xs ys ≡ true → xs ≡ ys
-same-bytes xs ys same = (bytes_eq-Decides xs ys).0 same
-
 -- a layer that is the present one has no command
 change-leads : (at_layer : Option (List ℕ) → State) (old : Option (List ℕ)) (layer : List ℕ)
     → ((before : Option (List ℕ)) → step (at_layer before) (commands.Layer layer) ≡ Ok (at_layer (Some layer)))
     → Leads (at_layer old) (change old layer) (at_layer (Some layer))
 change-leads at_layer None layer set = leads-one (at_layer None) (at_layer (Some layer)) (commands.Layer layer) (set None)
-change-leads at_layer (Some old) layer set = changed (bytes_eq old layer) (same-bytes old layer)
+change-leads at_layer (Some old) layer set = changed (bytes_eq old layer) (bytes_one old layer)
   where
     changed : (b : Bool) → (b ≡ true → old ≡ layer) → Leads (at_layer (Some old)) (if b then [] else commands.Layer layer ∷ []) (at_layer (Some layer))
     changed true same = subst (λ (l : List ℕ). Leads (at_layer (Some l)) [] (at_layer (Some layer))) (sym (same refl)) (leads-none (at_layer (Some layer)))

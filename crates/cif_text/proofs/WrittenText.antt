@@ -12,12 +12,13 @@ use Rattle.cif_text.specs.declared.command.Command.TheVariants as commands
 use Rattle.cif_text.specs.declared.command.UserKind.TheVariants as users
 use Rattle.cif_text.specs.Numbers.{greatest}
 use Rattle.cif_text.specs.Printing.{text_of}
-use Rattle.cif_text.specs.Printable.{IsText, IsNatural, IsPart, IsNameText}
+use Rattle.cif_text.specs.Printable.{IsNatural, IsPart}
+use Rattle.cif_text.proofs.PrintableTexts.{IsText, IsNameText}
 use Rattle.cif_text.specs.CifReads.{cif_reads}
 use Rattle.cif_text.specs.Scales.{doubled, around}
 use Rattle.cif_text.specs.Symbols.{Symbol}
 use Rattle.cif_text.specs.Written.{WrittenSymbol, MainItem, alone, copy, box_of, call_to, change, name_commands, shape_commands, shapes_commands, symbol_commands, symbols_commands, copy_commands, items_commands, layout_commands}
-use Rattle.cif_text.specs.WrittenLayout.{IsBox, IsShape, IsWhole, IsDrawn, IsItem, IsWritable, symbols_from}
+use Rattle.cif_text.proofs.WrittenLayout.{IsBox, IsShape, IsWhole, IsDrawn, IsItem, IsWritable, symbols_from}
 use Rattle.cif_text.proofs.ReadBack.{reads-text}
 
 -- half of twice a number, and a quarter of four times one

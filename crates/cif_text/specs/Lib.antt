@@ -33,4 +33,3 @@ pub mod Bodies
 pub mod ReadsAs
 -- the commands of a written layout, and what they mean
 pub mod Written
-pub mod WrittenLayout

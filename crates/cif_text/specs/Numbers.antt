@@ -2,6 +2,7 @@ use Rattle.std.specs.Prelude.{if◌then◌else◌, ℕ, zero, suc, ℤ, pos, neg
 use Rattle.std.specs.Str.{byte}
 use Rattle.std.specs.Char.{is_ascii_digit}
 use Rattle.std.specs.Str.Parse.{digits_value}
+use Rattle.limits.specs.declared.TheConstants.{MOST_NUMBER}
 use Rattle.cif_text.specs.InOrder.{◌>>=◌}
 use Rattle.cif_text.specs.Bytes.{span, skip, begins}
 
@@ -13,7 +14,7 @@ pub data Wrong : Type 0 where
 
 -- the product's own: numbers have a magnitude of at most 1,000,000,000,000
 abbrev pub greatest : ℕ
-greatest = 1000000000000
+greatest = MOST_NUMBER
 
 -- the number of some digits that begin at this place, and the bytes behind them
 abbrev pub value_of : ℕ → List ℕ → List ℕ → Result (ℕ × List ℕ) Wrong

@@ -1,21 +1,18 @@
-use Rattle.std.specs.Prelude.{◌≡◌, ℕ, ◌≤◌, ℤ, pos, negsuc, ◌≤ℤ◌, List, [], ◌∷◌, length, Bool, true, false, ◌&&◌}
-use Rattle.std.specs.List.{list_all}
-use Rattle.geom_core.specs.LayerText.{is_layer_text}
-use Rattle.cif_text.specs.declared.command.Command.{Command}
+use Rattle.std.specs.Prelude.{ℕ, ◌≤◌, ℤ, pos, negsuc, ◌≤ℤ◌, length}
+use Rattle.limits.specs.declared.TheConstants.{MOST_NUMBER}
 use Rattle.cif_text.specs.declared.command.Command.TheVariants as commands
 use Rattle.cif_text.specs.declared.command.UserKind.TheVariants as users
-use Rattle.cif_text.specs.Bytes.{is_ascii_byte, not_semicolon, trimmed}
 use Rattle.cif_text.specs.Numbers.{greatest}
 
 -- a number that can be read
 pub record IsNear (z : ℤ) : Type 0 where
   pub low : negsuc 999999999999 ≤ℤ z
-  pub high : z ≤ℤ pos 1000000000000
+  pub high : z ≤ℤ pos MOST_NUMBER
 
 -- a length or a width that can be read
 pub record IsSize (z : ℤ) : Type 0 where
   pub low : pos 1 ≤ℤ z
-  pub high : z ≤ℤ pos 1000000000000
+  pub high : z ≤ℤ pos MOST_NUMBER
 
 -- a number without a sign that can be read
 pub record IsNatural (n : ℕ) : Type 0 where
@@ -25,33 +22,3 @@ pub record IsNatural (n : ℕ) : Type 0 where
 pub record IsPart (n : ℕ) : Type 0 where
   pub low : 1 ≤ n
   pub high : n ≤ greatest
-
--- a byte of ASCII that is no semicolon
-abbrev pub is_plain_byte : ℕ → Bool
-is_plain_byte c = is_ascii_byte c && not_semicolon c
-
--- a name that a user command can give: not empty, of plain bytes, without white at its ends
-pub record IsNameText (text : List ℕ) : Type 0 where
-  pub some : 1 ≤ length text
-  pub plain : list_all is_plain_byte text ≡ true
-  pub bare : trimmed text ≡ text
-
--- a command whose line reads as that command
-abbrev pub IsPrintable : Command → Type 0
-IsPrintable (commands.Box long wide cx cy upright) = IsSize long × IsSize wide × IsNear cx × IsNear cy
-IsPrintable (commands.Layer text) = is_layer_text text ≡ true
-IsPrintable (commands.Start n a b) = IsNatural n × IsPart a × IsPart b
-IsPrintable (commands.Call n flip quarters dx dy) = IsNatural n × (quarters ≤ 3) × IsNear dx × IsNear dy
-IsPrintable (commands.User users.SymbolName text) = IsNameText text
-IsPrintable (commands.User users.InstanceName text) = IsNameText text
-IsPrintable (commands.User users.Other text) = ⊥
-IsPrintable _ = Unit {0}
-
--- printable commands whose definitions each start outside of others and finish, up to the one end command; the first
--- argument says whether a definition is open
-abbrev pub IsText : Bool → List Command → Type 0
-IsText inside [] = ⊥
-IsText inside (commands.End ∷ cs) = (inside ≡ false) × (cs ≡ [])
-IsText inside (commands.Finish ∷ cs) = (inside ≡ true) × IsText false cs
-IsText inside (commands.Start n a b ∷ cs) = (inside ≡ false) × IsPrintable (commands.Start n a b) × IsText true cs
-IsText inside (c ∷ cs) = IsPrintable c × IsText inside cs

@@ -4,11 +4,9 @@ use Rattle.cif_text.specs.declared.transform.Step.{Step as Move}
 use Rattle.cif_text.specs.declared.transform.Step.TheVariants as moves
 use Rattle.cif_text.specs.declared.command.Command.{Command}
 use Rattle.cif_text.specs.declared.fault.CifKind.{CifKind}
-use Rattle.cif_text.specs.Bytes.{is_blank, is_separator, skip}
 use Rattle.cif_text.specs.Calls.{Step, translate, mirror_x, mirror_y, rotate, steps_of, after, after_all, at_rest, call_of}
-use Rattle.cif_text.specs.Forms.{Form}
 use Rattle.cif_text.specs.InOrder.{◌>>=◌}
-use Rattle.cif_text.specs.Numbers.{Wrong, natural}
+use Rattle.cif_text.specs.Numbers.{Wrong}
 use Rattle.cif_text.specs.Printable.{IsNear}
 
 -- a step, as a program has it
@@ -34,10 +32,6 @@ pub record IsWithin (most : ℕ) (t : Turning) : Type 0 where
 abbrev pub followed : Result Turning CifKind → Step → Result Turning CifKind
 followed so_far step = so_far >>= after step
 
--- what further steps of a call do behind others
-abbrev pub moves_from : Result Turning CifKind → List ℕ → Result (Result Turning CifKind) Wrong
-moves_from so_far bytes = steps_of (length bytes) bytes >>= λ steps. Ok (so_far >>= after_all steps)
-
 -- what the steps of a call do together
 abbrev pub moves_of : List ℕ → Result (Result Turning CifKind) Wrong
 moves_of bytes = steps_of (length bytes) bytes >>= λ steps. Ok (after_all steps at_rest)
@@ -45,10 +39,3 @@ moves_of bytes = steps_of (length bytes) bytes >>= λ steps. Ok (after_all steps
 -- the call of a symbol under what its steps do together
 abbrev pub call_under : ℕ → Result Turning CifKind → Result Command CifKind
 call_under n whole = whole >>= call_of n
-
--- the form of a call, by what its steps do together
-abbrev pub call_by_moves : List ℕ → Form
-call_by_moves body = do
-  n ← natural (skip is_separator body)
-  whole ← moves_of (skip is_blank n.1)
-  Ok (call_under n.0 whole)

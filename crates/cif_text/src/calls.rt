@@ -13,9 +13,7 @@ use crate::forms::Form;
 use crate::numbers::{natural_at, next_among_blanks, number_at};
 use crate::stop::Misfit;
 use crate::transform::{Step, Transform, after, at_rest};
-
-/// The greatest magnitude of a whole offset.
-const GREATEST: u128 = 1_000_000_000_000;
+use limits::MOST_NUMBER;
 
 /// Two numbers among blanks, and what stands behind them. Takes no memory.
 fn point_at(bytes: &[u8]) -> Result<((i64, i64), &[u8]), Misfit>
@@ -96,7 +94,9 @@ fn call_of(n: u64, t: Transform) -> Result<Command, CifKind>
     ensures is { result ≡ call_of n t }
     ensures sound { IfOk result IsFormed }
 {
-    if t.dx.unsigned_abs() > GREATEST || t.dy.unsigned_abs() > GREATEST {
+    if t.dx.unsigned_abs() > u128::from(MOST_NUMBER)
+        || t.dy.unsigned_abs() > u128::from(MOST_NUMBER)
+    {
         return Err(CifKind::Number);
     }
     Ok(Command::Call {

@@ -11,9 +11,7 @@ use crate::bytes::{
     after_blanks, after_separators, begins_with_blank, begins_with_separator, split_digits,
 };
 use crate::stop::Misfit;
-
-/// The greatest magnitude of a number.
-const GREATEST: u64 = 1_000_000_000_000;
+use limits::MOST_NUMBER;
 
 /// What these digits make, or None where it is above the greatest.
 fn value_within(digits: &[u8]) -> Option<u64>
@@ -25,7 +23,7 @@ fn value_within(digits: &[u8]) -> Option<u64>
     let mut rest = digits;
     while let Some((byte, after)) = rest.split_first() {
         n = 10 * n + u64::from(*byte - b'0');
-        if n > GREATEST {
+        if n > MOST_NUMBER {
             return None;
         }
         rest = after;

@@ -11,9 +11,6 @@ told-same : (o : Option (List ℕ)) → Refines o (appended o [])
 told-same None = λ bytes at. cc
 told-same (Some held) = λ bytes at. ap (λ (l : List ℕ). Some l) (append-nil held) ∙ at
 
-pub appends-kept : (x a : List ℕ) (o : Option (List ℕ)) → Appends x a (a ++ x) o o
-appends-kept x a o = record { put = []; told = told-same o; whole = refl; pieces = 0; many = refl }
-
 -- of no bytes nothing is put
 pub appends-none : (a : List ℕ) (o : Option (List ℕ)) → Appends [] a a o o
 appends-none a o = record { put = []; told = told-same o; whole = sym (append-nil a); pieces = 0; many = refl }

@@ -26,36 +26,36 @@ module _ (r : RuleValues) (height : ℕ) (k : CellKind) (valid : ValidRules r) (
   outline-in-reach : IsShapeInReach (outline_shape r height k)
   unfolding outline_shape
   outline-in-reach =
-      let columns : k.columns * r.grid_column ≤ 100000000000 = column-near k.columns k.columns r.grid_column (omega arith) is.few valid.ranges.grid_column.1 in
-      let fine : r.grid_centi ≤ 1000 = valid.ranges.grid_centi.1 in
+      let columns : k.columns * r.grid.column ≤ 100000000000 = column-near k.columns k.columns r.grid.column (omega arith) is.few valid.ranges.grid.column.1 in
+      let fine : r.grid.centi ≤ 1000 = valid.ranges.grid.centi.1 in
       record {
-        x0 = scaled-in-reach 0 r.grid_centi (omega arith) fine;
-        y0 = scaled-in-reach 0 r.grid_centi (omega arith) fine;
-        x1 = scaled-in-reach (2 * (k.columns * r.grid_column)) r.grid_centi (omega arith) fine;
-        y1 = scaled-in-reach (2 * height) r.grid_centi (omega arith) fine;
+        x0 = scaled-in-reach 0 r.grid.centi (omega arith) fine;
+        y0 = scaled-in-reach 0 r.grid.centi (omega arith) fine;
+        x1 = scaled-in-reach (2 * (k.columns * r.grid.column)) r.grid.centi (omega arith) fine;
+        y1 = scaled-in-reach (2 * height) r.grid.centi (omega arith) fine;
       }
 
-  pin_low-near : (top : Bool) → pin_low r.grid_pin height top ≤ 1000000000000
+  pin_low-near : (top : Bool) → pin_low r.grid.pin height top ≤ 1000000000000
   pin_low-near true = omega arith
   pin_low-near false = omega arith
 
-  pin_high-near : (top : Bool) → pin_high r.grid_pin height top ≤ 1000000000000
+  pin_high-near : (top : Bool) → pin_high r.grid.pin height top ≤ 1000000000000
   pin_high-near true = omega arith
-  pin_high-near false = let pin : r.grid_pin ≤ 1000 = valid.ranges.grid_pin.1 in omega arith
+  pin_high-near false = let pin : r.grid.pin ≤ 1000 = valid.ranges.grid.pin.1 in omega arith
 
   position-in-reach : (p : Position) → IsPosition k p → IsShapeInReach (position_shape r height p)
   unfolding position_shape
   position-in-reach p at =
       let within : p.column ≤ k.columns = omega (arith, at.column) in
-      let pitch : r.grid_column ≤ 1000 = valid.ranges.grid_column.1 in
-      let columns : p.column * r.grid_column ≤ 100000000000 = column-near p.column k.columns r.grid_column within is.few pitch in
-      let wide : r.vertical_width ≤ 1000 = valid.ranges.vertical_width.1 in
-      let fine : r.grid_centi ≤ 1000 = valid.ranges.grid_centi.1 in
+      let pitch : r.grid.column ≤ 1000 = valid.ranges.grid.column.1 in
+      let columns : p.column * r.grid.column ≤ 100000000000 = column-near p.column k.columns r.grid.column within is.few pitch in
+      let wide : r.vertical.width ≤ 1000 = valid.ranges.vertical.width.1 in
+      let fine : r.grid.centi ≤ 1000 = valid.ranges.grid.centi.1 in
       record {
-        x0 = scaled-in-reach (middle_of r.grid_column p.column - r.vertical_width) r.grid_centi (omega arith) fine;
-        y0 = scaled-in-reach (pin_low r.grid_pin height p.top) r.grid_centi (pin_low-near p.top) fine;
-        x1 = scaled-in-reach (middle_of r.grid_column p.column + r.vertical_width) r.grid_centi (omega arith) fine;
-        y1 = scaled-in-reach (pin_high r.grid_pin height p.top) r.grid_centi (pin_high-near p.top) fine;
+        x0 = scaled-in-reach (middle_of r.grid.column p.column - r.vertical.width) r.grid.centi (omega arith) fine;
+        y0 = scaled-in-reach (pin_low r.grid.pin height p.top) r.grid.centi (pin_low-near p.top) fine;
+        x1 = scaled-in-reach (middle_of r.grid.column p.column + r.vertical.width) r.grid.centi (omega arith) fine;
+        y1 = scaled-in-reach (pin_high r.grid.pin height p.top) r.grid.centi (pin_high-near p.top) fine;
       }
 
   positions-in-reach : (ps : List Position) → AllByRecursion (IsPosition k) ps → AllByRecursion IsShapeInReach (map (position_shape r height) ps)

@@ -9,7 +9,7 @@ use Rattle.std.specs.Prelude.{◌==◌, slice_get, option_map}
 use Rattle.std.specs.Option.{option_and_then}
 use Rattle.row_model.specs.declared.stands.Stand.{Stand}
 use Rattle.design_model.proofs.DesignPins.{pin-within}
-use Rattle.list_facts.proofs.Members.{find-member, map-member, member-head}
+use Rattle.list_facts.proofs.Members.{find-member, map-member, member-head, member-place}
 use Rattle.list_facts.proofs.Places.{at-place}
 use Rattle.list_facts.proofs.Every.{every-from-get, every-get}
 use Rattle.design_model.specs.Netlist.{Netlist, IsNetlist}
@@ -22,15 +22,11 @@ use Rattle.row_model.specs.declared.rows.Seat.{Seat}
 use Rattle.row_model.proofs.PlacedLaws.{IsWithin, rows-within}
 use Rattle.row_model.proofs.StandLaws.{IsStand, stand-is, stand-there}
 use Rattle.feed_cells.specs.Fed.{Fed, IsFed, cells_in, fed_row, fed_rows, item_width, items_width, seats_in}
-use Rattle.feed_cells.specs.Standing.{Stands, seated, feeding}
+use Rattle.feed_cells.proofs.Standing.{Stands, seated, feeding}
 use Rattle.feed_cells.specs.declared.fed.Item.{Item}
 use Rattle.feed_cells.specs.declared.fed.Item.TheVariants.{Cell, Feed}
 use Rattle.feed_cells.proofs.FedLaws.{fed-row, fed-row-some, fed-width, item-stands, seat-stands}
 use Rattle.cif_writer.specs.Symbols.{is_feed, has_feed}
-
--- a member of a list stands at a place of it
-place-of : {A : Type 0} (xs : List A) (x : A) → Contains xs x → (k : ℕ) × (slice_get xs k ≡ Some x)
-place-of xs x member = (member.0, slice_get-get_or xs member.0 x member.1 ∙ ap Some member.2)
 
 -- an item is at most as wide as its row
 item-narrow : (d : Netlist) (items : List Item) (item : Item) → Contains items item → item_width d item ≤ items_width d items
@@ -67,7 +63,7 @@ kinds-narrow d fed good is = every-from-get (λ (k : CellKind). k.columns ≤ fe
     narrow : (n : ℕ) (k : CellKind) → slice_get d.kinds n ≡ Some k → k.columns ≤ fed.width
     narrow n k at =
         let called = find-member (λ (i : Inst). i.kind == n) d.instances (good.called n (slice_get_within d.kinds n k at)) in
-        let place : (m : ℕ) × (slice_get d.instances m ≡ Some called.0) = place-of d.instances called.0 called.1 in
+        let place : (m : ℕ) × (slice_get d.instances m ≡ Some called.0) = member-place d.instances called.0 called.1 in
         let kind : kind_of d place.0 ≡ Some k =
         ap (option_and_then (λ (i : Inst). slice_get d.kinds i.kind)) place.1
         ∙ ap (slice_get d.kinds) (same-is called.0.kind n called.2) ∙ at in
@@ -79,7 +75,7 @@ kinds-narrow d fed good is = every-from-get (λ (k : CellKind). k.columns ≤ fe
 net-kind : (d : Netlist) → IsNetlist d → (net : ℕ) → 0 < net → net ≤ length d.nets → 0 < length d.kinds
 net-kind d good net some few =
     let used = find-member (λ (p : Pin). p.net == net) d.pins (good.used net some few) in
-    let place : (m : ℕ) × (slice_get d.pins m ≡ Some used.0) = place-of d.pins used.0 used.1 in
+    let place : (m : ℕ) × (slice_get d.pins m ≡ Some used.0) = member-place d.pins used.0 used.1 in
     let instance : (i : Inst) × (slice_get d.instances used.0.instance ≡ Some i) =
     at-place d.instances used.0.instance (pin-within d good place.0 used.0 place.1) in
     let kind : instance.0.kind < length d.kinds =
@@ -92,7 +88,7 @@ pub feed-kind : (d : Netlist) (fed : Fed) → IsNetlist d → IsFed d fed → ha
 feed-kind d fed good is any =
     let row = find-member (list_any is_feed) fed.rows any in
     let item = find-member is_feed row.0 row.2 in
-    let place : (m : ℕ) × (slice_get fed.rows m ≡ Some row.0) = place-of fed.rows row.0 row.1 in
+    let place : (m : ℕ) × (slice_get fed.rows m ≡ Some row.0) = member-place fed.rows row.0 row.1 in
     let seats = fed-row-some d (cells_in fed.rows) place.0 row.0 (subst (λ (f : Fed). slice_get f.rows place.0 ≡ Some row.0) is.is place.1) in
     of item.0 item.2 place.0 seats.0 (item-stands d (cells_in fed.rows) place.0 seats.0 item.0 (subst (λ (items : List Item). Contains items item.0) seats.2 item.1))
   where

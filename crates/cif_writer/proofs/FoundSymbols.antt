@@ -4,7 +4,7 @@ use Rattle.std.specs.Prelude.{slice_get}
 use Rattle.cif_text.proofs.TextLemmas.{symbol_of-written}
 use Rattle.cif_text.specs.Symbols.{Symbol, symbol_of}
 use Rattle.cif_text.specs.Written as written
-use Rattle.cif_text.specs.WrittenLayout.{symbol_at, symbols_from}
+use Rattle.cif_text.proofs.WrittenLayout.{symbol_at, symbols_from}
 use Rattle.tech_rules.specs.Rules.{RuleValues}
 use Rattle.design_model.specs.Netlist.{Netlist}
 use Rattle.design_model.specs.declared.design.CellKind.{CellKind}

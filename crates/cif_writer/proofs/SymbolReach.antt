@@ -27,21 +27,21 @@ kinds-reach r height valid low (k ∷ kinds) are = (drawing-in-reach r height k 
 feed-reach : (r : RuleValues) (height : ℕ) → ValidRules r → height ≤ 200000000 → AllByRecursion IsShapeInReach (feed_drawing r height)
 unfolding feed_drawing
 feed-reach r height valid low =
-    let fine : r.grid_centi ≤ 1000 = valid.ranges.grid_centi.1 in
-    let pitch : r.grid_column ≤ 1000 = valid.ranges.grid_column.1 in
-    let wide : r.vertical_width ≤ 1000 = valid.ranges.vertical_width.1 in (
+    let fine : r.grid.centi ≤ 1000 = valid.ranges.grid.centi.1 in
+    let pitch : r.grid.column ≤ 1000 = valid.ranges.grid.column.1 in
+    let wide : r.vertical.width ≤ 1000 = valid.ranges.vertical.width.1 in (
       record {
-        x0 = scaled-in-reach 0 r.grid_centi (omega arith) fine;
-        y0 = scaled-in-reach 0 r.grid_centi (omega arith) fine;
-        x1 = scaled-in-reach (2 * r.grid_column) r.grid_centi (omega arith) fine;
-        y1 = scaled-in-reach (2 * height) r.grid_centi (omega arith) fine;
+        x0 = scaled-in-reach 0 r.grid.centi (omega arith) fine;
+        y0 = scaled-in-reach 0 r.grid.centi (omega arith) fine;
+        x1 = scaled-in-reach (2 * r.grid.column) r.grid.centi (omega arith) fine;
+        y1 = scaled-in-reach (2 * height) r.grid.centi (omega arith) fine;
       },
       (
         record {
-          x0 = scaled-in-reach (middle_of r.grid_column 0 - r.vertical_width) r.grid_centi (omega arith) fine;
-          y0 = scaled-in-reach 0 r.grid_centi (omega arith) fine;
-          x1 = scaled-in-reach (middle_of r.grid_column 0 + r.vertical_width) r.grid_centi (omega arith) fine;
-          y1 = scaled-in-reach (2 * height) r.grid_centi (omega arith) fine;
+          x0 = scaled-in-reach (middle_of r.grid.column 0 - r.vertical.width) r.grid.centi (omega arith) fine;
+          y0 = scaled-in-reach 0 r.grid.centi (omega arith) fine;
+          x1 = scaled-in-reach (middle_of r.grid.column 0 + r.vertical.width) r.grid.centi (omega arith) fine;
+          y1 = scaled-in-reach (2 * height) r.grid.centi (omega arith) fine;
         },
         tt,
       ),

@@ -6,7 +6,7 @@ use Rattle.geom_core.specs.Extent.{Extent}
 use Rattle.design_model.specs.Drawing.{extent_of}
 use Rattle.cif_text.specs.Printable.{IsNear, IsSize}
 use Rattle.cif_text.specs.Scales.{doubled}
-use Rattle.cif_text.specs.WrittenLayout.{IsBox}
+use Rattle.cif_text.proofs.WrittenLayout.{IsBox}
 
 -- the lower and the upper of two sides, which are multiples of four half centimicrons and apart
 record Sides (low high : ℕ) : Type 0 where

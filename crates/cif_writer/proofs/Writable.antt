@@ -15,8 +15,8 @@ use Rattle.wire_geom.specs.Drawing.{drawing}
 use Rattle.wire_geom.specs.declared.drawn.Drawn.{Drawn}
 use Rattle.feed_cells.specs.Fed.{Fed, IsFed, items_width}
 use Rattle.feed_cells.specs.declared.fed.Item.{Item}
-use Rattle.layout_laws.specs.Plans.{channel_height}
-use Rattle.cif_text.specs.WrittenLayout.{IsDrawn, IsWritable}
+use Rattle.layout_laws.specs.Heights.{channel_height}
+use Rattle.cif_text.proofs.WrittenLayout.{IsDrawn, IsWritable}
 use Rattle.cif_writer.specs.Symbols.{symbol_for, feed_symbol, has_feed, symbols_of, main_items}
 use Rattle.channel_stack.specs.Routed.{IsRouted}
 use Rattle.channel_stack.specs.Stack.{channel_bases, stack_top, most_columns, drawings, stack_of}
@@ -50,14 +50,14 @@ feed-few r height true = omega arith
 -- where there are feeds rows have some height
 pub feed-room : (r : RuleValues) (d : Netlist) (fed : Fed) → ValidRules r → IsNetlist d → IsFed d fed → HasRoom r d → has_feed fed.rows ≡ true → 0 < d.height
 feed-room r d fed valid good is tall some =
-    let pin : 1 ≤ r.grid_pin = valid.ranges.grid_pin.0 in
+    let pin : 1 ≤ r.grid.pin = valid.ranges.grid.pin.0 in
     let room : least_height r ≤ d.height = tall (feed-kind d fed good is some) in
     omega arith
 
 -- the symbols of a routed design can be written
 symbols-are : (r : RuleValues) (d : Netlist) (fed : Fed) → ValidRules r → IsNetlist d → IsFed d fed
     → HasRoom r d
-    → fed.width * r.grid_column * r.grid_centi ≤ 1000000000 → d.height * r.grid_centi ≤ 1000000000
+    → fed.width * r.grid.column * r.grid.centi ≤ 1000000000 → d.height * r.grid.centi ≤ 1000000000
     → AllByRecursion IsDrawn (symbols_of r d fed)
 symbols-are r d fed valid good is tall across up =
     every-append IsDrawn (map (symbol_for r d.height) d.kinds) (feed_symbol r d.height (has_feed fed.rows))
@@ -71,8 +71,8 @@ pub stack-writable : (r : RuleValues) (d : Netlist) (fed : Fed) (ws : List Wirin
 unfolding stack_of
 stack-writable r d fed ws valid good is tall routed =
     let bounds : IsBounded r d fed ws = bases-within r d fed ws is routed in
-    let row : d.height * r.grid_centi ≤ stack_top r d.height 0 ws * r.grid_centi = mul-le-mul_right r.grid_centi (height-within r d fed ws is routed.each) in
-    let low : d.height * r.grid_centi ≤ 1000000000 = omega (arith, bounds.height) in
+    let row : d.height * r.grid.centi ≤ stack_top r d.height 0 ws * r.grid.centi = mul-le-mul_right r.grid.centi (height-within r d fed ws is routed.each) in
+    let low : d.height * r.grid.centi ≤ 1000000000 = omega (arith, bounds.height) in
     let few : length d.kinds < 4294967296 = good.few_kinds in
     let kinds : length (map (symbol_for r d.height) d.kinds) ≡ length d.kinds = length-map d.kinds (symbol_for r d.height) in
     let one : length (feed_symbol r d.height (has_feed fed.rows)) ≤ 1 = feed-few r d.height (has_feed fed.rows) in
@@ -92,14 +92,14 @@ InReach drawn = AllByRecursion (λ (a : Drawn). IsShapeInReach a.shape) drawn
 abbrev pub AreReached : List (List Drawn) → Type 0
 AreReached channels = AllByRecursion InReach channels
 
-channel-reach : (r : RuleValues) (columns high base : ℕ) (w : Wiring) → ValidRules r → columns * r.grid_column * r.grid_centi ≤ 1000000000
-    → high * r.grid_centi ≤ 1000000000 → base + channel_height r w ≤ high → IsLaid columns w → InReach (drawing r base w)
+channel-reach : (r : RuleValues) (columns high base : ℕ) (w : Wiring) → ValidRules r → columns * r.grid.column * r.grid.centi ≤ 1000000000
+    → high * r.grid.centi ≤ 1000000000 → base + channel_height r w ≤ high → IsLaid columns w → InReach (drawing r base w)
 channel-reach r columns high base w valid across up low laid =
     every-weaker IsWire (λ (a : Drawn). IsShapeInReach a.shape) (λ (a : Drawn) (wire : IsWire a). wire.reach) (drawing r base w)
     (drawing-is r valid columns high across up base w laid.narrow low laid.on_grid)
 
-channels-reach : (r : RuleValues) (height columns high base : ℕ) (ws : List Wiring) → ValidRules r → columns * r.grid_column * r.grid_centi ≤ 1000000000
-    → high * r.grid_centi ≤ 1000000000 → stack_top r height base ws ≤ high → AllByRecursion (IsLaid columns) ws
+channels-reach : (r : RuleValues) (height columns high base : ℕ) (ws : List Wiring) → ValidRules r → columns * r.grid.column * r.grid.centi ≤ 1000000000
+    → high * r.grid.centi ≤ 1000000000 → stack_top r height base ws ≤ high → AllByRecursion (IsLaid columns) ws
     → AreReached (drawings r ws (channel_bases r height base ws))
 channels-reach r height columns high base [] valid across up low laid = tt
 channels-reach r height columns high base (w ∷ []) valid across up low laid =

@@ -22,9 +22,9 @@ use Rattle.feed_cells.specs.Fed.{item_width, items_width}
 use Rattle.feed_cells.specs.declared.fed.Item as items
 use Rattle.feed_cells.specs.declared.fed.Item.TheVariants.{Cell, Feed}
 use Rattle.geom_core.specs.declared.turn.Place.{Place}
-use Rattle.layout_laws.specs.Plans.{channel_height}
+use Rattle.layout_laws.specs.Heights.{channel_height}
 use Rattle.cif_text.specs.Written as written
-use Rattle.cif_text.specs.WrittenLayout.{IsWhole, IsCopy, IsItem, symbol_at, symbols_from}
+use Rattle.cif_text.proofs.WrittenLayout.{IsWhole, IsCopy, IsItem, symbol_at, symbols_from}
 use Rattle.cif_text.specs.Symbols.{symbol_of}
 use Rattle.cif_text.proofs.TextLemmas.{symbol_of-written}
 use Rattle.channel_stack.specs.Layouts.{feed_drawing}
@@ -60,23 +60,23 @@ others-fit : (left w ws total wide : ℕ) → total ≡ w + ws → left + total 
 others-fit left w ws total wide parted room = omega arith
 
 module _ (r : RuleValues) (d : Netlist) (feeds : Bool) (valid : ValidRules r) (good : IsNetlist d) (wide high : ℕ)
-    (across : wide * r.grid_column * r.grid_centi ≤ 1000000000) (up : high * r.grid_centi ≤ 1000000000) where
+    (across : wide * r.grid.column * r.grid.centi ≤ 1000000000) (up : high * r.grid.centi ≤ 1000000000) where
   abbrev symbols : List written.WrittenSymbol
   symbols = map (symbol_for r d.height) d.kinds ++ feed_symbol r d.height feeds
 
   -- the place of an item is whole in centimicrons
   place-whole : (base : ℕ) (mirror : Bool) (column : ℕ) → base ≤ high → column ≤ wide → IsWhole (place_at r base mirror column)
   place-whole base mirror column low narrow =
-      let units : column * r.grid_column ≤ wide * r.grid_column = mul-le-mul_right r.grid_column narrow in
-      let long : column * r.grid_column * r.grid_centi ≤ wide * r.grid_column * r.grid_centi = mul-le-mul_right r.grid_centi units in
-      let tall : base * r.grid_centi ≤ high * r.grid_centi = mul-le-mul_right r.grid_centi low in
+      let units : column * r.grid.column ≤ wide * r.grid.column = mul-le-mul_right r.grid.column narrow in
+      let long : column * r.grid.column * r.grid.centi ≤ wide * r.grid.column * r.grid.centi = mul-le-mul_right r.grid.centi units in
+      let tall : base * r.grid.centi ≤ high * r.grid.centi = mul-le-mul_right r.grid.centi low in
       record {
-        across = pos (column * r.grid_column * r.grid_centi);
-        up = pos (base * r.grid_centi);
-        across_is = ap pos (sym (mul_assoc 2 (column * r.grid_column) r.grid_centi));
-        up_is = ap pos (sym (mul_assoc 2 base r.grid_centi));
-        across_near = near-of (column * r.grid_column * r.grid_centi) (omega arith);
-        up_near = near-of (base * r.grid_centi) (omega arith);
+        across = pos (column * r.grid.column * r.grid.centi);
+        up = pos (base * r.grid.centi);
+        across_is = ap pos (sym (mul_assoc 2 (column * r.grid.column) r.grid.centi));
+        up_is = ap pos (sym (mul_assoc 2 base r.grid.centi));
+        across_near = near-of (column * r.grid.column * r.grid.centi) (omega arith);
+        up_near = near-of (base * r.grid.centi) (omega arith);
       }
 
   -- an instance at a whole place is a copy of its kind's symbol
@@ -151,7 +151,7 @@ module _ (r : RuleValues) (d : Netlist) (feeds : Bool) (valid : ValidRules r) (g
             (others-fit left (item_width d item) (items_width d row) (items_width d (item ∷ row)) wide more room) there.1,
       )
 
-  module _ (columns : ℕ) (channels : columns * r.grid_column * r.grid_centi ≤ 1000000000) where
+  module _ (columns : ℕ) (channels : columns * r.grid.column * r.grid.centi ≤ 1000000000) where
     wires-are : (base : ℕ) (w : Wiring) → base + channel_height r w ≤ high → IsLaid columns w
         → AllByRecursion (IsItem (symbols_from 1 symbols)) (wires_of (drawing r base w))
     wires-are base w low laid =

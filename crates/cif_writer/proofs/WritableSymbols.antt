@@ -13,8 +13,8 @@ use Rattle.design_model.specs.Netlist.{IsKind, IsPosition}
 use Rattle.design_model.specs.declared.design.CellKind.{CellKind}
 use Rattle.design_model.specs.declared.design.Position.{Position}
 use Rattle.design_model.specs.Room.{least_height}
-use Rattle.cif_text.specs.Printable.{IsNameText}
-use Rattle.cif_text.specs.WrittenLayout.{IsShape, IsDrawn}
+use Rattle.cif_text.proofs.PrintableTexts.{IsNameText}
+use Rattle.cif_text.proofs.WrittenLayout.{IsShape, IsDrawn}
 use Rattle.cif_text.proofs.SpanLemmas.{and-both}
 use Rattle.cif_text.proofs.TextLemmas.{name-shown}
 use Rattle.channel_stack.specs.Layouts.{feed_outline, feed_wire, feed_drawing}
@@ -52,29 +52,29 @@ pin-low-enough pin space height true tall = omega arith
 pin-low-enough pin space height false tall = omega arith
 
 -- a vertical wire is no wider than a column
-pub wire-narrow : (r : RuleValues) → ValidRules r → r.vertical_width ≤ r.grid_column
+pub wire-narrow : (r : RuleValues) → ValidRules r → r.vertical.width ≤ r.grid.column
 wire-narrow r valid =
-    let first : r.vertical_width ≤ pad r = valid.pad_vertical in
-    let second : pad r + r.vertical_space ≤ r.grid_column = valid.column_vertical in
+    let first : r.vertical.width ≤ pad r = valid.pad_vertical in
+    let second : pad r + r.vertical.space ≤ r.grid.column = valid.column_vertical in
     omega arith
 
 module _ (r : RuleValues) (height wide : ℕ) (valid : ValidRules r)
-    (across : wide * r.grid_column * r.grid_centi ≤ 1000000000) (up : height * r.grid_centi ≤ 1000000000) where
+    (across : wide * r.grid.column * r.grid.centi ≤ 1000000000) (up : height * r.grid.centi ≤ 1000000000) where
   -- the outline of a kind of a design within the limits is a shape that can be written
   outline-is : (k : CellKind) → IsKind k → k.columns ≤ wide → least_height r ≤ height → IsShape (outline_shape r height k)
   unfolding outline_shape
   outline-is k is within tall =
       let some : 0 < k.columns = is.some in
-      let pitch : 2 ≤ r.grid_column = valid.ranges.grid_column.0 in
-      let pin : 1 ≤ r.grid_pin = valid.ranges.grid_pin.0 in
-      let positive : 1 * 2 ≤ k.columns * r.grid_column = mul-le-mul some pitch in
-      let inside : k.columns * r.grid_column ≤ wide * r.grid_column = mul-le-mul_right r.grid_column within in
+      let pitch : 2 ≤ r.grid.column = valid.ranges.grid.column.0 in
+      let pin : 1 ≤ r.grid.pin = valid.ranges.grid.pin.0 in
+      let positive : 1 * 2 ≤ k.columns * r.grid.column = mul-le-mul some pitch in
+      let inside : k.columns * r.grid.column ≤ wide * r.grid.column = mul-le-mul_right r.grid.column within in
       record {
-        layer = valid.ranges.outline_layer;
-        box = box-whole r.grid_centi 0 0 (2 * (k.columns * r.grid_column)) (2 * height) valid.whole_centi valid.ranges.grid_centi.0
+        layer = valid.ranges.outline.layer;
+        box = box-whole r.grid.centi 0 0 (2 * (k.columns * r.grid.column)) (2 * height) valid.whole_centi valid.ranges.grid.centi.0
             (omega arith) (omega arith)
-            (halves-near (wide * r.grid_column) r.grid_centi (2 * (k.columns * r.grid_column)) across (omega arith))
-            (halves-near height r.grid_centi (2 * height) up (omega arith));
+            (halves-near (wide * r.grid.column) r.grid.centi (2 * (k.columns * r.grid.column)) across (omega arith))
+            (halves-near height r.grid.centi (2 * height) up (omega arith));
       }
 
   -- so is a pin
@@ -82,20 +82,20 @@ module _ (r : RuleValues) (height wide : ℕ) (valid : ValidRules r)
       → IsShape (position_shape r height p)
   unfolding position_shape
   position-is k p at within tall =
-      let narrow : r.vertical_width ≤ r.grid_column = wire-narrow r valid in
-      let some : 1 ≤ r.vertical_width = valid.ranges.vertical_width.0 in
-      let inside : k.columns * r.grid_column ≤ wide * r.grid_column = mul-le-mul_right r.grid_column within in
-      let reach : middle_of r.grid_column p.column + r.vertical_width ≤ 2 * (wide * r.grid_column) =
-      pin-within (p.column * r.grid_column) (k.columns * r.grid_column) r.grid_column r.vertical_width (wide * r.grid_column)
-      (column-inside p.column k.columns r.grid_column at.column) inside narrow in
+      let narrow : r.vertical.width ≤ r.grid.column = wire-narrow r valid in
+      let some : 1 ≤ r.vertical.width = valid.ranges.vertical.width.0 in
+      let inside : k.columns * r.grid.column ≤ wide * r.grid.column = mul-le-mul_right r.grid.column within in
+      let reach : middle_of r.grid.column p.column + r.vertical.width ≤ 2 * (wide * r.grid.column) =
+      pin-within (p.column * r.grid.column) (k.columns * r.grid.column) r.grid.column r.vertical.width (wide * r.grid.column)
+      (column-inside p.column k.columns r.grid.column at.column) inside narrow in
       record {
-        layer = valid.ranges.vertical_layer;
-        box = box-whole r.grid_centi
-            (middle_of r.grid_column p.column - r.vertical_width) (pin_low r.grid_pin height p.top)
-            (middle_of r.grid_column p.column + r.vertical_width) (pin_high r.grid_pin height p.top) valid.whole_centi valid.ranges.grid_centi.0
-            (omega arith) (pin-rises r.grid_pin r.vertical_space height p.top valid.ranges.grid_pin.0 tall)
-            (halves-near (wide * r.grid_column) r.grid_centi (middle_of r.grid_column p.column + r.vertical_width) across reach)
-            (halves-near height r.grid_centi (pin_high r.grid_pin height p.top) up (pin-low-enough r.grid_pin r.vertical_space height p.top tall));
+        layer = valid.ranges.vertical.layer;
+        box = box-whole r.grid.centi
+            (middle_of r.grid.column p.column - r.vertical.width) (pin_low r.grid.pin height p.top)
+            (middle_of r.grid.column p.column + r.vertical.width) (pin_high r.grid.pin height p.top) valid.whole_centi valid.ranges.grid.centi.0
+            (omega arith) (pin-rises r.grid.pin r.vertical.space height p.top valid.ranges.grid.pin.0 tall)
+            (halves-near (wide * r.grid.column) r.grid.centi (middle_of r.grid.column p.column + r.vertical.width) across reach)
+            (halves-near height r.grid.centi (pin_high r.grid.pin height p.top) up (pin-low-enough r.grid.pin r.vertical.space height p.top tall));
       }
 
   positions-are : (k : CellKind) → k.columns ≤ wide → least_height r ≤ height
@@ -117,70 +117,41 @@ module _ (r : RuleValues) (height wide : ℕ) (valid : ValidRules r)
       let high : least_height r ≤ height = tall (omega arith) in
       (symbol-is k all.0 within.0 high, kinds-are ks within.1 all.1 (λ (some : 0 < length ks). high))
 
-module _ (r : RuleValues) (height : ℕ) (valid : ValidRules r) (up : height * r.grid_centi ≤ 1000000000) where
+module _ (r : RuleValues) (height : ℕ) (valid : ValidRules r) (up : height * r.grid.centi ≤ 1000000000) where
   -- one column is narrow
-  column-near : 1 * r.grid_column * r.grid_centi ≤ 1000000000
+  column-near : 1 * r.grid.column * r.grid.centi ≤ 1000000000
   column-near =
-      let pitch : 1 * r.grid_column ≤ 1000 = let most : r.grid_column ≤ 1000 = valid.ranges.grid_column.1 in omega arith in
-      let fine : r.grid_centi ≤ 1000 = valid.ranges.grid_centi.1 in
-      let product : 1 * r.grid_column * r.grid_centi ≤ 1000 * 1000 = mul-le-mul pitch fine in
+      let pitch : 1 * r.grid.column ≤ 1000 = let most : r.grid.column ≤ 1000 = valid.ranges.grid.column.1 in omega arith in
+      let fine : r.grid.centi ≤ 1000 = valid.ranges.grid.centi.1 in
+      let product : 1 * r.grid.column * r.grid.centi ≤ 1000 * 1000 = mul-le-mul pitch fine in
       omega arith
 
   -- the shapes of a feed can be written where rows have a height
   feed-outline-is : 0 < height → IsShape (feed_outline r height)
   feed-outline-is tall =
-      let pitch : 2 ≤ r.grid_column = valid.ranges.grid_column.0 in
+      let pitch : 2 ≤ r.grid.column = valid.ranges.grid.column.0 in
       record {
-        layer = valid.ranges.outline_layer;
-        box = box-whole r.grid_centi 0 0 (2 * r.grid_column) (2 * height) valid.whole_centi valid.ranges.grid_centi.0
+        layer = valid.ranges.outline.layer;
+        box = box-whole r.grid.centi 0 0 (2 * r.grid.column) (2 * height) valid.whole_centi valid.ranges.grid.centi.0
             (omega arith) (omega arith)
-            (halves-near (1 * r.grid_column) r.grid_centi (2 * r.grid_column) column-near (omega arith))
-            (halves-near height r.grid_centi (2 * height) up (omega arith));
+            (halves-near (1 * r.grid.column) r.grid.centi (2 * r.grid.column) column-near (omega arith))
+            (halves-near height r.grid.centi (2 * height) up (omega arith));
       }
 
   feed-wire-is : 0 < height → IsShape (feed_wire r height)
   feed-wire-is tall =
-      let narrow : r.vertical_width ≤ r.grid_column = wire-narrow r valid in
-      let some : 1 ≤ r.vertical_width = valid.ranges.vertical_width.0 in
+      let narrow : r.vertical.width ≤ r.grid.column = wire-narrow r valid in
+      let some : 1 ≤ r.vertical.width = valid.ranges.vertical.width.0 in
       record {
-        layer = valid.ranges.vertical_layer;
-        box = box-whole r.grid_centi (middle_of r.grid_column 0 - r.vertical_width) 0 (middle_of r.grid_column 0 + r.vertical_width) (2 * height)
-            valid.whole_centi valid.ranges.grid_centi.0
+        layer = valid.ranges.vertical.layer;
+        box = box-whole r.grid.centi (middle_of r.grid.column 0 - r.vertical.width) 0 (middle_of r.grid.column 0 + r.vertical.width) (2 * height)
+            valid.whole_centi valid.ranges.grid.centi.0
             (omega arith) (omega arith)
-            (halves-near (1 * r.grid_column) r.grid_centi (middle_of r.grid_column 0 + r.vertical_width) column-near (omega arith))
-            (halves-near height r.grid_centi (2 * height) up (omega arith));
+            (halves-near (1 * r.grid.column) r.grid.centi (middle_of r.grid.column 0 + r.vertical.width) column-near (omega arith))
+            (halves-near height r.grid.centi (2 * height) up (omega arith));
       }
 
   pub feed-are : (feeds : Bool) → (feeds ≡ true → 0 < height) → AllByRecursion IsDrawn (feed_symbol r height feeds)
   unfolding feed_drawing
   feed-are false tall = tt
   feed-are true tall = (record { name = tt; shapes = (feed-outline-is (tall refl), (feed-wire-is (tall refl), tt)) }, tt)
-
--- the rectangles of a feed are in reach
-pub feed-reach : (r : RuleValues) (height : ℕ) → ValidRules r → height ≤ 200000000 → AllByRecursion IsShapeInReach (feed_drawing r height)
-unfolding feed_drawing
-feed-reach r height valid low = (
-  record {
-    x0 = reach-scaled 0 r.grid_centi (omega arith) fine;
-    y0 = reach-scaled 0 r.grid_centi (omega arith) fine;
-    x1 = reach-scaled (2 * r.grid_column) r.grid_centi (omega (arith, valid.ranges.grid_column.1)) fine;
-    y1 = reach-scaled (2 * height) r.grid_centi (omega arith) fine;
-  },
-  (
-    record {
-      x0 = reach-scaled (middle_of r.grid_column 0 - r.vertical_width) r.grid_centi (omega (arith, valid.ranges.grid_column.1)) fine;
-      y0 = reach-scaled 0 r.grid_centi (omega arith) fine;
-      x1 = reach-scaled (middle_of r.grid_column 0 + r.vertical_width) r.grid_centi (omega (arith, valid.ranges.grid_column.1, valid.ranges.vertical_width.1)) fine;
-      y1 = reach-scaled (2 * height) r.grid_centi (omega arith) fine;
-    },
-    tt,
-  ),
-)
-  where
-    fine : r.grid_centi ≤ 1000
-    fine = valid.ranges.grid_centi.1
-
-    reach-scaled : (x centi : ℕ) → x ≤ 1000000000000 → centi ≤ 1000 → IsInReach (pos (x * centi))
-    reach-scaled x centi small few =
-        let product : x * centi ≤ 1000000000000 * 1000 = mul-le-mul small few in
-        record { low = omega (arith, ints); high = omega (arith, ints) }

@@ -23,7 +23,7 @@ use Rattle.cif_text.proofs.WrittenText.{written-reads}
 use Rattle.cif_text.specs.ReadsAs.{ReadsAs}
 use Rattle.cif_text.specs.Symbols.{Symbol}
 use Rattle.cif_text.specs.Written as written
-use Rattle.cif_text.specs.WrittenLayout as layout
+use Rattle.cif_text.proofs.WrittenLayout as layout
 use Rattle.channel_stack.proofs.KnownItems.{KnownCell, instance-known}
 use Rattle.channel_stack.specs.Layouts.{channel_shapes, instance_cells, item_cells, item_shapes, kind_cells, kind_drawing, layout_of, row_cells, row_shapes, stacked_cells, stacked_shapes}
 use Rattle.channel_stack.specs.Routed.{IsRouted}

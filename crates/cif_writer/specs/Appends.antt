@@ -1,4 +1,5 @@
 use Rattle.std.specs.Prelude.{◌≡◌, ◌++◌, ◌*◌, ℕ, List, length, Option}
+use Rattle.limits.specs.declared.TheConstants.{PIECE}
 use Rattle.shelf_io.specs.Told.{Refines, appended}
 
 -- Bytes went behind those that were buffered: what was put to a file that is told, and what is buffered then, are what was buffered before and these
@@ -8,4 +9,4 @@ pub record Appends (bytes before after : List ℕ) (old new : Option (List ℕ))
   pub told : Refines new (appended old put)
   pub whole : put ++ after ≡ before ++ bytes
   pub pieces : ℕ
-  pub many : length put ≡ 4096 * pieces
+  pub many : length put ≡ PIECE * pieces

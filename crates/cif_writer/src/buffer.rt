@@ -6,12 +6,10 @@ ghost use Rattle.shelf_io.specs.Told.{EndsWithin, Refines, appended};
 ghost use Rattle.std.specs.Prelude.{◌≡◌, ◌≢◌, ◌≤◌, ◌<◌, ◌+◌, ◌++◌, [], List, ℕ, length, IfOk, OnOk, OnErr};
 ghost use Rattle.std.specs.Vec.{vec_capacity};
 
+use limits::PIECE;
 use shelf_io::{Failed, Shelf, put_all};
 use std::alloc::{AllocError, Global};
 use std::marker::Model;
-
-/// How many bytes go out at once.
-const PIECE: usize = 4096;
 
 /// Fewer than 4,096 bytes that are still to be put to a file. Contracts see the bytes.
 #[derive(Debug, Drop)]
@@ -33,7 +31,7 @@ impl Model for Buffer {
 impl Buffer {
     /// A buffer with these bytes. The one error is want of memory; no later call takes any.
     pub fn new(alloc: Global, bytes: &[u8]) -> Result<Buffer, AllocError>
-        requires { length bytes.now < 4096 }
+        requires { length bytes.now < PIECE }
         ensures { IfOk result (λ buffer. buffer ≡ bytes.now) }
     {
         let mut room = Vec::with_capacity(alloc, PIECE)?;
@@ -43,7 +41,7 @@ impl Buffer {
 
     // Buffers bytes for which there is room, and puts the piece that is whole then.
     fn fill<S: Shelf>(&mut self, shelf: &mut S, file: &str, bytes: &[u8]) -> Result<(), Failed>
-        requires { length self.old + length bytes.now ≤ 4096 }
+        requires { length self.old + length bytes.now ≤ PIECE }
         ensures appends { OnOk result (Appends bytes.now self.old self.new (S.holds shelf.old file.now) (S.holds shelf.new file.now)) }
         ensures front { OnErr result (EndsWithin (S.holds shelf.old file.now) (self.old ++ bytes.now) (S.holds shelf.new file.now)) }
         ensures others { (other : List ℕ) → other ≢ file.now → S.holds shelf.new other ≡ S.holds shelf.old other }

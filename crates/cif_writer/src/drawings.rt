@@ -13,6 +13,7 @@ ghost use Rattle.tech_rules.specs.Rules.{ValidRules};
 use design_model::{Design, drawing};
 use feed_cells::{FedRows, Item};
 use geom_core::{Items, Rect, Shape};
+use limits::MOST_HEIGHT;
 use std::alloc::{AllocError, Global};
 use tech_rules::Rules;
 
@@ -41,25 +42,25 @@ fn has_feed(rows: &[Items<Item>]) -> bool
 // A number of half units, in half centimicrons.
 fn scaled(rules: &Rules, half_units: u64) -> i64
     requires { half_units ≤ 1000000000 }
-    ensures { result ≡ pos (half_units * rules.now.grid_centi) }
+    ensures { result ≡ pos (half_units * rules.now.grid.centi) }
 {
-    (half_units * u64::from(rules.grid_centi)) as i64
+    (half_units * u64::from(rules.grid.centi)) as i64
 }
 
 // The outline of a feed: one column, as high as a row.
 fn feed_outline(rules: &Rules, height: u32) -> Shape
     requires some { 0 < height }
-    requires low { height ≤ 200000000 }
+    requires low { height ≤ MOST_HEIGHT }
     ensures { result ≡ feed_outline rules.now height }
 {
     let rect = Rect {
         x0: 0,
         y0: 0,
-        x1: scaled(rules, 2 * u64::from(rules.grid_column)),
+        x1: scaled(rules, 2 * u64::from(rules.grid.column)),
         y1: scaled(rules, 2 * u64::from(height)),
     };
     Shape {
-        layer: rules.outline_layer,
+        layer: rules.outline.layer,
         rect,
     }
 }
@@ -67,11 +68,11 @@ fn feed_outline(rules: &Rules, height: u32) -> Shape
 // The wire of a feed: in the middle of its column, from its lower edge to its upper one.
 fn feed_wire(rules: &Rules, height: u32) -> Shape
     requires some { 0 < height }
-    requires low { height ≤ 200000000 }
+    requires low { height ≤ MOST_HEIGHT }
     ensures { result ≡ feed_wire rules.now height }
 {
-    let middle = u64::from(rules.grid_column);
-    let width = u64::from(rules.vertical_width);
+    let middle = u64::from(rules.grid.column);
+    let width = u64::from(rules.vertical.width);
     let rect = Rect {
         x0: scaled(rules, middle.saturating_sub(width)),
         y0: 0,
@@ -79,7 +80,7 @@ fn feed_wire(rules: &Rules, height: u32) -> Shape
         y1: scaled(rules, 2 * u64::from(height)),
     };
     Shape {
-        layer: rules.vertical_layer,
+        layer: rules.vertical.layer,
         rect,
     }
 }
@@ -88,7 +89,7 @@ fn feed_wire(rules: &Rules, height: u32) -> Shape
 #[tactic(auto, unfolding(channel_stack::specs::Layouts::feed_drawing))]
 fn feed_drawing(alloc: Global, rules: &Rules, height: u32) -> Result<Vec<Shape>, AllocError>
     requires some { 0 < height }
-    requires low { height ≤ 200000000 }
+    requires low { height ≤ MOST_HEIGHT }
     ensures { IfOk result (λ shapes. shapes.items ≡ feed_drawing rules.now height) }
 {
     let mut shapes = Vec::new(alloc);

@@ -3,11 +3,11 @@ use Rattle.std.specs.Option.{option_map}
 use Rattle.std.specs.List.{slice_get, slice_index}
 use Rattle.std.proofs.lemmas.List.{append-nil, map-append, take_all, take_at, take_more}
 use Rattle.std.proofs.lemmas.Option.{get_or_from_slice_get, slice_get-map}
+use Rattle.list_facts.proofs.Places.{drop-here, drop-past}
 use Rattle.close_rects.specs.declared.member.Member.{Member}
 use Rattle.close_rects.specs.Crowds.{crowd_of, crowds_of, is_crowded, places_from}
 use Rattle.close_rects.specs.Kins.{pairs_of}
 use Rattle.close_rects.proofs.Placing.{StandFrom, StandFrom-drop, StandFrom-first, StandFrom-later}
-use Rattle.close_rects.proofs.Rows.{drop_here, drop_past}
 
 -- the number of a member by its place
 pub number-at : (members : List Member) (n : ℕ) (b : Member) → slice_get members n ≡ Some b
@@ -62,7 +62,7 @@ pub rows-more : (members : List Member) (most row : ℕ) (a : Member) (pairs gat
 rows-more members most row a pairs gathered here is rest =
     let step : suc row ≡ row + 1 = omega arith in
     let first : crowds_of (drop row members) ≡ crowd_of a (drop (row + 1) members) ++ crowds_of (drop (row + 1) members) =
-    ap crowds_of (drop_here members row a here)
+    ap crowds_of (drop-here members row a here)
     ∙ ap (λ k. crowd_of a (drop k members) ++ crowds_of (drop k members)) step in
     ap (λ t. take most (t ++ crowds_of (drop (row + 1) members)))
     (is ∙ ap (λ t. take most (pairs ++ t)) (pairs_of-places members (row + 1) a (drop (row + 1) members) (StandFrom-drop members (row + 1))))
@@ -70,20 +70,6 @@ rows-more members most row a pairs gathered here is rest =
     ∙ ap (take most) (append_assoc pairs (crowd_of a (drop (row + 1) members)) (crowds_of (drop (row + 1) members)))
     ∙ ap (λ t. take most (pairs ++ t)) (sym first)
     ∙ rest
-
--- all rows have been looked at
-pub rows-done : (members : List Member) (most row : ℕ) (pairs : List (ℕ × ℕ)) → length pairs ≤ most → length members ≤ row
-    → take most (pairs ++ crowds_of (drop row members)) ≡ take most (crowds_of members) → pairs ≡ take most (crowds_of members)
-rows-done members most row pairs room past rest =
-    sym (take_all most pairs room)
-    ∙ ap (take most) (sym (append-nil pairs))
-    ∙ ap (λ t. take most (pairs ++ crowds_of t)) (sym (drop_past members row past))
-    ∙ rest
-
--- or there is no more room
-pub rows-full : (most : ℕ) (pairs others all : List (ℕ × ℕ)) → length pairs ≡ most → take most (pairs ++ others) ≡ take most all
-    → pairs ≡ take most all
-rows-full most pairs others all full rest = sym (take_at pairs others most full) ∙ rest
 
 -- of the pairs that are added only those are kept for which there is room
 pub take-room : {X Y : Type 0} (most count : ℕ) (f : Y → X) (xs : List X) (ys : List Y) → length xs ≤ most → count ≡ min (length ys) (most - length xs)

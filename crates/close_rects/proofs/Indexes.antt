@@ -39,10 +39,6 @@ IsLinked-set nodes b node linked on within k other is =
       | inr kept ↦ linked k other kept
     ])
 
--- a node beyond the items covers nothing
-pub Covers-none : (items : List Item) (low : ℕ) (bounds : Extent) → Covers items low low bounds
-Covers-none items low bounds k item on below is left = absurd (omega arith)
-
 -- bounds that reach one item further
 pub Covers-more : (items : List Item) (low at : ℕ) (item : Item) (a whole : Extent) → slice_get items at ≡ Some item
     → Covers items low at a → Encloses whole a → (item.taken ≡ false → Encloses whole item.rect) → Covers items low (at + 1) whole
@@ -55,13 +51,6 @@ Covers-more items low at item a whole here covers round added k other on below i
           let it : other ≡ item = cc in
           rw it (added (rw it at left))
     ]
-
--- past the end of the list there is nothing
-pub Covers-end : (items : List Item) (low high further : ℕ) (bounds : Extent) → length items ≤ high → Covers items low high bounds
-    → Covers items low further bounds
-Covers-end items low high further bounds past covers k item on below is left =
-    let within : k < length items = slice_get_within items k item is in
-    covers k item on (omega arith) is left
 
 -- a node that tells the truth may be written
 pub IsIndexed-set : (items : List Item) (nodes : List Node) (b : ℕ) (node : Node) → IsIndexed items nodes → IsNode items (length nodes) b node

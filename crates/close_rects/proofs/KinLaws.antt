@@ -18,18 +18,6 @@ pub some_told : {X : Type 0} (P : X → Type 0) (o : Option X) (x : X) → IfSom
 some_told P (Some y) x told is = let same : y ≡ x = cc in subst P same told
 some_told P None x told is = let never : ⊥ = cc in absurd never
 
--- items of one class, and one more
-pub AreOfClass-more : (members : List Member) (items : List Item) (low at class : ℕ) (item : Item) → slice_get items at ≡ Some item
-    → class_of members item.number ≡ class → AreOfClass members items low at class → AreOfClass members items low (at + 1) class
-AreOfClass-more members items low at class item here same are k other on below is =
-    elim (cases_lt k at) [
-      | inl early ↦ are k other on early is
-      | inr late ↦
-          let there : k ≡ at = omega arith in
-          let it : other ≡ item = cc in
-          rw it same
-    ]
-
 -- two neighbouring stretches of one class
 pub AreOfClass-over : (members : List Member) (items : List Item) (low middle high class : ℕ) → AreOfClass members items low middle class
     → AreOfClass members items middle high class → AreOfClass members items low high class
@@ -38,16 +26,6 @@ AreOfClass-over members items low middle high class first second k item on below
       | inl early ↦ first k item on early is
       | inr late ↦ second k item late below is
     ]
-
--- none of the asking class is a stranger
-pub NoneStrange-kin : (members : List Member) (items : List Item) (window : Extent) (class low high : ℕ)
-    → AreOfClass members items low high class → NoneStrange members items window class low high
-NoneStrange-kin members items window class low high are k item on below is strange = strange.other (are k item on below is)
-
--- nor is one that doesn't meet the window
-pub NoneStrange-met : (members : List Member) (items : List Item) (window : Extent) (class low high : ℕ) → NoneMet items window low high
-    → NoneStrange members items window class low high
-NoneStrange-met members items window class low high none k item on below is strange = none k item on below is strange.met
 
 -- kin that tells the truth may be written
 pub AreKins-set : (members : List Member) (items : List Item) (nodes : List Node) (kins : List Kin) (b : ℕ) (node : Node) (kin : Kin)

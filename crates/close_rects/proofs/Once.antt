@@ -7,12 +7,13 @@ use Rattle.std.proofs.lemmas.List.Elements.{All-contains_itself}
 use Rattle.std.proofs.lemmas.List.Kept.{AllPairs-cons}
 use Rattle.std.proofs.lemmas.Map.Keys.{IsDistinct-IsPermutation, IsDistinct-cons, IsDistinct-head, IsDistinct-tail}
 use Rattle.std.proofs.lemmas.Bool.{cases_eq, cases_lt, eq-eqb, ne_eqb}
+use Rattle.list_facts.proofs.Members.{member-head}
 use Rattle.geom_core.specs.Extent.{Extent}
 use Rattle.close_rects.specs.ClosePairs.{is_close, IsClosePair, AreClosePairs}
 use Rattle.close_rects.specs.Rests.{pair_of, row_of, rows_of}
 use Rattle.close_rects.proofs.Closeness.{is_close-comm}
 use Rattle.close_rects.proofs.Sets.{Contains-later}
-use Rattle.close_rects.proofs.Pairs.{Contains-append, Contains-cases, Contains-here, Contains-none, HaveNumbers, IsMade, IsSecond, not_here, pair_of-comm, pair_of-less, row_among, rows_among, rows_contain, same_number}
+use Rattle.close_rects.proofs.Pairs.{Contains-append, Contains-cases, Contains-none, HaveNumbers, IsMade, IsSecond, not_here, pair_of-comm, pair_of-less, row_among, rows_among, rows_contain, same_number}
 
 -- no pair stands in a list again
 abbrev pub StandOnce : List (ℕ × ℕ) → Type 0
@@ -34,7 +35,7 @@ StandOnce-append [] right left_once right_once apart = right_once
 StandOnce-append (p ∷ left) right left_once right_once apart = (
   λ among. elim (Contains-append left right p among) [
     | inl in_left ↦ left_once.0 in_left
-    | inr in_right ↦ apart p (Contains-here p left) in_right
+    | inr in_right ↦ apart p (member-head p left) in_right
   ],
   StandOnce-append left right left_once.1 right_once (λ q among. apart q (Contains-later q p left among)),
 )
@@ -113,7 +114,7 @@ numbered_at n (y ∷ rects) zero m x is sum =
     let same : y ≡ x = cc in
     let number : n ≡ m = omega arith in
     let first : (n, y) ≡ (m, x) = cc in
-    subst (λ (p : ℕ × Extent). Contains (enumerate_from n (y ∷ rects)) p) first (Contains-here (n, y) (enumerate_from (n + 1) rects))
+    subst (λ (p : ℕ × Extent). Contains (enumerate_from n (y ∷ rects)) p) first (member-head (n, y) (enumerate_from (n + 1) rects))
 numbered_at n (y ∷ rects) (suc k) m x is sum =
     Contains-later (m, x) (n, y) (enumerate_from (n + 1) rects) (numbered_at (n + 1) rects k m x is (omega arith))
 

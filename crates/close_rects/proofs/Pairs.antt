@@ -3,6 +3,7 @@ use Rattle.std.specs.Prelude.{Contains}
 use Rattle.std.specs.List.{IsDistinct, AllByRecursion}
 use Rattle.std.proofs.lemmas.Map.Keys.{IsDistinct-head, IsDistinct-tail}
 use Rattle.std.proofs.lemmas.Bool.{eq-eqb}
+use Rattle.list_facts.proofs.Members.{member-head}
 use Rattle.geom_core.specs.Extent.{Extent}
 use Rattle.close_rects.specs.ClosePairs.{is_close}
 use Rattle.close_rects.specs.Rests.{pair_of, row_of, rows_of}
@@ -17,13 +18,10 @@ Contains-cases y ys x (suc k, within, is) = inr (k, omega arith, is)
 pub Contains-none : {X : Type 0} (x : X) → Contains [] x → ⊥
 Contains-none x (k, within, is) = omega arith
 
-pub Contains-here : {X : Type 0} (x : X) (xs : List X) → Contains (x ∷ xs) x
-Contains-here x xs = (0, omega arith, refl)
-
 pub Contains-append : {X : Type 0} (xs ys : List X) (x : X) → Contains (xs ++ ys) x → Contains xs x ⊎ Contains ys x
 Contains-append [] ys x among = inr among
 Contains-append (y ∷ xs) ys x among = elim (Contains-cases y (xs ++ ys) x among) [
-  | inl same ↦ inl (subst (λ z. Contains (y ∷ xs) z) same (Contains-here y xs))
+  | inl same ↦ inl (subst (λ z. Contains (y ∷ xs) z) same (member-head y xs))
   | inr later ↦ elim (Contains-append xs ys x later) [
     | inl left ↦ inl (Contains-later x y xs left)
     | inr right ↦ inr right
@@ -33,7 +31,7 @@ Contains-append (y ∷ xs) ys x among = elim (Contains-cases y (xs ++ ys) x amon
 pub Contains-left : {X : Type 0} (xs ys : List X) (x : X) → Contains xs x → Contains (xs ++ ys) x
 Contains-left [] ys x among = absurd (Contains-none x among)
 Contains-left (y ∷ xs) ys x among = elim (Contains-cases y xs x among) [
-  | inl same ↦ subst (λ z. Contains (y ∷ (xs ++ ys)) z) same (Contains-here y (xs ++ ys))
+  | inl same ↦ subst (λ z. Contains (y ∷ (xs ++ ys)) z) same (member-head y (xs ++ ys))
   | inr later ↦ Contains-later x y (xs ++ ys) (Contains-left xs ys x later)
 ]
 
@@ -62,7 +60,7 @@ row_among reach a (b ∷ rects) pair among = cases (row_among reach a rects pair
     cases : (Contains (row_of reach a rects) pair → IsSecond reach a rects pair) → (t : Bool) → is_close reach a.1 b.1 ≡ t
         → Contains (if t then pair_of a b ∷ row_of reach a rects else row_of reach a rects) pair → IsSecond reach a (b ∷ rects) pair
     cases find true close rest = elim (Contains-cases (pair_of a b) (row_of reach a rects) pair rest) [
-      | inl same ↦ (b, Contains-here b rects, close, sym same)
+      | inl same ↦ (b, member-head b rects, close, sym same)
       | inr after ↦ later find after
     ]
     cases find false far rest = later find rest
@@ -74,7 +72,7 @@ row_contains reach a b (c ∷ rects) among close = elim (Contains-cases c rects 
   | inl same ↦
       let near : is_close reach a.1 c.1 ≡ true = ap (λ (d : ℕ × Extent). is_close reach a.1 d.1) same ∙ close in
       subst (λ t. Contains (if t then pair_of a c ∷ row_of reach a rects else row_of reach a rects) (pair_of a b)) (sym near)
-      (subst (λ (d : ℕ × Extent). Contains (pair_of a c ∷ row_of reach a rects) (pair_of a d)) same (Contains-here (pair_of a c) (row_of reach a rects)))
+      (subst (λ (d : ℕ × Extent). Contains (pair_of a c ∷ row_of reach a rects) (pair_of a d)) same (member-head (pair_of a c) (row_of reach a rects)))
   | inr later ↦ further (is_close reach a.1 c.1) (row_contains reach a b rects later close)
 ]
   where
@@ -117,7 +115,7 @@ rows_among reach (a ∷ rects) pair numbers among = elim (Contains-append (row_o
       record {
         a = a;
         b = found.0;
-        a_among = Contains-here a rects;
+        a_among = member-head a rects;
         b_among = Contains-later found.0 a rects found.1;
         apart = not_here a rects (IsDistinct-head same_number a rects numbers) found.0 found.1;
         close = found.2;

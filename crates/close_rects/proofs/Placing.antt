@@ -10,6 +10,7 @@ use Rattle.std.proofs.lemmas.List.Sorted.{All-permutation, sum_by-IsPermutation}
 use Rattle.std.proofs.lemmas.List.{append-nil, length-map}
 use Rattle.std.proofs.lemmas.List.Sums.{sum_by-cons}
 use Rattle.std.proofs.lemmas.Option.{get_or_from_slice_get, slice_get-map, slice_get_within}
+use Rattle.list_facts.proofs.Places.{drop-here, drop-past}
 use Rattle.geom_core.specs.Extent.{Extent}
 use Rattle.geom_core.specs.Reach.{IsExtentInWideReach}
 use Rattle.geom_core.specs.Rectangles.{grown}
@@ -22,7 +23,6 @@ use Rattle.close_rects.specs.Kins.{AreNumbered, ArePlaced, IsFirstStranger, IsSt
 use Rattle.close_rects.proofs.Ascending.{RisesFrom, hit, rises-sorted, rising-same, times, times-cons}
 use Rattle.close_rects.proofs.Closeness.{Meet-close, close-Meet}
 use Rattle.close_rects.proofs.Fits.{fit_at, fit_moved}
-use Rattle.close_rects.proofs.Rows.{drop_here, drop_past}
 
 -- these are the members from place n on
 abbrev pub StandFrom : List Member → ℕ → List Member → Type 0
@@ -133,7 +133,7 @@ numbers_of-past test (item ∷ items) (suc low) (suc high) on none =
 
 pub numbers_of-here : (test : Item → Bool) (items : List Item) (k : ℕ) (item : Item) → slice_get items k ≡ Some item
     → numbers_of test (drop k items) ≡ (if test item then item.number ∷ numbers_of test (drop (suc k) items) else numbers_of test (drop (suc k) items))
-numbers_of-here test items k item is = ap (numbers_of test) (drop_here items k item is)
+numbers_of-here test items k item is = ap (numbers_of test) (drop-here items k item is)
 
 -- the next stranger, whose number is put to those that were found if it stands after the row
 pub found-more : (members : List Member) (items : List Item) (row : ℕ) (a : Member) (at found : ℕ) (item : Item) (before after : List ℕ)
@@ -195,7 +195,7 @@ found-all members items row a at found placed here within none rest =
     (later-none members row a items at (length items) (inside_at members row a placed.inside here) (reach_at members row a placed.reach here)
     (fit_placed members items placed) none) in
     sym (append-nil found)
-    ∙ ap (λ t. found ++ numbers_of (is_later members row a) t) (sym (drop_past items (length items) (omega arith)))
+    ∙ ap (λ t. found ++ numbers_of (is_later members row a) t) (sym (drop-past items (length items) (omega arith)))
     ∙ ap (λ t. found ++ t) (sym last)
     ∙ rest
 

@@ -1,6 +1,7 @@
 use Rattle.std.proofs.Common.{◌≡◌, ◌+◌, ◌<◌, ◌≤◌, ℕ, zero, suc, ℤ, List, [], ◌∷◌, ◌++◌, true, false, if◌then◌else◌, length, drop, Some, refl, ap, sym, ◌∙◌, inl, inr, arith}
 use Rattle.std.specs.List.{slice_get}
 use Rattle.std.proofs.lemmas.Bool.{cases_lt}
+use Rattle.list_facts.proofs.Places.{drop-here, drop-past}
 use Rattle.geom_core.specs.Extent.{Extent}
 use Rattle.close_rects.specs.ClosePairs.{is_close}
 use Rattle.close_rects.specs.Rests.{pair_of, row_of, rows_of, rows_from, rest_at}
@@ -35,11 +36,6 @@ row_of-here reach a b (first ∷ rects) zero is close =
     ∙ ap (λ t. if t then pair_of a b ∷ row_of reach a rects else row_of reach a rects) close
 row_of-here reach a b (first ∷ rects) (suc at) is close = row_of-here reach a b rects at is close
 
-pub drop_here : {X : Type 0} (xs : List X) (k : ℕ) (x : X) → slice_get xs k ≡ Some x → drop k xs ≡ x ∷ drop (suc k) xs
-drop_here [] k x is = let never : ⊥ = cc in absurd never
-drop_here (y ∷ ys) zero x is = let same : y ≡ x = cc in ap (λ z. z ∷ ys) same
-drop_here (y ∷ ys) (suc k) x is = drop_here ys k x is
-
 -- the first close one gives the first pair
 pub rest_at-found : (reach : ℤ) (rects : List (ℕ × Extent)) (row at found : ℕ) (a b : ℕ × Extent) → slice_get rects row ≡ Some a
     → slice_get rects found ≡ Some b → at ≤ found → NoneClose reach a.1 rects at found → is_close reach a.1 b.1 ≡ true
@@ -49,9 +45,9 @@ rest_at-found reach rects row at found a b here there on none close =
     let first : row_of reach a (drop at rects) ≡ pair_of a b ∷ row_of reach a (drop (found + 1) rects) =
     row_of-past reach a rects at found on none ∙ row_of-here reach a b rects found there close
     ∙ ap (λ k. pair_of a b ∷ row_of reach a (drop k rects)) step in
-    ap (λ t. rows_from reach t (drop at rects)) (drop_here rects row a here)
+    ap (λ t. rows_from reach t (drop at rects)) (drop-here rects row a here)
     ∙ ap (λ t. t ++ rows_of reach (drop (suc row) rects)) first
-    ∙ ap (λ t. pair_of a b ∷ rows_from reach t (drop (found + 1) rects)) (sym (drop_here rects row a here))
+    ∙ ap (λ t. pair_of a b ∷ rows_from reach t (drop (found + 1) rects)) (sym (drop-here rects row a here))
 
 pub rows_from-all : (reach : ℤ) (rects : List (ℕ × Extent)) → rows_from reach rects (drop 1 rects) ≡ rows_of reach rects
 rows_from-all reach [] = refl
@@ -68,17 +64,11 @@ pub rest_at-row : (reach : ℤ) (rects : List (ℕ × Extent)) (row : ℕ) → r
 rest_at-row reach rects row =
     ap (λ t. rows_from reach (drop row rects) t) (sym (drop_one rects row)) ∙ rows_from-all reach (drop row rects)
 
-pub drop_past : {X : Type 0} (xs : List X) (k : ℕ) → length xs ≤ k → drop k xs ≡ []
-drop_past [] zero past = refl
-drop_past [] (suc k) past = refl
-drop_past (x ∷ xs) zero past = absurd (omega arith)
-drop_past (x ∷ xs) (suc k) past = drop_past xs k (omega arith)
-
 row_of-none : (reach : ℤ) (a : ℕ × Extent) (rects : List (ℕ × Extent)) (at : ℕ) → NoneClose reach a.1 rects at (length rects)
     → row_of reach a (drop at rects) ≡ []
 row_of-none reach a rects at none = elim (cases_lt (length rects) at) [
-  | inl past ↦ ap (row_of reach a) (drop_past rects at (omega arith))
-  | inr on ↦ row_of-past reach a rects at (length rects) on none ∙ ap (row_of reach a) (drop_past rects (length rects) (omega arith))
+  | inl past ↦ ap (row_of reach a) (drop-past rects at (omega arith))
+  | inr on ↦ row_of-past reach a rects at (length rects) on none ∙ ap (row_of reach a) (drop-past rects (length rects) (omega arith))
 ]
 
 -- a row without a further close rectangle gives way to the next
@@ -87,12 +77,8 @@ pub rest_at-next : (reach : ℤ) (rects : List (ℕ × Extent)) (row at : ℕ) (
 rest_at-next reach rects row at a here none =
     let step : suc row ≡ row + 1 = omega arith in
     let further : suc (row + 1) ≡ row + 1 + 1 = omega arith in
-    ap (λ t. rows_from reach t (drop at rects)) (drop_here rects row a here)
+    ap (λ t. rows_from reach t (drop at rects)) (drop-here rects row a here)
     ∙ ap (λ t. t ++ rows_of reach (drop (suc row) rects)) (row_of-none reach a rects at none)
     ∙ ap (λ k. rows_of reach (drop k rects)) step
     ∙ sym (rest_at-row reach rects (row + 1))
     ∙ ap (λ k. rest_at reach rects (row + 1) k) further
-
--- past the last row nothing is left
-pub rest_at-end : (reach : ℤ) (rects : List (ℕ × Extent)) (row at : ℕ) → length rects ≤ row → rest_at reach rects row at ≡ []
-rest_at-end reach rects row at past = ap (λ t. rows_from reach t (drop at rects)) (drop_past rects row past)

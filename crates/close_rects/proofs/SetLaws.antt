@@ -3,10 +3,11 @@ use Rattle.std.specs.Prelude.{Contains}
 use Rattle.std.specs.List.{enumerate_from, slice_get}
 use Rattle.std.specs.List.Sorted.{IsPermutation}
 use Rattle.std.proofs.lemmas.List.Sorted.{Contains-permutation, IsPermutation-sym}
+use Rattle.list_facts.proofs.Members.{member-head}
 use Rattle.geom_core.specs.Extent.{Extent}
 use Rattle.close_rects.specs.RectSets.{NoneIn, Takes}
 use Rattle.close_rects.proofs.Once.{numbered_at, stands_at}
-use Rattle.close_rects.proofs.Pairs.{Contains-append, Contains-cases, Contains-here, Contains-left, Contains-right}
+use Rattle.close_rects.proofs.Pairs.{Contains-append, Contains-cases, Contains-left, Contains-right}
 use Rattle.close_rects.proofs.Sets.{Contains-later}
 
 -- each rectangle of a list stands in a new set
@@ -25,7 +26,7 @@ none_else rects set p moved among =
 pub taken-contains : (rect : Extent) (number : ℕ) (before after : List (ℕ × Extent)) (takes : Takes rect number before after)
     → Contains before (number, takes.taken)
 taken-contains rect number before after takes = rw takes.from
-    (Contains-right takes.front ((number, takes.taken) ∷ takes.back) (number, takes.taken) (Contains-here (number, takes.taken) takes.back))
+    (Contains-right takes.front ((number, takes.taken) ∷ takes.back) (number, takes.taken) (member-head (number, takes.taken) takes.back))
 
 -- what is left after a taking was left before
 pub before-contains : (rect : Extent) (number : ℕ) (before after : List (ℕ × Extent)) (p : ℕ × Extent) → Takes rect number before after

@@ -42,12 +42,6 @@ put-more d l all rest f before mid now put one = record {
       (ap (λ (t : List ℕ). finding_lines d l put.done ++ t) (sym (one-line d l f)) ∙ sym (lines-append d l put.done (f ∷ []))) put.put one;
 }
 
--- all lines at the end
-pub put-all : (d : Netlist) (l : Layout) (all : List Finding) (before now : Option (List ℕ)) → ArePut d l all [] before now
-    → Refines now (appended before (finding_lines d l all))
-put-all d l all before now put =
-    subst (λ (fs : List Finding). Refines now (appended before (finding_lines d l fs))) (sym (append-nil put.done) ∙ put.parts) put.put
-
 -- and a front of them where a line was cut off
 pub put-front : (d : Netlist) (l : Layout) (all rest : List Finding) (f : Finding) (before mid now : Option (List ℕ)) → ArePut d l all (f ∷ rest) before mid
     → EndsWithin mid (line (finding_words d l f)) now → EndsWithin before (finding_lines d l all) now

@@ -54,3 +54,17 @@ refusal-unread (refusals.Cif kind at) eight = absurd (omega (arith, eight))
 refusal-unread (refusals.Meaning kind at) eight = absurd (omega (arith, eight))
 refusal-unread (refusals.Limit what n) eight = absurd (omega (arith, eight))
 refusal-unread refusals.Memory eight = absurd (omega (arith, eight))
+
+-- and none of writing
+pub refusal-unwritten : (refusal : Refusal) → refusal_status refusal ≡ 9 → ⊥
+refusal-unwritten refusals.Usage nine = absurd (omega (arith, nine))
+refusal-unwritten refusals.Toml nine = absurd (omega (arith, nine))
+refusal-unwritten (refusals.Missing key) nine = absurd (omega (arith, nine))
+refusal-unwritten (refusals.Range key) nine = absurd (omega (arith, nine))
+refusal-unwritten (refusals.Tight rule) nine = absurd (omega (arith, nine))
+refusal-unwritten (refusals.Yal kind at) nine = absurd (omega (arith, nine))
+refusal-unwritten (refusals.Design fault name) nine = absurd (omega (arith, nine))
+refusal-unwritten (refusals.Cif kind at) nine = absurd (omega (arith, nine))
+refusal-unwritten (refusals.Meaning kind at) nine = absurd (omega (arith, nine))
+refusal-unwritten (refusals.Limit what n) nine = absurd (omega (arith, nine))
+refusal-unwritten refusals.Memory nine = absurd (omega (arith, nine))

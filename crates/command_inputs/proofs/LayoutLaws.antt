@@ -9,10 +9,9 @@ use Rattle.geom_core.specs.declared.layout.Shape.{Shape}
 use Rattle.cif_text.specs.Meaning.{meaning}
 use Rattle.cif_text.specs.declared.command.Command.{Command}
 use Rattle.cif_text.specs.declared.fault.CifKind.{CifKind}
-use Rattle.cif_reader.specs.Agreement.{Agrees}
+use Rattle.cif_reader.proofs.Agreement.{Agrees}
 use Rattle.cif_reader.specs.Expansion.{expansion}
 use Rattle.cif_reader.specs.Within.{IsCellWithin, IsLayoutWithin, IsNotFar, IsShapeWithin}
-use Rattle.cif_reader.proofs.AgreementLaws.{expansion-agrees}
 use Rattle.layout_check.specs.Measured.{IsCellAmong, IsMeasured}
 use Rattle.command_inputs.specs.LayoutFile.{cif_said}
 
@@ -36,10 +35,6 @@ measured most l few within = record {
       (All-from_recursion (IsCellWithin (length l.shapes)) l.cells within.cells);
   shapes = All-weaker IsShapeWithin IsShapeInReach shape-in-reach l.shapes (All-from_recursion IsShapeWithin l.shapes within.shapes);
 }
-
--- the layout that commands give is what they mean
-pub expansion-means : (commands : List Command) (l : Layout) → expansion commands ≡ Ok l → meaning commands ≡ Ok l
-expansion-means commands l is = subst (λ e. Agrees (λ (m : Layout). m) e (meaning commands)) is (expansion-agrees commands)
 
 -- the commands that are said are those that are read
 pub said-reads : (read : Result (List Command) (CifKind × ℕ)) (commands : List Command) → cif_said read ≡ Ok commands → read ≡ Ok commands

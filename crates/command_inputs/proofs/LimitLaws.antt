@@ -1,7 +1,6 @@
-use Rattle.std.proofs.Common.{◌≡◌, ◌≤◌, ◌<◌, ℕ, List, length, Bool, true, false, cond, Option, Some, None, Result, Ok, Err, is_ok, nat_lt, refl, ap, arith}
+use Rattle.std.proofs.Common.{◌≡◌, ◌≤◌, ◌<◌, ℕ, List, length, Bool, true, false, cond, Result, Ok, Err, nat_lt, refl, ap, arith}
 use Rattle.std.proofs.lemmas.Bool.Decides.{nat_tests}
 use Rattle.tech_rules.specs.Rules.{RuleValues}
-use Rattle.command_inputs.specs.Failures.{IsPassed}
 use Rattle.command_ends.specs.Limits.{within_limit}
 use Rattle.command_ends.specs.Refusing.{◌>>=◌}
 use Rattle.command_inputs.specs.Stated.{rules_said, rules_verdict, stated_rules}
@@ -26,11 +25,6 @@ within what most bytes short = ap (λ (long : Bool). cond long (Err (refusals.Li
 pub beyond : (what : Limited) (most : ℕ) (bytes : List ℕ) → most < length bytes → within_limit what most bytes ≡ Err (refusals.Limit what most)
 unfolding within_limit
 beyond what most bytes long = ap (λ (longer : Bool). cond longer (Err (refusals.Limit what most)) (Ok bytes)) (is-above most (length bytes) long)
-
--- a value is passed
-pub passed : {A : Type 0} (said : Option (Result A Refusal)) (a : A) → ((s : Result A Refusal) → said ≡ Some s → s ≡ Ok a) → IsPassed said
-passed None a gives = tt
-passed (Some s) a gives = ap is_ok (gives s refl)
 
 -- contents within the limit are the whole
 pub is-whole : (what : Limited) (most : ℕ) (bytes items : List ℕ) → within_limit what most bytes ≡ Ok items → bytes ≡ items

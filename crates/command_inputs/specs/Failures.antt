@@ -1,8 +1,8 @@
-use Rattle.std.specs.Prelude.{◌≡◌, ◌⊎◌, ℕ, List, Option, Some, IfSome, Result, is_ok, true}
+use Rattle.std.specs.Prelude.{◌≡◌, ◌⊎◌, ℕ, List, Option, Some, Ok, is_ok, true}
 use Rattle.shelf_io.specs.Count.{Rose}
 use Rattle.command_words.specs.Command.{Source, from_file, from_seed}
-use Rattle.command_inputs.specs.Stated.{rules_verdict}
-use Rattle.command_ends.specs.declared.refusal.Refusal.{Refusal}
+use Rattle.tech_rules.specs.Rules.{RuleValues}
+use Rattle.command_inputs.specs.Stated.{design_text, design_verdict, rules_verdict}
 
 -- why a design from a source could not be read: the read count of its file rose
 abbrev pub SourceFails : Source → (List ℕ → ℕ) → (List ℕ → ℕ) → Type 0
@@ -14,6 +14,8 @@ abbrev pub InputsFail : List ℕ → Source → (List ℕ → Option (List ℕ))
 InputsFail rules source told old new =
     Rose (old rules) (new rules) ⊎ (SourceFails source old new × ((bytes : List ℕ) → told rules ≡ Some bytes → is_ok (rules_verdict bytes) ≡ true))
 
--- nothing is refused, by what files are told to hold
-abbrev pub IsPassed : {A : Type 0} → Option (Result A Refusal) → Type 0
-IsPassed said = IfSome said (λ s. is_ok s ≡ true)
+-- rules and a design from a source are not refused, by what files are told to hold: the rules are those that their file states, and the text of the
+-- design is one under them
+pub record ArePassed (rules : List ℕ) (source : Source) (told : List ℕ → Option (List ℕ)) (under : RuleValues) : Type 0 where
+  pub stated : (bytes : List ℕ) → told rules ≡ Some bytes → rules_verdict bytes ≡ Ok under
+  pub designed : (bytes : List ℕ) → design_text source told under ≡ Some bytes → is_ok (design_verdict under bytes) ≡ true

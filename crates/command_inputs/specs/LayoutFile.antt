@@ -1,4 +1,5 @@
 use Rattle.std.specs.Prelude.{ℕ, List, Result, Ok, Err}
+use Rattle.limits.specs.declared.TheConstants.{MOST_LAYOUT_BYTES}
 use Rattle.geom_core.specs.declared.layout.Layout.{Layout}
 use Rattle.cif_text.specs.CifReads.{cif_reads}
 use Rattle.cif_text.specs.declared.command.Command as cif
@@ -22,7 +23,7 @@ meaning_said (Err bad) = Err (Meaning bad.0 bad.1)
 -- the commands that the bytes of a layout's file are
 unfoldable pub commands_verdict : List ℕ → Result (List cif.Command) Refusal
 commands_verdict bytes = do
-  whole ← within_limit limits.Cif 268435456 bytes
+  whole ← within_limit limits.Cif MOST_LAYOUT_BYTES bytes
   cif_said (cif_reads whole)
 
 -- the layout that they give, within the limits of the reader

@@ -1,4 +1,5 @@
 use Rattle.std.specs.Prelude.{ℕ, List, Option, Some, option_map, Result, Ok, Err}
+use Rattle.limits.specs.declared.TheConstants.{MOST_DESIGN_BYTES, MOST_RULES_BYTES}
 use Rattle.tech_rules.specs.Rules.{RuleValues}
 use Rattle.tech_rules.specs.RulesOf.{rules_of}
 use Rattle.tech_rules.specs.declared.fault.RulesFault.{RulesFault}
@@ -55,7 +56,7 @@ stated_rules bytes = rules_said (rules_of bytes)
 -- the rules that the bytes of a rules file state
 unfoldable pub rules_verdict : List ℕ → Result RuleValues Refusal
 rules_verdict bytes = do
-  whole ← within_limit limits.Rules 16777216 bytes
+  whole ← within_limit limits.Rules MOST_RULES_BYTES bytes
   stated_rules whole
 
 -- the design that a text of YAL is
@@ -67,7 +68,7 @@ stated_design rules bytes = do
 -- the design that the bytes of a design's file state
 unfoldable pub design_verdict : RuleValues → List ℕ → Result Netlist Refusal
 design_verdict rules bytes = do
-  whole ← within_limit limits.Design 16777216 bytes
+  whole ← within_limit limits.Design MOST_DESIGN_BYTES bytes
   stated_design rules whole
 
 -- the rules, and the design that the bytes of a design's file state under them

@@ -12,12 +12,12 @@ ghost use Rattle.layout_check.specs.Measured.{IsMeasured};
 ghost use Rattle.shelf_io.specs.Count.{Rose};
 ghost use Rattle.std.specs.Prelude.{◌≡◌, ◌≢◌, ◌<◌, ◌≤◌, ◌^◌, List, ℕ, false, length, Ok, Some, IfErr, IfOk};
 
-use crate::limits::MOST_CIF_BYTES;
 use crate::stages::load_within;
 use cif_reader::{ExpandFault, expand};
 use cif_text::{CifFault, Command, read_commands};
 use command_ends::{Limited, Refusal, Stop};
 use geom_core::Layout;
+use limits::MOST_LAYOUT_BYTES;
 use shelf_io::Shelf;
 use std::alloc::Global;
 
@@ -48,7 +48,7 @@ fn load_commands<S: Shelf>(alloc: Global, shelf: &mut S, name: &str) -> Result<V
     ensures files { S.holds shelf.new ≡ S.holds shelf.old }
     ensures writes { S.write_faults shelf.new ≡ S.write_faults shelf.old }
 {
-    let bytes = load_within(alloc, shelf, name, Limited::Cif, MOST_CIF_BYTES)?;
+    let bytes = load_within(alloc, shelf, name, Limited::Cif, MOST_LAYOUT_BYTES)?;
     match read_text(alloc, bytes.as_slice()) {
         Ok(commands) => Ok(commands),
         Err(refusal) => Err(Stop::Refused(refusal)),

@@ -3,7 +3,6 @@
 
 mod fault_name;
 mod layout_file;
-mod limits;
 mod outcome;
 mod stages;
 

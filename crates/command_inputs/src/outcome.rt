@@ -12,6 +12,7 @@ ghost use Rattle.yal_reader.specs.Kept.{HasAtMost, IsKept};
 use crate::fault_name::fault_name;
 use command_ends::{Limited, Refusal};
 use design_model::Design;
+use limits::MOST_DESIGN_BYTES;
 use netlist_core::{Count, DesignFault, to_design};
 use std::alloc::Global;
 use tech_rules::{Rules, RulesFault, read_rules};
@@ -53,7 +54,7 @@ fn design_in(alloc: Global, file: &YalFile, rules: &Rules) -> Result<Design, Ref
 /// The design that a text of YAL says. The text's file is given up.
 #[tactic(auto, unfolding(crate::specs::Stated::stated_design))]
 pub fn stated_design(alloc: Global, bytes: &[u8], rules: &Rules) -> Result<Design, Refusal>
-    requires { length bytes.now ≤ 16777216 }
+    requires { length bytes.now ≤ MOST_DESIGN_BYTES }
     ensures made { Answers (λ design. design) result (stated_design rules.now bytes.now) }
     ensures is { IfOk result (λ design. IsDesignOf rules.now bytes.now design) }
     ensures high { IfOk result (λ design. HasRoom rules.now design) }

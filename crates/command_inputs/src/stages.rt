@@ -1,7 +1,7 @@
 //! What the files of rules and of a design say.
 
 ghost use Rattle.command_ends.specs.Answers.{Answers, Finds};
-ghost use Rattle.command_inputs.specs.Failures.{InputsFail, SourceFails};
+ghost use Rattle.command_inputs.specs.Failures.{ArePassed, InputsFail, SourceFails};
 ghost use Rattle.command_inputs.specs.Origin.{AreInputsFrom, IsDesignOf, IsSourceText};
 ghost use Rattle.command_ends.specs.Limits.{within_limit};
 ghost use Rattle.command_words.specs.Seen.{source_seen};
@@ -12,12 +12,12 @@ ghost use Rattle.layout_report.specs.MadeText.{made_text};
 ghost use Rattle.shelf_io.specs.Count.{Rose};
 ghost use Rattle.std.specs.Prelude.{◌≡◌, ◌≢◌, ◌<◌, ◌≤◌, ◌^◌, List, ℕ, length, Some, IfErr, IfOk};
 
-use crate::limits::MOST_BYTES;
 use crate::outcome::{stated_design, stated_rules};
 use command_ends::{Limited, Refusal, Stop};
 use command_words::{MadeCount, Source};
 use design_model::Design;
 use layout_report::make_design;
+use limits::{MOST_DESIGN_BYTES, MOST_RULES_BYTES};
 use shelf_io::{LoadFault, Shelf, load};
 use std::alloc::Global;
 use tech_rules::Rules;
@@ -59,7 +59,7 @@ fn load_rules<S: Shelf>(alloc: Global, shelf: &mut S, name: &str) -> Result<Rule
     ensures files { S.holds shelf.new ≡ S.holds shelf.old }
     ensures writes { S.write_faults shelf.new ≡ S.write_faults shelf.old }
 {
-    let bytes = load_within(alloc, shelf, name, Limited::Rules, MOST_BYTES)?;
+    let bytes = load_within(alloc, shelf, name, Limited::Rules, MOST_RULES_BYTES)?;
     match stated_rules(alloc, bytes.as_slice()) {
         Ok(rules) => Ok(rules),
         Err(refusal) => Err(Stop::Refused(refusal)),
@@ -83,7 +83,7 @@ fn load_design<S: Shelf>(
     ensures files { S.holds shelf.new ≡ S.holds shelf.old }
     ensures writes { S.write_faults shelf.new ≡ S.write_faults shelf.old }
 {
-    let bytes = load_within(alloc, shelf, name, Limited::Design, MOST_BYTES)?;
+    let bytes = load_within(alloc, shelf, name, Limited::Design, MOST_DESIGN_BYTES)?;
     match stated_design(alloc, bytes.as_slice(), rules) {
         Ok(design) => Ok(design),
         Err(refusal) => Err(Stop::Refused(refusal)),
@@ -106,8 +106,8 @@ fn make_source(alloc: Global, seed: u64, count: MadeCount, rules: &Rules) -> Res
     ensures command { IfErr result (λ refusal. refusal_status refusal ≢ 2) }
 {
     let text = make_design(alloc, rules, seed, count.get())?;
-    if text.len() as u64 > MOST_BYTES {
-        return Err(Refusal::Limit(Limited::Design, MOST_BYTES));
+    if text.len() as u64 > MOST_DESIGN_BYTES {
+        return Err(Refusal::Limit(Limited::Design, MOST_DESIGN_BYTES));
     }
     stated_design(alloc, text.as_slice(), rules)
 }
@@ -151,6 +151,7 @@ pub fn load_inputs<S: Shelf>(
         → Finds (λ inputs. inputs) result said }
     ensures are { IfOk result (λ inputs. (stated bytes : List ℕ) → S.holds shelf.old rules.now ≡ Some stated
         → IsSourceText (source_seen source.now) (S.holds shelf.old) stated bytes → AreInputsFrom stated bytes inputs) }
+    ensures passed { IfOk result (λ inputs. ArePassed rules.now (source_seen source.now) (S.holds shelf.old) inputs.rules) }
     ensures high { IfOk result (λ inputs. HasRoom inputs.rules inputs.design) }
     ensures cause { ending_status result ≡ 8
         → InputsFail rules.now (source_seen source.now) (S.holds shelf.old) (S.read_faults shelf.old) (S.read_faults shelf.new) }

@@ -1,5 +1,6 @@
 use Rattle.std.proofs.Common.{◌≡◌, ◌∙◌, ◌<◌, ◌≤◌, ◌*◌, ◌^◌, ℕ, List, [], ◌∷◌, length, map, fold, max, ap, sym, arith}
 use Rattle.std.proofs.lemmas.List.{length-map}
+use Rattle.list_facts.proofs.Greatest.{greatest-first}
 use Rattle.design_model.specs.Netlist.{Netlist}
 use Rattle.feed_cells.specs.Fed.{Fed, IsFed, cells_in, fed_from, fed_rows, item_width, items_width, seats_in}
 use Rattle.feed_cells.specs.declared.fed.Item.{Item}
@@ -23,16 +24,12 @@ feeds-width : (d : Netlist) (items : List Item) → feeds_of items ≤ items_wid
 feeds-width d [] = omega arith
 feeds-width d (item ∷ items) = omega (arith, width-cons d item items, feed-width d item, feeds-width d items)
 
-max-above : (a : ℕ) (ns : List ℕ) → a ≤ fold max a ns
-max-above a [] = omega arith
-max-above a (n ∷ ns) = let rest : max a n ≤ fold max (max a n) ns = max-above (max a n) ns in omega arith
-
 -- and rows no more than as many times the widest as there are
 rows-width : (d : Netlist) (rows : List (List Item)) (a : ℕ) → fold max a (map (items_width d) rows) ≤ 4000000
     → feeds_in rows ≤ length rows * 4000000
 rows-width d [] a few = omega arith
 rows-width d (items ∷ rows) a few =
-    let above : max a (items_width d items) ≤ fold max (max a (items_width d items)) (map (items_width d) rows) = max-above (max a (items_width d items)) (map (items_width d) rows) in
+    let above : max a (items_width d items) ≤ fold max (max a (items_width d items)) (map (items_width d) rows) = greatest-first (max a (items_width d items)) (map (items_width d) rows) in
     let rest : feeds_in rows ≤ length rows * 4000000 = rows-width d rows (max a (items_width d items)) few in
     omega (arith, feeds-width d items)
 

@@ -1,4 +1,5 @@
 use Rattle.std.specs.Prelude.{Option, Result, Ok}
+use Rattle.limits.specs.declared.TheConstants.{MOST_CHANGES, MOST_COLUMNS, MOST_SIZE}
 use Rattle.tech_rules.specs.Rules.{RuleValues}
 use Rattle.design_model.specs.Netlist.{Netlist}
 use Rattle.anneal_int.specs.Annealed.{all_changes}
@@ -15,14 +16,14 @@ use Rattle.command_ends.specs.Limits.{above}
 
 -- annealing tries at most 50,000,000 changes
 unfoldable pub moves_refusal : RuleValues → Netlist → Option Refusal
-moves_refusal rules d = above limits.Moves 50000000 (all_changes d (schedule_of rules))
+moves_refusal rules d = above limits.Moves MOST_CHANGES (all_changes d (schedule_of rules))
 
 -- the first limit that a layout of this size passes: 4,000,000 columns, and 1,000,000,000 centimicrons for the width and for the height
 unfoldable pub size_refusal : Bound → Option Refusal
 size_refusal bound =
-    or_refusal (above limits.Grid 4000000 bound.grid) (
-    or_refusal (above limits.Width 1000000000 bound.width) (
-    above limits.Height 1000000000 bound.height))
+    or_refusal (above limits.Grid MOST_COLUMNS bound.grid) (
+    or_refusal (above limits.Width MOST_SIZE bound.width) (
+    above limits.Height MOST_SIZE bound.height))
 
 -- a job that passes the limits: that of the changes of its annealing, and those of its layout
 unfoldable pub within_limits : Job → Result Job Refusal

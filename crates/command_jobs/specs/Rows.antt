@@ -20,12 +20,12 @@ job_of rules d wanted = record { rules = rules; design = d; rows = rows_for rule
 -- how rules have rows annealed
 abbrev pub schedule_of : RuleValues → Annealing
 schedule_of rules = record {
-  temperature = rules.anneal_temperature;
-  stages = rules.anneal_stages;
-  moves = rules.anneal_moves;
-  weights = record { row_cost = rules.anneal_row_cost; length_cost = rules.anneal_length_cost };
+  temperature = rules.annealing.temperature;
+  stages = rules.annealing.stages;
+  moves = rules.annealing.moves;
+  weights = record { row_cost = rules.annealing.row_cost; length_cost = rules.annealing.length_cost };
 }
 
 -- the rows of a job: those that its design begins with, annealed
 unfoldable pub rows_of : Job → List (List Seat)
-rows_of job = annealed job.design (start_rows job.rules.anneal_start job.design job.rows) (schedule_of job.rules) job.seed
+rows_of job = annealed job.design (start_rows job.rules.annealing.start job.design job.rows) (schedule_of job.rules) job.seed

@@ -3,10 +3,10 @@
 
 mod kept;
 mod laying;
-mod limits;
 mod placing;
 mod prepared;
 mod routing;
+mod size_limits;
 mod summarizing;
 
 pub use prepared::{Prepared, Told, lay_out};

@@ -18,6 +18,7 @@ use command_ends::{Limited, Refusal};
 use command_words::{RowCount, Wanted};
 use design_model::Design;
 use feed_cells::{FedRows, Placement, insert_feeds, place};
+use limits::MOST_ROWS;
 use row_model::{Rows, Weights, cost, default_rows, start};
 use std::alloc::{AllocError, Global};
 use tech_rules::Rules;
@@ -26,7 +27,7 @@ use tech_rules::Rules;
 pub fn rows_for(design: &Design, rules: &Rules, asked: Option<RowCount>) -> u32
     ensures is { result ≡ rows_for rules.now design.now asked }
     ensures some { 1 ≤ result }
-    ensures few { result ≤ 512 }
+    ensures few { result ≤ MOST_ROWS }
 {
     match asked {
         None => default_rows(design, rules),
@@ -39,12 +40,12 @@ fn schedule_of(rules: &Rules) -> Schedule
     ensures { result ≡ schedule_of rules.now }
 {
     Schedule {
-        temperature: u64::from(rules.anneal_temperature),
-        stages: u64::from(rules.anneal_stages),
-        moves: u64::from(rules.anneal_moves),
+        temperature: u64::from(rules.annealing.temperature),
+        stages: u64::from(rules.annealing.stages),
+        moves: u64::from(rules.annealing.moves),
         weights: Weights {
-            row_cost: u64::from(rules.anneal_row_cost),
-            length_cost: u64::from(rules.anneal_length_cost),
+            row_cost: u64::from(rules.annealing.row_cost),
+            length_cost: u64::from(rules.annealing.length_cost),
         },
     }
 }
@@ -63,7 +64,7 @@ fn annealed_rows(
     ensures command { IfErr result (λ refusal. refusal_status refusal ≢ 2) }
 {
     let count = rows_for(design, rules, wanted.rows);
-    let first = start(alloc, design, count, rules.anneal_start)?;
+    let first = start(alloc, design, count, rules.annealing.start)?;
     let schedule = schedule_of(rules);
     match anneal(alloc, design, first, &schedule, wanted.seed) {
         Ok(rows) => Ok(rows),

@@ -17,8 +17,8 @@ ghost use Rattle.pin_assign.specs.Tables.{tables_of};
 ghost use Rattle.std.specs.Prelude.{◌≡◌, ◌≢◌, ◌≤◌, IfErr, IfOk, map};
 
 use crate::kept::Apart;
-use crate::limits::size_refusal;
 use crate::placing::{FedDesign, feed_rows};
+use crate::size_limits::size_refusal;
 use crate::summarizing::channel_lines;
 use channel_model::Channel;
 use choose_core::{Chooser, Chooses, Style};
@@ -28,6 +28,7 @@ use design_model::Design;
 use feed_cells::FedRows;
 use greedy_router::route_channels;
 use layout_report::ChannelLine;
+use limits::{MOST_COLUMNS, MOST_SIZE};
 use pin_assign::{bound_of, channels};
 use std::alloc::{AllocError, Global};
 use tech_rules::Rules;
@@ -47,7 +48,7 @@ fn tables_of_channels(
 ) -> Result<Tabled, AllocError>
     requires fed { IsFed design.now placed.fed }
     requires placement { placed.placement ≡ placement_of design.now (cells_in placed.fed.rows) }
-    requires narrow { placed.fed.width ≤ 4000000 }
+    requires narrow { placed.fed.width ≤ MOST_COLUMNS }
     ensures fed { IfOk result (λ made. made.fed ≡ placed.fed) }
     ensures is { IfOk result (λ made. made.channels.items ≡ tables_of design.now made.fed) }
     ensures tables { IfOk result (λ made. AreTablesFor made.fed made.channels.items) }
@@ -83,8 +84,8 @@ fn route_tabled(
 ) -> Result<RoutedRows, AllocError>
     requires is { tabled.channels.items ≡ tables_of design.now tabled.fed }
     requires tables { AreTablesFor tabled.fed tabled.channels.items }
-    requires width { (pins.bound_of rules.now design.now tabled.fed).width ≤ 1000000000 }
-    requires height { (pins.bound_of rules.now design.now tabled.fed).height ≤ 1000000000 }
+    requires width { (pins.bound_of rules.now design.now tabled.fed).width ≤ MOST_SIZE }
+    requires height { (pins.bound_of rules.now design.now tabled.fed).height ≤ MOST_SIZE }
     ensures fed { IfOk result (λ made. made.fed ≡ tabled.fed) }
     ensures kept { IfOk result (λ made. AreRouted edge style.now.plan (⟦<Chooser as Chooses>⟧.answers style.now.chooser) (tables_of design.now made.fed) made.kept) }
     ensures lines { IfOk result (λ made. made.lines.items ≡ map (line_of_channel made.fed.width) made.kept) }
@@ -122,7 +123,7 @@ pub fn route_rows(
     ensures made { Answers (λ routed. job_of rules.now design.now wanted.now) result (within_limits (job_of rules.now design.now wanted.now)) }
     ensures is { IfOk result (λ made. made.fed ≡ rows_with_feeds (job_of rules.now design.now wanted.now)) }
     ensures fed { IfOk result (λ made. IsFed design.now made.fed) }
-    ensures narrow { IfOk result (λ made. made.fed.width ≤ 4000000) }
+    ensures narrow { IfOk result (λ made. made.fed.width ≤ MOST_COLUMNS) }
     ensures cost { IfOk result (λ made. made.cost ≡ cost_for (job_of rules.now design.now wanted.now)) }
     ensures lines { IfOk result (λ made. made.lines.items ≡ map (line_of_channel made.fed.width) made.kept) }
     ensures kept { IfOk result (λ made. AreRouted wanted.now.edge style.now.plan (⟦<Chooser as Chooses>⟧.answers style.now.chooser) (tables_of design.now made.fed) made.kept) }

@@ -10,6 +10,7 @@ use feed_cells::{FedRows, Item};
 use geom_core::Items;
 use greedy_router::Routed;
 use layout_report::{ChannelLine, Summary};
+use limits::MOST_COLUMNS;
 use std::alloc::{AllocError, Global};
 
 fn feeds_at(item: &Item) -> u64
@@ -85,7 +86,7 @@ pub fn summarized(
     cost: u64,
 ) -> Summary
     requires fed { IsFed design.now fed.now }
-    requires narrow { fed.now.width ≤ 4000000 }
+    requires narrow { fed.now.width ≤ MOST_COLUMNS }
     ensures { result ≡ record {
       cells = length design.now.instances;
       nets = length design.now.nets;

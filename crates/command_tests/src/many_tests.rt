@@ -7,11 +7,10 @@ use crate::support::{
     text_with,
 };
 use layout_report::make_design;
-use samples::{BUFFER, CELLS, RULES};
+use samples::{BUFFER, CELLS, RULES, sample_rules};
 use shelf_io::{MemShelf, MemSink};
 use std::alloc::{AllocError, Global};
 use std::test::Fail;
-use tech_rules::Rules;
 
 /// So many outlines in one place.
 fn outlines(alloc: Global, count: u32) -> Result<String, AllocError> {
@@ -106,7 +105,7 @@ fn made_shelf(alloc: Global, rules: &str, seed: u64, instances: u32) -> Result<M
     requires some { 1 ≤ instances }
     requires few { instances ≤ 20000 }
 {
-    let sample = Rules::sample(alloc)?;
+    let sample = sample_rules(alloc)?;
     let design = make_design(alloc, &sample, seed, instances)?;
     shelf_with_bytes(alloc, rules, design.as_slice())
 }

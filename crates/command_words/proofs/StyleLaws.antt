@@ -48,11 +48,6 @@ named-within name styles words names some is =
     let same : length (map name styles) ≡ length styles = length-map styles name in
     omega (arith, style-within (map name styles) words names (omega arith) is)
 
--- the place of a style behind some others
-pub place-behind : (place : ℕ) (found : Option ℕ) → option_map (λ (p : ℕ). place + p) (option_map suc found) ≡ option_map (λ (p : ℕ). (place + 1) + p) found
-place-behind place None = refl
-place-behind place (Some p) = let same : place + suc p ≡ (place + 1) + p = omega arith in ap (λ (n : ℕ). Some n) same
-
 -- a design that is made is of the first style
 from-first : (seed count : Option ℕ) (rules out : Option Text) (names : Names) → make_from seed count rules out ≡ Some names → names.style ≡ 0
 from-first (Some seed) (Some count) (Some rules) (Some out) names is = sym (ap (λ (n : Names). n.style) (same_Some (make_names seed count rules out) names is))

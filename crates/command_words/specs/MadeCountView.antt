@@ -1,4 +1,5 @@
 use Rattle.std.specs.Prelude.{ℕ, ◌≤◌}
+use Rattle.limits.specs.declared.TheConstants.{MOST_INSTANCES}
 use Rattle.command_words.specs.declared.number_word.MadeCount.TheInside.{Inside}
 
 abbrev pub count_in : Inside → ℕ
@@ -6,7 +7,7 @@ count_in a = a.instances
 
 pub record IsCount (a : Inside) : Type 0 where
   pub some : 1 ≤ a.instances
-  pub few : a.instances ≤ 20000
+  pub few : a.instances ≤ MOST_INSTANCES
 
 abbrev pub counted : ℕ → Inside
 counted n = record { instances = n }

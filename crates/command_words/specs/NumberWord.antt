@@ -1,4 +1,5 @@
 use Rattle.std.specs.Prelude.{ℕ, ◌+◌, ◌-◌, ◌*◌, ◌^◌, List, [], ◌∷◌, length, Bool, ◌&&◌, nat_le, nat_lt, if◌then◌else◌, Option, None, Some}
+use Rattle.limits.specs.declared.TheConstants.{MOST_INSTANCES, MOST_ROWS}
 
 abbrev pub is_digit : ℕ → Bool
 is_digit c = nat_le 48 c && nat_le c 57
@@ -15,12 +16,12 @@ number_of text = if nat_le 1 (length text) && nat_le (length text) 20 then numbe
 -- a number of rows is 1 to 512
 abbrev pub within_rows : Option ℕ → Option ℕ
 within_rows None = None
-within_rows (Some n) = if nat_le 1 n && nat_le n 512 then Some n else None
+within_rows (Some n) = if nat_le 1 n && nat_le n MOST_ROWS then Some n else None
 
 -- a number of instances is 1 to 20,000
 abbrev pub within_count : Option ℕ → Option ℕ
 within_count None = None
-within_count (Some n) = if nat_le 1 n && nat_le n 20000 then Some n else None
+within_count (Some n) = if nat_le 1 n && nat_le n MOST_INSTANCES then Some n else None
 
 -- the number of instances that a text asks for
 unfoldable pub count_in : List ℕ → Option ℕ

@@ -1,4 +1,5 @@
 use Rattle.std.specs.Prelude.{ℕ, ◌≤◌}
+use Rattle.limits.specs.declared.TheConstants.{MOST_ROWS}
 use Rattle.command_words.specs.declared.number_word.RowCount.TheInside.{Inside}
 
 abbrev pub count_in : Inside → ℕ
@@ -6,7 +7,7 @@ count_in a = a.rows
 
 pub record IsCount (a : Inside) : Type 0 where
   pub some : 1 ≤ a.rows
-  pub few : a.rows ≤ 512
+  pub few : a.rows ≤ MOST_ROWS
 
 abbrev pub counted : ℕ → Inside
 counted n = record { rows = n }

@@ -3,6 +3,7 @@
 ghost use Rattle.command_words.specs.NumberWord.{count_in, is_digit, number_from, number_of, rows_in};
 ghost use Rattle.std.specs.Prelude.{◌≡◌, ◌+◌, ◌-◌, ◌*◌, ◌^◌, ◌≤◌, if◌then◌else◌, nat_lt, true, None, Some};
 
+use limits::{MOST_INSTANCES, MOST_ROWS};
 use std::marker::Model;
 
 fn is_digit(byte: u8) -> bool
@@ -67,7 +68,7 @@ impl RowCount {
     pub fn get(self) -> u32
         ensures is { result ≡ self }
         ensures some { 1 ≤ result }
-        ensures few { result ≤ 512 }
+        ensures few { result ≤ MOST_ROWS }
     {
         self.rows
     }
@@ -79,7 +80,7 @@ pub fn read_rows(word: &str) -> Option<RowCount>
     ensures { result ≡ rows_in word.now }
 {
     let rows = read_number(word)?;
-    if rows < 1 || rows > 512 {
+    if rows < 1 || rows > MOST_ROWS as u64 {
         return None;
     }
     Some(RowCount { rows: rows as u32 })
@@ -109,7 +110,7 @@ impl MadeCount {
     pub fn get(self) -> u32
         ensures is { result ≡ self }
         ensures some { 1 ≤ result }
-        ensures few { result ≤ 20000 }
+        ensures few { result ≤ MOST_INSTANCES }
     {
         self.instances
     }
@@ -121,7 +122,7 @@ pub fn read_count(word: &str) -> Option<MadeCount>
     ensures { result ≡ count_in word.now }
 {
     let instances = read_number(word)?;
-    if instances < 1 || instances > 20_000 {
+    if instances < 1 || instances > MOST_INSTANCES as u64 {
         return None;
     }
     Some(MadeCount {

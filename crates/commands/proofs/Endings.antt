@@ -12,6 +12,9 @@ use Rattle.commands.specs.Done.{IsStatusOf, routed_end}
 use Rattle.commands.specs.Accepted.{Accepted, to_lay_out}
 use Rattle.command_jobs.specs.Job.{Job}
 use Rattle.command_jobs.specs.Summarized.{summary_of}
+use Rattle.command_ends.proofs.StopLaws.{refusal-unwritten}
+use Rattle.command_ends.specs.Gains.{Gains}
+use Rattle.command_ends.specs.Line.{line_of}
 use Rattle.command_ends.specs.Status.{ending_status, refusal_status, stop_status}
 use Rattle.command_ends.specs.declared.refusal.Refusal.{Refusal}
 use Rattle.command_ends.specs.declared.refusal.Refusal.TheVariants as refusals
@@ -101,3 +104,12 @@ by-stop view WriteFault said found reads = absurd found
 -- a text that is written has the status of a job
 pub written-status : (said : Result Accepted Refusal) (job : Job) (n : ℕ) → said ≡ Ok (to_lay_out job) → n ≡ 0 → IsStatusOf said n
 written-status said job n is zero = let P : Result Accepted Refusal → Type 0 = λ s. IsStatusOf s n in subst P (sym is) zero
+
+-- where the count of a file rose that rises only with status 9, the line of what stopped a command is that of a write fault
+pub line-of-fault : (stop : Stop) (before after : Option (List ℕ)) (old new was is : ℕ) → ((stop_status stop ≡ 9 → ⊥) → is ≡ was) → was < is
+    → Gains (line_of stop) before after old new → Gains (line_of WriteFault) before after old new
+line-of-fault WriteFault before after old new was is still rose gains = gains
+line-of-fault ReadFault before after old new was is still rose gains =
+    let same : is ≡ was = still (λ (e : 8 ≡ 9). absurd (omega (arith, e))) in absurd (omega (arith, same, rose))
+line-of-fault (Refused refusal) before after old new was is still rose gains =
+    let same : is ≡ was = still (refusal-unwritten refusal) in absurd (omega (arith, same, rose))

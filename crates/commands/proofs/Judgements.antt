@@ -75,12 +75,6 @@ module _ (inputs : Inputs) (layout : Layout) (findings : List Finding) (n : ℕ)
     | inr cut ↦ cut.rose
   ]
 
-  pub told-calm : (n ≡ 0) ⊎ (n ≡ 1) → new ≡ old
-  told-calm few = elim tells [
-    | inl printed ↦ printed.calm
-    | inr cut ↦ absurd (omega (arith, cut.number, few))
-  ]
-
   -- where the sink's count did not rise, the status is that of the judgement
   pub told-status : (said : Result Accepted Refusal) → said ≡ Ok (to_judge inputs layout) → AreFound inputs layout findings → Still old new → IsStatusOf said n
   told-status said is found still =

@@ -1,15 +1,16 @@
 use Rattle.std.specs.Prelude.{◌⊎◌, ℕ, List, [], ◌∷◌, Option, Some, None}
 use Rattle.shelf_io.specs.Count.{Rose, Still}
 use Rattle.command_words.specs.Command.{Command, check, from_file, reads_of, route, writes_of}
-use Rattle.command_inputs.specs.Stated.{inputs_told}
-use Rattle.command_inputs.specs.Failures.{InputsFail, IsPassed}
+use Rattle.tech_rules.specs.Rules.{RuleValues}
+use Rattle.command_inputs.specs.Failures.{ArePassed, InputsFail}
 
--- why a command's reading failed: the read count of a file that it reads rose, and nothing before that refuses, by what is told
+-- why a command's reading failed: the read count of a file that it reads rose, and nothing before that refuses: there are rules, those that their
+-- file is told to state, under which what is told of the design is one
 abbrev pub ReadFails : Command → (List ℕ → Option (List ℕ)) → (List ℕ → ℕ) → (List ℕ → ℕ) → Type 0
 ReadFails (route names) told old new = InputsFail names.rules names.design told old new
 ReadFails (check names) told old new =
     InputsFail names.rules (from_file names.design) told old new
-    ⊎ (Rose (old names.cif) (new names.cif) × IsPassed (inputs_told names.rules (from_file names.design) told))
+    ⊎ (Rose (old names.cif) (new names.cif) × ((under : RuleValues) × ArePassed names.rules (from_file names.design) told under))
 
 -- why its writing failed: the write count of the file that it writes rose, or that of the sink as it printed what it had done
 abbrev pub WriteFails : Option (List ℕ) → (List ℕ → ℕ) → (List ℕ → ℕ) → ℕ → ℕ → Type 0

@@ -7,7 +7,10 @@ ghost use Rattle.commands.specs.Headline.{Headline};
 ghost use Rattle.command_inputs.specs.Origin.{IsSourceText};
 ghost use Rattle.commands.specs.Outcome.{AreKept, EndsAs, Holds, HoldsFront};
 ghost use Rattle.command_words.specs.Seen.{seen, source_seen};
+ghost use Rattle.command_ends.specs.Gains.{Gains};
+ghost use Rattle.command_ends.specs.Line.{line_of};
 ghost use Rattle.command_ends.specs.Status.{is_status};
+ghost use Rattle.command_ends.specs.declared.stop.Stop.TheVariants.{WriteFault};
 ghost use Rattle.commands.specs.Verdict.{command_verdict};
 ghost use Rattle.shelf_io.specs.Count.{Still};
 ghost use Rattle.std.specs.Prelude.{◌≡◌, ◌≢◌, ◌⊎◌, ◌<◌, List, [], ℕ, length, Some, true};
@@ -54,6 +57,8 @@ pub fn route_named<S: Shelf, K: Sink>(
         → ReadFails (asked.route (seen names.now)) (S.holds shelf.old) (S.read_faults shelf.old) (S.read_faults shelf.new) }
     ensures write_cause { result ≡ 9
         → WriteFails (Some names.now.out.now) (S.write_faults shelf.old) (S.write_faults shelf.new) (K.faults out.old) (K.faults out.new) }
+    ensures fault { S.write_faults shelf.old names.now.out.now < S.write_faults shelf.new names.now.out.now
+        → Gains (line_of WriteFault) (K.written out.old) (K.written out.new) (K.faults out.old) (K.faults out.new) }
     ensures reads { result ≢ 8 → S.read_faults shelf.new ≡ S.read_faults shelf.old }
     ensures writes { result ≢ 9 → S.write_faults shelf.new ≡ S.write_faults shelf.old }
     ensures untouched { result ≢ 0 → result ≢ 9 → S.holds shelf.new ≡ S.holds shelf.old }

@@ -8,7 +8,10 @@ ghost use Rattle.commands.specs.Headline.{Headline};
 ghost use Rattle.command_inputs.specs.Origin.{IsSourceText};
 ghost use Rattle.commands.specs.Outcome.{AreKept, EndsAs, Holds, HoldsFront};
 ghost use Rattle.command_words.specs.Seen.{command_seen};
+ghost use Rattle.command_ends.specs.Gains.{Gains};
+ghost use Rattle.command_ends.specs.Line.{line_of};
 ghost use Rattle.command_ends.specs.Status.{is_status};
+ghost use Rattle.command_ends.specs.declared.stop.Stop.TheVariants.{WriteFault};
 ghost use Rattle.commands.specs.Verdict.{Comes, command_verdict, verdict};
 ghost use Rattle.shelf_io.specs.Count.{Still};
 ghost use Rattle.std.specs.Prelude.{◌≡◌, ◌≢◌, ◌⊎◌, ◌<◌, ◌≤◌, List, [], ℕ, length, map, Some, None, true};
@@ -74,6 +77,8 @@ fn obey<S: Shelf, K: Sink>(
     ensures read_cause { result ≡ 8 → ReadFails (command_seen command.now) (S.holds shelf.old) (S.read_faults shelf.old) (S.read_faults shelf.new) }
     ensures write_cause { result ≡ 9
         → WriteFails (writes_of (command_seen command.now)) (S.write_faults shelf.old) (S.write_faults shelf.new) (K.faults out.old) (K.faults out.new) }
+    ensures fault { (file : List ℕ) → writes_of (command_seen command.now) ≡ Some file → S.write_faults shelf.old file < S.write_faults shelf.new file
+        → Gains (line_of WriteFault) (K.written out.old) (K.written out.new) (K.faults out.old) (K.faults out.new) }
     ensures reads { result ≢ 8 → S.read_faults shelf.new ≡ S.read_faults shelf.old }
     ensures writes { result ≢ 9 → S.write_faults shelf.new ≡ S.write_faults shelf.old }
     ensures untouched { result ≢ 0 → result ≢ 9 → S.holds shelf.new ≡ S.holds shelf.old }
@@ -172,6 +177,10 @@ pub fn run<S: Shelf, K: Sink>(
         → ReadFails command (S.holds shelf.old) (S.read_faults shelf.old) (S.read_faults shelf.new) }
     ensures write_cause { (command : asked.Command) → command_of (map (λ s. s.chooser.name) styles.now) words.now ≡ Some command → result.status ≡ 9
         → WriteFails (writes_of command) (S.write_faults shelf.old) (S.write_faults shelf.new) (K.faults out.old) (K.faults out.new) }
+    // Where the write count of the file to write rose, the line `write fault` alone is printed, as far as the sink takes it.
+    ensures fault { (command : asked.Command) (file : List ℕ) → command_of (map (λ s. s.chooser.name) styles.now) words.now ≡ Some command
+        → writes_of command ≡ Some file → S.write_faults shelf.old file < S.write_faults shelf.new file
+        → Gains (line_of WriteFault) (K.written out.old) (K.written out.new) (K.faults out.old) (K.faults out.new) }
     ensures reads { result.status ≢ 8 → S.read_faults shelf.new ≡ S.read_faults shelf.old }
     ensures writes { result.status ≢ 9 → S.write_faults shelf.new ≡ S.write_faults shelf.old }
 

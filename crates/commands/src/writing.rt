@@ -9,13 +9,16 @@ ghost use Rattle.commands.specs.Headline.{Headline};
 ghost use Rattle.command_jobs.specs.Written.{IsGoodText};
 ghost use Rattle.commands.specs.Accepted.{to_lay_out};
 ghost use Rattle.commands.specs.Outcome.{EndsAs, Holds, HoldsFront, IsRoutedSo};
+ghost use Rattle.command_ends.specs.Gains.{Gains};
+ghost use Rattle.command_ends.specs.Line.{line_of};
 ghost use Rattle.command_ends.specs.Status.{ending_status, is_status};
+ghost use Rattle.command_ends.specs.declared.stop.Stop.TheVariants.{WriteFault};
 ghost use Rattle.command_jobs.specs.Text.{job_text};
 ghost use Rattle.commands.specs.Verdict.{job_verdict};
 ghost use Rattle.design_model.specs.Room.{HasRoom};
 ghost use Rattle.shelf_io.specs.Count.{Rose, Still};
 ghost use Rattle.shelf_io.specs.Told.{Refines};
-ghost use Rattle.std.specs.Prelude.{◌≡◌, ◌≢◌, ◌⊎◌, List, [], ℕ, Err, IfErr, IfOk, Ok, Some, true};
+ghost use Rattle.std.specs.Prelude.{◌≡◌, ◌≢◌, ◌<◌, ◌⊎◌, List, [], ℕ, Err, IfErr, IfOk, Ok, Some, true};
 
 use crate::report::{report_laid, report_stop};
 use choose_core::{Chooser, Chooses, Style};
@@ -139,6 +142,8 @@ pub fn lay_and_report<S: Shelf, K: Sink>(
         → S.holds shelf.new out.now ≡ Some held → Headline stated bytes held }
     ensures front { result ≡ 9 → HoldsFront (job_verdict wanted inputs) kept.new.items (S.holds shelf.old out.now) (S.holds shelf.new out.now) }
     ensures cause { result ≡ 9 → WriteFails (Some out.now) (S.write_faults shelf.old) (S.write_faults shelf.new) (K.faults sink.old) (K.faults sink.new) }
+    ensures fault { S.write_faults shelf.old out.now < S.write_faults shelf.new out.now
+        → Gains (line_of WriteFault) (K.written sink.old) (K.written sink.new) (K.faults sink.old) (K.faults sink.new) }
     ensures reads { S.read_faults shelf.new ≡ S.read_faults shelf.old }
     ensures writes { result ≢ 9 → S.write_faults shelf.new ≡ S.write_faults shelf.old }
     ensures untouched { result ≢ 0 → result ≢ 9 → S.holds shelf.new ≡ S.holds shelf.old }

@@ -17,8 +17,8 @@ middle_of pitch column = 2 * (column * pitch) + pitch
 -- the outline of a kind, from its lower left corner on
 unfoldable pub outline_shape : RuleValues → ℕ → CellKind → Shape
 outline_shape rules height kind = record {
-  layer = rules.outline_layer;
-  rect = extent_of rules.grid_centi 0 0 (2 * (kind.columns * rules.grid_column)) (2 * height);
+  layer = rules.outline.layer;
+  rect = extent_of rules.grid.centi 0 0 (2 * (kind.columns * rules.grid.column)) (2 * height);
 }
 
 -- the lower and the upper end of a pin of this length, in half units
@@ -31,10 +31,10 @@ pin_high pin height top = if top then 2 * height else 2 * pin
 -- a pin: of the vertical width, in the middle of its column, reaching inward from its edge
 unfoldable pub position_shape : RuleValues → ℕ → Position → Shape
 position_shape rules height p = record {
-  layer = rules.vertical_layer;
-  rect = extent_of rules.grid_centi
-      (middle_of rules.grid_column p.column - rules.vertical_width) (pin_low rules.grid_pin height p.top)
-      (middle_of rules.grid_column p.column + rules.vertical_width) (pin_high rules.grid_pin height p.top);
+  layer = rules.vertical.layer;
+  rect = extent_of rules.grid.centi
+      (middle_of rules.grid.column p.column - rules.vertical.width) (pin_low rules.grid.pin height p.top)
+      (middle_of rules.grid.column p.column + rules.vertical.width) (pin_high rules.grid.pin height p.top);
 }
 
 -- the drawing of a kind: its outline, and then its pins in order

@@ -18,9 +18,9 @@ KeepSpace r d l layer space = (i j : ℕ) (s t : Shape) → slice_get l.shapes i
 
 -- the shapes of the two layers of wires and of the cuts keep their layers' spaces
 pub record Spaced (r : RuleValues) (d : Netlist) (l : Layout) : Type 0 where
-  pub horizontal : KeepSpace r d l r.horizontal_layer r.horizontal_space
-  pub vertical : KeepSpace r d l r.vertical_layer r.vertical_space
-  pub cut : KeepSpace r d l r.cut_layer r.cut_space
+  pub horizontal : KeepSpace r d l r.horizontal.layer r.horizontal.space
+  pub vertical : KeepSpace r d l r.vertical.layer r.vertical.space
+  pub cut : KeepSpace r d l r.cut.layer r.cut.space
 
 -- the product's own rule: a layout is good for a design and rules where every instance stands once, in a row, without overlap, all shapes keep the rules' widths and
 -- spaces, and the pins that shapes join are exactly those of one net

@@ -14,8 +14,8 @@ use Rattle.design_model.specs.declared.design.Position.{Position}
 -- shapes of these layers conduct to one another where they meet: on one layer of wires, or a cut and a wire
 pub data Conducts (r : RuleValues) (a b : List ℕ) : Type 0 where
   on_one : IsWire r a → a ≡ b → Conducts r a b
-  cut_to_wire : a ≡ r.cut_layer → IsWire r b → Conducts r a b
-  wire_to_cut : IsWire r a → b ≡ r.cut_layer → Conducts r a b
+  cut_to_wire : a ≡ r.cut.layer → IsWire r b → Conducts r a b
+  wire_to_cut : IsWire r a → b ≡ r.cut.layer → Conducts r a b
 
 -- the product's own rule: two shapes touch where their layers conduct and their closed rectangles meet
 pub record Touch (r : RuleValues) (s t : Shape) : Type 0 where

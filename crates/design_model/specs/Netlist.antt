@@ -1,6 +1,7 @@
 use Rattle.std.specs.Prelude.{◌≡◌, ◌<◌, ◌≤◌, ℕ, ◌+◌, ◌^◌, List, [], ◌∷◌, ◌++◌, length, map, true, false, ◌==◌, if◌then◌else◌, Option, None, Some, slice_get, All}
 use Rattle.std.specs.List.{IsDistinct, list_any}
 use Rattle.std.specs.Str.{bytes_eq}
+use Rattle.limits.specs.declared.TheConstants.{MOST_HEIGHT, MOST_INSTANCES, MOST_KIND_COLUMNS, MOST_PINS}
 use Rattle.geom_core.specs.Names.{IsName}
 use Rattle.design_model.specs.declared.design.Position.{Position}
 use Rattle.design_model.specs.declared.design.Terminal.{Terminal}
@@ -27,7 +28,7 @@ pub record IsPosition (k : CellKind) (p : Position) : Type 0 where
 pub record IsKind (k : CellKind) : Type 0 where
   pub name : IsName k.name
   pub some : 0 < k.columns
-  pub few : k.columns ≤ 100000000
+  pub few : k.columns ≤ MOST_KIND_COLUMNS
   pub positions : All (IsPosition k) k.positions
   pub apart : (i j : ℕ) (p q : Position) → slice_get k.positions i ≡ Some p → slice_get k.positions j ≡ Some q
       → p.top ≡ q.top → p.column ≡ q.column → i ≡ j
@@ -57,9 +58,9 @@ all_pins kinds n (i ∷ is) = pins_from n 0 (terminals_at kinds i.kind) ++ all_p
 pub record IsNetlist (d : Netlist) : Type 0 where
   pub few_kinds : length d.kinds < 2 ^ 32
   pub called : (n : ℕ) → n < length d.kinds → list_any (λ (i : Inst). i.kind == n) d.instances ≡ true
-  pub few_instances : length d.instances ≤ 20000
-  pub few_pins : length d.pins ≤ 200000
-  pub low : d.height ≤ 200000000
+  pub few_instances : length d.instances ≤ MOST_INSTANCES
+  pub few_pins : length d.pins ≤ MOST_PINS
+  pub low : d.height ≤ MOST_HEIGHT
   pub kinds : All IsKind d.kinds
   pub instances : All (λ (i : Inst). i.kind < length d.kinds) d.instances
   pub instance_names : All (λ (i : Inst). IsName i.name) d.instances

@@ -3,11 +3,12 @@ ghost use Rattle.std.specs.List.{AllByRecursion};
 ghost use Rattle.std.specs.Prelude.{◌≡◌, ◌≢◌, ◌≤◌, length, map, IfSome, None};
 
 use crate::design::Pin;
+use limits::MOST_PINS;
 
 /// The number of the pin of this instance and terminal, if there is one among these pins, which stand in order of their
 /// instances, then terminals. Takes no memory.
 pub fn find_pin(pins: &[Pin], instance: u32, terminal: u32) -> Option<u32>
-    requires few { length pins.now ≤ 200000 }
+    requires few { length pins.now ≤ MOST_PINS }
     requires ordered { IsAscending (map pin_pair pins.now) }
     ensures found { IfSome result (λ n. IsPinAt pins.now n instance terminal) }
     ensures none { result ≡ None → AllByRecursion (λ pair. pair ≢ (instance, terminal)) (map pin_pair pins.now) }

@@ -6,6 +6,7 @@ ghost use Rattle.std.specs.Prelude.{◌≡◌, ◌<◌, ◌≤◌, ◌+◌, ◌*
 
 use crate::design::{CellKind, Design, Position};
 use geom_core::{Rect, Shape};
+use limits::{MOST_HEIGHT, MOST_KIND_COLUMNS, MOST_LENGTH};
 use std::alloc::{AllocError, Global};
 use tech_rules::Rules;
 
@@ -39,7 +40,7 @@ fn shapes_of(
 ) -> Result<Vec<Shape>, AllocError>
     requires kind { IsKind kind.now }
     requires high { least_height rules.now ≤ height }
-    requires low { height ≤ 200000000 }
+    requires low { height ≤ MOST_HEIGHT }
     ensures { IfOk result (λ shapes. shapes.items ≡ drawing_of rules.now height kind.now) }
 {
     let mut shapes = Vec::new(alloc);
@@ -53,16 +54,16 @@ fn shapes_of(
 #[tactic(auto, unfolding(crate::specs::Drawing::outline_shape))]
 fn outline_shape(rules: &Rules, height: u32, kind: &CellKind) -> Shape
     requires some { 0 < kind.now.columns }
-    requires few { kind.now.columns ≤ 100000000 }
+    requires few { kind.now.columns ≤ MOST_KIND_COLUMNS }
     requires high { least_height rules.now ≤ height }
-    requires low { height ≤ 200000000 }
+    requires low { height ≤ MOST_HEIGHT }
     ensures { result ≡ outline_shape rules.now height kind.now }
 {
-    let width = u64::from(kind.columns) * u64::from(rules.grid_column);
+    let width = u64::from(kind.columns) * u64::from(rules.grid.column);
     Shape {
-        layer: rules.outline_layer,
+        layer: rules.outline.layer,
         rect: rect_of(
-            u64::from(rules.grid_centi),
+            u64::from(rules.grid.centi),
             0,
             0,
             2 * width,
@@ -73,19 +74,19 @@ fn outline_shape(rules: &Rules, height: u32, kind: &CellKind) -> Shape
 
 #[tactic(auto, unfolding(crate::specs::Drawing::position_shape))]
 fn position_shape(rules: &Rules, height: u32, position: Position) -> Shape
-    requires column { position.column < 100000000 }
+    requires column { position.column < MOST_KIND_COLUMNS }
     requires high { least_height rules.now ≤ height }
-    requires low { height ≤ 200000000 }
+    requires low { height ≤ MOST_HEIGHT }
     ensures { result ≡ position_shape rules.now height position }
 {
-    let middle = middle_of(u64::from(rules.grid_column), u64::from(position.column));
-    let width = u64::from(rules.vertical_width);
-    let pin = u64::from(rules.grid_pin);
+    let middle = middle_of(u64::from(rules.grid.column), u64::from(position.column));
+    let width = u64::from(rules.vertical.width);
+    let pin = u64::from(rules.grid.pin);
     let (low, high) = pin_ends(pin, u64::from(height), position.top);
     Shape {
-        layer: rules.vertical_layer,
+        layer: rules.vertical.layer,
         rect: rect_of(
-            u64::from(rules.grid_centi),
+            u64::from(rules.grid.centi),
             middle - width,
             low,
             middle + width,
@@ -96,8 +97,8 @@ fn position_shape(rules: &Rules, height: u32, position: Position) -> Shape
 
 // The middle of a column in half units.
 fn middle_of(pitch: u64, column: u64) -> u64
-    requires few { column < 100000000 }
-    requires narrow { pitch ≤ 1000 }
+    requires few { column < MOST_KIND_COLUMNS }
+    requires narrow { pitch ≤ MOST_LENGTH }
     ensures is { result ≡ middle_of pitch column }
     ensures beyond { pitch ≤ result }
     ensures within { result ≤ 200000001000 }
@@ -109,7 +110,7 @@ fn middle_of(pitch: u64, column: u64) -> u64
 fn pin_ends(pin: u64, height: u64, top: bool) -> (u64, u64)
     requires some { 0 < pin }
     requires high { 2 * pin ≤ height }
-    requires low { height ≤ 200000000 }
+    requires low { height ≤ MOST_HEIGHT }
     ensures low { result.0 ≡ pin_low pin height top }
     ensures high { result.1 ≡ pin_high pin height top }
     ensures apart { result.0 < result.1 }
@@ -125,7 +126,7 @@ fn pin_ends(pin: u64, height: u64, top: bool) -> (u64, u64)
 // The rectangle with these sides in half units.
 fn rect_of(centi: u64, x0: u64, y0: u64, x1: u64, y1: u64) -> Rect
     requires some { 0 < centi }
-    requires few { centi ≤ 1000 }
+    requires few { centi ≤ MOST_LENGTH }
     requires wide { x0 < x1 }
     requires high { y0 < y1 }
     requires x { x1 ≤ 400000000000 }

@@ -5,9 +5,9 @@ ghost use Rattle.std.specs.Prelude.{◌≡◌, ◌<◌, ◌≤◌, length, All, 
 
 use geom_core::{LayerName, Rect, Shape};
 use geom_extract::shape_classes;
+use samples::sample_rules;
 use std::alloc::{AllocError, Global};
 use std::test::Fail;
-use tech_rules::Rules;
 
 // Squares of a layer, of which each begins a step right of the one before.
 fn squares(
@@ -49,8 +49,8 @@ fn square(layer: LayerName, x: u32, side: u32) -> Shape
 
 #[test]
 fn a_million_that_do_not_touch(rt: HostRuntime) -> Result<(), Fail> {
-    let rules = Rules::sample(rt.alloc())?;
-    let shapes = squares(rt.alloc(), rules.vertical_layer, 1_000_000, 1000, 999)?;
+    let rules = sample_rules(rt.alloc())?;
+    let shapes = squares(rt.alloc(), rules.vertical.layer, 1_000_000, 1000, 999)?;
     let classes = shape_classes(rt.alloc(), shapes.as_slice(), &[], &rules)?;
     let mut number: u32 = 0;
     for class in classes.as_slice() {
@@ -62,8 +62,8 @@ fn a_million_that_do_not_touch(rt: HostRuntime) -> Result<(), Fail> {
 
 #[test]
 fn a_million_that_all_touch(rt: HostRuntime) -> Result<(), Fail> {
-    let rules = Rules::sample(rt.alloc())?;
-    let shapes = squares(rt.alloc(), rules.horizontal_layer, 1_000_000, 1, 2_000_000)?;
+    let rules = sample_rules(rt.alloc())?;
+    let shapes = squares(rt.alloc(), rules.horizontal.layer, 1_000_000, 1, 2_000_000)?;
     let classes = shape_classes(rt.alloc(), shapes.as_slice(), &[], &rules)?;
     for class in classes.as_slice() {
         assert_eq!(rt; *class, 0);

@@ -145,7 +145,7 @@ pub fn cells_match(
 ) -> Result<bool, AllocError>
     ensures { IfOk result (λ b. OnTrue b (CellsMatch rules.now design.now layout.now)) }
 {
-    if design.height < 2 * rules.grid_pin + rules.vertical_space {
+    if design.height < 2 * rules.grid.pin + rules.vertical.space {
         return Ok(false);
     }
     are_in_order(alloc, layout, design, rules)

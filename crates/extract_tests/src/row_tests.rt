@@ -5,9 +5,9 @@ ghost use Rattle.std.specs.Prelude.{◌<◌, ◌≤◌};
 
 use geom_core::{LayerName, Rect, Shape};
 use geom_extract::shape_classes;
+use samples::sample_rules;
 use std::alloc::{AllocError, Global};
 use std::test::Fail;
-use tech_rules::Rules;
 
 fn shape(layer: LayerName, x0: u32, y0: u32, width: u32, height: u32) -> Shape
     requires width { 0 < width }
@@ -30,15 +30,15 @@ fn shape(layer: LayerName, x0: u32, y0: u32, width: u32, height: u32) -> Shape
 }
 
 fn classes(alloc: Global, tied: bool) -> Result<Vec<u32>, AllocError> {
-    let rules = Rules::sample(alloc)?;
+    let rules = sample_rules(alloc)?;
     let shapes = [
-        shape(rules.horizontal_layer, 0, 0, 100, 10),
-        shape(rules.cut_layer, 90, 5, 10, 10),
-        shape(rules.vertical_layer, 100, 15, 10, 100),
-        shape(rules.outline_layer, 0, 0, 200, 200),
-        shape(rules.horizontal_layer, 0, 50, 200, 10),
-        shape(rules.cut_layer, 95, 10, 10, 4),
-        shape(rules.vertical_layer, 300, 0, 10, 10),
+        shape(rules.horizontal.layer, 0, 0, 100, 10),
+        shape(rules.cut.layer, 90, 5, 10, 10),
+        shape(rules.vertical.layer, 100, 15, 10, 100),
+        shape(rules.outline.layer, 0, 0, 200, 200),
+        shape(rules.horizontal.layer, 0, 50, 200, 10),
+        shape(rules.cut.layer, 95, 10, 10, 4),
+        shape(rules.vertical.layer, 300, 0, 10, 10),
     ];
     if tied {
         shape_classes(alloc, &shapes, &[(6, 4)], &rules)

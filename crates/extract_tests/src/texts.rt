@@ -8,9 +8,8 @@ use cif_reader::expand;
 use cif_text::read_commands;
 use geom_core::Layout;
 use geom_extract::{Extract, classes};
-use samples::designed;
+use samples::{designed, sample_rules};
 use std::alloc::{AllocError, Global};
-use tech_rules::Rules;
 
 // The layout of a text of CIF, or None where it has none.
 fn layout_of(alloc: Global, text: &[u8]) -> Result<Option<Layout>, AllocError>
@@ -37,7 +36,7 @@ pub fn extract_of(
     calls: &str,
     text: &[u8],
 ) -> Result<Option<Extract>, AllocError> {
-    let rules = Rules::sample(alloc)?;
+    let rules = sample_rules(alloc)?;
     let Ok(design) = designed(alloc, modules, calls) else {
         return Ok(None);
     };

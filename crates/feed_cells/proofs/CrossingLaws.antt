@@ -10,8 +10,9 @@ use Rattle.row_model.specs.Stands.{row_of}
 use Rattle.row_model.specs.declared.rows.Seat.{Seat}
 use Rattle.feed_cells.specs.Crossings.{crossing_of, crossing_of_pins, highest, is_across, is_in, lowest, pins_of}
 use Rattle.feed_cells.specs.Feeds.{is_fed}
-use Rattle.feed_cells.specs.Channels.{AllTouch, AreSpread, first_channel, last_channel}
-use Rattle.feed_cells.specs.Touching.{Touches}
+use Rattle.feed_cells.specs.Channels.{first_channel}
+use Rattle.feed_cells.proofs.ChannelSpans.{AllTouch, AreSpread, last_channel}
+use Rattle.feed_cells.proofs.Touching.{Touches}
 use Rattle.feed_cells.specs.declared.crossing.Crossing.{Crossing}
 use Rattle.feed_cells.specs.declared.crossing.Crossing.TheVariants.{Alone, One, Many}
 use Rattle.feed_cells.proofs.PinEdges.{pin-edge, row-within}

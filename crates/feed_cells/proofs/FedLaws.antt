@@ -13,7 +13,7 @@ use Rattle.row_model.specs.declared.rows.Seat.{Seat}
 use Rattle.feed_cells.specs.Crossings.{all_nets}
 use Rattle.feed_cells.specs.Fed.{cells_in, fed_from, fed_row, fed_rows, feeds_at, items_from, items_width, seat_in, seats_in}
 use Rattle.feed_cells.specs.Feeds.{feed_place, is_fed, lefts_of, middle_of}
-use Rattle.feed_cells.specs.Standing.{IsFeed, Stands, seated, feeding}
+use Rattle.feed_cells.proofs.Standing.{IsFeed, Stands, seated, feeding}
 use Rattle.feed_cells.specs.declared.fed.Item.{Item}
 use Rattle.feed_cells.specs.declared.fed.Item.TheVariants.{Cell, Feed}
 

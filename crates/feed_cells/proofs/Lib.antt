@@ -12,3 +12,9 @@ pub mod PlacementLaws
 pub mod FedWidths
 -- the rows with feeds, their widths and their nets are those of the definition
 pub mod RowFeedLaws
+-- what stands in a row with its feeds
+pub mod Standing
+-- over which edge a pin touches a channel
+pub mod Touching
+-- pins that all touch one channel, and pins that are spread over several
+pub mod ChannelSpans

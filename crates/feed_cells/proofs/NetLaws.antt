@@ -9,11 +9,11 @@ use Rattle.row_model.specs.declared.rows.Seat.{Seat}
 use Rattle.feed_cells.specs.Crossings.{crossing_of, crossing_of_pins, is_across, is_in, pins_of}
 use Rattle.feed_cells.specs.Fed.{fed_row}
 use Rattle.feed_cells.specs.Feeds.{is_fed}
-use Rattle.feed_cells.specs.Standing.{IsFeed}
+use Rattle.feed_cells.proofs.Standing.{IsFeed}
 use Rattle.feed_cells.specs.declared.crossing.Crossing.{Crossing}
 use Rattle.feed_cells.specs.declared.crossing.Crossing.TheVariants.{Alone}
 use Rattle.feed_cells.specs.declared.fed.Item.TheVariants.{Feed}
-use Rattle.feed_cells.specs.Touching.{channel_beside}
+use Rattle.feed_cells.proofs.Touching.{channel_beside}
 use Rattle.feed_cells.proofs.CrossingLaws.{across-range, channels-within, fed-across, in-net, of-net}
 use Rattle.feed_cells.proofs.FedLaws.{feed-there}
 

@@ -1,7 +1,5 @@
 -- the channels that pins touch and that nets cross
 pub mod Crossings
--- over which edge a pin touches a channel
-pub mod Touching
 -- the first and the last channel of a net, and what they are of its pins
 pub mod Channels
 -- which net crosses which row by what, and where a feed stands
@@ -13,8 +11,6 @@ pub mod NetTables
 -- rows with their feeds
 pub mod Fed
 pub mod FedView
--- what stands in a row with its feeds
-pub mod Standing
 -- the feeds of a row by tables
 pub mod RowFeeds
 -- how wide rows are, and how many nets channels have

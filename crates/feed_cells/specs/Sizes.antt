@@ -1,5 +1,6 @@
 use Rattle.std.specs.Prelude.{◌≡◌, ℕ, ◌<◌, ◌≤◌, ◌+◌, ◌^◌, List, Bool, true, false, Some, length, filter, slice_get}
 use Rattle.std.specs.List.{AllByRecursion}
+use Rattle.limits.specs.declared.TheConstants.{MOST_PINS}
 use Rattle.design_model.specs.Netlist.{Netlist}
 use Rattle.feed_cells.specs.Crossings.{is_in}
 use Rattle.feed_cells.specs.Fed.{items_width}
@@ -16,7 +17,7 @@ count_in nets channel = length (filter (λ (n : NetPlace). is_in n.crossing chan
 
 -- numbers that stay within 200,000 when so many are added to each
 abbrev pub HaveRoom : ℕ → List ℕ → Type 0
-HaveRoom more counts = (k n : ℕ) → slice_get counts k ≡ Some n → n + more ≤ 200000
+HaveRoom more counts = (k n : ℕ) → slice_get counts k ≡ Some n → n + more ≤ MOST_PINS
 
 -- a number, and one more if this is so
 abbrev pub counted : Bool → ℕ → ℕ

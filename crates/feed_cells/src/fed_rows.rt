@@ -14,6 +14,7 @@ use crate::row_feeds::feeds_by_place;
 use crate::row_items::row_items;
 use design_model::Design;
 use geom_core::Items;
+use limits::{MOST_INSTANCES, MOST_PLACED_ROWS};
 use list_facts::Lists;
 use row_model::Seat;
 use std::alloc::{AllocError, Global};
@@ -26,7 +27,7 @@ pub fn fed_rows(
     feeds: &Lists<u32>,
     nets: &[NetPlace],
 ) -> Result<Vec<Items<Item>>, AllocError>
-    requires few { length rows.now ≤ 514 }
+    requires few { length rows.now ≤ MOST_PLACED_ROWS }
     requires short { AreShort rows.now }
     ensures { IfOk result (λ v. AreFeeds design.now rows.now nets.now feeds.now → v.items ≡ fed_from design.now rows.now 0 rows.now) }
 {
@@ -52,7 +53,7 @@ fn fed_row(
     feeds: &[u32],
     nets: &[NetPlace],
 ) -> Result<Items<Item>, AllocError>
-    requires short { length seats.now ≤ 20000 }
+    requires short { length seats.now ≤ MOST_INSTANCES }
     ensures { IfOk result (λ items. (rows : List (List Sitting)) → nets.now ≡ map (net_place design.now rows) (all_nets design.now)
         → feeds.now ≡ filter (is_fed design.now rows row) (all_nets design.now) → items ≡ fed_row design.now rows row seats.now) }
 {

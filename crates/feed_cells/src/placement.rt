@@ -9,6 +9,7 @@ use crate::crossing::Crossing;
 use crate::net_places::{NetPlace, net_place};
 use design_model::{Design, Pin};
 use geom_core::Items;
+use limits::MOST_PINS;
 use list_facts::Lists;
 use row_model::{PinPlace, Rows, pin_places};
 use std::alloc::{AllocError, Global};
@@ -50,7 +51,7 @@ pub fn place(alloc: Global, design: &Design, rows: &Rows) -> Result<Placement, A
 // Where so many nets stand, by where all pins do.
 #[tactic(auto, using(crate::proofs::PlacementLaws::range_laws))]
 fn net_places(alloc: Global, count: usize, pins: &[PinPlace]) -> Result<Vec<NetPlace>, AllocError>
-    requires { count ≤ 200000 }
+    requires { count ≤ MOST_PINS }
     ensures { IfOk result (λ v. v.items ≡ nets_among pins.now count) }
 {
     let lists = pins_by_net(alloc, count + 1, pins)?;

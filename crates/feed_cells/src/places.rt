@@ -4,12 +4,13 @@ ghost use Rattle.std.specs.List.Sorted.{IsNonDecreasingBy};
 ghost use Rattle.std.specs.Prelude.{◌≡◌, ◌≤◌, ℕ, length, nat_lt, IfOk};
 
 use design_model::Design;
+use limits::MOST_INSTANCES;
 use row_model::{Seat, columns_of};
 use std::alloc::{AllocError, Global};
 
 /// The first columns of the seats of a row. The one error is want of memory.
 pub fn lefts_of(alloc: Global, design: &Design, seats: &[Seat]) -> Result<Vec<u64>, AllocError>
-    requires short { length seats.now ≤ 20000 }
+    requires short { length seats.now ≤ MOST_INSTANCES }
     ensures { IfOk result (λ v. v.items ≡ lefts_of design.now 0 seats.now) }
 {
     let mut lefts = Vec::new(alloc);

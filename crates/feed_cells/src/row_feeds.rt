@@ -8,13 +8,14 @@ ghost use Rattle.std.specs.Prelude.{◌≡◌, ◌<◌, ◌≤◌, ℕ, Some, fi
 use crate::net_places::NetPlace;
 use crate::placement::net_at;
 use crate::places::place_among;
+use limits::{MOST_INSTANCES, MOST_PINS};
 use list_facts::Lists;
 use std::alloc::{AllocError, Global};
 
 /// The nets that cross each of so many rows by a feed, of nets that are numbered from 1 on. The one error is want of memory. Takes steps as the number of
 /// nets, and of the rows that they cross.
 pub fn feeds_by_row(alloc: Global, rows: usize, nets: &[NetPlace]) -> Result<Lists<u32>, AllocError>
-    requires few { length nets.now ≤ 200000 }
+    requires few { length nets.now ≤ MOST_PINS }
     ensures { IfOk result (λ feeds. (row : ℕ) → row < rows → slice_get feeds row ≡ Some (nets_fed row 1 nets.now)) }
 {
     let mut feeds = Lists::new(alloc, rows)?;
@@ -50,7 +51,7 @@ pub fn feeds_by_place(
     lefts: &[u64],
 ) -> Result<Lists<u32>, AllocError>
     requires rising { IsNonDecreasingBy (λ (left : ℕ). left) lefts.now }
-    requires short { length lefts.now ≤ 20000 }
+    requires short { length lefts.now ≤ MOST_INSTANCES }
     ensures { IfOk result (λ feeds. (place : ℕ) → place ≤ length lefts.now → slice_get feeds place ≡ Some (filter (is_at_place nets.now lefts.now place) row.now)) }
 {
     let mut feeds = Lists::new(alloc, lefts.len() + 1)?;

@@ -3,13 +3,14 @@ ghost use Rattle.feed_cells.specs.declared.fed.Item.TheVariants.{Feed};
 ghost use Rattle.std.specs.Prelude.{◌≡◌, ◌≤◌, ◌++◌, map, length, IfOk, OnOk};
 
 use crate::fed::Item;
+use limits::MOST_INSTANCES;
 use list_facts::Lists;
 use row_model::Seat;
 use std::alloc::{AllocError, Global};
 
 /// The seats of a row, each behind the feeds of its place, and the feeds behind the last. The one error is want of memory.
 pub fn row_items(alloc: Global, seats: &[Seat], feeds: &Lists<u32>) -> Result<Vec<Item>, AllocError>
-    requires short { length seats.now ≤ 20000 }
+    requires short { length seats.now ≤ MOST_INSTANCES }
     ensures { IfOk result (λ v. v.items ≡ laid feeds.now 0 seats.now) }
 {
     let mut items = Vec::new(alloc);

@@ -10,6 +10,7 @@ use crate::fed::Item;
 use crate::net_places::NetPlace;
 use design_model::Design;
 use geom_core::Items;
+use limits::MOST_PINS;
 use std::alloc::{AllocError, Global};
 
 /// The width of the widest of rows with feeds in columns, where each is narrow. Takes no memory.
@@ -41,7 +42,7 @@ fn items_width(design: &Design, items: &[Item]) -> u64
 /// How many nets stand in each of so many channels from channel 0 on. The one error is want of memory. Takes steps as the number of channels and of nets, and
 /// for each net as the number of its channels.
 pub fn counts_in(alloc: Global, channels: usize, nets: &[NetPlace]) -> Result<Vec<u32>, AllocError>
-    requires few { length nets.now ≤ 200000 }
+    requires few { length nets.now ≤ MOST_PINS }
     ensures { IfOk result (λ v. v.items ≡ map (count_in nets.now) (range_with_len 0 channels)) }
 {
     let mut counts = vec![in alloc; 0; channels]?;
@@ -74,7 +75,7 @@ fn count_net(counts: &mut [u32], crossing: Crossing)
 
 // Counts a net in a channel, if there is this channel.
 fn count_one(counts: &mut [u32], channel: usize)
-    requires { (n : ℕ) → slice_get counts.old channel ≡ Some n → n < 200000 }
+    requires { (n : ℕ) → slice_get counts.old channel ≡ Some n → n < MOST_PINS }
     ensures { (k : ℕ) → slice_get counts.new k ≡ option_map (counted (channel == k)) (slice_get counts.old k) }
 {
     if channel < counts.len() {

@@ -11,7 +11,7 @@ use Rattle.design_model.specs.Netlist.{IsNetlist, Netlist}
 use Rattle.design_model.specs.declared.design.Inst.{Inst}
 use Rattle.design_model.specs.declared.design.Position.{Position}
 use Rattle.geom_extract.specs.CellTies.{first_place, positions_at, starts_of, ties_among}
-use Rattle.geom_extract.specs.Ties.{AreTies, DrawOne}
+use Rattle.geom_extract.proofs.Ties.{AreTies, DrawOne}
 use Rattle.geom_extract.specs.Touching.{Connected}
 use Rattle.geom_extract.specs.Touching.Beside.{tied}
 use Rattle.geom_extract.specs.Touching.Connected.{here, step}

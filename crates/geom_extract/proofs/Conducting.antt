@@ -10,27 +10,27 @@ use Rattle.geom_extract.specs.declared.plane.Plane.TheVariants.{Horizontal, Vert
 
 -- what the layer of a plane is
 abbrev pub LayerIs : RuleValues → List ℕ → Plane → Type 0
-LayerIs r layer Horizontal = layer ≡ r.horizontal_layer
-LayerIs r layer Vertical = layer ≡ r.vertical_layer
-LayerIs r layer Cut = layer ≡ r.cut_layer
+LayerIs r layer Horizontal = layer ≡ r.horizontal.layer
+LayerIs r layer Vertical = layer ≡ r.vertical.layer
+LayerIs r layer Cut = layer ≡ r.cut.layer
 LayerIs r layer Other = Unit {0}
 
 pub layer-is : (r : RuleValues) (layer : List ℕ) → LayerIs r layer (plane_of r layer)
-layer-is r layer = first (bytes_eq layer r.horizontal_layer) refl
+layer-is r layer = first (bytes_eq layer r.horizontal.layer) refl
   where
-    third : (b : Bool) → bytes_eq layer r.cut_layer ≡ b → LayerIs r layer (if b then Cut else Other)
-    third true is = bytes_one layer r.cut_layer is
+    third : (b : Bool) → bytes_eq layer r.cut.layer ≡ b → LayerIs r layer (if b then Cut else Other)
+    third true is = bytes_one layer r.cut.layer is
     third false is = tt
 
-    second : (b : Bool) → bytes_eq layer r.vertical_layer ≡ b
-        → LayerIs r layer (if b then Vertical else (if bytes_eq layer r.cut_layer then Cut else Other))
-    second true is = bytes_one layer r.vertical_layer is
-    second false is = third (bytes_eq layer r.cut_layer) refl
+    second : (b : Bool) → bytes_eq layer r.vertical.layer ≡ b
+        → LayerIs r layer (if b then Vertical else (if bytes_eq layer r.cut.layer then Cut else Other))
+    second true is = bytes_one layer r.vertical.layer is
+    second false is = third (bytes_eq layer r.cut.layer) refl
 
-    first : (b : Bool) → bytes_eq layer r.horizontal_layer ≡ b
-        → LayerIs r layer (if b then Horizontal else (if bytes_eq layer r.vertical_layer then Vertical else (if bytes_eq layer r.cut_layer then Cut else Other)))
-    first true is = bytes_one layer r.horizontal_layer is
-    first false is = second (bytes_eq layer r.vertical_layer) refl
+    first : (b : Bool) → bytes_eq layer r.horizontal.layer ≡ b
+        → LayerIs r layer (if b then Horizontal else (if bytes_eq layer r.vertical.layer then Vertical else (if bytes_eq layer r.cut.layer then Cut else Other)))
+    first true is = bytes_one layer r.horizontal.layer is
+    first false is = second (bytes_eq layer r.vertical.layer) refl
 
 differ : (a b : List ℕ) → a ≢ b → bytes_eq a b ≡ false
 differ a b apart = go (bytes_eq a b) refl
@@ -39,19 +39,19 @@ differ a b apart = go (bytes_eq a b) refl
     go true is = absurd (apart (bytes_one a b is))
     go false is = refl
 
-pub plane-horizontal : (r : RuleValues) (layer : List ℕ) → layer ≡ r.horizontal_layer → plane_of r layer ≡ Horizontal
-plane-horizontal r layer is = subst (λ (l : List ℕ). plane_of r l ≡ Horizontal) (sym is) (rw (bytes_same r.horizontal_layer))
+pub plane-horizontal : (r : RuleValues) (layer : List ℕ) → layer ≡ r.horizontal.layer → plane_of r layer ≡ Horizontal
+plane-horizontal r layer is = subst (λ (l : List ℕ). plane_of r l ≡ Horizontal) (sym is) (rw (bytes_same r.horizontal.layer))
 
-pub plane-vertical : (r : RuleValues) (layer : List ℕ) → AreDifferent r → layer ≡ r.vertical_layer → plane_of r layer ≡ Vertical
+pub plane-vertical : (r : RuleValues) (layer : List ℕ) → AreDifferent r → layer ≡ r.vertical.layer → plane_of r layer ≡ Vertical
 plane-vertical r layer apart is = subst (λ (l : List ℕ). plane_of r l ≡ Vertical) (sym is)
-    (rw (differ r.vertical_layer r.horizontal_layer (λ same. apart.horizontal_vertical (sym same)), bytes_same r.vertical_layer))
+    (rw (differ r.vertical.layer r.horizontal.layer (λ same. apart.horizontal_vertical (sym same)), bytes_same r.vertical.layer))
 
-pub plane-cut : (r : RuleValues) (layer : List ℕ) → AreDifferent r → layer ≡ r.cut_layer → plane_of r layer ≡ Cut
+pub plane-cut : (r : RuleValues) (layer : List ℕ) → AreDifferent r → layer ≡ r.cut.layer → plane_of r layer ≡ Cut
 plane-cut r layer apart is = subst (λ (l : List ℕ). plane_of r l ≡ Cut) (sym is)
     (rw (
-      differ r.cut_layer r.horizontal_layer (λ same. apart.horizontal_cut (sym same)),
-      differ r.cut_layer r.vertical_layer (λ same. apart.vertical_cut (sym same)),
-      bytes_same r.cut_layer,
+      differ r.cut.layer r.horizontal.layer (λ same. apart.horizontal_cut (sym same)),
+      differ r.cut.layer r.vertical.layer (λ same. apart.vertical_cut (sym same)),
+      bytes_same r.cut.layer,
     ))
 
 -- the planes between which shapes conduct

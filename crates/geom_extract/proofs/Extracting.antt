@@ -16,7 +16,7 @@ use Rattle.design_model.specs.declared.design.Pin.{Pin}
 use Rattle.design_model.specs.declared.design.Position.{Position}
 use Rattle.geom_extract.specs.CellTies.{ArePlaces, first_place, first_places, pin_shape, positions_at, start_of, starts_of}
 use Rattle.geom_extract.specs.Extracts.{IsExtract}
-use Rattle.geom_extract.specs.Ties.{DrawOne}
+use Rattle.geom_extract.proofs.Ties.{DrawOne}
 use Rattle.geom_extract.specs.Touching.{Connected}
 use Rattle.geom_extract.specs.declared.joined.Extract.{Extract}
 use Rattle.geom_extract.specs.declared.places.Places.{Places}

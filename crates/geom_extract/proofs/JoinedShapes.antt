@@ -5,7 +5,7 @@ use Rattle.design_model.specs.Joined.{Joined, Neighbours}
 use Rattle.design_model.specs.Joined.Joined.{here as same_shape, step as further}
 use Rattle.design_model.specs.Joined.Neighbours.{touching as neighbours_touch, of_one_terminal}
 use Rattle.design_model.specs.Netlist.{Netlist}
-use Rattle.geom_extract.specs.Ties.{AreTies, DrawOne}
+use Rattle.geom_extract.proofs.Ties.{AreTies, DrawOne}
 use Rattle.geom_extract.specs.Touching.{Beside, Connected}
 use Rattle.geom_extract.specs.Touching.Beside.{touching, tied, tied_back}
 use Rattle.geom_extract.specs.Touching.Connected.{here, step}

@@ -30,3 +30,5 @@ pub mod Chains
 pub mod CellJoins
 -- that numbers by chains are those of joined shapes and pins
 pub mod Extracting
+-- the ties of a layout
+pub mod Ties

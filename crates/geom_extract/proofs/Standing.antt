@@ -12,7 +12,7 @@ use Rattle.std.proofs.lemmas.Option.{get_or_from_slice_get, slice_get-map}
 use Rattle.list_facts.specs.Names.{place_among}
 use Rattle.list_facts.proofs.Different.{any-get, place-get}
 use Rattle.list_facts.proofs.Members.{get-contains}
-use Rattle.list_facts.proofs.Mentioned.{bytes_one, bytes_same, get-place}
+use Rattle.list_facts.proofs.Mentioned.{bytes_one, bytes_same, get-place, names-flip}
 use Rattle.geom_core.specs.Moving.{moved_shape}
 use Rattle.geom_core.specs.declared.layout.Cell.{Cell}
 use Rattle.geom_core.specs.declared.layout.Layout.{Layout}
@@ -24,15 +24,6 @@ use Rattle.design_model.specs.Netlist.{IsNetlist, Netlist}
 use Rattle.design_model.specs.declared.design.CellKind.{CellKind}
 use Rattle.design_model.specs.declared.design.Inst.{Inst}
 use Rattle.geom_extract.specs.CellTies.{behind_outline, start_of, starts_of}
-
-names-flip : (v w : List ℕ) → bytes_eq v w ≡ bytes_eq w v
-names-flip v w = by (bytes_eq v w) (bytes_eq w v) refl refl
-  where
-    by : (a b : Bool) → bytes_eq v w ≡ a → bytes_eq w v ≡ b → a ≡ b
-    by true true one other = refl
-    by false false one other = refl
-    by true false one other = absurd (both_ways (bytes_eq w v) other (subst (λ (x : List ℕ). bytes_eq x v ≡ true) (bytes_one v w one) (bytes_same v)))
-    by false true one other = absurd (both_ways (bytes_eq v w) one (subst (λ (x : List ℕ). bytes_eq x w ≡ true) (bytes_one w v other) (bytes_same w)))
 
 -- the cells have different names
 pub cells-different : (d : Netlist) (l : Layout) → IsNetlist d → IsPermutation (instance_names d) (cell_names l) → IsDistinct bytes_eq (cell_names l)

@@ -4,7 +4,8 @@ use Rattle.std.specs.List.{slice_get}
 use Rattle.std.proofs.lemmas.Bool.{cases_lt}
 use Rattle.std.proofs.lemmas.Bool.Decides.{eqb_tells}
 use Rattle.std.proofs.lemmas.Option.{slice_get-get_or}
-use Rattle.close_rects.proofs.Pairs.{Contains-append, Contains-cases, Contains-here, Contains-left, Contains-none, Contains-right}
+use Rattle.list_facts.proofs.Members.{member-head}
+use Rattle.close_rects.proofs.Pairs.{Contains-append, Contains-cases, Contains-left, Contains-none, Contains-right}
 use Rattle.design_model.specs.Netlist.{Netlist}
 use Rattle.design_model.specs.declared.design.Position.{Position}
 use Rattle.geom_extract.specs.CellTies.{cell_ties, first_place, positions_at, tie_of, ties_among, ties_in}
@@ -48,11 +49,6 @@ push-some old now new start positions n first d below is reads other pushed =
     let more : ties_in start positions (n + 1) ≡ ties_in start positions n ++ tie =
     ties-more start positions n d below ∙ ap (λ (l : List (ℕ × ℕ)). ties_in start positions n ++ l) one in
     pushed ∙ ap (λ (l : List (ℕ × ℕ)). l ++ tie) is ∙ append_assoc old (ties_in start positions n) tie ∙ ap (λ (l : List (ℕ × ℕ)). old ++ l) (sym more)
-
--- one more instance
-pub among-more : (d : Netlist) (starts : List ℕ) (n : ℕ)
-    → ties_among d starts (n + 1) ≡ ties_among d starts n ++ cell_ties (slice_index starts n) (positions_at d n)
-among-more d starts n = rw add-one refl
 
 -- a tie joins the shape of a position with that of the first of its terminal
 pub record IsTie (start : ℕ) (positions : List Position) (t : ℕ × ℕ) : Type 0 where
@@ -110,7 +106,7 @@ in-ties start positions (suc n) k p below is = elim (cases_lt k n) [
             ap (λ (o : Option Position). tie_of start positions n o) there ∙ tie-some start positions n p differs in
             let here : Contains (tie_of start positions n (slice_get positions n)) (start + first_place positions p.terminal, start + n) =
             subst (λ (l : List (ℕ × ℕ)). Contains l (start + first_place positions p.terminal, start + n)) (sym one)
-            (Contains-here (start + first_place positions p.terminal, start + n) []) in
+            (member-head (start + first_place positions p.terminal, start + n) []) in
             inr (subst (λ (m : ℕ). Contains (ties_in start positions (suc n)) (start + first_place positions p.terminal, start + m)) (sym last)
             (Contains-right (ties_in start positions n) (tie_of start positions n (slice_get positions n)) (start + first_place positions p.terminal, start + n) here))
       ]

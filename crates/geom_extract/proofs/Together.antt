@@ -1,7 +1,8 @@
 use Rattle.std.proofs.Common.{◌≡◌, ◌+◌, ◌∙◌, ◌⊎◌, ℕ, zero, suc, List, [], ◌∷◌, ◌++◌, Some, length, map, ap, subst, refl, inl, inr, arith}
 use Rattle.std.specs.Prelude.{Contains}
 use Rattle.std.specs.List.{slice_get, range_with_len}
-use Rattle.close_rects.proofs.Pairs.{Contains-here, Contains-cases}
+use Rattle.list_facts.proofs.Members.{member-head}
+use Rattle.close_rects.proofs.Pairs.{Contains-cases}
 use Rattle.close_rects.proofs.Sets.{Contains-later}
 
 -- at one place of two lists
@@ -53,7 +54,7 @@ At-images {X = X} f g (x ∷ xs) y z at = go (λ rest. At-images f g xs y z rest
   where
     go : (At (map f xs) (map g xs) y z → (w : X) × Contains xs w × (f w ≡ y) × (g w ≡ z)) → (k : ℕ) → slice_get (f x ∷ map f xs) k ≡ Some y
         → slice_get (g x ∷ map g xs) k ≡ Some z → (w : X) × Contains (x ∷ xs) w × (f w ≡ y) × (g w ≡ z)
-    go later zero first second = (x, Contains-here x xs, cc, cc)
+    go later zero first second = (x, member-head x xs, cc, cc)
     go later (suc k) first second =
         let rest = later (record { place = k; first = first; second = second }) in
         (rest.0, Contains-later rest.0 x xs rest.1, rest.2, rest.3)

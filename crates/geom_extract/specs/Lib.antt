@@ -8,8 +8,6 @@ pub mod Planes
 pub mod Asking
 -- shapes that touch or are tied, and their web
 pub mod Touching
--- the ties of a layout
-pub mod Ties
 -- where positions are drawn, and the ties in cells
 pub mod CellTies
 -- numbers of shapes and pins

@@ -8,8 +8,8 @@ use Rattle.geom_extract.specs.declared.plane.Plane.TheVariants.{Horizontal, Vert
 -- which layer this is, as far as shapes conduct to one another
 abbrev pub plane_of : RuleValues → List ℕ → Plane
 plane_of r layer =
-    if bytes_eq layer r.horizontal_layer then Horizontal
-    else (if bytes_eq layer r.vertical_layer then Vertical else (if bytes_eq layer r.cut_layer then Cut else Other))
+    if bytes_eq layer r.horizontal.layer then Horizontal
+    else (if bytes_eq layer r.vertical.layer then Vertical else (if bytes_eq layer r.cut.layer then Cut else Other))
 
 -- how far the rectangles of a layer are raised, so that those of different layers don't meet
 abbrev pub height_of : Plane → ℤ

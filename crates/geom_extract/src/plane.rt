@@ -18,11 +18,11 @@ pub fn plane_of(rules: &Rules, layer: &LayerName) -> Plane
     ensures { result ≡ plane_of rules.now layer.now }
 {
     let text = layer.text();
-    if text == rules.horizontal_layer.text() {
+    if text == rules.horizontal.layer.text() {
         Plane::Horizontal
-    } else if text == rules.vertical_layer.text() {
+    } else if text == rules.vertical.layer.text() {
         Plane::Vertical
-    } else if text == rules.cut_layer.text() {
+    } else if text == rules.cut.layer.text() {
         Plane::Cut
     } else {
         Plane::Other

@@ -11,7 +11,7 @@ use Rattle.std.proofs.lemmas.Map.Keys.{IsDistinct-IsPermutation}
 use Rattle.std.proofs.lemmas.Option.{slice_get-map}
 use Rattle.list_facts.proofs.Different.{any-get, place-get}
 use Rattle.list_facts.proofs.Members.{contains-get, find-member, find-passes, find-some, get-contains}
-use Rattle.list_facts.proofs.Mentioned.{bytes_one, bytes_same}
+use Rattle.list_facts.proofs.Mentioned.{bytes_one, bytes_same, names-flip}
 use Rattle.geom_core.specs.Extent.{Extent}
 use Rattle.geom_core.specs.Moving.{moved_shape}
 use Rattle.geom_core.specs.declared.layout.Cell.{Cell}
@@ -30,7 +30,7 @@ use Rattle.layout_check.specs.Findings.{cell_findings}
 use Rattle.layout_check.specs.declared.finding.Finding.TheVariants.{Missing, Doubled, Strange, Drawing}
 use Rattle.layout_check.proofs.Alike.{both-empty, none-mapped}
 use Rattle.layout_check.proofs.Repeats.{different-none, none-repeated}
-use Rattle.layout_check.proofs.SameMembers.{names-flip, same-members}
+use Rattle.layout_check.proofs.SameMembers.{same-members}
 
 -- tests of rectangles and shapes
 true-extent : (e f : Extent) → is_extent e f ≡ true → e ≡ f

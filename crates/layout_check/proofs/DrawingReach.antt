@@ -3,6 +3,7 @@ use Rattle.std.specs.Prelude.{All}
 use Rattle.std.proofs.lemmas.Int.{ints}
 use Rattle.std.proofs.lemmas.List.{length-map}
 use Rattle.std.proofs.lemmas.List.Elements.{All-cons, All-map, All-weaker}
+use Rattle.std.proofs.Math.Nat.{mul-le-mul}
 use Rattle.geom_core.specs.Reach.{IsExtentInReach, IsInReach, IsShapeInReach}
 use Rattle.geom_core.specs.declared.layout.Shape.{Shape}
 use Rattle.tech_rules.specs.Rules.{RuleValues, ValidRules}
@@ -12,13 +13,10 @@ use Rattle.design_model.specs.declared.design.CellKind.{CellKind}
 use Rattle.design_model.specs.declared.design.Position.{Position}
 use Rattle.layout_check.specs.Drawings.{AreForKinds, drawings_of}
 
-product-below : (a b m n : ℕ) → a ≤ m → b ≤ n → a * b ≤ m * n
-product-below a b m n first second = grind arith
-
 -- a length in half units, in half centimicrons
 in-reach : (n centi : ℕ) → n ≤ 300000000000 → centi ≤ 1000 → IsInReach (pos (n * centi))
 in-reach n centi few small =
-    let product : n * centi ≤ 300000000000 * 1000 = product-below n centi 300000000000 1000 few small in
+    let product : n * centi ≤ 300000000000 * 1000 = mul-le-mul few small in
     record { low = omega (arith, ints); high = omega (arith, ints) }
 
 extent-reach : (centi x0 y0 x1 y1 : ℕ) → centi ≤ 1000 → x0 ≤ 300000000000 → y0 ≤ 300000000000 → x1 ≤ 300000000000 → y1 ≤ 300000000000
@@ -29,27 +27,27 @@ extent-reach centi x0 y0 x1 y1 small x0_few y0_few x1_few y1_few =
 outline-reach : (r : RuleValues) (height : ℕ) (kind : CellKind) → ValidRules r → height ≤ 200000000 → IsKind kind → IsShapeInReach (outline_shape r height kind)
 unfolding outline_shape
 outline-reach r height kind valid low good =
-    let wide : kind.columns * r.grid_column ≤ 100000000 * 1000 = product-below kind.columns r.grid_column 100000000 1000 good.few valid.ranges.grid_column.1 in
-    extent-reach r.grid_centi 0 0 (2 * (kind.columns * r.grid_column)) (2 * height) valid.ranges.grid_centi.1 (omega arith) (omega arith) (omega arith) (omega arith)
+    let wide : kind.columns * r.grid.column ≤ 100000000 * 1000 = mul-le-mul good.few valid.ranges.grid.column.1 in
+    extent-reach r.grid.centi 0 0 (2 * (kind.columns * r.grid.column)) (2 * height) valid.ranges.grid.centi.1 (omega arith) (omega arith) (omega arith) (omega arith)
 
 position-reach : (r : RuleValues) (height : ℕ) (kind : CellKind) (p : Position) → ValidRules r → height ≤ 200000000 → IsKind kind → IsPosition kind p
     → IsShapeInReach (position_shape r height p)
 unfolding position_shape
 position-reach r height kind p valid low good at =
     let few : p.column ≤ 100000000 = (let below = at.column in let columns = good.few in omega arith) in
-    let middle : p.column * r.grid_column ≤ 100000000 * 1000 = product-below p.column r.grid_column 100000000 1000 few valid.ranges.grid_column.1 in
-    let pitch : r.grid_column ≤ 1000 = valid.ranges.grid_column.1 in
-    let width : r.vertical_width ≤ 1000 = valid.ranges.vertical_width.1 in
-    let pin : r.grid_pin ≤ 1000 = valid.ranges.grid_pin.1 in
-    extent-reach r.grid_centi (middle_of r.grid_column p.column - r.vertical_width) (pin_low r.grid_pin height p.top)
-    (middle_of r.grid_column p.column + r.vertical_width) (pin_high r.grid_pin height p.top) valid.ranges.grid_centi.1
+    let middle : p.column * r.grid.column ≤ 100000000 * 1000 = mul-le-mul few valid.ranges.grid.column.1 in
+    let pitch : r.grid.column ≤ 1000 = valid.ranges.grid.column.1 in
+    let width : r.vertical.width ≤ 1000 = valid.ranges.vertical.width.1 in
+    let pin : r.grid.pin ≤ 1000 = valid.ranges.grid.pin.1 in
+    extent-reach r.grid.centi (middle_of r.grid.column p.column - r.vertical.width) (pin_low r.grid.pin height p.top)
+    (middle_of r.grid.column p.column + r.vertical.width) (pin_high r.grid.pin height p.top) valid.ranges.grid.centi.1
     (omega arith) (low-end p.top) (omega arith) (high-end p.top pin)
   where
-    low-end : (top : Bool) → pin_low r.grid_pin height top ≤ 300000000000
+    low-end : (top : Bool) → pin_low r.grid.pin height top ≤ 300000000000
     low-end true = omega arith
     low-end false = omega arith
 
-    high-end : (top : Bool) → r.grid_pin ≤ 1000 → pin_high r.grid_pin height top ≤ 300000000000
+    high-end : (top : Bool) → r.grid.pin ≤ 1000 → pin_high r.grid.pin height top ≤ 300000000000
     high-end true pin = omega arith
     high-end false pin = omega arith
 

@@ -3,12 +3,11 @@ use Rattle.std.specs.List.{find, list_any, slice_get}
 use Rattle.std.specs.Str.{bytes_eq}
 use Rattle.std.proofs.lemmas.List.Folds.{find_at}
 use Rattle.list_facts.specs.Names.{mentions, place_among}
-use Rattle.list_facts.proofs.Mentioned.{any-mentions}
+use Rattle.list_facts.proofs.Mentioned.{any-mentions, names-flip}
 use Rattle.design_model.specs.declared.design.Inst.{Inst}
 use Rattle.rule_check.specs.Failing.{failing, failing_from}
 use Rattle.layout_check.proofs.PinGroups.{place-map}
 use Rattle.layout_check.proofs.Repeats.{place-same}
-use Rattle.layout_check.proofs.SameMembers.{names-flip}
 
 -- the instance of a name stands at the name's place
 pub find-place : (insts : List Inst) (name : List ℕ)

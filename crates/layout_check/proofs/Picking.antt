@@ -14,15 +14,6 @@ step-in n i = omega arith
 none-in : (n : ℕ) → n + 0 ≡ n
 none-in n = omega arith
 
--- tests that agree pick the same
-pub picked-same : (p q : ℕ → Bool) (n count : ℕ) → ((i : ℕ) → i < count → p (n + i) ≡ q (n + i)) → picked p n count ≡ picked q n count
-picked-same p q n zero same = refl
-picked-same p q n (suc count) same =
-    let here : p n ≡ q n = subst (λ (m : ℕ). p m ≡ q m) (none-in n) (same 0 (omega arith)) in
-    ap (λ t. if t then n ∷ picked p (n + 1) count else picked p (n + 1) count) here
-    ∙ ap (λ rest. if q n then n ∷ rest else rest)
-    (picked-same p q (n + 1) count (λ i within. subst (λ (m : ℕ). p m ≡ q m) (sym (step-in n i)) (same (suc i) (omega arith))))
-
 -- a test that fails picks none
 pub picked-none : (p : ℕ → Bool) (n count : ℕ) → ((i : ℕ) → i < count → p (n + i) ≡ false) → picked p n count ≡ []
 picked-none p n zero fails = refl

@@ -8,17 +8,8 @@ use Rattle.std.proofs.lemmas.List.Sorted.{Contains-permutation, IsPermutation-co
 use Rattle.std.proofs.lemmas.Map.Keys.{IsDistinct-head, IsDistinct-IsPermutation, IsDistinct-tail}
 use Rattle.list_facts.proofs.Every.{every-get}
 use Rattle.list_facts.proofs.Members.{contains-get, member-cases, member-head, member-tail}
-use Rattle.list_facts.proofs.Mentioned.{bytes_one, bytes_same}
+use Rattle.list_facts.proofs.Mentioned.{bytes_one, bytes_same, names-flip}
 use Rattle.rule_check.proofs.FailingLaws.{empty-none, none-empty}
-
-pub names-flip : (v w : List ℕ) → bytes_eq v w ≡ bytes_eq w v
-names-flip v w = by (bytes_eq v w) (bytes_eq w v) refl refl
-  where
-    by : (a b : Bool) → bytes_eq v w ≡ a → bytes_eq w v ≡ b → a ≡ b
-    by true true one other = refl
-    by false false one other = refl
-    by true false one other = absurd (both_ways (bytes_eq w v) other (subst (λ (x : List ℕ). bytes_eq x v ≡ true) (bytes_one v w one) (bytes_same v)))
-    by false true one other = absurd (both_ways (bytes_eq v w) one (subst (λ (x : List ℕ). bytes_eq x w ≡ true) (bytes_one w v other) (bytes_same w)))
 
 -- the first of different names is none of the others
 not-behind : (x : List ℕ) (xs : List (List ℕ)) → IsDistinct bytes_eq (x ∷ xs) → ¬ Contains xs x

@@ -113,14 +113,14 @@ module _ (r : RuleValues) (d : Netlist) (l : Layout) (e : Extract) (extract : Is
 
   -- two shapes of which neither is joined to the other are asked for their spaces
   three-far : NoneClose → (i j : ℕ) (s t : Shape) → i < j → slice_get l.shapes i ≡ Some s → slice_get l.shapes j ≡ Some t → (class i ≡ class j → ⊥)
-      → (is_crowded_on r r.horizontal_layer r.horizontal_space s t ≡ false) × (is_crowded_on r r.vertical_layer r.vertical_space s t ≡ false)
-      × (is_crowded_on r r.cut_layer r.cut_space s t ≡ false)
+      → (is_crowded_on r r.horizontal.layer r.horizontal.space s t ≡ false) × (is_crowded_on r r.vertical.layer r.vertical.space s t ≡ false)
+      × (is_crowded_on r r.cut.layer r.cut.space s t ≡ false)
   three-far none i j s t less s_is t_is apart =
       let far : are_too_close r (class i, s) (class j, t) ≡ false = none i j (class i, s) (class j, t) less (of-shape i s s_is) (of-shape j t t_is) in
-      let all = or_parts _ (is_crowded_on r r.cut_layer r.cut_space s t)
-      (sym (ap (λ u. u && (is_crowded_on r r.horizontal_layer r.horizontal_space s t || is_crowded_on r r.vertical_layer r.vertical_space s t
-      || is_crowded_on r r.cut_layer r.cut_space s t)) (not_from_false (eqb (class i) (class j)) (ne_eqb (class i) (class j) apart))) ∙ far) in
-      let two = or_parts (is_crowded_on r r.horizontal_layer r.horizontal_space s t) (is_crowded_on r r.vertical_layer r.vertical_space s t) all.0 in
+      let all = or_parts _ (is_crowded_on r r.cut.layer r.cut.space s t)
+      (sym (ap (λ u. u && (is_crowded_on r r.horizontal.layer r.horizontal.space s t || is_crowded_on r r.vertical.layer r.vertical.space s t
+      || is_crowded_on r r.cut.layer r.cut.space s t)) (not_from_false (eqb (class i) (class j)) (ne_eqb (class i) (class j) apart))) ∙ far) in
+      let two = or_parts (is_crowded_on r r.horizontal.layer r.horizontal.space s t) (is_crowded_on r r.vertical.layer r.vertical.space s t) all.0 in
       (two.0, two.1, all.1)
 
   keeps : (layer : List ℕ) (space : ℕ)
@@ -146,9 +146,9 @@ module _ (r : RuleValues) (d : Netlist) (l : Layout) (e : Extract) (extract : Is
 
   spaced-from : NoneClose → Spaced r d l
   spaced-from none = record {
-    horizontal = keeps r.horizontal_layer r.horizontal_space (λ i j s t less s_is t_is apart. (three-far none i j s t less s_is t_is apart).0);
-    vertical = keeps r.vertical_layer r.vertical_space (λ i j s t less s_is t_is apart. (three-far none i j s t less s_is t_is apart).1);
-    cut = keeps r.cut_layer r.cut_space (λ i j s t less s_is t_is apart. (three-far none i j s t less s_is t_is apart).2);
+    horizontal = keeps r.horizontal.layer r.horizontal.space (λ i j s t less s_is t_is apart. (three-far none i j s t less s_is t_is apart).0);
+    vertical = keeps r.vertical.layer r.vertical.space (λ i j s t less s_is t_is apart. (three-far none i j s t less s_is t_is apart).1);
+    cut = keeps r.cut.layer r.cut.space (λ i j s t less s_is t_is apart. (three-far none i j s t less s_is t_is apart).2);
   }
 
   none-from : Spaced r d l → NoneClose
@@ -161,8 +161,8 @@ module _ (r : RuleValues) (d : Netlist) (l : Layout) (e : Extract) (extract : Is
       let y_class : class j ≡ y.0 = get_or_from_slice_get e.shapes.items j y.0 0 y_at.0 in
       elim (cases_Bool (eqb x.0 y.0)) [
         | inl same ↦
-            ap (λ u. not u && (is_crowded_on r r.horizontal_layer r.horizontal_space x.1 y.1 || is_crowded_on r r.vertical_layer r.vertical_space x.1 y.1
-            || is_crowded_on r r.cut_layer r.cut_space x.1 y.1)) same
+            ap (λ u. not u && (is_crowded_on r r.horizontal.layer r.horizontal.space x.1 y.1 || is_crowded_on r r.vertical.layer r.vertical.space x.1 y.1
+            || is_crowded_on r r.cut.layer r.cut.space x.1 y.1)) same
         | inr differ ↦
             let apart : Joined r d l j i → ⊥ =
             λ joined.
@@ -172,11 +172,11 @@ module _ (r : RuleValues) (d : Netlist) (l : Layout) (e : Extract) (extract : Is
             and_right _ _
             (or_from _ _
             (or_from _ _
-            (on-crowded r r.horizontal_layer r.horizontal_space x.1 y.1
+            (on-crowded r r.horizontal.layer r.horizontal.space x.1 y.1
             (λ first second. apart-far _ _ _ (spaced.horizontal i j x.1 y.1 x_at.1 y_at.1 first second apart)))
-            (on-crowded r r.vertical_layer r.vertical_space x.1 y.1
+            (on-crowded r r.vertical.layer r.vertical.space x.1 y.1
             (λ first second. apart-far _ _ _ (spaced.vertical i j x.1 y.1 x_at.1 y_at.1 first second apart))))
-            (on-crowded r r.cut_layer r.cut_space x.1 y.1
+            (on-crowded r r.cut.layer r.cut.space x.1 y.1
             (λ first second. apart-far _ _ _ (spaced.cut i j x.1 y.1 x_at.1 y_at.1 first second apart))))
       ]
 

@@ -6,17 +6,12 @@ use Rattle.std.proofs.lemmas.Bool.{cases_eq, eq-eqb, ne_eqb}
 use Rattle.std.proofs.lemmas.List.{length-map, length-set, length-take-le, take-append-drop, take_more, take_all}
 use Rattle.std.proofs.lemmas.List.Elements.{All-map}
 use Rattle.std.proofs.lemmas.Option.{get_or_from_slice_get, slice_get-get_or, slice_get_within}
+use Rattle.list_facts.proofs.Places.{drop-here, take-here}
 use Rattle.list_facts.specs.Lists.{list_there, with_item}
 use Rattle.rule_check.specs.Failing.{failing, failing_from}
 use Rattle.rule_check.proofs.Crowding.{length-zip, zip-at}
-use Rattle.rule_check.proofs.FailingLaws.{drop-here}
 use Rattle.layout_check.specs.Groups.{differing, differs_from, first_of, firsts_of, pairs_below, pairs_in}
 use Rattle.layout_check.proofs.Picking.{first-at}
-
--- a list up to a member of it, and that member
-pub take-here : {X : Type 0} (xs : List X) (k : ℕ) (x : X) → slice_get xs k ≡ Some x → take (k + 1) xs ≡ take k xs ++ x ∷ []
-take-here xs k x is =
-    take_more xs k x (slice_get_within xs k x is) ∙ ap (λ y. take k xs ++ y ∷ []) (get_or_from_slice_get xs k x x is)
 
 pub length-here : {X : Type 0} (xs : List X) (k : ℕ) (x : X) → slice_get xs k ≡ Some x → length (take k xs) ≡ k
 length-here xs k x is = let within : k < length xs = slice_get_within xs k x is in length-take-le k xs (omega arith)

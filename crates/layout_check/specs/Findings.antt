@@ -1,6 +1,7 @@
 use Rattle.std.specs.Prelude.{◌≡◌, ◌≢◌, ℕ, List, [], ◌++◌, map, take, true, not}
 use Rattle.std.specs.List.{list_any, zip}
 use Rattle.std.specs.Str.{bytes_eq}
+use Rattle.limits.specs.declared.TheConstants.{MOST_PAIRS}
 use Rattle.geom_core.specs.declared.layout.Layout.{Layout}
 use Rattle.tech_rules.specs.Rules.{RuleValues}
 use Rattle.design_model.specs.Netlist.{Netlist}
@@ -29,8 +30,8 @@ cell_findings r d l =
 -- what is found of outlines, and then of wires and cuts alone; of pairs of shapes the first thousand count
 abbrev pub row_findings : RuleValues → Layout → List Finding
 row_findings r l =
-    map (λ (p : ℕ × ℕ). Overlap p.0 p.1) (take 1000 (failing_pairs (do_overlap r) l.shapes))
-    ++ map (λ (p : ℕ × ℕ). OutOfRow p.0 p.1) (take 1000 (failing_pairs (are_out_of_row r) l.shapes))
+    map (λ (p : ℕ × ℕ). Overlap p.0 p.1) (take MOST_PAIRS (failing_pairs (do_overlap r) l.shapes))
+    ++ map (λ (p : ℕ × ℕ). OutOfRow p.0 p.1) (take MOST_PAIRS (failing_pairs (are_out_of_row r) l.shapes))
 
 abbrev pub narrow_findings : RuleValues → Layout → List Finding
 narrow_findings r l = map Narrow (failing (is_narrow r) l.shapes)
@@ -40,7 +41,7 @@ bare_findings r l = map BareCut (failing (is_bare r l.shapes) l.shapes)
 
 -- what is found of shapes of these classes that are too close
 abbrev pub close_findings : RuleValues → Layout → List ℕ → List Finding
-close_findings r l shapes = map (λ (p : ℕ × ℕ). Close p.0 p.1) (take 1000 (failing_pairs (are_too_close r) (zip shapes l.shapes)))
+close_findings r l shapes = map (λ (p : ℕ × ℕ). Close p.0 p.1) (take MOST_PAIRS (failing_pairs (are_too_close r) (zip shapes l.shapes)))
 
 -- what is found of nets whose pins have these classes
 abbrev pub net_findings : Netlist → List ℕ → List Finding

@@ -6,8 +6,8 @@ use Rattle.wire_geom.proofs.ScaleLaws.{scaled-order}
 use Rattle.wire_geom.specs.Spaces.{NetsApart}
 use Rattle.wire_geom.specs.Widths.{AreWide}
 use Rattle.wire_geom.specs.declared.drawn.Drawn.{Drawn}
-use Rattle.layout_laws.specs.Strips.{Stays, Stay, Strip}
-use Rattle.layout_laws.specs.Uprights.{IsWired}
+use Rattle.layout_laws.proofs.Strips.{Stays, Stay, Strip}
+use Rattle.layout_laws.proofs.Uprights.{IsWired}
 use Rattle.layout_laws.proofs.StripLaws.{AreWide-append}
 
 -- rectangles without wires and cuts
@@ -56,9 +56,9 @@ module _ (r : RuleValues) (floor middle ceiling : ℕ) (lower below upper : ℕ 
 
     both_stay : Stay r floor ceiling lower upper (ds ++ es)
     both_stay = record {
-      horizontal = λ a member on. stays-lowered r.horizontal_space a (strip.stay.horizontal a (only a member (inl (inl on))) on);
-      vertical = λ a member on. stays-lowered r.vertical_space a (strip.stay.vertical a (only a member (inl (inr on))) on);
-      cut = λ a member on. stays-lowered r.cut_space a (strip.stay.cut a (only a member (inr on)) on);
+      horizontal = λ a member on. stays-lowered r.horizontal.space a (strip.stay.horizontal a (only a member (inl (inl on))) on);
+      vertical = λ a member on. stays-lowered r.vertical.space a (strip.stay.vertical a (only a member (inl (inr on))) on);
+      cut = λ a member on. stays-lowered r.cut.space a (strip.stay.cut a (only a member (inr on)) on);
     }
 
     -- a strip without entries on its lower edge stays one with rectangles that are no wires under it, down to any lower edge

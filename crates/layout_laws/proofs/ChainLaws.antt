@@ -7,7 +7,7 @@ use Rattle.tech_rules.specs.Rules.{RuleValues}
 use Rattle.design_model.specs.Joined.{Conducts, on_one, cut_to_wire, wire_to_cut, Touch}
 use Rattle.design_model.specs.Netlist.{Netlist}
 use Rattle.wire_geom.specs.declared.drawn.Drawn.{Drawn}
-use Rattle.layout_laws.specs.Chains.{AreTied, AreChained, itself, by_touch, by_tie, AreTogether, same, tied}
+use Rattle.layout_laws.proofs.Chains.{AreTied, AreChained, itself, by_touch, by_tie, AreTogether, same, tied}
 
 -- to touch is symmetric
 pub Conducts-sym : {r : RuleValues} {a b : List ℕ} → Conducts r a b → Conducts r b a

@@ -14,7 +14,7 @@ use Rattle.wire_geom.specs.Contact.{layer_name, KeepContact}
 use Rattle.wire_geom.specs.Drawing.{on_horizontal, on_vertical, on_cut, segment_piece, via_piece, drawn_of, drawn_by, drawing}
 use Rattle.wire_geom.specs.declared.drawn.Drawn.{Drawn}
 use Rattle.wire_geom.proofs.DrawingLaws.{drawing_contact}
-use Rattle.layout_laws.specs.Chains.{AreChained, itself}
+use Rattle.layout_laws.proofs.Chains.{AreChained, itself}
 use Rattle.layout_laws.proofs.ChainLaws.{AreChained-trans, AreChained-sym, touch-chained}
 
 -- the layers that wirings have are layers of wires
@@ -50,7 +50,7 @@ module _ (pins : Pins) (wiring : Wiring) (wired : Wired pins wiring) (r : RuleVa
 
   -- the three rectangles of a via are chained through the cut
   abbrev cut_of : Via → Drawn
-  cut_of v = drawn_of r (via_piece r base on_cut r.cut_size v)
+  cut_of v = drawn_of r (via_piece r base on_cut r.cut.size v)
 
   to_cut : (v : Via) → Contains (elements wiring) (via v) → (a : Drawn) → Of (via v) a → To a (cut_of v)
   to_cut v listed a member =

@@ -9,13 +9,13 @@ use Rattle.wire_geom.specs.Grid.{centre, line_at, scaled}
 use Rattle.wire_geom.specs.declared.drawn.Drawn.{Drawn}
 use Rattle.wire_geom.proofs.DrawingLaws.{drawing_wide, drawing_entries}
 use Rattle.wire_geom.proofs.ScaleLaws.{scaled-order}
-use Rattle.layout_laws.specs.Plans.{Plan, row_base, channel_drawn, IsPlan}
-use Rattle.layout_laws.specs.Threads.{EntersBelow, EntersAbove}
+use Rattle.layout_laws.proofs.Plans.{Plan, row_base, channel_drawn, IsPlan}
+use Rattle.layout_laws.proofs.Threads.{EntersBelow, EntersAbove}
 use Rattle.layout_laws.proofs.SeatLaws.{upright-fits}
 
 -- the sides of a wire in a column are in order
-column-wide : (r : RuleValues) (column : ℕ) → scaled r (centre r column - r.vertical_width) ≤ℤ scaled r (centre r column + r.vertical_width)
-column-wide r column = scaled-order r (centre r column - r.vertical_width) (centre r column + r.vertical_width) (omega arith)
+column-wide : (r : RuleValues) (column : ℕ) → scaled r (centre r column - r.vertical.width) ≤ℤ scaled r (centre r column + r.vertical.width)
+column-wide r column = scaled-order r (centre r column - r.vertical.width) (centre r column + r.vertical.width) (omega arith)
 
 -- two vertical wires of one column touch where the one ends at a height at which the other begins
 stands-touch : (r : RuleValues) (column : ℕ) (edge : ℤ) (low high : Drawn) → StandsIn r column low → StandsIn r column high
@@ -27,9 +27,9 @@ stands-touch r column edge low high in_low in_high up_low up_high ends begins =
       layers = on_one (inr in_low.on_layer) (in_low.on_layer ∙ sym in_high.on_layer);
       meet = record {
         left = subst (λ (x : ℤ). x ≤ℤ high.shape.rect.x1) (sym in_low.left)
-            (subst (λ (x : ℤ). scaled r (centre r column - r.vertical_width) ≤ℤ x) (sym in_high.right) wide);
+            (subst (λ (x : ℤ). scaled r (centre r column - r.vertical.width) ≤ℤ x) (sym in_high.right) wide);
         right = subst (λ (x : ℤ). x ≤ℤ low.shape.rect.x1) (sym in_high.left)
-            (subst (λ (x : ℤ). scaled r (centre r column - r.vertical_width) ≤ℤ x) (sym in_low.right) wide);
+            (subst (λ (x : ℤ). scaled r (centre r column - r.vertical.width) ≤ℤ x) (sym in_low.right) wide);
         low = omega (arith, ints, up_low, up_high, ends, begins);
         high = omega (arith, ints, up_low, up_high, ends, begins);
       };
@@ -37,14 +37,14 @@ stands-touch r column edge low high in_low in_high up_low up_high ends begins =
 
 module _ (r : RuleValues) (valid : ValidRules r) (plan : Plan) (is : IsPlan r plan) where
   -- the ends of a wire of a channel are in order
-  channel-up : (k : ℕ) → k ≤ plan.rows → (a : Drawn) → Contains (channel_drawn r plan k) a → a.shape.layer ≡ r.vertical_layer → a.shape.rect.y0 ≤ℤ a.shape.rect.y1
+  channel-up : (k : ℕ) → k ≤ plan.rows → (a : Drawn) → Contains (channel_drawn r plan k) a → a.shape.layer ≡ r.vertical.layer → a.shape.rect.y0 ≤ℤ a.shape.rect.y1
   channel-up k within a member on_layer =
       let sides = (drawing_wide (plan.pins k) (plan.wiring k) (is.wired k within) r valid (plan.base k)).vertical a member on_layer in
       let up = sides.up in
       omega (arith, ints)
 
   -- and those of a wire of a row
-  row-up : (k : ℕ) → k < plan.rows → (a : Drawn) → Contains (plan.row k) a → a.shape.layer ≡ r.vertical_layer → a.shape.rect.y0 ≤ℤ a.shape.rect.y1
+  row-up : (k : ℕ) → k < plan.rows → (a : Drawn) → Contains (plan.row k) a → a.shape.layer ≡ r.vertical.layer → a.shape.rect.y0 ≤ℤ a.shape.rect.y1
   row-up k within a member on_layer =
       let it = is.drawn k within a member (inl (inr on_layer)) in
       let low = ap (λ (e : Extent). e.y0) it.rect in

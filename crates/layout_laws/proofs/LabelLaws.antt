@@ -1,6 +1,7 @@
 use Rattle.std.proofs.Common.{◌≡◌, ap, sym, ◌∙◌, subst, inl, inr, ℕ, List, Contains, Some}
 use Rattle.std.proofs.lemmas.Option.{same_Some}
 use Rattle.std.specs.Prelude.{◌↔◌, slice_get}
+use Rattle.list_facts.proofs.Members.{map-member, get-contains, map-cases, member-place}
 use Rattle.geom_core.specs.declared.layout.Layout.{Layout}
 use Rattle.geom_core.specs.declared.layout.Shape.{Shape}
 use Rattle.geom_core.specs.Rectangles.{HasSides, IsSquare, Apart}
@@ -14,11 +15,10 @@ use Rattle.design_model.specs.declared.design.Pin.{Pin}
 use Rattle.wire_geom.specs.Spaces.{NetsKeep}
 use Rattle.wire_geom.specs.Widths.{IsCovered as IsDrawnCovered}
 use Rattle.wire_geom.specs.declared.drawn.Drawn.{Drawn}
-use Rattle.wire_geom.proofs.ListLaws.{Contains-map, Contains-map_cases}
-use Rattle.layout_laws.specs.Chains.{AreChained, itself, by_touch, by_tie}
-use Rattle.layout_laws.specs.Labels.{IsLabelled}
-use Rattle.layout_laws.specs.Uprights.{IsWired}
-use Rattle.layout_laws.proofs.ListPlaces.{contains-at, at-contains, at-map}
+use Rattle.layout_laws.proofs.Chains.{AreChained, itself, by_touch, by_tie}
+use Rattle.layout_laws.proofs.Labels.{IsLabelled}
+use Rattle.layout_laws.proofs.Uprights.{IsWired}
+use Rattle.layout_laws.proofs.ListPlaces.{at-map}
 use Rattle.wire_geom.proofs.ListLaws.{map-at}
 use Rattle.layout_laws.proofs.TouchLaws.{wire-touches, cut-touches, touch-net, touch-turned}
 
@@ -33,11 +33,11 @@ module _ (r : RuleValues) (d : Netlist) (l : Layout) (ds : List Drawn) (net_at :
 
   -- each shape is that of a rectangle
   drawn-of : (s : Shape) → Contains l.shapes s → (a : Drawn) × Contains ds a × (a.shape ≡ s)
-  drawn-of s has = Contains-map_cases (λ (x : Drawn). x.shape) ds s (subst (λ (shapes : List Shape). Contains shapes s) labelled.pins.shapes has)
+  drawn-of s has = map-cases (λ (x : Drawn). x.shape) ds s (subst (λ (shapes : List Shape). Contains shapes s) labelled.pins.shapes has)
 
   -- each rectangle's shape is in the layout
   shape-of : (a : Drawn) → Contains ds a → Contains l.shapes a.shape
-  shape-of a has = subst (λ (shapes : List Shape). Contains shapes a.shape) (sym labelled.pins.shapes) (Contains-map (λ (x : Drawn). x.shape) ds a has)
+  shape-of a has = subst (λ (shapes : List Shape). Contains shapes a.shape) (sym labelled.pins.shapes) (map-member (λ (x : Drawn). x.shape) ds a has)
 
   -- what covers a cut among the rectangles covers it among the shapes
   covered : (layer : List ℕ) (a : Drawn) → IsDrawnCovered r ds layer a → IsCovered r l layer a.shape
@@ -48,19 +48,19 @@ module _ (r : RuleValues) (d : Netlist) (l : Layout) (ds : List Drawn) (net_at :
   is-wide = record {
     horizontal = λ s has layer.
         let a = drawn-of s has in
-        subst (λ (t : Shape). HasSides (length_in r r.horizontal_width) t.rect) a.2 (labelled.wide.horizontal a.0 a.1 (ap (λ (t : Shape). t.layer) a.2 ∙ layer));
+        subst (λ (t : Shape). HasSides (length_in r r.horizontal.width) t.rect) a.2 (labelled.wide.horizontal a.0 a.1 (ap (λ (t : Shape). t.layer) a.2 ∙ layer));
     vertical = λ s has layer.
         let a = drawn-of s has in
-        subst (λ (t : Shape). HasSides (length_in r r.vertical_width) t.rect) a.2 (labelled.wide.vertical a.0 a.1 (ap (λ (t : Shape). t.layer) a.2 ∙ layer));
+        subst (λ (t : Shape). HasSides (length_in r r.vertical.width) t.rect) a.2 (labelled.wide.vertical a.0 a.1 (ap (λ (t : Shape). t.layer) a.2 ∙ layer));
     cut = λ s has layer.
         let a = drawn-of s has in
-        subst (λ (t : Shape). IsSquare (length_in r r.cut_size) t.rect) a.2 (labelled.wide.cut a.0 a.1 (ap (λ (t : Shape). t.layer) a.2 ∙ layer));
+        subst (λ (t : Shape). IsSquare (length_in r r.cut.size) t.rect) a.2 (labelled.wide.cut a.0 a.1 (ap (λ (t : Shape). t.layer) a.2 ∙ layer));
     in_horizontal = λ s has layer.
         let a = drawn-of s has in
-        subst (IsCovered r l r.horizontal_layer) a.2 (covered r.horizontal_layer a.0 (labelled.wide.in_horizontal a.0 a.1 (ap (λ (t : Shape). t.layer) a.2 ∙ layer)));
+        subst (IsCovered r l r.horizontal.layer) a.2 (covered r.horizontal.layer a.0 (labelled.wide.in_horizontal a.0 a.1 (ap (λ (t : Shape). t.layer) a.2 ∙ layer)));
     in_vertical = λ s has layer.
         let a = drawn-of s has in
-        subst (IsCovered r l r.vertical_layer) a.2 (covered r.vertical_layer a.0 (labelled.wide.in_vertical a.0 a.1 (ap (λ (t : Shape). t.layer) a.2 ∙ layer)));
+        subst (IsCovered r l r.vertical.layer) a.2 (covered r.vertical.layer a.0 (labelled.wide.in_vertical a.0 a.1 (ap (λ (t : Shape). t.layer) a.2 ∙ layer)));
   }
 
   -- rectangles that touch stand at numbers of neighbours
@@ -70,11 +70,11 @@ module _ (r : RuleValues) (d : Netlist) (l : Layout) (ds : List Drawn) (net_at :
   -- numbers of one rectangle are joined: a wire touches itself, and a cut and itself touch what covers it
   same-joined : (i j : ℕ) (a : Drawn) → slice_get ds i ≡ Some a → slice_get ds j ≡ Some a → IsWired r a → Joined r d l j i
   same-joined i j a at_i at_j (inl wire) =
-      step j (touch-neighbours i j a a at_i at_j (wire-touches r ds labelled.wide a (at-contains ds i a at_i) wire)) here
+      step j (touch-neighbours i j a a at_i at_j (wire-touches r ds labelled.wide a (get-contains ds i a at_i) wire)) here
   same-joined i j a at_i at_j (inr cut) =
-      let has = at-contains ds i a at_i in
+      let has = get-contains ds i a at_i in
       let c = labelled.wide.in_horizontal a has cut in
-      let k = contains-at ds c.cover c.is_drawn in
+      let k = member-place ds c.cover c.is_drawn in
       let touch = cut-touches r ds labelled.wide a has cut c in
       step k.0 (touch-neighbours i k.0 a c.cover at_i k.1 touch)
       (step j (touch-neighbours k.0 j c.cover a k.1 at_j (touch-turned r a.shape c.cover.shape touch)) here)
@@ -95,17 +95,17 @@ module _ (r : RuleValues) (d : Netlist) (l : Layout) (ds : List Drawn) (net_at :
   chained-joined : (b a : Drawn) → AreChained r d l ds b a → (i j : ℕ) → slice_get ds i ≡ Some a → slice_get ds j ≡ Some b → IsWired r b → Joined r d l j i
   chained-joined b a itself i j at_i at_j wired = same-joined i j a at_i at_j wired
   chained-joined b a (by_touch c has touch more) i j at_i at_j wired =
-      let k = contains-at ds c has in
+      let k = member-place ds c has in
       step k.0 (touch-neighbours i k.0 a c at_i k.1 touch) (chained-joined b c more k.0 j k.1 at_j wired)
   chained-joined b a (by_tie c tie more) i j at_i at_j wired =
       let wire = drawing-wire tie.cell tie.instance tie.terminal tie.from a tie.first tie.at_from in
-      step tie.from (touch-neighbours i tie.from a a at_i tie.at_from (wire-touches r ds labelled.wide a (at-contains ds i a at_i) wire))
+      step tie.from (touch-neighbours i tie.from a a at_i tie.at_from (wire-touches r ds labelled.wide a (get-contains ds i a at_i) wire))
       (step tie.to (of_one_terminal tie.cell tie.instance tie.terminal tie.first tie.second) (chained-joined b c more tie.to j tie.at_to at_j wired))
 
   -- wires and cuts of one net are joined
   net-joined : (i j : ℕ) (a b : Drawn) → slice_get ds i ≡ Some a → slice_get ds j ≡ Some b → IsWired r a → IsWired r b → a.net ≡ b.net → Joined r d l j i
   net-joined i j a b at_i at_j wired_a wired_b same =
-      chained-joined b a (labelled.chained a b (at-contains ds i a at_i) (at-contains ds j b at_j) wired_a wired_b same) i j at_i at_j wired_b
+      chained-joined b a (labelled.chained a b (get-contains ds i a at_i) (get-contains ds j b at_j) wired_a wired_b same) i j at_i at_j wired_b
 
   -- shapes of a layer of wires or cuts that are not joined keep the space that different nets keep
   keeps : (layer : List ℕ) (space : ℕ) → ((a : Drawn) → a.shape.layer ≡ layer → IsWired r a) → NetsKeep r ds layer space → KeepSpace r d l layer space
@@ -116,15 +116,15 @@ module _ (r : RuleValues) (d : Netlist) (l : Layout) (ds : List Drawn) (net_at :
       let on_b : b.0.shape.layer ≡ layer = ap (λ (x : Shape). x.layer) b.2 ∙ on_t in
       subst (λ (x : Shape). Apart (length_in r space) x.rect t.rect) a.2
       (subst (λ (x : Shape). Apart (length_in r space) a.0.shape.rect x.rect) b.2
-      (keep a.0 b.0 (at-contains ds i a.0 a.1) (at-contains ds j b.0 b.1) on_a on_b
+      (keep a.0 b.0 (get-contains ds i a.0 a.1) (get-contains ds j b.0 b.1) on_a on_b
       (λ same. parted (net-joined i j a.0 b.0 a.1 b.1 (wired a.0 on_a) (wired b.0 on_b) same))))
 
   -- the shapes keep their spaces
   is-spaced : Spaced r d l
   is-spaced = record {
-    horizontal = keeps r.horizontal_layer r.horizontal_space (λ a on. inl (inl on)) labelled.apart.horizontal;
-    vertical = keeps r.vertical_layer r.vertical_space (λ a on. inl (inr on)) labelled.apart.vertical;
-    cut = keeps r.cut_layer r.cut_space (λ a on. inr on) labelled.apart.cut;
+    horizontal = keeps r.horizontal.layer r.horizontal.space (λ a on. inl (inl on)) labelled.apart.horizontal;
+    vertical = keeps r.vertical.layer r.vertical.space (λ a on. inl (inr on)) labelled.apart.vertical;
+    cut = keeps r.cut.layer r.cut.space (λ a on. inr on) labelled.apart.cut;
   }
 
   -- a drawing of a pin is a vertical wire of the pin's net
@@ -155,7 +155,7 @@ module _ (r : RuleValues) (d : Netlist) (l : Layout) (ds : List Drawn) (net_at :
         let c = drawn-at k t at_k in
         let first : s ≡ a.shape = same_Some s a.shape (sym at_i ∙ shape-at i a at) in
         let touches : Touch r a.shape c.0.shape = subst (λ (x : Shape). Touch r x c.0.shape) first (subst (λ (x : Shape). Touch r s x) (sym c.2) touch) in
-        (c.0, c.1, touch-net r ds labelled.wide valid labelled.apart a c.0 (at-contains ds i a at) (at-contains ds k c.0 c.1) touches)
+        (c.0, c.1, touch-net r ds labelled.wide valid labelled.apart a c.0 (get-contains ds i a at) (get-contains ds k c.0 c.1) touches)
     neighbour-net i k a at (of_one_terminal cell instance terminal first second) =
         let c = labelled.pins.drawn cell instance terminal k second in
         (c.0, c.1, drawing-net cell instance terminal i a first at ∙ sym c.3)

@@ -26,3 +26,16 @@ pub mod PlanPlaces
 pub mod EntryTouches
 -- the rectangles of one net of a plan are chained
 pub mod ThreadLaws
+-- rectangles of one net that touch, or draw one terminal
+pub mod Chains
+-- a layout whose shapes have nets
+pub mod Labels
+-- a band of a layout between two edges, and what it keeps from its neighbours
+pub mod Strips
+-- how a net threads its channels and rows
+pub mod Threads
+pub mod Uprights
+-- rows and channels on one another
+pub mod Plans
+-- a row of seats side by side, with the vertical wires that stand in them
+pub mod Seats

@@ -5,9 +5,10 @@ use Rattle.tech_rules.specs.Rules.{RuleValues, ValidRules}
 use Rattle.wire_geom.specs.Edges.{bottom_entry, top_entry}
 use Rattle.wire_geom.specs.Spaces.{NetsApart}
 use Rattle.wire_geom.specs.Widths.{AreWide}
-use Rattle.layout_laws.specs.Plans.{Plan, channel_height, row_base, channel_drawn, drawn_to, plan_drawn, IsPlan}
-use Rattle.layout_laws.specs.Seats.{Seat, UprightAt, LowerNet, UpperNet}
-use Rattle.layout_laws.specs.Strips.{Strip, IsTall}
+use Rattle.layout_laws.specs.Heights.{channel_height}
+use Rattle.layout_laws.proofs.Plans.{Plan, row_base, channel_drawn, drawn_to, plan_drawn, IsPlan}
+use Rattle.layout_laws.proofs.Seats.{Seat, UprightAt, LowerNet, UpperNet}
+use Rattle.layout_laws.proofs.Strips.{Strip, IsTall}
 use Rattle.layout_laws.proofs.BareLaws.{IsBare, strip-lowered}
 use Rattle.layout_laws.proofs.RowLaws.{row-strip}
 use Rattle.layout_laws.proofs.SeatLaws.{UprightAt-none, LowerNet-one, UpperNet-one}
@@ -16,7 +17,7 @@ use Rattle.layout_laws.proofs.StripLaws.{channel-strip, strip-on}
 -- a channel is at least as high as one track, which holds the vertical space
 pub channel-tall : (r : RuleValues) → ValidRules r → (base : ℕ) (wiring : Wiring) → IsTall r (2 * base) (2 * (base + channel_height r wiring))
 channel-tall r valid base wiring =
-    let one : 1 * r.grid_track ≤ (wiring.tracks + 1) * r.grid_track = mul-le-mul_right {m = 1} {n = wiring.tracks + 1} r.grid_track (omega arith) in
+    let one : 1 * r.grid.track ≤ (wiring.tracks + 1) * r.grid.track = mul-le-mul_right {m = 1} {n = wiring.tracks + 1} r.grid.track (omega arith) in
     omega (arith, one, valid.track_vertical)
 
 module _ (r : RuleValues) (valid : ValidRules r) (plan : Plan) (is : IsPlan r plan) where
@@ -41,7 +42,7 @@ module _ (r : RuleValues) (valid : ValidRules r) (plan : Plan) (is : IsPlan r pl
   channel_of k within = channel-strip r valid (plan.pins k) (plan.wiring k) (is.wired k within) (plan.base k)
 
   -- and it is high enough for wires beyond its two edges
-  tall_row : (k : ℕ) → k < plan.rows → r.vertical_space ≤ plan.height k → IsTall r (floor_of k) (ceiling_of k)
+  tall_row : (k : ℕ) → k < plan.rows → r.vertical.space ≤ plan.height k → IsTall r (floor_of k) (ceiling_of k)
   tall_row k within tall = omega (arith, is.next k within, tall)
 
   -- a row without seats has no wires, and no entries on its upper edge

@@ -3,7 +3,7 @@ use Rattle.std.proofs.lemmas.Bool.{cases_eq}
 use Rattle.std.proofs.lemmas.List.Elements.{Contains-append_left, Contains-append_right, Contains-append_cases}
 use Rattle.tech_rules.specs.Rules.{RuleValues}
 use Rattle.wire_geom.specs.declared.drawn.Drawn.{Drawn}
-use Rattle.layout_laws.specs.Plans.{Plan, channel_drawn, drawn_to}
+use Rattle.layout_laws.proofs.Plans.{Plan, channel_drawn, drawn_to}
 
 -- where a rectangle up to channel n stands
 pub data Place (r : RuleValues) (plan : Plan) (n : ℕ) (a : Drawn) : Type 0 where

@@ -9,9 +9,9 @@ use Rattle.wire_geom.specs.Widths.{AreWide}
 use Rattle.wire_geom.specs.Spaces.{NetsApart}
 use Rattle.wire_geom.specs.declared.drawn.Drawn.{Drawn}
 use Rattle.wire_geom.proofs.ScaleLaws.{scaled-order, scaled-gap}
-use Rattle.layout_laws.specs.Seats.{AreParted, FitsRow, IsSeat, LowerNet, Seat, UpperNet, Upright, UprightAt}
-use Rattle.layout_laws.specs.Strips.{Stays, Stay, Strip}
-use Rattle.layout_laws.specs.Uprights.{DrawsUpright, DrawUprights, upright_rect}
+use Rattle.layout_laws.proofs.Seats.{AreParted, FitsRow, IsSeat, LowerNet, Seat, UpperNet, Upright, UprightAt}
+use Rattle.layout_laws.proofs.Strips.{Stays, Stay, Strip}
+use Rattle.layout_laws.proofs.Uprights.{DrawsUpright, DrawUprights, upright_rect}
 use Rattle.layout_laws.proofs.SeatLaws.{upright-fits, uprights-parted}
 use Rattle.layout_laws.proofs.StripLaws.{columns-apart}
 
@@ -25,26 +25,26 @@ drawn-stands r base seats a it = record {
 
 module _ (r : RuleValues) (valid : ValidRules r) (base height : ℕ) where
   -- an upright that fits its row is as wide and as long as its layer's rule says
-  upright-wide : (u : Upright) → FitsRow r height u → (column : ℕ) → HasSides (length_in r r.vertical_width) (upright_rect r base u column)
+  upright-wide : (u : Upright) → FitsRow r height u → (column : ℕ) → HasSides (length_in r r.vertical.width) (upright_rect r base u column)
   upright-wide u fits column = record {
-    across = scaled-gap r (centre r column - r.vertical_width) r.vertical_width (centre r column + r.vertical_width)
+    across = scaled-gap r (centre r column - r.vertical.width) r.vertical.width (centre r column + r.vertical.width)
         (omega (arith, valid.pad_vertical, valid.column_vertical));
-    up = scaled-gap r (2 * (base + u.low)) r.vertical_width (2 * (base + u.high)) (omega (arith, fits.long));
+    up = scaled-gap r (2 * (base + u.low)) r.vertical.width (2 * (base + u.high)) (omega (arith, fits.long));
   }
 
   -- two uprights that are parted in a column are of one net, or their rectangles keep their space
   rects-apart : (u v : Upright) (column : ℕ) → AreParted r u v
-      → (u.net ≡ v.net) ⊎ Apart (length_in r r.vertical_space) (upright_rect r base u column) (upright_rect r base v column)
+      → (u.net ≡ v.net) ⊎ Apart (length_in r r.vertical.space) (upright_rect r base u column) (upright_rect r base v column)
   rects-apart u v column (inl same) = inl same
-  rects-apart u v column (inr (inl below)) = inr (under (scaled-gap r (2 * (base + u.high)) r.vertical_space (2 * (base + v.low)) (omega (arith, below))))
-  rects-apart u v column (inr (inr over)) = inr (higher (scaled-gap r (2 * (base + v.high)) r.vertical_space (2 * (base + u.low)) (omega (arith, over))))
+  rects-apart u v column (inr (inl below)) = inr (under (scaled-gap r (2 * (base + u.high)) r.vertical.space (2 * (base + v.low)) (omega (arith, below))))
+  rects-apart u v column (inr (inr over)) = inr (higher (scaled-gap r (2 * (base + v.high)) r.vertical.space (2 * (base + u.low)) (omega (arith, over))))
 
   module _ (seats : List Seat) (are : (seat : Seat) → Contains seats seat → IsSeat r height seat) where
     fits-of : (a : Drawn) (it : DrawsUpright r base seats a) → FitsRow r height it.upright
     fits-of a it = upright-fits r valid height seats are 0 it.column it.upright it.at
 
     -- the wires of a row of different nets keep their space
-    drawn-apart : (a b : Drawn) → DrawsUpright r base seats a → DrawsUpright r base seats b → a.net ≢ b.net → Apart (length_in r r.vertical_space) a.shape.rect b.shape.rect
+    drawn-apart : (a b : Drawn) → DrawsUpright r base seats a → DrawsUpright r base seats b → a.net ≢ b.net → Apart (length_in r r.vertical.space) a.shape.rect b.shape.rect
     drawn-apart a b it other differ =
         elim (columns-apart r valid it.column other.column a b (drawn-stands r base seats a it) (drawn-stands r base seats b other)) [
           | inr apart ↦ apart
@@ -53,15 +53,15 @@ module _ (r : RuleValues) (valid : ValidRules r) (base height : ℕ) where
               elim (rects-apart it.upright other.upright it.column (uprights-parted r valid height seats are 0 it.column it.upright other.upright it.at here)) [
                 | inl one ↦ absurd (differ (it.net ∙ one ∙ sym other.net))
                 | inr apart ↦
-                    subst (λ (e : Extent). Apart (length_in r r.vertical_space) e b.shape.rect) (sym it.rect)
-                    (subst (λ (e : Extent). Apart (length_in r r.vertical_space) (upright_rect r base it.upright it.column) e)
+                    subst (λ (e : Extent). Apart (length_in r r.vertical.space) e b.shape.rect) (sym it.rect)
+                    (subst (λ (e : Extent). Apart (length_in r r.vertical.space) (upright_rect r base it.upright it.column) e)
                     (ap (λ (c : ℕ). upright_rect r base other.upright c) same ∙ sym other.rect) apart)
               ]
         ]
 
     -- each wire comes to the row's edges only over entries of its net
     drawn-stays : (a : Drawn) → DrawsUpright r base seats a
-        → Stays r (2 * base) (2 * (base + height)) (LowerNet seats) (UpperNet height seats) r.vertical_space a
+        → Stays r (2 * base) (2 * (base + height)) (LowerNet seats) (UpperNet height seats) r.vertical.space a
     drawn-stays a it =
         let low = ap (λ (e : Extent). e.y0) it.rect in
         let high = ap (λ (e : Extent). e.y1) it.rect in
@@ -76,7 +76,7 @@ module _ (r : RuleValues) (valid : ValidRules r) (base height : ℕ) where
               stands = drawn-stands r base seats a it;
               has_entry = record { upright = u; at = it.at; comes = at_lower; of_net = sym it.net };
             })
-            | inr far ↦ inl (rw low (scaled-gap r (2 * base) r.vertical_space (2 * (base + u.low)) (omega (arith, far))))
+            | inr far ↦ inl (rw low (scaled-gap r (2 * base) r.vertical.space (2 * (base + u.low)) (omega (arith, far))))
           ];
           above = elim fits.above [
             | inl at_upper ↦ inr (record {
@@ -84,16 +84,16 @@ module _ (r : RuleValues) (valid : ValidRules r) (base height : ℕ) where
               stands = drawn-stands r base seats a it;
               has_entry = record { upright = u; at = it.at; comes = at_upper; of_net = sym it.net };
             })
-            | inr far ↦ inl (rw high (scaled-gap r (2 * (base + u.high)) r.vertical_space (2 * (base + height)) (omega (arith, far))))
+            | inr far ↦ inl (rw high (scaled-gap r (2 * (base + u.high)) r.vertical.space (2 * (base + height)) (omega (arith, far))))
           ];
         }
 
     module _ (ds : List Drawn) (drawn : DrawUprights r base seats ds) where
       -- a row has no horizontal wires and no cuts
-      no_horizontal : (a : Drawn) → Contains ds a → a.shape.layer ≡ r.horizontal_layer → ⊥
+      no_horizontal : (a : Drawn) → Contains ds a → a.shape.layer ≡ r.horizontal.layer → ⊥
       no_horizontal a member on = valid.layers.horizontal_vertical (sym on ∙ (drawn a member (inl (inl on))).layer)
 
-      no_cut : (a : Drawn) → Contains ds a → a.shape.layer ≡ r.cut_layer → ⊥
+      no_cut : (a : Drawn) → Contains ds a → a.shape.layer ≡ r.cut.layer → ⊥
       no_cut a member on = valid.layers.vertical_cut (sym (drawn a member (inr on)).layer ∙ on)
 
       row_wide : AreWide r ds
@@ -101,7 +101,7 @@ module _ (r : RuleValues) (valid : ValidRules r) (base height : ℕ) where
         horizontal = λ a member on. absurd (no_horizontal a member on);
         vertical = λ a member on.
             let it = drawn a member (inl (inr on)) in
-            subst (HasSides (length_in r r.vertical_width)) (sym it.rect) (upright-wide it.upright (fits-of a it) it.column);
+            subst (HasSides (length_in r r.vertical.width)) (sym it.rect) (upright-wide it.upright (fits-of a it) it.column);
         cut = λ a member on. absurd (no_cut a member on);
         in_horizontal = λ a member on. absurd (no_cut a member on);
         in_vertical = λ a member on. absurd (no_cut a member on);

@@ -1,8 +1,8 @@
 use Rattle.std.proofs.Common.{◌≡◌, ◌⊎◌, inl, inr, refl, sym, ◌∙◌, ℕ, ◌+◌, ◌≤◌, List, [], ◌∷◌, Contains, arith}
 use Rattle.std.proofs.lemmas.List.Elements.{Contains-append_right}
-use Rattle.layout_laws.specs.Seats.{AreParted, FitsRow, ComesToLower, ComesToUpper, IsSeat, LowerNet, Seat, UpperNet, Upright, UprightAt, further, here}
+use Rattle.layout_laws.proofs.Seats.{AreParted, FitsRow, ComesToLower, ComesToUpper, IsSeat, LowerNet, Seat, UpperNet, Upright, UprightAt, further, here}
 use Rattle.tech_rules.specs.Rules.{RuleValues, ValidRules}
-use Rattle.layout_laws.specs.Strips.{Agree}
+use Rattle.layout_laws.proofs.Strips.{Agree}
 
 -- no upright stands left of its seats
 pub UprightAt-left : (s : Upright) (column left : ℕ) (seats : List Seat) → UprightAt s column left seats → left ≤ column
@@ -51,13 +51,13 @@ module _ (r : RuleValues) (valid : ValidRules r) (height : ℕ) where
   -- parted uprights that come to one edge are of one net
   lower-one : (u v : Upright) → FitsRow r height u → FitsRow r height v → AreParted r u v → ComesToLower u → ComesToLower v → u.net ≡ v.net
   lower-one u v fit_u fit_v (inl same) lower_u lower_v = same
-  lower-one u v fit_u fit_v (inr (inl under)) lower_u lower_v = absurd (omega (arith, fit_u.long, valid.ranges.vertical_width))
-  lower-one u v fit_u fit_v (inr (inr over)) lower_u lower_v = absurd (omega (arith, fit_v.long, valid.ranges.vertical_width))
+  lower-one u v fit_u fit_v (inr (inl under)) lower_u lower_v = absurd (omega (arith, fit_u.long, valid.ranges.vertical.width))
+  lower-one u v fit_u fit_v (inr (inr over)) lower_u lower_v = absurd (omega (arith, fit_v.long, valid.ranges.vertical.width))
 
   upper-one : (u v : Upright) → FitsRow r height u → FitsRow r height v → AreParted r u v → ComesToUpper height u → ComesToUpper height v → u.net ≡ v.net
   upper-one u v fit_u fit_v (inl same) upper_u upper_v = same
-  upper-one u v fit_u fit_v (inr (inl under)) upper_u upper_v = absurd (omega (arith, fit_v.long, valid.ranges.vertical_width))
-  upper-one u v fit_u fit_v (inr (inr over)) upper_u upper_v = absurd (omega (arith, fit_u.long, valid.ranges.vertical_width))
+  upper-one u v fit_u fit_v (inr (inl under)) upper_u upper_v = absurd (omega (arith, fit_v.long, valid.ranges.vertical.width))
+  upper-one u v fit_u fit_v (inr (inr over)) upper_u upper_v = absurd (omega (arith, fit_u.long, valid.ranges.vertical.width))
 
   module _ (seats : List Seat) (are : (seat : Seat) → Contains seats seat → IsSeat r height seat) where
     -- in each column of the row's lower edge, and of its upper edge, there is one net

@@ -18,8 +18,8 @@ use Rattle.wire_geom.specs.declared.drawn.Drawn.{Drawn}
 use Rattle.wire_geom.proofs.DrawingLaws.{drawing_wide, drawing_apart, drawing_edges}
 use Rattle.wire_geom.proofs.GridLaws.{centre-step}
 use Rattle.wire_geom.proofs.ScaleLaws.{scaled-order, scaled-gap}
-use Rattle.layout_laws.specs.Plans.{channel_height}
-use Rattle.layout_laws.specs.Strips.{Stays, Strip, IsTall, Agree}
+use Rattle.layout_laws.specs.Heights.{channel_height}
+use Rattle.layout_laws.proofs.Strips.{Stays, Strip, IsTall, Agree}
 
 -- a gap is one in either order
 pub Apart-sym : (r : RuleValues) (space : ℕ) (a b : Drawn) → Apart (length_in r space) a.shape.rect b.shape.rect → Apart (length_in r space) b.shape.rect a.shape.rect
@@ -39,15 +39,15 @@ each_of P ds es first second d member =
 
 -- vertical wires in a column and in a later one keep their space
 pub columns-gap : (r : RuleValues) → ValidRules r → (c d : ℕ) (a b : Drawn) → c < d → StandsIn r c a → StandsIn r d b
-    → (a.shape.rect.x1 +ℤ length_in r r.vertical_space) ≤ℤ b.shape.rect.x0
+    → (a.shape.rect.x1 +ℤ length_in r r.vertical.space) ≤ℤ b.shape.rect.x0
 columns-gap r valid c d a b order in_c in_d =
     rw (in_c.right, in_d.left)
-    (scaled-gap r (centre r c + r.vertical_width) r.vertical_space (centre r d - r.vertical_width)
+    (scaled-gap r (centre r c + r.vertical.width) r.vertical.space (centre r d - r.vertical.width)
     (omega (arith, centre-step r c d order, valid.pad_vertical, valid.column_vertical)))
 
 -- vertical wires stand in one column, or keep their space
 pub columns-apart : (r : RuleValues) → ValidRules r → (c d : ℕ) (a b : Drawn) → StandsIn r c a → StandsIn r d b
-    → (c ≡ d) ⊎ Apart (length_in r r.vertical_space) a.shape.rect b.shape.rect
+    → (c ≡ d) ⊎ Apart (length_in r r.vertical.space) a.shape.rect b.shape.rect
 columns-apart r valid c d a b in_c in_d =
     elim (cases_lt c d) [
       | inl before ↦ inr (left_of (columns-gap r valid c d a b before in_c in_d))
@@ -82,12 +82,12 @@ AreWide-append r ds es first second = record {
   horizontal = each_of _ ds es first.horizontal second.horizontal;
   vertical = each_of _ ds es first.vertical second.vertical;
   cut = each_of _ ds es first.cut second.cut;
-  in_horizontal = each_of (λ (d : Drawn). d.shape.layer ≡ r.cut_layer → IsCovered r (ds ++ es) r.horizontal_layer d) ds es
-      (λ d member on. covered_left r ds es r.horizontal_layer d (first.in_horizontal d member on))
-      (λ d member on. covered_right r ds es r.horizontal_layer d (second.in_horizontal d member on));
-  in_vertical = each_of (λ (d : Drawn). d.shape.layer ≡ r.cut_layer → IsCovered r (ds ++ es) r.vertical_layer d) ds es
-      (λ d member on. covered_left r ds es r.vertical_layer d (first.in_vertical d member on))
-      (λ d member on. covered_right r ds es r.vertical_layer d (second.in_vertical d member on));
+  in_horizontal = each_of (λ (d : Drawn). d.shape.layer ≡ r.cut.layer → IsCovered r (ds ++ es) r.horizontal.layer d) ds es
+      (λ d member on. covered_left r ds es r.horizontal.layer d (first.in_horizontal d member on))
+      (λ d member on. covered_right r ds es r.horizontal.layer d (second.in_horizontal d member on));
+  in_vertical = each_of (λ (d : Drawn). d.shape.layer ≡ r.cut.layer → IsCovered r (ds ++ es) r.vertical.layer d) ds es
+      (λ d member on. covered_left r ds es r.vertical.layer d (first.in_vertical d member on))
+      (λ d member on. covered_right r ds es r.vertical.layer d (second.in_vertical d member on));
 }
 
 -- what reaches an edge over an entry may also leave its space
@@ -112,9 +112,9 @@ channel-strip r valid pins wiring wired base =
       wide = drawing_wide pins wiring wired r valid base;
       apart = drawing_apart pins wiring wired r valid base;
       stay = record {
-        horizontal = λ a member on. Stays-kept r (line_at r base 0) ceiling (bottom_entry pins) (top_entry pins) r.horizontal_space a (edges.horizontal a member on);
-        vertical = λ a member on. Stays-kept r (line_at r base 0) ceiling (bottom_entry pins) (top_entry pins) r.vertical_space a (edges.vertical a member on);
-        cut = λ a member on. Stays-kept r (line_at r base 0) ceiling (bottom_entry pins) (top_entry pins) r.cut_space a (edges.cut a member on);
+        horizontal = λ a member on. Stays-kept r (line_at r base 0) ceiling (bottom_entry pins) (top_entry pins) r.horizontal.space a (edges.horizontal a member on);
+        vertical = λ a member on. Stays-kept r (line_at r base 0) ceiling (bottom_entry pins) (top_entry pins) r.vertical.space a (edges.vertical a member on);
+        cut = λ a member on. Stays-kept r (line_at r base 0) ceiling (bottom_entry pins) (top_entry pins) r.cut.space a (edges.cut a member on);
       };
     })
 
@@ -126,7 +126,7 @@ StaysOn r floor ceiling lower upper ds layer space =
 module _ (r : RuleValues) (valid : ValidRules r) (floor middle ceiling : ℕ) (lower below above upper : ℕ → ℕ → Type 0)
     (agree : Agree below above) (tall_low : IsTall r floor middle) (tall_high : IsTall r middle ceiling) where
   -- a rectangle below the common edge and one above it, of different nets
-  over : (space : ℕ) (a b : Drawn) → (a.shape.layer ≡ r.vertical_layer → space ≡ r.vertical_space) → a.net ≢ b.net
+  over : (space : ℕ) (a b : Drawn) → (a.shape.layer ≡ r.vertical.layer → space ≡ r.vertical.space) → a.net ≢ b.net
       → Stays r floor middle lower below space a → Stays r middle ceiling above upper space b → Apart (length_in r space) a.shape.rect b.shape.rect
   over space a b named differ stays_a stays_b =
       elim stays_a.above [
@@ -145,7 +145,7 @@ module _ (r : RuleValues) (valid : ValidRules r) (floor middle ceiling : ℕ) (l
       ]
 
   -- a rectangle below the common edge keeps its space from the upper edge, and one above it from the lower edge
-  stays_below : (space : ℕ) (a : Drawn) → (a.shape.layer ≡ r.vertical_layer → space ≡ r.vertical_space)
+  stays_below : (space : ℕ) (a : Drawn) → (a.shape.layer ≡ r.vertical.layer → space ≡ r.vertical.space)
       → Stays r floor middle lower below space a → Stays r floor ceiling lower upper space a
   stays_below space a named stays =
       let order = scaled-order r middle ceiling (omega (arith, tall_high)) in
@@ -156,13 +156,13 @@ module _ (r : RuleValues) (valid : ValidRules r) (floor middle ceiling : ℕ) (l
         above = elim stays.above [
           | inl far ↦ inl (omega (arith, ints, far, order))
           | inr enters ↦
-              let gap = scaled-gap r middle r.vertical_space ceiling tall_high in
+              let gap = scaled-gap r middle r.vertical.space ceiling tall_high in
               inl (subst (λ (n : ℕ). (a.shape.rect.y1 +ℤ length_in r n) ≤ℤ scaled r ceiling) (sym (named enters.stands.on_layer))
               (omega (arith, ints, stays.to, gap)))
         ];
       }
 
-  stays_above : (space : ℕ) (a : Drawn) → (a.shape.layer ≡ r.vertical_layer → space ≡ r.vertical_space)
+  stays_above : (space : ℕ) (a : Drawn) → (a.shape.layer ≡ r.vertical.layer → space ≡ r.vertical.space)
       → Stays r middle ceiling above upper space a → Stays r floor ceiling lower upper space a
   stays_above space a named stays =
       let order = scaled-order r floor middle (omega (arith, tall_low)) in
@@ -172,7 +172,7 @@ module _ (r : RuleValues) (valid : ValidRules r) (floor middle ceiling : ℕ) (l
         below = elim stays.below [
           | inl far ↦ inl (omega (arith, ints, far, order))
           | inr enters ↦
-              let gap = scaled-gap r floor r.vertical_space middle tall_low in
+              let gap = scaled-gap r floor r.vertical.space middle tall_low in
               inl (subst (λ (n : ℕ). (scaled r floor +ℤ length_in r n) ≤ℤ a.shape.rect.y0) (sym (named enters.stands.on_layer))
               (omega (arith, ints, stays.from, gap)))
         ];
@@ -181,7 +181,7 @@ module _ (r : RuleValues) (valid : ValidRules r) (floor middle ceiling : ℕ) (l
 
   module _ (ds es : List Drawn) where
     -- on one layer
-    keep_on : (layer : List ℕ) (space : ℕ) → (layer ≡ r.vertical_layer → space ≡ r.vertical_space)
+    keep_on : (layer : List ℕ) (space : ℕ) → (layer ≡ r.vertical.layer → space ≡ r.vertical.space)
         → NetsKeep r ds layer space → NetsKeep r es layer space
         → StaysOn r floor middle lower below ds layer space → StaysOn r middle ceiling above upper es layer space → NetsKeep r (ds ++ es) layer space
     keep_on layer space named low high stay_low stay_high a b member_a member_b on_a on_b differ =
@@ -197,7 +197,7 @@ module _ (r : RuleValues) (valid : ValidRules r) (floor middle ceiling : ℕ) (l
           ]
         ]
 
-    stay_on : (layer : List ℕ) (space : ℕ) → (layer ≡ r.vertical_layer → space ≡ r.vertical_space)
+    stay_on : (layer : List ℕ) (space : ℕ) → (layer ≡ r.vertical.layer → space ≡ r.vertical.space)
         → StaysOn r floor middle lower below ds layer space → StaysOn r middle ceiling above upper es layer space
         → StaysOn r floor ceiling lower upper (ds ++ es) layer space
     stay_on layer space named stay_low stay_high a member on =
@@ -209,19 +209,19 @@ module _ (r : RuleValues) (valid : ValidRules r) (floor middle ceiling : ℕ) (l
     -- a strip on a strip is a strip
     pub strip-on : Strip r floor middle lower below ds → Strip r middle ceiling above upper es → Strip r floor ceiling lower upper (ds ++ es)
     strip-on low high =
-        let horizontal : r.horizontal_layer ≡ r.vertical_layer → r.horizontal_space ≡ r.vertical_space = λ e. absurd (valid.layers.horizontal_vertical e) in
-        let vertical : r.vertical_layer ≡ r.vertical_layer → r.vertical_space ≡ r.vertical_space = λ e. refl in
-        let cut : r.cut_layer ≡ r.vertical_layer → r.cut_space ≡ r.vertical_space = λ e. absurd (valid.layers.vertical_cut (sym e)) in
+        let horizontal : r.horizontal.layer ≡ r.vertical.layer → r.horizontal.space ≡ r.vertical.space = λ e. absurd (valid.layers.horizontal_vertical e) in
+        let vertical : r.vertical.layer ≡ r.vertical.layer → r.vertical.space ≡ r.vertical.space = λ e. refl in
+        let cut : r.cut.layer ≡ r.vertical.layer → r.cut.space ≡ r.vertical.space = λ e. absurd (valid.layers.vertical_cut (sym e)) in
         record {
           wide = AreWide-append r ds es low.wide high.wide;
           apart = record {
-            horizontal = keep_on r.horizontal_layer r.horizontal_space horizontal low.apart.horizontal high.apart.horizontal low.stay.horizontal high.stay.horizontal;
-            vertical = keep_on r.vertical_layer r.vertical_space vertical low.apart.vertical high.apart.vertical low.stay.vertical high.stay.vertical;
-            cut = keep_on r.cut_layer r.cut_space cut low.apart.cut high.apart.cut low.stay.cut high.stay.cut;
+            horizontal = keep_on r.horizontal.layer r.horizontal.space horizontal low.apart.horizontal high.apart.horizontal low.stay.horizontal high.stay.horizontal;
+            vertical = keep_on r.vertical.layer r.vertical.space vertical low.apart.vertical high.apart.vertical low.stay.vertical high.stay.vertical;
+            cut = keep_on r.cut.layer r.cut.space cut low.apart.cut high.apart.cut low.stay.cut high.stay.cut;
           };
           stay = record {
-            horizontal = stay_on r.horizontal_layer r.horizontal_space horizontal low.stay.horizontal high.stay.horizontal;
-            vertical = stay_on r.vertical_layer r.vertical_space vertical low.stay.vertical high.stay.vertical;
-            cut = stay_on r.cut_layer r.cut_space cut low.stay.cut high.stay.cut;
+            horizontal = stay_on r.horizontal.layer r.horizontal.space horizontal low.stay.horizontal high.stay.horizontal;
+            vertical = stay_on r.vertical.layer r.vertical.space vertical low.stay.vertical high.stay.vertical;
+            cut = stay_on r.cut.layer r.cut.space cut low.stay.cut high.stay.cut;
           };
         }

@@ -7,10 +7,10 @@ use Rattle.design_model.specs.Netlist.{Netlist}
 use Rattle.wire_geom.specs.Edges.{bottom_entry, top_entry}
 use Rattle.wire_geom.specs.declared.drawn.Drawn.{Drawn}
 use Rattle.wire_geom.proofs.DrawingLaws.{drawing_contact}
-use Rattle.layout_laws.specs.Chains.{AreChained, itself}
-use Rattle.layout_laws.specs.Plans.{Plan, channel_drawn, plan_drawn, IsPlan}
-use Rattle.layout_laws.specs.Threads.{Entering, into_below, into_above, Threads, IsLone, AreThreaded}
-use Rattle.layout_laws.specs.Uprights.{IsWired}
+use Rattle.layout_laws.proofs.Chains.{AreChained, itself}
+use Rattle.layout_laws.proofs.Plans.{Plan, channel_drawn, plan_drawn, IsPlan}
+use Rattle.layout_laws.proofs.Threads.{Entering, into_below, into_above, Threads, IsLone, AreThreaded}
+use Rattle.layout_laws.proofs.Uprights.{IsWired}
 use Rattle.layout_laws.proofs.ChainLaws.{Touch-sym, AreChained-trans, AreChained-sym, touch-chained, AreTogether-chained}
 use Rattle.layout_laws.proofs.ChannelChains.{channel_chained}
 use Rattle.layout_laws.proofs.EntryTouches.{touch_below, touch_above}

@@ -10,21 +10,21 @@ statement words = ended (codes ";\n") words
 
 -- the middle of a column, and the least height of cells, in units
 unfoldable pub middle : RuleValues → ℕ → ℕ
-middle r column = column * r.grid_column + r.grid_column / 2
+middle r column = column * r.grid.column + r.grid.column / 2
 
 unfoldable pub made_height : RuleValues → ℕ
-made_height r = 2 * r.grid_pin + r.vertical_space
+made_height r = 2 * r.grid.pin + r.vertical.space
 
 -- the line of a position of a terminal
 unfoldable pub position_text : RuleValues → List ℕ → ℕ → ℕ → List ℕ
 position_text r name_and_flow column height =
-    statement (name_and_flow ∷ decimal (middle r column) ∷ decimal height ∷ decimal r.vertical_width ∷ r.yal ∷ [])
+    statement (name_and_flow ∷ decimal (middle r column) ∷ decimal height ∷ decimal r.vertical.width ∷ r.yal ∷ [])
 
 -- the outline of cells of so many columns
 unfoldable pub outline_text : RuleValues → ℕ → List ℕ
 outline_text r columns =
-    statement (codes "DIMENSIONS" ∷ codes "0" ∷ codes "0" ∷ decimal (columns * r.grid_column) ∷ codes "0"
-    ∷ decimal (columns * r.grid_column) ∷ decimal (made_height r) ∷ codes "0" ∷ decimal (made_height r) ∷ [])
+    statement (codes "DIMENSIONS" ∷ codes "0" ∷ codes "0" ∷ decimal (columns * r.grid.column) ∷ codes "0"
+    ∷ decimal (columns * r.grid.column) ∷ decimal (made_height r) ∷ codes "0" ∷ decimal (made_height r) ∷ [])
 
 -- kind j of the five, of j + 2 columns: two pins below and two above, and in the last kind one of the upper ones is below too
 unfoldable pub positions_text : RuleValues → ℕ → List ℕ

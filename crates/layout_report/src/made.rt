@@ -6,6 +6,7 @@ ghost use Rattle.std.specs.Prelude.{◌≡◌, ◌+◌, ◌*◌, ◌<◌, ◌≤
 
 use crate::words::Words;
 use itoa::Buffer;
+use limits::MOST_INSTANCES;
 use std::alloc::{AllocError, Global};
 use tech_rules::Rules;
 
@@ -38,7 +39,7 @@ fn middle(rules: &Rules, column: u64) -> u64
     requires { column ≤ 10 }
     ensures is { result ≡ middle rules.now column }
 {
-    column * rules.grid_column as u64 + rules.grid_column as u64 / 2
+    column * rules.grid.column as u64 + rules.grid.column as u64 / 2
 }
 
 // The height of the cells in units.
@@ -46,14 +47,14 @@ fn middle(rules: &Rules, column: u64) -> u64
 fn height(rules: &Rules) -> u64
     ensures is { result ≡ made_height rules.now }
 {
-    2 * rules.grid_pin as u64 + rules.vertical_space as u64
+    2 * rules.grid.pin as u64 + rules.vertical.space as u64
 }
 
 // The width of a pin in units.
 fn pin_width(rules: &Rules) -> u64
-    ensures is { result ≡ rules.now.vertical_width }
+    ensures is { result ≡ rules.now.vertical.width }
 {
-    rules.vertical_width as u64
+    rules.vertical.width as u64
 }
 
 // Puts a blank and the word of the pins' layer.
@@ -87,9 +88,9 @@ fn put_position(
 // The width of so many columns in units.
 fn width(rules: &Rules, columns: u64) -> u64
     requires { columns ≤ 10 }
-    ensures is { result ≡ columns * rules.now.grid_column }
+    ensures is { result ≡ columns * rules.now.grid.column }
 {
-    columns * rules.grid_column as u64
+    columns * rules.grid.column as u64
 }
 
 // Puts the outline of cells of so many columns.
@@ -184,7 +185,7 @@ fn put_call(text: &mut Vec<u8>, i: u32, first: u32, second: u32) -> Result<(), A
 // Puts n instances, whose nets are drawn from a seed.
 #[tactic(auto, unfolding(crate::specs::MadeText::calls_text))]
 fn put_calls(text: &mut Vec<u8>, seed: u64, n: u32) -> Result<(), AllocError>
-    requires { n ≤ 20000 }
+    requires { n ≤ MOST_INSTANCES }
     ensures { OnOk result (text.new.items ≡ text.old.items ++ calls_text seed n n) }
 {
     let mut words = Words::new(seed);
@@ -203,7 +204,7 @@ fn put_calls(text: &mut Vec<u8>, seed: u64, n: u32) -> Result<(), AllocError>
 #[tactic(auto, unfolding(crate::specs::MadeText::made_text, crate::specs::MadeText::network_text, crate::specs::MadeText::last_text))]
 pub fn make_design(alloc: Global, rules: &Rules, seed: u64, n: u32) -> Result<Vec<u8>, AllocError>
     requires some { 1 ≤ n }
-    requires few { n ≤ 20000 }
+    requires few { n ≤ MOST_INSTANCES }
     ensures { IfOk result (λ text. text.items ≡ made_text rules.now seed n) }
 {
     let mut text = Vec::new(alloc);

@@ -2,3 +2,5 @@
 pub mod MirrorLaws
 -- plain wirings are routed
 pub mod RoutedLaws
+-- a worked stack
+pub mod Worked

@@ -17,7 +17,7 @@ use design_model::Design;
 use feed_cells::{FedRows, Placement, insert_feeds, place};
 use pin_assign::{bound_of, channels};
 use row_model::{Rows, start};
-use samples::{CELLS, SampleFault, designed};
+use samples::{CELLS, SampleFault, designed, sample_rules};
 use std::alloc::{AllocError, Global};
 use tech_rules::{Rules, StartBy};
 
@@ -111,7 +111,7 @@ fn shown_fed(
     requires fed { IsFed design.now fed.now }
     requires placement { placement.now ≡ placement_of design.now (cells_in fed.now.rows) }
 {
-    let room = 2 * u64::from(rules.grid_pin) + u64::from(rules.vertical_space);
+    let room = 2 * u64::from(rules.grid.pin) + u64::from(rules.vertical.space);
     if room > u64::from(design.height) {
         return Ok(None);
     }
@@ -169,7 +169,7 @@ fn shown_in(alloc: Global, design: &Design, rowed: Rowed) -> Result<Option<Shown
     if rowed.rows == 0 || rowed.rows > 512 {
         return Ok(None);
     }
-    let rules = Rules::sample(alloc)?;
+    let rules = sample_rules(alloc)?;
     shown_under(alloc, design, rowed.rows, rowed.mirrored, &rules)
 }
 

@@ -1,13 +1,10 @@
 use Rattle.std.proofs.Common.{◌≡◌, ◌<◌, ◌+◌, ◌++◌, Bool, false, eqb, ℕ, zero, suc, List, [], ◌∷◌, inl, inr, refl, sym, ap, ap₂, ◌∙◌, arith, All, Contains, get_or, filter, add-one}
 use Rattle.std.proofs.lemmas.Bool.{cases_eq, eqb-false, eq-eqb, ne_eqb, cond-true, cond-false}
-use Rattle.std.proofs.lemmas.List.{append_assoc, append-nil}
-use Rattle.std.proofs.lemmas.List.Elements.{All-nil, All-cons, All-append, Contains-append_left, Contains-append_right, Contains-get_or, filter-append}
+use Rattle.std.proofs.lemmas.List.{append_assoc}
+use Rattle.std.proofs.lemmas.List.Elements.{All-nil, All-append, Contains-append_left, Contains-append_right, Contains-get_or, filter-append}
 use Rattle.std.specs.List.{IsDistinct, AllByRecursion}
 use Rattle.list_facts.proofs.Members.{member-cases}
 use Rattle.left_edge.specs.EdgeWiring.{by_column}
-
-pub All-of_one : {A : Type 0} (P : A → Type 0) (a : A) → P a → All P (a ∷ [])
-All-of_one {A} P a first = let none : List A = [] in All-cons P a none first (All-nil P)
 
 -- what holds of each member holds of all
 pub All-from_members : {A : Type 0} (P : A → Type 0) (xs : List A) → ((x : A) → Contains xs x → P x) → All P xs
@@ -57,12 +54,6 @@ filter-one (x ∷ xs) n different there =
     none (y ∷ ys) all =
         cond-false (eqb y n) (y ∷ filter (λ z. eqb z n) ys) (filter (λ z. eqb z n) ys) (ne_eqb y n (λ same. eqb-false n y all.0 (sym same)))
         ∙ none ys all.1
-
--- a column of which nothing, and one of which one thing is made
-pub by_column-skip : {A : Type 0} (f : ℕ → List A) (n : ℕ) (items start : List A) → items ≡ start ++ by_column f n → f n ≡ []
-    → items ≡ start ++ by_column f (n + 1)
-by_column-skip {A} f n items start were none =
-    were ∙ sym (rw (add-one, none) (ap (λ (l : List A). start ++ l) (append-nil (by_column f n))))
 
 pub by_column-push : {A : Type 0} (f : ℕ → List A) (n : ℕ) (items start : List A) (a : A) → items ≡ start ++ by_column f n → f n ≡ a ∷ []
     → items ++ a ∷ [] ≡ start ++ by_column f (n + 1)

@@ -13,45 +13,48 @@ use Rattle.channel_model.specs.Wired.{Wired}
 use Rattle.channel_model.proofs.NetsOf.{nets-are}
 use Rattle.list_facts.proofs.Members.{member-head, filter-from, map-member}
 use Rattle.left_edge.specs.Columns.{IsUnconstrained}
-use Rattle.left_edge.specs.Spans.{span, nets_over}
-use Rattle.left_edge.specs.Single.{is_along_of, IsSingle, IsLeast}
+use Rattle.left_edge.specs.Spans.{nets_over}
+use Rattle.left_edge.specs.Single.{is_along_of, AreCovered, IsLeast}
 use Rattle.left_edge.proofs.ListLaws.{distinct_ascending, greatest-reached, enough}
 use Rattle.left_edge.proofs.CountLaws.{count_over, over_from}
 
-module _ (pins : Pins) (channel : IsChannel pins) (free : IsUnconstrained pins) (wiring : Wiring) (wired : Wired pins wiring) (single : IsSingle pins wiring) where
+module _ (pins : Pins) (channel : IsChannel pins) (free : IsUnconstrained pins) (wiring : Wiring) (wired : Wired pins wiring) (covered : AreCovered pins wiring) where
   -- a net over a column lies on a track there
   record LiesOn (column net level : ℕ) : Type 0 where
-    there : Contains (elements wiring) (segment (Along net (level + 1) (span pins net).first (span pins net).last))
-    after : (span pins net).first ≤ column
-    before : column ≤ (span pins net).last
+    from : ℕ
+    to : ℕ
+    there : Contains (elements wiring) (segment (Along net (level + 1) from to))
+    after : from ≤ column
+    before : column ≤ to
 
   lies_on : (column net : ℕ) → Contains (nets_over pins column) net → (level : ℕ) × (level < wiring.tracks) × LiesOn column net level
   lies_on column net over =
       let covers = over_from pins channel free column net over in
-      let own = single net covers.0 in
-      let reach = span pins net in
+      let own = covered net covers.0 in
       let none : List Segment = [] in
-      let kept : Contains wiring.segments (Along net own.0 reach.first reach.last) =
-      (filter-from (is_along_of net) wiring.segments (Along net own.0 reach.first reach.last)
-      (subst (λ l. Contains l (Along net own.0 reach.first reach.last)) (sym own.1) (member-head (Along net own.0 reach.first reach.last) none))).0 in
-      let element : Contains (elements wiring) (segment (Along net own.0 reach.first reach.last)) =
-      Contains-append_left (map segment wiring.segments) (map via wiring.vias) (segment (Along net own.0 reach.first reach.last))
-      (map-member segment wiring.segments (Along net own.0 reach.first reach.last) kept) in
-      let grid = (wired.on_grid (segment (Along net own.0 reach.first reach.last)) element).0 in
-      let same : own.0 ≡ (own.0 - 1) + 1 = omega (arith, grid.0) in (
-        own.0 - 1,
+      let kept : Contains wiring.segments (Along net own.track own.from own.to) =
+      (filter-from (is_along_of net) wiring.segments (Along net own.track own.from own.to)
+      (subst (λ l. Contains l (Along net own.track own.from own.to)) (sym own.alone) (member-head (Along net own.track own.from own.to) none))).0 in
+      let element : Contains (elements wiring) (segment (Along net own.track own.from own.to)) =
+      Contains-append_left (map segment wiring.segments) (map via wiring.vias) (segment (Along net own.track own.from own.to))
+      (map-member segment wiring.segments (Along net own.track own.from own.to) kept) in
+      let grid = (wired.on_grid (segment (Along net own.track own.from own.to)) element).0 in
+      let same : own.track ≡ (own.track - 1) + 1 = omega (arith, grid.0) in (
+        own.track - 1,
         omega (arith, grid.0, grid.1),
         record {
-          there = subst (λ track. Contains (elements wiring) (segment (Along net track reach.first reach.last))) same element;
-          after = covers.1;
-          before = covers.2;
+          from = own.from;
+          to = own.to;
+          there = subst (λ track. Contains (elements wiring) (segment (Along net track own.from own.to))) same element;
+          after = omega (arith, own.first, covers.1);
+          before = omega (arith, own.last, covers.2);
         },
       )
 
   -- and no two do on one
   one_net : (column n m level : ℕ) → LiesOn column n level → LiesOn column m level → n ≡ m
   one_net column n m level one other =
-      wired.apart (segment (Along n (level + 1) (span pins n).first (span pins n).last)) (segment (Along m (level + 1) (span pins m).first (span pins m).last))
+      wired.apart (segment (Along n (level + 1) one.from one.to)) (segment (Along m (level + 1) other.from other.to))
       one.there other.there
       (record {
         layer = horizontal;
@@ -75,6 +78,6 @@ module _ (pins : Pins) (channel : IsChannel pins) (free : IsUnconstrained pins) 
             omega (arith, at.2, count_over pins channel free at.0, over_few at.0)
       ]
 
--- no wiring with one Along for each net has fewer tracks than the density
+-- no wiring whose nets have one Along each, which covers their pin columns, has fewer tracks than the density
 pub density-is_least : (pins : Pins) → IsChannel pins → IsUnconstrained pins → IsLeast pins (density_of pins)
-density-is_least pins channel free wiring wired single = least_tracks pins channel free wiring wired single
+density-is_least pins channel free wiring wired covered = least_tracks pins channel free wiring wired covered

@@ -2,15 +2,17 @@ use Rattle.std.proofs.Common.{◌≡◌, ◌++◌, eqb, ℕ, List, [], ◌∷◌
 use Rattle.std.proofs.lemmas.Bool.{cond_both}
 use Rattle.std.proofs.lemmas.List.Elements.{filter-append}
 use Rattle.channel_model.specs.declared.wiring.Segment.{Segment}
+use Rattle.channel_model.specs.declared.wiring.Wiring.{Wiring}
 use Rattle.channel_model.specs.Pins.{Pins, IsChannel}
 use Rattle.channel_model.specs.Nets.{nets_of}
 use Rattle.channel_model.specs.Density.{density_of}
 use Rattle.channel_model.proofs.NetsOf.{nets-are}
 use Rattle.list_facts.proofs.Ranges.{filter-map}
 use Rattle.left_edge.specs.Columns.{IsUnconstrained}
+use Rattle.left_edge.specs.Spans.{span}
 use Rattle.left_edge.specs.Tracks.{track_count}
 use Rattle.left_edge.specs.EdgeWiring.{by_column, bottom_across, top_across, along, edge_wiring}
-use Rattle.left_edge.specs.Single.{is_along_of, IsSingle}
+use Rattle.left_edge.specs.Single.{is_along_of, AreCovered, IsSingle}
 use Rattle.left_edge.proofs.ListLaws.{distinct_ascending}
 use Rattle.left_edge.proofs.ByColumnLaws.{filter-by_column, filter-one}
 use Rattle.left_edge.proofs.CountLaws.{tracks_at_most}
@@ -46,11 +48,18 @@ edge_single pins net stands =
     filter-append p bottom top ∙ ap₂ (λ (xs ys : List Segment). xs ++ ys) no_bottom no_top in
     (_, filter-append p (bottom ++ top) rest ∙ ap₂ (λ (xs ys : List Segment). xs ++ ys) front one)
 
+-- one that reaches from a net's first to its last pin column covers them
+single-covers : (pins : Pins) (wiring : Wiring) → IsSingle pins wiring → AreCovered pins wiring
+single-covers pins wiring single net stands =
+    let own = single net stands in
+    record { track = own.0; from = (span pins net).first; to = (span pins net).last; alone = own.1; first = omega arith; last = omega arith }
+
 -- it has as many tracks as the density
 pub tracks-density : (pins : Pins) → IsChannel pins → IsUnconstrained pins → track_count pins ≡ density_of pins
 tracks-density pins channel free =
     omega (
       arith,
       tracks_at_most pins channel free,
-      density-is_least pins channel free (edge_wiring pins) (edge_wired pins channel free) (edge_single pins),
+      density-is_least pins channel free (edge_wiring pins) (edge_wired pins channel free)
+          (single-covers pins (edge_wiring pins) (edge_single pins)),
     )

@@ -91,12 +91,6 @@ past-false pins column net is = by (span pins net).last is
     by : (last : ℕ) → ltb last column ≡ false → column ≤ last
     by last is = grind (arith, nat_tests)
 
-pub past-from : (pins : Pins) (column net : ℕ) → (span pins net).last < column → is_past pins column net ≡ true
-past-from pins column net less = by (span pins net).last less
-  where
-    by : (last : ℕ) → last < column → ltb last column ≡ true
-    by last is = grind (arith, nat_tests)
-
 pub not_past-from : (pins : Pins) (column net : ℕ) → column ≤ (span pins net).last → is_past pins column net ≡ false
 not_past-from pins column net le = by (span pins net).last le
   where

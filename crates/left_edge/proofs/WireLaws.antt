@@ -1,5 +1,5 @@
 use Rattle.std.proofs.Common.{◌≡◌, ◌≢◌, ◌<◌, ◌+◌, ◌||◌, not, false, true, eqb, ℕ, List, [], ◌∷◌, inl, inr, sym, ap, subst, ◌∙◌, arith, Contains, length, get_or, map}
-use Rattle.std.proofs.lemmas.Bool.{cond-true, cond-false, eq-eqb, ne_eqb, both_ways}
+use Rattle.std.proofs.lemmas.Bool.{cond-false, ne_eqb, both_ways}
 use Rattle.std.proofs.lemmas.Bool.Decides.{nat_tests}
 use Rattle.std.proofs.lemmas.List.{get_or-map}
 use Rattle.std.proofs.lemmas.List.Elements.{Contains-get_or}
@@ -20,27 +20,17 @@ listed_bottom pins nets column net are at some = rw are ((nets-are pins).listed 
 pub listed_top : (pins : Pins) (nets : List ℕ) (column net : ℕ) → nets ≡ nets_of pins → net ≡ get_or pins.top column 0 → net ≢ 0 → Contains nets net
 listed_top pins nets column net are at some = rw are ((nets-are pins).listed net (omega arith, (column, inl (sym at))))
 
--- what is made of a pin
-pub bottom_across-none : (pins : Pins) (column net : ℕ) → net ≡ get_or pins.bottom column 0 → net ≡ 0 → bottom_across pins column ≡ []
-bottom_across-none pins column net at none = cond-true (eqb (get_or pins.bottom column 0) 0) _ _ (eq-eqb _ _ (sym at ∙ none))
-
 pub bottom_across-one : (pins : Pins) (column net : ℕ) → net ≡ get_or pins.bottom column 0 → net ≢ 0
     → bottom_across pins column ≡ Across net column 0 (track_of pins net) ∷ []
 bottom_across-one pins column net at some =
     cond-false (eqb (get_or pins.bottom column 0) 0) _ _ (ne_eqb _ _ (λ none. some (at ∙ none)))
     ∙ ap (λ n. Across n column 0 (track_of pins n) ∷ []) (sym at)
 
-pub top_across-none : (pins : Pins) (column net : ℕ) → net ≡ get_or pins.top column 0 → net ≡ 0 → top_across pins column ≡ []
-top_across-none pins column net at none = cond-true (eqb (get_or pins.top column 0) 0) _ _ (eq-eqb _ _ (sym at ∙ none))
-
 pub top_across-one : (pins : Pins) (column net : ℕ) → net ≡ get_or pins.top column 0 → net ≢ 0
     → top_across pins column ≡ Across net column (track_of pins net) (track_count pins + 1) ∷ []
 top_across-one pins column net at some =
     cond-false (eqb (get_or pins.top column 0) 0) _ _ (ne_eqb _ _ (λ none. some (at ∙ none)))
     ∙ ap (λ n. Across n column (track_of pins n) (track_count pins + 1) ∷ []) (sym at)
-
-pub bottom_via-none : (pins : Pins) (column net : ℕ) → net ≡ get_or pins.bottom column 0 → net ≡ 0 → bottom_via pins column ≡ []
-bottom_via-none pins column net at none = cond-true (eqb (get_or pins.bottom column 0) 0) _ _ (eq-eqb _ _ (sym at ∙ none))
 
 pub bottom_via-one : (pins : Pins) (column net : ℕ) → net ≡ get_or pins.bottom column 0 → net ≢ 0 → bottom_via pins column ≡ via_at pins net column ∷ []
 bottom_via-one pins column net at some =

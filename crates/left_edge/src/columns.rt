@@ -1,8 +1,8 @@
-ghost use Rattle.channel_model.specs.Nets.{nets_of};
 ghost use Rattle.channel_model.specs.Pins.{IsChannel};
 ghost use Rattle.left_edge.specs.Columns.{IsConstrained, IsFirstConstrained, IsUnconstrained, net_at};
 ghost use Rattle.std.specs.Prelude.{◌≡◌, ◌<◌, ◌↔◌, ℕ, IfOk, IfSome, IfNone, IsTrue, length, slice_index, vec_len};
 
+use crate::free::Spanned;
 use channel_model::{Channel, place_of};
 use std::alloc::{AllocError, Global};
 
@@ -44,14 +44,13 @@ pub fn net_at(channel: &Channel, column: usize) -> u32
 }
 
 /// The place of the net of a column among the nets of the channel, in O(log N) time for N nets.
-pub fn net_place(channel: &Channel, nets: &[u32], column: usize) -> usize
-    requires nets { nets.now ≡ nets_of channel.now }
-    requires within { column < length channel.now.top }
-    requires some { 0 < net_at channel.now column }
-    ensures place { result < length nets.now }
-    ensures there { slice_index nets.now result ≡ net_at channel.now column }
+pub fn net_place(spanned: &Spanned, column: usize) -> usize
+    requires within { column < length spanned.now.channel.now.top }
+    requires some { 0 < net_at spanned.now.channel.now column }
+    ensures place { result < length spanned.now.nets.now }
+    ensures there { slice_index spanned.now.nets.now result ≡ net_at spanned.now.channel.now column }
 {
-    place_of(nets, net_at(channel, column))
+    place_of(spanned.nets, net_at(spanned.channel, column))
 }
 
 /// The net of each column.

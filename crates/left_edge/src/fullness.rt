@@ -1,11 +1,9 @@
 ghost use Rattle.channel_model.specs.Density.{density_of};
-ghost use Rattle.channel_model.specs.Nets.{nets_of};
-ghost use Rattle.left_edge.specs.Columns.{IsUnconstrained};
-ghost use Rattle.left_edge.specs.Spans.{IsFullest, span};
-ghost use Rattle.std.specs.Prelude.{◌≡◌, ◌<◌, ◌≤◌, ◌^◌, ◌+◌, ◌-◌, if◌then◌else◌, length, map, max, nat_lt};
+ghost use Rattle.left_edge.specs.Spans.{IsFullest};
+ghost use Rattle.std.specs.Prelude.{◌≡◌, ◌<◌, ◌≤◌, ◌^◌, ◌+◌, ◌-◌, if◌then◌else◌, max, nat_lt};
 
+use crate::free::Spanned;
 use crate::spans::{is_begin, is_end};
-use channel_model::{Channel, Reach};
 
 // The nets that go on from the columns so far, the most over one of these, and the first over which so many are.
 #[derive(Clone, Copy)]
@@ -38,21 +36,19 @@ impl Fullness {
 }
 
 /// The first of the columns over which the most nets are, 0 where there are no nets, in O(W log N) time for W columns and N nets.
-pub fn fullest_column(channel: &Channel, nets: &[u32], spans: &[Reach]) -> u32
-    requires nets { nets.now ≡ nets_of channel.now }
-    requires spans { spans.now ≡ map (span channel.now) nets.now }
-    requires free { IsUnconstrained channel.now }
-    ensures fullest { 0 < density_of channel.now → IsFullest channel.now result }
-    ensures none { density_of channel.now ≡ 0 → result ≡ 0 }
+pub fn fullest_column(spanned: &Spanned) -> u32
+    ensures fullest { 0 < density_of spanned.now.channel.now → IsFullest spanned.now.channel.now result }
+    ensures none { density_of spanned.now.channel.now ≡ 0 → result ≡ 0 }
 {
+    let channel = spanned.channel;
     let mut fullness = Fullness {
         open: 0,
         most: 0,
         column: 0,
     };
     for column in 0..channel.top.items().len() {
-        let begins = is_begin(channel, nets, spans, column);
-        let ends = is_end(channel, nets, spans, column);
+        let begins = is_begin(spanned, column);
+        let ends = is_end(spanned, column);
         fullness = fullness.with(column as u32, begins, ends);
     }
     fullness.column

@@ -3,6 +3,7 @@
 
 mod columns;
 mod fault;
+mod free;
 mod fullness;
 mod router;
 mod spans;

@@ -1,21 +1,19 @@
 ghost use Rattle.channel_model.specs.Density.{density_of};
-ghost use Rattle.channel_model.specs.Nets.{nets_of};
-ghost use Rattle.channel_model.specs.Pins.{IsChannel};
 ghost use Rattle.channel_model.specs.Wired.{Wired};
-ghost use Rattle.left_edge.specs.Columns.{IsFirstConstrained, IsUnconstrained};
+ghost use Rattle.left_edge.specs.Columns.{IsFirstConstrained};
 ghost use Rattle.left_edge.specs.EdgeWiring.{edge_wiring};
 ghost use Rattle.left_edge.specs.Single.{IsLeast, IsSingle};
-ghost use Rattle.left_edge.specs.Spans.{IsFullest, nets_over, span};
-ghost use Rattle.left_edge.specs.Tracks.{level_of, track_count};
-ghost use Rattle.std.specs.Prelude.{◌≡◌, ◌<◌, ◌↔◌, ℕ, Err, IfOk, length, map};
+ghost use Rattle.left_edge.specs.Spans.{IsFullest, nets_over};
+ghost use Rattle.std.specs.Prelude.{◌≡◌, ◌<◌, ◌↔◌, ℕ, Err, IfOk, length};
 
 use crate::columns::first_constrained;
 use crate::fault::EdgeFault;
+use crate::free::{Free, Leveled, Spanned};
 use crate::fullness::fullest_column;
 use crate::spans::{net_spans, nets_over};
-use crate::sweep::{Levels, sweep_columns};
+use crate::sweep::sweep_columns;
 use crate::wires::{lay_nets, set_bottom_vias, set_top_vias, wire_bottom_pins, wire_top_pins};
-use channel_model::{Channel, Reach, Wiring, nets_of};
+use channel_model::{Channel, Wiring, nets_of};
 use geom_core::Items;
 use std::alloc::{AllocError, Global};
 
@@ -38,7 +36,7 @@ pub struct Edge {
 /// each by column, and then the Alongs by net; the vias follow the Acrosses.
 ///
 /// `Constrained` exactly where a column has pins of two different nets, with the first such column; else the one fault is want of memory. No
-/// wiring of the channel in which each net has one Along, from its first to its last pin column, has fewer tracks: all nets of `nets` cross
+/// wiring of the channel in which each net has one Along, which covers its pin columns, has fewer tracks: all nets of `nets` cross
 /// `column`.
 pub fn left_edge(alloc: Global, channel: &Channel) -> Result<Edge, EdgeFault>
     ensures constrained { (column : ℕ) → (result ≡ Err (EdgeFault.Constrained column)) ↔ IsFirstConstrained channel.now column }
@@ -57,43 +55,52 @@ pub fn left_edge(alloc: Global, channel: &Channel) -> Result<Edge, EdgeFault>
         return Err(EdgeFault::Constrained(column));
     }
     let nets = nets_of(alloc, channel)?;
-    let spans = net_spans(alloc, channel, &nets)?;
-    let levels = sweep_columns(alloc, channel, &nets, &spans)?;
-    let column = fullest_column(channel, &nets, &spans);
-    let over = nets_over(alloc, channel, &nets, &spans, column)?;
+    let nets = nets.as_slice();
+    let spans = net_spans(alloc, &Free { channel, nets })?;
+    let spanned = Spanned {
+        channel,
+        nets,
+        spans: spans.as_slice(),
+    };
+    let column = fullest_column(&spanned);
     Ok(Edge {
-        wiring: wiring_of(alloc, channel, &nets, &spans, &levels)?,
+        wiring: wiring_of(alloc, &spanned)?,
         column,
-        nets: Items::new(over),
+        nets: Items::new(nets_over(alloc, &spanned, column)?),
     })
 }
 
-// The wiring of these nets on their tracks.
-fn wiring_of(
-    alloc: Global,
-    channel: &Channel,
-    nets: &[u32],
-    spans: &[Reach],
-    levels: &Levels,
-) -> Result<Wiring, AllocError>
-    requires nets { nets.now ≡ nets_of channel.now }
-    requires spans { spans.now ≡ map (span channel.now) nets.now }
-    requires count { levels.now.count ≡ track_count channel.now }
-    requires levels { levels.now.of_nets.items ≡ map (level_of channel.now) nets.now }
-    requires channel { IsChannel channel.now }
-    requires free { IsUnconstrained channel.now }
-    ensures { IfOk result (λ wiring. wiring ≡ edge_wiring channel.now) }
+// The wiring of the nets of a channel, each on the lowest track that is free.
+fn wiring_of(alloc: Global, spanned: &Spanned) -> Result<Wiring, AllocError>
+    ensures { IfOk result (λ wiring. wiring ≡ edge_wiring spanned.now.channel.now) }
 {
-    let of_nets = levels.of_nets.as_slice();
+    let levels = sweep_columns(alloc, spanned)?;
+    wiring_on(
+        alloc,
+        &Leveled {
+            channel: spanned.channel,
+            nets: spanned.nets,
+            spans: spanned.spans,
+            levels: levels.of_nets.as_slice(),
+            tracks: levels.count,
+        },
+    )
+}
+
+// The wiring of the nets of a channel on these tracks.
+fn wiring_on(alloc: Global, leveled: &Leveled) -> Result<Wiring, AllocError>
+    ensures { IfOk result (λ wiring. wiring ≡ edge_wiring leveled.now.channel.now) }
+{
+    let channel = leveled.channel;
     let mut segments = Vec::new(alloc);
-    wire_bottom_pins(&mut segments, channel, nets, of_nets)?;
-    wire_top_pins(&mut segments, channel, nets, of_nets, levels.count)?;
-    lay_nets(&mut segments, channel, nets, spans, of_nets)?;
+    wire_bottom_pins(&mut segments, leveled)?;
+    wire_top_pins(&mut segments, leveled)?;
+    lay_nets(&mut segments, leveled)?;
     let mut vias = Vec::new(alloc);
-    set_bottom_vias(&mut vias, channel, nets, of_nets)?;
-    set_top_vias(&mut vias, channel, nets, of_nets)?;
+    set_bottom_vias(&mut vias, leveled)?;
+    set_top_vias(&mut vias, leveled)?;
     Ok(Wiring {
-        tracks: levels.count,
+        tracks: leveled.tracks,
         columns: channel.top.items().len() as u32,
         segments: Items::new(segments),
         vias: Items::new(vias),

@@ -1,7 +1,3 @@
-ghost use Rattle.channel_model.specs.Nets.{nets_of};
-ghost use Rattle.channel_model.specs.Pins.{IsChannel};
-ghost use Rattle.left_edge.specs.Columns.{IsUnconstrained};
-ghost use Rattle.left_edge.specs.Spans.{span};
 ghost use Rattle.left_edge.specs.Swept.{IsSwept};
 ghost use Rattle.left_edge.specs.Tracks.{level_of, track_count};
 ghost use Rattle.std.specs.BTreeSet.{contains};
@@ -9,8 +5,8 @@ ghost use Rattle.std.specs.Ordering.{nat_cmp};
 ghost use Rattle.std.specs.Prelude.{◌≡◌, ◌<◌, ◌^◌, ◌+◌, ◌==◌, ◌&&◌, ◌||◌, not, Bool, false, if◌then◌else◌, ℕ, IfOk, OnOk, length, map, slice_index};
 
 use crate::columns::net_place;
+use crate::free::Spanned;
 use crate::spans::{is_begin, is_end};
-use channel_model::{Channel, Reach};
 use std::alloc::{AllocError, Global};
 use std::collections::BTreeSet;
 
@@ -69,67 +65,46 @@ impl Sweep {
     }
 
     // Gives a track to the net that begins in this column, if one does.
-    fn enter(&mut self, channel: &Channel, nets: &[u32], spans: &[Reach], column: usize)
-        requires nets { nets.now ≡ nets_of channel.now }
-        requires spans { spans.now ≡ map (span channel.now) nets.now }
-        requires channel { IsChannel channel.now }
-        requires free { IsUnconstrained channel.now }
-        requires within { column < length channel.now.top }
-        requires swept { IsSwept channel.now column column self.old }
-        ensures { IsSwept channel.now (column + 1) column self.new }
+    fn enter(&mut self, spanned: &Spanned, column: usize)
+        requires within { column < length spanned.now.channel.now.top }
+        requires swept { IsSwept spanned.now.channel.now column column self.old }
+        ensures { IsSwept spanned.now.channel.now (column + 1) column self.new }
     {
-        if !is_begin(channel, nets, spans, column) {
+        if !is_begin(spanned, column) {
             return;
         }
         let level = self.take_lowest();
-        self.levels[net_place(channel, nets, column)] = level;
+        self.levels[net_place(spanned, column)] = level;
     }
 
     // Frees the track of the net that ends in this column, if one does.
-    fn leave(
-        &mut self,
-        channel: &Channel,
-        nets: &[u32],
-        spans: &[Reach],
-        column: usize,
-    ) -> Result<(), AllocError>
-        requires nets { nets.now ≡ nets_of channel.now }
-        requires spans { spans.now ≡ map (span channel.now) nets.now }
-        requires channel { IsChannel channel.now }
-        requires free { IsUnconstrained channel.now }
-        requires within { column < length channel.now.top }
-        requires swept { IsSwept channel.now (column + 1) column self.old }
-        ensures { OnOk result (IsSwept channel.now (column + 1) (column + 1) self.new) }
+    fn leave(&mut self, spanned: &Spanned, column: usize) -> Result<(), AllocError>
+        requires within { column < length spanned.now.channel.now.top }
+        requires swept { IsSwept spanned.now.channel.now (column + 1) column self.old }
+        ensures { OnOk result (IsSwept spanned.now.channel.now (column + 1) (column + 1) self.new) }
     {
-        if !is_end(channel, nets, spans, column) {
+        if !is_end(spanned, column) {
             return Ok(());
         }
-        let level = self.level(net_place(channel, nets, column));
+        let level = self.level(net_place(spanned, column));
         self.release(level)
     }
 }
 
 /// Gives each net the lowest track that is free in its first column, in O(W log N) time for W columns and N nets.
-pub fn sweep_columns(
-    alloc: Global,
-    channel: &Channel,
-    nets: &[u32],
-    spans: &[Reach],
-) -> Result<Levels, AllocError>
-    requires nets { nets.now ≡ nets_of channel.now }
-    requires spans { spans.now ≡ map (span channel.now) nets.now }
-    requires free { IsUnconstrained channel.now }
-    ensures count { IfOk result (λ levels. levels.count ≡ track_count channel.now) }
-    ensures levels { IfOk result (λ levels. levels.of_nets.items ≡ map (level_of channel.now) nets.now) }
+pub fn sweep_columns(alloc: Global, spanned: &Spanned) -> Result<Levels, AllocError>
+    ensures count { IfOk result (λ levels. levels.count ≡ track_count spanned.now.channel.now) }
+    ensures levels { IfOk result (λ levels. levels.of_nets.items ≡ map (level_of spanned.now.channel.now) spanned.now.nets.now) }
 {
+    let channel = spanned.channel;
     let mut sweep = Sweep {
         count: 0,
         free: BTreeSet::new(alloc),
-        levels: vec![in alloc; 0u32; nets.len()]?,
+        levels: vec![in alloc; 0u32; spanned.nets.len()]?,
     };
     for column in 0..channel.top.items().len() {
-        sweep.enter(channel, nets, spans, column);
-        sweep.leave(channel, nets, spans, column)?;
+        sweep.enter(spanned, column);
+        sweep.leave(spanned, column)?;
     }
     Ok(Levels {
         count: sweep.count,

@@ -1,6 +1,6 @@
-use Rattle.std.proofs.Common.{◌≡◌, ◌⊎◌, ◌<◌, ◌≤◌, ◌+◌, ◌-◌, ℕ, inl, inr, refl, sym, subst, ap, ◌∙◌, arith, List, [], ◌∷◌, Bool, true, false, cond, ◌||◌, ◌&&◌, Some, Contains, length, map, filter}
+use Rattle.std.proofs.Common.{◌≡◌, ◌⊎◌, ◌<◌, ◌≤◌, ◌+◌, ◌-◌, ℕ, inl, inr, refl, sym, subst, ap, ◌∙◌, arith, List, [], ◌∷◌, Bool, true, false, cond, ◌||◌, ◌&&◌, Some, Contains, map, filter}
 use Rattle.std.proofs.lemmas.Bool.{both_ways, cases_Bool, cond-true, cond-false}
-use Rattle.std.proofs.lemmas.List.Elements.{All-contains, All-contains_itself, All-filter, Contains-append_cases, Contains-append_right, Contains-push_cases, filter_passes}
+use Rattle.std.proofs.lemmas.List.Elements.{All-cons, All-nil, All-contains, All-contains_itself, All-filter, Contains-append_cases, Contains-append_right, Contains-push_cases, filter_passes}
 use Rattle.std.proofs.lemmas.List.FromFn.{get_or-range_with_len, length-range_with_len}
 use Rattle.std.proofs.lemmas.Option.{get_or_from_slice_get, none-some, same_Some, slice_get-get_or, slice_get_within}
 use Rattle.std.specs.List.{All, find, list_any, range_with_len, slice_get}
@@ -83,6 +83,10 @@ any-member {A = A} p (a ∷ xs) x member passes = by (p a) refl (member-cases a 
 pub contains-get : {X : Type 0} (xs : List X) (x : X) (h : Contains xs x) → slice_get xs h.0 ≡ Some x
 contains-get {X = X} xs x h = slice_get-get_or xs h.0 x h.1 ∙ ap (λ (y : X). Some y) h.2
 
+-- a member stands at some place
+pub member-place : {A : Type 0} (xs : List A) (x : A) → Contains xs x → (k : ℕ) × (slice_get xs k ≡ Some x)
+member-place xs x there = (there.0, contains-get xs x there)
+
 -- what stands at a place is a member
 pub get-contains : {X : Type 0} (xs : List X) (n : ℕ) (x : X) → slice_get xs n ≡ Some x → Contains xs x
 get-contains xs n x e = (n, slice_get_within xs n x e, get_or_from_slice_get xs n x x e)
@@ -137,3 +141,7 @@ find-filter {A} test kept (x ∷ xs) = by (kept x) (find-filter test kept xs)
 pub find-same : {A : Type 0} (p q : A → Bool) → ((x : A) → p x ≡ q x) → (xs : List A) → find p xs ≡ find q xs
 find-same p q same [] = refl
 find-same {A} p q same (x ∷ xs) = ap (λ (b : Bool). cond b (Some x) (find p xs)) (same x) ∙ ap (cond (q x) (Some x)) (find-same p q same xs)
+
+-- what holds of a member holds of the list of it alone
+pub All-of_one : {A : Type 0} (P : A → Type 0) (a : A) → P a → All P (a ∷ [])
+All-of_one {A} P a first = let none : List A = [] in All-cons P a none first (All-nil P)

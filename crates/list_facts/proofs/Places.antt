@@ -1,7 +1,7 @@
 use Rattle.std.proofs.Common.{◌≡◌, ◌≢◌, ◌<◌, ◌≤◌, ◌+◌, ℕ, zero, suc, List, [], ◌∷◌, ◌++◌, length, map, take, drop, replicate, Option, None, Some, refl, ap, ap₂, ◌∙◌, arith, slice_get, slice_set}
 use Rattle.std.proofs.Math.Seq.{take-append_seam}
-use Rattle.std.proofs.lemmas.List.{get_or-replicate, length-replicate}
-use Rattle.std.proofs.lemmas.Option.{slice_get-get_or, slice_get_within}
+use Rattle.std.proofs.lemmas.List.{get_or-replicate, length-replicate, take_more}
+use Rattle.std.proofs.lemmas.Option.{get_or_from_slice_get, slice_get-get_or, slice_get_within}
 use Rattle.std.specs.List.{range_with_len}
 use Rattle.std.specs.Option.{option_map}
 
@@ -71,3 +71,20 @@ filled {X} rule f x first n items new len same long as_long each =
         let there : slice_get items i ≡ Some x =
         ap (λ (xs : List X). slice_get xs i) same ∙ slice_get-get_or (replicate n x) i x (omega arith) ∙ ap (λ (y : X). Some y) (get_or-replicate n i x x below) in
         each i ∙ ap (option_map (rule i)) there ∙ ap (λ (y : X). Some y) (first i) ∙ ap (λ (m : ℕ). Some (f m)) number
+
+-- a list from a place on begins with what stands there, and from its end on there is none
+pub drop-here : {X : Type 0} (xs : List X) (k : ℕ) (x : X) → slice_get xs k ≡ Some x → drop k xs ≡ x ∷ drop (suc k) xs
+drop-here [] k x is = let never : ⊥ = cc in absurd never
+drop-here (y ∷ ys) zero x is = let same : y ≡ x = cc in ap (λ z. z ∷ ys) same
+drop-here (y ∷ ys) (suc k) x is = drop-here ys k x is
+
+pub drop-past : {X : Type 0} (xs : List X) (k : ℕ) → length xs ≤ k → drop k xs ≡ []
+drop-past [] zero past = refl
+drop-past [] (suc k) past = refl
+drop-past (x ∷ xs) zero past = absurd (omega arith)
+drop-past (x ∷ xs) (suc k) past = drop-past xs k (omega arith)
+
+-- a front up to a place ends with what stands there
+pub take-here : {X : Type 0} (xs : List X) (k : ℕ) (x : X) → slice_get xs k ≡ Some x → take (k + 1) xs ≡ take k xs ++ x ∷ []
+take-here xs k x is =
+    take_more xs k x (slice_get_within xs k x is) ∙ ap (λ y. take k xs ++ y ∷ []) (get_or_from_slice_get xs k x x is)

@@ -1,6 +1,7 @@
 use Rattle.std.proofs.Common.{◌≡◌, ◌≤◌, ◌-◌, ◌^◌, ℕ, List, [], ◌∷◌, length, Bool, true, false, cond, None, Result, Ok, Err, ap, sym, subst, arith}
 use Rattle.std.specs.List.{AllByRecursion, IsDistinct, filter}
 use Rattle.std.specs.Str.{bytes_eq}
+use Rattle.list_facts.proofs.Every.{every-filtered}
 use Rattle.yal_reader.specs.Kept.{IsKeptCall, IsKeptModule, call_names, module_names}
 use Rattle.yal_reader.specs.declared.file.Call.{Call}
 use Rattle.yal_reader.specs.declared.file.Module.{Module}
@@ -44,14 +45,6 @@ checked-calls modules calls used signals is_used is_signals good few_calls few_s
     (subst (λ s. IsChecked (used_modules modules calls) s calls) (sym is_signals)
     (checked modules calls good few_calls (subst (λ s. length s ≤ 200000) is_signals few_signals) kept few different kept_calls different_calls))
 
-every-some : {X : Type 0} (P : X → Type 0) (p : X → Bool) (xs : List X) → AllByRecursion P xs → AllByRecursion P (filter p xs)
-every-some P p [] h = tt
-every-some P p (x ∷ xs) h = by (p x) (every-some P p xs h.1)
-  where
-    by : (b : Bool) → AllByRecursion P (filter p xs) → AllByRecursion P (cond b (x ∷ filter p xs) (filter p xs))
-    by true more = (h.0, more)
-    by false more = more
-
 -- the one PARENT is the only one of its list
 pub one-parent : (parents : List Module) (m : Module) → only_parent parents ≡ Ok m → parents ≡ m ∷ []
 one-parent [] m is = absurd (no is)
@@ -70,4 +63,4 @@ one-parent (x ∷ other ∷ ms) m is = absurd (no is)
 -- and a module of the file
 pub parent-kept : (modules : List Module) (m : Module) → AllByRecursion IsKeptModule modules → only_parent (filter is_parent_module modules) ≡ Ok m → IsKeptModule m
 parent-kept modules m kept is =
-    (subst (λ l. AllByRecursion IsKeptModule l) (one-parent (filter is_parent_module modules) m is) (every-some IsKeptModule is_parent_module modules kept)).0
+    (subst (λ l. AllByRecursion IsKeptModule l) (one-parent (filter is_parent_module modules) m is) (every-filtered IsKeptModule is_parent_module modules kept)).0

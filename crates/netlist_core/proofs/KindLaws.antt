@@ -41,7 +41,7 @@ few-columns width pitch low wide = omega (arith, mul-le-mul_right (width / pitch
 
 -- the position of a free terminal, in a column of the kind, is one of the kind
 good-position : (rules : RuleValues) (box : Outline) (m : Module) (ps : List Position) (p : Position)
-    → IsFree (terminal_names m.lines) (power_names m.lines) p.terminal × (p.column < box.width / rules.grid_column)
+    → IsFree (terminal_names m.lines) (power_names m.lines) p.terminal × (p.column < box.width / rules.grid.column)
     → IsPosition (kind_at m (grid_at rules box ps)) p
 good-position rules box m ps p h = record {
   column = h.1;
@@ -53,20 +53,20 @@ good-position rules box m ps p h = record {
     free t named = sym named.powered ∙ h.0.free named.name named.stands
 
 good-kind : (rules : RuleValues) (height n : ℕ) (m : Module) (box : Outline) (ps : List Position) → ValidRules rules → IsKeptModule m
-    → is_standard m.kind ≡ true → IsSmall box → IsGridded rules.grid_column box (spots_of m.lines) ps
+    → is_standard m.kind ≡ true → IsSmall box → IsGridded rules.grid.column box (spots_of m.lines) ps
     → IsFaultless rules height box (spots_of m.lines) ps → IsKind (kind_at m (grid_at rules box ps))
 good-kind rules height n m box ps valid kept standard small grid whole = record {
   name = kept.name;
-  some = some-columns box.width rules.grid_column small.wide grid.whole valid.ranges.grid_column.0;
-  few = few-columns box.width rules.grid_column small.width valid.ranges.grid_column.0;
+  some = some-columns box.width rules.grid.column small.wide grid.whole valid.ranges.grid.column.0;
+  few = few-columns box.width rules.grid.column small.width valid.ranges.grid.column.0;
   positions = every-all (IsPosition (kind_at m (grid_at rules box ps))) ps
-      (every-weaker (λ (p : Position). IsFree (terminal_names m.lines) (power_names m.lines) p.terminal × (p.column < box.width / rules.grid_column))
+      (every-weaker (λ (p : Position). IsFree (terminal_names m.lines) (power_names m.lines) p.terminal × (p.column < box.width / rules.grid.column))
       (IsPosition (kind_at m (grid_at rules box ps))) (good-position rules box m ps) ps
-      (positions-hold (IsFree (terminal_names m.lines) (power_names m.lines)) rules.grid_column box (spots_of m.lines) ps grid.positions
+      (positions-hold (IsFree (terminal_names m.lines) (power_names m.lines)) rules.grid.column box (spots_of m.lines) ps grid.positions
       (free-spots (terminal_names m.lines) (power_names m.lines) m.lines (known-lines m.lines))));
   apart = clash-free [] ps whole.apart;
   reached = λ k t at free.
-      sym (positions-reach k rules.grid_column box (spots_of m.lines) ps grid.positions) ∙ terminal-spot m.kind m.lines standard kept.lines k t at free;
+      sym (positions-reach k rules.grid.column box (spots_of m.lines) ps grid.positions) ∙ terminal-spot m.kind m.lines standard kept.lines k t at free;
 }
 
 -- what a STANDARD module gives is a good kind
@@ -76,15 +76,8 @@ kind-good rules height n m k valid kept standard h =
     let made : IsMade rules height n m k = kind-made rules height n m k h in
     subst IsKind made.kind
     (good-kind rules height n m made.box made.positions valid kept standard (outline-small m.corners made.box kept.corners made.outline)
-    (grid-made rules.grid_column made.box (spots_of m.lines) made.positions made.grid)
+    (grid-made rules.grid.column made.box (spots_of m.lines) made.positions made.grid)
     (faultless rules height n made.box (spots_of m.lines) made.positions made.fault))
-
--- a kind's height is that of its module
-pub kind-height : (rules : RuleValues) (height n : ℕ) (m : Module) (k : CellKind) → kind_of rules height n m ≡ Ok k → height_of_module m ≡ height
-kind-height rules height n m k h =
-    let made : IsMade rules height n m k = kind-made rules height n m k h in
-    let whole : IsFaultless rules height made.box (spots_of m.lines) made.positions = faultless rules height n made.box (spots_of m.lines) made.positions made.fault in
-    ap height_of_outline made.outline ∙ whole.same
 
 -- and it is at most 200,000,000
 pub kind-low : (rules : RuleValues) (height n : ℕ) (m : Module) (k : CellKind) → IsKeptModule m → kind_of rules height n m ≡ Ok k → height ≤ 200000000
@@ -107,9 +100,3 @@ pub kind-terminals : (rules : RuleValues) (height n : ℕ) (m : Module) (k : Cel
 kind-terminals rules height n m k h =
     let made : IsMade rules height n m k = kind-made rules height n m k h in
     ap (λ (c : CellKind). c.terminals) (sym made.kind)
-
--- a kind's name is its module's
-pub kind-name : (rules : RuleValues) (height n : ℕ) (m : Module) (k : CellKind) → kind_of rules height n m ≡ Ok k → k.name ≡ m.name
-kind-name rules height n m k h =
-    let made : IsMade rules height n m k = kind-made rules height n m k h in
-    ap (λ (c : CellKind). c.name) (sym made.kind)

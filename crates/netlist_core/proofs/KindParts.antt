@@ -20,7 +20,7 @@ pub record IsMade (rules : RuleValues) (height n : ℕ) (m : Module) (k : CellKi
   pub box : Outline
   pub positions : List Position
   pub outline : outline_of m.corners ≡ Some box
-  pub grid : grid_positions rules.grid_column box (spots_of m.lines) ≡ Some positions
+  pub grid : grid_positions rules.grid.column box (spots_of m.lines) ≡ Some positions
   pub fault : kind_fault rules height n box (spots_of m.lines) positions ≡ None
   pub kind : kind_at m (grid_at rules box positions) ≡ k
 
@@ -28,7 +28,7 @@ ok-one : {X : Type 0} {x y : X} → (let r : Result X DesignFault = Ok x in r) �
 ok-one h = cc
 
 made-kind : (rules : RuleValues) (height n : ℕ) (m : Module) (k : CellKind) (box : Outline) (ps : List Position)
-    → outline_of m.corners ≡ Some box → grid_positions rules.grid_column box (spots_of m.lines) ≡ Some ps
+    → outline_of m.corners ≡ Some box → grid_positions rules.grid.column box (spots_of m.lines) ≡ Some ps
     → (fault : Option DesignFault) → kind_fault rules height n box (spots_of m.lines) ps ≡ fault
     → (unless fault (Ok (grid_at rules box ps)) >>= λ (grid : ℕ × List Position). Ok (kind_at m grid)) ≡ Ok k → IsMade rules height n m k
 made-kind rules height n m k box ps outline grid None none h =
@@ -36,7 +36,7 @@ made-kind rules height n m k box ps outline grid None none h =
 made-kind rules height n m k box ps outline grid (Some fault) some h = cc
 
 made-grid : (rules : RuleValues) (height n : ℕ) (m : Module) (k : CellKind) (box : Outline) → outline_of m.corners ≡ Some box
-    → (ps : Option (List Position)) → grid_positions rules.grid_column box (spots_of m.lines) ≡ ps
+    → (ps : Option (List Position)) → grid_positions rules.grid.column box (spots_of m.lines) ≡ ps
     → ((found (faults.OffGrid n) ps >>= λ positions. unless (kind_fault rules height n box (spots_of m.lines) positions) (Ok (grid_at rules box positions)))
     >>= λ (grid : ℕ × List Position). Ok (kind_at m grid)) ≡ Ok k
     → IsMade rules height n m k
@@ -50,12 +50,12 @@ unfolding kind_of grid_of
 kind-made rules height n m k = by (outline_of m.corners) refl
   where
     by : (o : Option Outline) → outline_of m.corners ≡ o
-        → ((found (faults.NoShape n) o >>= λ box. found (faults.OffGrid n) (grid_positions rules.grid_column box (spots_of m.lines)) >>= λ positions.
+        → ((found (faults.NoShape n) o >>= λ box. found (faults.OffGrid n) (grid_positions rules.grid.column box (spots_of m.lines)) >>= λ positions.
         unless (kind_fault rules height n box (spots_of m.lines) positions) (Ok (grid_at rules box positions)))
         >>= λ (grid : ℕ × List Position). Ok (kind_at m grid)) ≡ Ok k
         → IsMade rules height n m k
     by None outline h = cc
-    by (Some box) outline h = made-grid rules height n m k box outline (grid_positions rules.grid_column box (spots_of m.lines)) refl h
+    by (Some box) outline h = made-grid rules height n m k box outline (grid_positions rules.grid.column box (spots_of m.lines)) refl h
 
 -- what positions on the grid are
 pub record IsGridded (pitch : ℕ) (box : Outline) (spots : List (ℕ × Spot)) (ps : List Position) : Type 0 where

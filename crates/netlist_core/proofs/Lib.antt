@@ -30,11 +30,7 @@ pub mod GoodNetlist
 pub mod CheckedCalls
 -- outlines and the corners that they have
 pub mod RingLaws
--- worked cells, computed
-pub mod CellSamples
 -- the kinds of a design have room for their pins
 pub mod HighKinds
--- worked designs, computed
-pub mod GridSamples
 -- each kind is some instance's
 pub mod UsesOfKinds

@@ -118,13 +118,13 @@ kind_fault rules height n box spots positions =
 
 -- a module's width in columns, and its positions
 abbrev pub grid_at : RuleValues → Outline → List Position → ℕ × List Position
-grid_at rules box positions = (box.width / rules.grid_column, positions)
+grid_at rules box positions = (box.width / rules.grid.column, positions)
 
 -- the same of the module with number n that has these corners and spots, or why it is no kind
 unfoldable pub grid_of : RuleValues → ℕ → ℕ → List ℤ → List (ℕ × Spot) → Result (ℕ × List Position) DesignFault
 grid_of rules height n corners spots = do
   box ← found (faults.NoShape n) (outline_of corners)
-  positions ← found (faults.OffGrid n) (grid_positions rules.grid_column box spots)
+  positions ← found (faults.OffGrid n) (grid_positions rules.grid.column box spots)
   unless (kind_fault rules height n box spots positions) (Ok (grid_at rules box positions))
 
 -- a module as a kind with this width and these positions

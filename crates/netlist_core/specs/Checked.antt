@@ -2,6 +2,7 @@ use Rattle.std.specs.Prelude.{◌≡◌, ◌<◌, ◌≤◌, ◌^◌, ℕ, ◌+�
 use Rattle.std.specs.List.{AllByRecursion, IsDistinct, list_any}
 use Rattle.std.specs.Option.{option_map}
 use Rattle.std.specs.Str.{bytes_eq}
+use Rattle.limits.specs.declared.TheConstants.{MOST_INSTANCES, MOST_PINS}
 use Rattle.yal_reader.specs.Kept.{IsKeptCall, IsKeptModule, call_names, is_standard}
 use Rattle.yal_reader.specs.declared.file.Call.{Call}
 use Rattle.yal_reader.specs.declared.file.Module.{Module}
@@ -28,8 +29,8 @@ pin_place s = (s.instance, s.terminal)
 -- what the checks of calls give: each call names one of these modules, which are STANDARD, and has
 -- a word for each terminal
 pub record IsChecked (used : List (ℕ × Module)) (signals : List PinWord) (calls : List Call) : Type 0 where
-  pub few_calls : length calls ≤ 20000
-  pub few_signals : length signals ≤ 200000
+  pub few_calls : length calls ≤ MOST_INSTANCES
+  pub few_signals : length signals ≤ MOST_PINS
   pub few_modules : length used < 2 ^ 32
   pub kept : AllByRecursion (λ (m : ℕ × Module). IsKeptModule m.1) used
   pub standard : AllByRecursion (λ (m : ℕ × Module). is_standard m.1.kind ≡ true) used

@@ -1,6 +1,7 @@
 use Rattle.std.specs.Prelude.{ℕ, List, [], ◌∷◌, length, map, filter, Bool, Result, Ok}
 use Rattle.std.specs.List.{enumerate_from, list_any}
 use Rattle.std.specs.Str.{bytes_eq}
+use Rattle.limits.specs.declared.TheConstants.{MOST_INSTANCES, MOST_PINS}
 use Rattle.tech_rules.specs.Rules.{RuleValues}
 use Rattle.yal_reader.specs.declared.file.Call.{Call}
 use Rattle.yal_reader.specs.declared.file.Module.{Module}
@@ -65,9 +66,9 @@ used_design rules used signals calls = do
 -- the design of these calls, or the first refusal: by the limits and the calls, then by the used modules
 unfoldable pub calls_design : RuleValues → List Module → List Call → Result Netlist DesignFault
 calls_design rules modules calls =
-    unless (over Instances 20000 (length calls)) (
+    unless (over Instances MOST_INSTANCES (length calls)) (
     unless (calls_fault modules calls) (
-    unless (over Pins 200000 (length (all_signals modules calls))) (
+    unless (over Pins MOST_PINS (length (all_signals modules calls))) (
     used_design rules (used_modules modules calls) (all_signals modules calls) calls)))
 
 -- the checked design of a file, or the first refusal

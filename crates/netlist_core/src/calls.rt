@@ -10,6 +10,7 @@ use crate::DesignFault;
 use crate::library::Library;
 use design_model::Inst;
 use indexmap::IndexSet;
+use limits::MOST_INSTANCES;
 use list_facts::{number, place_of};
 use std::alloc::{AllocError, Global};
 use yal_reader::{Call, Kind, Module, YalFile};
@@ -66,7 +67,7 @@ fn is_standard(module: &Module) -> bool
 /// The first thing that is wrong with these calls, if anything. Takes no memory.
 #[tactic(auto, unfolding(crate::specs::Calls::calls_fault))]
 pub fn calls_fault(library: &Library, calls: &[Call]) -> Option<DesignFault>
-    requires { length calls.now ≤ 20000 }
+    requires { length calls.now ≤ MOST_INSTANCES }
     ensures { result ≡ calls_fault library.now calls.now }
 {
     let mut i = 0;

@@ -77,14 +77,14 @@ fn grid_of(
     let Some(outline) = outline_of(corners) else {
         return Err(DesignFault::NoShape(n));
     };
-    let Some(positions) = grid_positions(alloc, rules.grid_column, outline, spots)? else {
+    let Some(positions) = grid_positions(alloc, rules.grid.column, outline, spots)? else {
         return Err(DesignFault::OffGrid(n));
     };
     if let Some(fault) = kind_fault(alloc, rules, height, n, outline, spots, &positions)? {
         return Err(fault);
     }
     Ok(Grid {
-        columns: outline.width / rules.grid_column,
+        columns: outline.width / rules.grid.column,
         positions: Items::new(positions),
     })
 }
@@ -105,7 +105,7 @@ fn kind_fault(
     if outline.height != height {
         return Ok(Some(DesignFault::Height(n)));
     }
-    if outline.height < 2 * rules.grid_pin + rules.vertical_space {
+    if outline.height < 2 * rules.grid.pin + rules.vertical.space {
         return Ok(Some(DesignFault::TooLow(n)));
     }
     if has_clash(alloc, positions)? {

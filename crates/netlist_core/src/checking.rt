@@ -19,15 +19,10 @@ use crate::used::{Numbered, height_of, instances_among, kinds_of, used_modules};
 use crate::{Count, DesignFault};
 use design_model::Design;
 use geom_core::Items;
+use limits::{MOST_INSTANCES, MOST_PINS};
 use std::alloc::Global;
 use tech_rules::Rules;
 use yal_reader::{Call, Module, YalFile};
-
-/// The most instances that a design may have.
-pub const MOST_INSTANCES: usize = 20000;
-
-/// The most pins that a design may have.
-pub const MOST_PINS: usize = 200000;
 
 /// The checked design of a file: its PARENT's calls as instances, the modules that they use as kinds on the column grid of the
 /// rules, and the pins with the nets that their signal words make. Two pins have one net exactly where their words are equal.
@@ -88,14 +83,14 @@ fn called_design(
 ) -> Result<Design, DesignFault>
     requires library { library.now ≡ modules.now }
     requires fits { calls_fault modules.now calls.now ≡ None }
-    requires few_calls { length calls.now ≤ 20000 }
+    requires few_calls { length calls.now ≤ MOST_INSTANCES }
     requires kept { AllByRecursion IsKeptModule modules.now }
     requires short { AllByRecursion (IsShort (2 ^ 32 - 1)) modules.now }
     requires few { length modules.now ≤ 2 ^ 32 - 1 }
     requires modules { IsDistinct bytes_eq (module_names modules.now) }
     requires names { AllByRecursion IsKeptCall calls.now }
     requires calls { IsDistinct bytes_eq (call_names calls.now) }
-    ensures is { Agrees (λ design. design) result (unless (over Pins 200000 (length (all_signals modules.now calls.now))) (used_design rules.now (used_modules modules.now calls.now) (all_signals modules.now calls.now) calls.now)) }
+    ensures is { Agrees (λ design. design) result (unless (over Pins MOST_PINS (length (all_signals modules.now calls.now))) (used_design rules.now (used_modules modules.now calls.now) (all_signals modules.now calls.now) calls.now)) }
     ensures nets { IfOk result (λ design. SameNet (word_of calls.now) design.pins) }
 {
     let signals = signals_of(alloc, library, calls)?;

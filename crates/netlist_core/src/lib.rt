@@ -12,5 +12,5 @@ mod signals;
 mod terminals;
 mod used;
 
-pub use checking::{MOST_INSTANCES, MOST_PINS, to_design};
+pub use checking::to_design;
 pub use fault::{Count, DesignFault};

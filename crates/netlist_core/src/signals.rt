@@ -6,6 +6,7 @@ use crate::library::Library;
 use design_model::{Pin, Terminal};
 use geom_core::Name;
 use indexmap::IndexSet;
+use limits::MOST_INSTANCES;
 use list_facts::{number, place_of};
 use std::alloc::{AllocError, Global};
 use std::marker::Model;
@@ -65,7 +66,7 @@ pub fn signals_of<'a>(
     library: &Library,
     calls: &'a [Call],
 ) -> Result<Vec<Signal<'a>>, AllocError>
-    requires { length calls.now ≤ 20000 }
+    requires { length calls.now ≤ MOST_INSTANCES }
     ensures { IfOk result (λ signals. signals.items ≡ all_signals library.now calls.entry.now) }
 {
     let mut signals = Vec::new(alloc);

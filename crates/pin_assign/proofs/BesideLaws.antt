@@ -12,9 +12,9 @@ use Rattle.feed_cells.specs.Fed.{item_width, seats_in, Fed, cells_in}
 use Rattle.feed_cells.specs.declared.fed.Item.{Item}
 use Rattle.feed_cells.specs.declared.fed.Item.TheVariants.{Cell, Feed}
 use Rattle.feed_cells.specs.Crossings.{has_edge}
-use Rattle.pin_assign.specs.Sources.{Source, StandsOver, first_over, later_over, of_feed, of_pin, SourceEnters}
+use Rattle.pin_assign.proofs.Sources.{Source, StandsOver, first_over, later_over, of_feed, of_pin, SourceEnters}
 use Rattle.pin_assign.specs.Entering.{enters}
-use Rattle.pin_assign.specs.Places.{HasOver, TablePlace, StandsAt, channel_facing, row_beside}
+use Rattle.pin_assign.proofs.TablePlaces.{HasOver, TablePlace, StandsAt, channel_facing, row_beside}
 use Rattle.pin_assign.specs.Tables.{row_below}
 
 -- a cause along items stands in a column

@@ -20,15 +20,15 @@ use Rattle.row_model.proofs.StandLaws.{stand-is, stand-there}
 use Rattle.feed_cells.specs.Crossings.{all_nets, crossing_of, is_in}
 use Rattle.feed_cells.specs.Fed.{nets_in, Fed, fed_row, fed_rows, item_width}
 use Rattle.feed_cells.specs.Feeds.{is_fed}
-use Rattle.feed_cells.specs.Standing.{Stands, feeding, seated}
-use Rattle.feed_cells.specs.Touching.{channel_beside}
+use Rattle.feed_cells.proofs.Standing.{Stands, feeding, seated}
+use Rattle.feed_cells.proofs.Touching.{channel_beside}
 use Rattle.feed_cells.specs.declared.fed.Item.{Item}
 use Rattle.feed_cells.specs.declared.fed.Item.TheVariants.{Feed}
 use Rattle.feed_cells.proofs.FedLaws.{cells-fed, fed-long, fed-row, fed-row-some, item-stands}
 use Rattle.feed_cells.proofs.NetLaws.{fed-stands, inside-stands, net-range}
-use Rattle.pin_assign.specs.Causes.{AreDifferent, Cause, EntersBy, EntersTwice, FeedsBy, by_both, by_feed, by_pin, by_pins, over_both}
-use Rattle.pin_assign.specs.Places.{TablePlace, StandsAt, entry_at}
-use Rattle.pin_assign.specs.Sources.{Source, StandsOver, first_over, later_over, of_feed, of_pin, source_net}
+use Rattle.pin_assign.proofs.Causes.{AreDifferent, Cause, EntersBy, EntersTwice, FeedsBy, by_both, by_feed, by_pin, by_pins, over_both}
+use Rattle.pin_assign.proofs.TablePlaces.{TablePlace, StandsAt, entry_at}
+use Rattle.pin_assign.proofs.Sources.{Source, StandsOver, first_over, later_over, of_feed, of_pin, source_net}
 use Rattle.pin_assign.specs.Tables.{table_of}
 use Rattle.pin_assign.proofs.BesideLaws.{StandsBeside, cells-row, feed-beside, feed-item, pin-beside, row-of_stand}
 use Rattle.pin_assign.proofs.EnteringLaws.{entered-is}

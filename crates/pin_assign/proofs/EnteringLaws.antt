@@ -6,14 +6,15 @@ use Rattle.design_model.specs.declared.design.Pin.{Pin}
 use Rattle.row_model.specs.Stands.{row_of}
 use Rattle.row_model.specs.declared.rows.Seat.{Seat}
 use Rattle.feed_cells.specs.Crossings.{crossing_of, has_edge, is_across, lowest, pins_of}
-use Rattle.feed_cells.specs.Channels.{AllTouch, AreSpread, first_channel}
+use Rattle.feed_cells.specs.Channels.{first_channel}
+use Rattle.feed_cells.proofs.ChannelSpans.{AllTouch, AreSpread}
 use Rattle.feed_cells.specs.Feeds.{is_fed, through_pin, passes, is_through_pin}
-use Rattle.feed_cells.specs.Touching.{Touches, channel_beside}
+use Rattle.feed_cells.proofs.Touching.{Touches, channel_beside}
 use Rattle.feed_cells.specs.declared.crossing.Crossing.{Crossing}
 use Rattle.feed_cells.specs.declared.crossing.Crossing.TheVariants.{Alone, One, Many}
 use Rattle.feed_cells.proofs.NetLaws.{across-beside}
 use Rattle.feed_cells.proofs.CrossingLaws.{in-net, many-channels, one-channel, pin-ordered, touches-between}
-use Rattle.pin_assign.specs.Causes.{CrossesBy, EntersBy, IsEntered, Passes}
+use Rattle.pin_assign.proofs.Causes.{CrossesBy, EntersBy, IsEntered, Passes}
 use Rattle.pin_assign.specs.Entering.{enters}
 
 -- the pins of a net with one channel, by the net's crossing

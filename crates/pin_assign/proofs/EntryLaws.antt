@@ -14,8 +14,8 @@ use Rattle.feed_cells.specs.Fed.{item_width}
 use Rattle.feed_cells.specs.declared.fed.Item.{Item}
 use Rattle.feed_cells.specs.declared.fed.Item.TheVariants.{Cell, Feed}
 use Rattle.pin_assign.specs.Entering.{enters}
-use Rattle.pin_assign.specs.Entries.{EntryOf}
-use Rattle.pin_assign.specs.Sources.{IsOver, IsPinOver, Source, SourceEnters, StandsOver, first_over, later_over, of_feed, of_pin, source_net}
+use Rattle.pin_assign.proofs.EntryForms.{EntryOf}
+use Rattle.pin_assign.proofs.Sources.{IsOver, IsPinOver, Source, SourceEnters, StandsOver, first_over, later_over, of_feed, of_pin, source_net}
 use Rattle.pin_assign.specs.Tables.{enters_in, item_entries, net_in, row_entries}
 use Rattle.pin_assign.proofs.CauseLaws.{over-once, own-turned}
 use Rattle.pin_assign.proofs.EdgeLaws.{turned-within}

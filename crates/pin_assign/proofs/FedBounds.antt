@@ -3,6 +3,7 @@ use Rattle.std.proofs.Common.{◌≡◌, ◌≤◌, ℕ, ◌+◌, ◌*◌, List,
 use Rattle.std.proofs.lemmas.List.Sums.{sum_by-cons}
 use Rattle.std.proofs.lemmas.List.FromFn.{length-range_with_len}
 use Rattle.std.proofs.lemmas.List.{length-map}
+use Rattle.std.proofs.Math.Nat.{mul-le-mul}
 use Rattle.list_facts.proofs.Counts.{filter-short}
 use Rattle.tech_rules.specs.Rules.{RuleValues}
 use Rattle.design_model.specs.Netlist.{IsNetlist, Netlist}
@@ -17,15 +18,11 @@ use Rattle.feed_cells.proofs.FedWidths.{row-narrow}
 use Rattle.pin_assign.specs.Bounds.{channels_height}
 use Rattle.pin_assign.specs.Bounded.{AreBounded, AreFewNets}
 
--- a product is at most that of greater factors
-pub product-within : (a b x y : ℕ) → a ≤ x → b ≤ y → a * b ≤ x * y
-product-within a b x y first second = grind arith
-
 -- the height of channels, one and the others
-pub height-more : (r : RuleValues) (n : ℕ) (nets : List ℕ) → channels_height r (n ∷ nets) ≡ (2 * n + 1) * r.grid_track + channels_height r nets
-height-more r n nets = sum_by-cons (λ (k : ℕ). k) ((2 * n + 1) * r.grid_track) (map (λ (k : ℕ). (2 * k + 1) * r.grid_track) nets)
+pub height-more : (r : RuleValues) (n : ℕ) (nets : List ℕ) → channels_height r (n ∷ nets) ≡ (2 * n + 1) * r.grid.track + channels_height r nets
+height-more r n nets = sum_by-cons (λ (k : ℕ). k) ((2 * n + 1) * r.grid.track) (map (λ (k : ℕ). (2 * k + 1) * r.grid.track) nets)
 
-pub ruleset bound_laws = (product-within, height-more)
+pub ruleset bound_laws = (mul-le-mul, height-more)
 
 module _ (d : Netlist) (good : IsNetlist d) (rows : List (List Seat)) where
   widest : (from row : ℕ) (rest : List (List Seat)) → from ≤ 3000000000000 → AllByRecursion (IsWithin (length d.instances) 20000) rest

@@ -26,3 +26,11 @@ pub mod ChannelTables
 pub mod FedBounds
 -- the entries of rows by tables
 pub mod TabledEntries
+-- why a net has entries in a channel
+pub mod Causes
+-- which nets the pins and feeds of a row leave in which columns
+pub mod EntryForms
+-- the places of a table
+pub mod TablePlaces
+-- the pins and feeds along a row
+pub mod Sources

@@ -2,7 +2,7 @@ use Rattle.std.proofs.Common.{◌≡◌, ◌≢◌, ◌<◌, ◌≤◌, ℕ, Boo
 use Rattle.std.proofs.lemmas.Bool.{cases_eq}
 use Rattle.list_facts.proofs.Counts.{times, times-apart, times-one, times-place}
 use Rattle.channel_model.specs.Pins.{ArePaired, Pins, pin_count}
-use Rattle.pin_assign.specs.Places.{TablePlace, entry_at}
+use Rattle.pin_assign.proofs.TablePlaces.{TablePlace, entry_at}
 
 abbrev place_at : Bool → ℕ → TablePlace
 place_at upper column = record { upper = upper; column = column }

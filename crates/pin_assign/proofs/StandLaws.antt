@@ -3,9 +3,9 @@ use Rattle.std.specs.List.{slice_index}
 use Rattle.design_model.specs.Netlist.{Netlist, IsNetlist}
 use Rattle.feed_cells.specs.Fed.{Fed, cells_in}
 use Rattle.feed_cells.specs.declared.fed.Item.{Item}
-use Rattle.pin_assign.specs.Sources.{Source, source_net}
-use Rattle.pin_assign.specs.Entries.{EntryIn}
-use Rattle.pin_assign.specs.Places.{HasOver, TablePlace, StandsAt, entry_at, row_beside}
+use Rattle.pin_assign.proofs.Sources.{Source, source_net}
+use Rattle.pin_assign.proofs.EntryForms.{EntryIn}
+use Rattle.pin_assign.proofs.TablePlaces.{HasOver, TablePlace, StandsAt, entry_at, row_beside}
 use Rattle.pin_assign.specs.Tables.{padded, row_entries, table_of}
 use Rattle.pin_assign.proofs.CauseLaws.{cause-once, entry-from}
 use Rattle.pin_assign.proofs.TableLaws.{edge-cause, edge-effect}

@@ -6,7 +6,7 @@ use Rattle.design_model.specs.Netlist.{Netlist, IsNetlist}
 use Rattle.row_model.specs.declared.rows.Seat.{Seat}
 use Rattle.feed_cells.specs.Fed.{Fed, cells_in}
 use Rattle.feed_cells.specs.declared.fed.Item.{Item}
-use Rattle.pin_assign.specs.Entries.{EntryIn}
+use Rattle.pin_assign.proofs.EntryForms.{EntryIn}
 use Rattle.pin_assign.specs.Tables.{padded, row_below, row_entries, table_of}
 use Rattle.pin_assign.proofs.EntryLaws.{row-cause, row-effect}
 

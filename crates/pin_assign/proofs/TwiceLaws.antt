@@ -10,12 +10,12 @@ use Rattle.row_model.specs.Rows.{ArePlaced}
 use Rattle.row_model.specs.declared.rows.Seat.{Seat}
 use Rattle.feed_cells.specs.Crossings.{crossing_of, has_edge, is_across, is_in, lowest}
 use Rattle.feed_cells.specs.Feeds.{is_fed}
-use Rattle.feed_cells.specs.Touching.{channel_beside}
+use Rattle.feed_cells.proofs.Touching.{channel_beside}
 use Rattle.feed_cells.specs.declared.crossing.Crossing.{Crossing}
 use Rattle.feed_cells.specs.declared.crossing.Crossing.TheVariants.{Alone, One, Many}
 use Rattle.feed_cells.proofs.CrossingLaws.{channels-within, fed-across, from-across, in-range, of-net, pin-ordered}
 use Rattle.feed_cells.proofs.NetLaws.{across-beside}
-use Rattle.pin_assign.specs.Causes.{AreDifferent, Cause, CrossesBy, EntersBy, EntersTwice, IsEntered, by_both, by_feed, by_pin, by_pins, over_both}
+use Rattle.pin_assign.proofs.Causes.{AreDifferent, Cause, CrossesBy, EntersBy, EntersTwice, IsEntered, by_both, by_feed, by_pin, by_pins, over_both}
 use Rattle.pin_assign.proofs.EnteringLaws.{all-touch, are-spread, crossed-by, enter-lowest, enter-one, entered-is, same-edge}
 
 -- two pins that enter one channel, over whichever edges

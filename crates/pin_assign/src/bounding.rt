@@ -6,6 +6,7 @@ ghost use Rattle.std.specs.Prelude.{◌≡◌, ◌≤◌, length};
 use crate::bound::Bound;
 use design_model::Design;
 use feed_cells::FedRows;
+use limits::MOST_PINS;
 use tech_rules::Rules;
 
 /// The size that a layout of these rows is within, whatever its routing: a channel of n nets has at most 2n tracks, and n columns more than the widest
@@ -30,10 +31,10 @@ fn bound_within(design: &Design, fed: &FedRows, rules: &Rules) -> Bound
     let rows = fed.rows.items().len() as u64;
     let nets = fed.nets.items();
     let columns = fed.width + u64::from(most_nets(nets));
-    let centi = u64::from(rules.grid_centi);
+    let centi = u64::from(rules.grid.centi);
     let cells = rows * u64::from(design.height);
     Bound {
-        width: columns * u64::from(rules.grid_column) * centi,
+        width: columns * u64::from(rules.grid.column) * centi,
         height: (cells + channels_height(nets, rules)) * centi,
         grid: (rows + 1) * columns,
     }
@@ -43,7 +44,7 @@ fn bound_within(design: &Design, fed: &FedRows, rules: &Rules) -> Bound
 fn most_nets(nets: &[u32]) -> u32
     requires { AreFewNets nets.now }
     ensures is { result ≡ most_nets nets.now }
-    ensures few { result ≤ 200000 }
+    ensures few { result ≤ MOST_PINS }
 {
     let mut most = 0;
     let mut rest = nets;
@@ -62,7 +63,7 @@ fn channels_height(nets: &[u32], rules: &Rules) -> u64
     ensures is { result ≡ channels_height rules.now nets.now }
     ensures low { result ≤ 206000515000 }
 {
-    let track = u64::from(rules.grid_track);
+    let track = u64::from(rules.grid.track);
     let mut height = 0;
     let mut rest = nets;
     while let Some((n, after)) = rest.split_first() {

@@ -10,6 +10,7 @@ use crate::rows_beside::{items_at, items_below};
 use channel_model::Channel;
 use design_model::Design;
 use feed_cells::{FedRows, PlacedPin, Placement};
+use limits::MOST_COLUMNS;
 use list_facts::Lists;
 use std::alloc::{AllocError, Global};
 
@@ -24,7 +25,7 @@ pub fn channels(
 ) -> Result<Vec<Channel>, AllocError>
     requires fed { IsFed design.now fed.now }
     requires placement { placement.now ≡ placement_of design.now (cells_in fed.now.rows) }
-    requires narrow { fed.now.width ≤ 4000000 }
+    requires narrow { fed.now.width ≤ MOST_COLUMNS }
     ensures is { IfOk result (λ v. v.items ≡ tables_of design.now fed.now) }
     ensures tables { IfOk result (λ v. AreTablesFor fed.now v.items) }
 {
@@ -87,7 +88,7 @@ fn channel_at(
     channel: u32,
 ) -> Result<Channel, AllocError>
     requires fed { IsFed design.now fed.now }
-    requires narrow { fed.now.width ≤ 4000000 }
+    requires narrow { fed.now.width ≤ MOST_COLUMNS }
     requires tabled { AreTabled design.now (cells_in fed.now.rows) table.now }
     ensures { IfOk result (λ c. c ≡ table_of design.now fed.now channel) }
 {

@@ -11,10 +11,10 @@ use design_model::Design;
 use feed_cells::{FedRows, Placement, insert_feeds, place};
 use pin_assign::{Bound, bound_of, channels};
 use row_model::{Rows, start};
-use samples::{CELLS, SampleFault, designed};
+use samples::{CELLS, SampleFault, designed, sample_rules};
 use std::alloc::{AllocError, Global};
 use std::test::Fail;
-use tech_rules::{Rules, StartBy};
+use tech_rules::StartBy;
 
 /// A cell of two columns, with a pin below in the first and above in the second, and another above in the first.
 const PAIR: &str =
@@ -30,7 +30,7 @@ fn designed_with(alloc: Global, calls: &str) -> Result<Design, SampleFault> {
 fn bound_in(alloc: Global, design: &Design, fed: &FedRows) -> Result<Bound, AllocError>
     requires { IsFed design.now fed.now }
 {
-    let rules = Rules::sample(alloc)?;
+    let rules = sample_rules(alloc)?;
     let _pins = &design.pins;
     Ok(bound_of(design, fed, &rules))
 }

@@ -7,10 +7,10 @@ use row_model::{
     PinPlace, Rows, Seat, Weights, column_of, columns_of, default_rows, pin_place, pin_places,
     start,
 };
-use samples::{CELLS, designed};
+use samples::{CELLS, designed, sample_rules};
 use std::alloc::{AllocError, Global};
 use std::test::Fail;
-use tech_rules::{Rules, StartBy};
+use tech_rules::StartBy;
 
 /// A cell of 1,305,605 columns: the area of 511 by 511 rows.
 const WIDE: &str =
@@ -184,7 +184,7 @@ fn inverters(alloc: Global, count: u32) -> Result<String, AllocError> {
 
 /// As many rows as make the layout of a design about square.
 fn rows_of(alloc: Global, design: &Design) -> Result<u32, Fail> {
-    let rules = Rules::sample(alloc)?;
+    let rules = sample_rules(alloc)?;
     Ok(default_rows(design, &rules))
 }
 

@@ -2,12 +2,10 @@ use Rattle.std.proofs.Common.{◌≡◌, ◌<◌, ◌+◌, ◌++◌, cond, eqb, 
 use Rattle.std.proofs.lemmas.Bool.{cases_eq, cond_both, cond-true, cond-false, eqb-false, eq-eqb, ne_eqb}
 use Rattle.std.proofs.lemmas.List.{append_assoc, append-nil, get_or-map}
 use Rattle.std.proofs.lemmas.List.Elements.{All-nil, All-append, All-cons, Contains-append_left, Contains-append_right}
+use Rattle.list_facts.proofs.Members.{All-of_one}
 use Rattle.channel_model.specs.declared.reach.Reach.{Reach}
 use Rattle.channel_model.specs.Reach.{reach_of}
 use Rattle.plain_router.specs.Plain.{for_pins, for_nets}
-
-pub All-of_one : {A : Type 0} (P : A → Type 0) (a : A) → P a → All P (a ∷ [])
-All-of_one {A} P a first = let none : List A = [] in All-cons P a none first (All-nil P)
 
 pub All-of_two : {A : Type 0} (P : A → Type 0) (a b : A) → P a → P b → All P (a ∷ (b ∷ []))
 All-of_two {A} P a b first second =
@@ -64,12 +62,6 @@ Contains-for_nets f nets (suc n) place a below there =
       | inl e ↦ Contains-append_right (for_nets f nets n) (f (get_or nets n 0) n) a (rw e at there)
       | inr ne ↦ Contains-append_left (for_nets f nets n) (f (get_or nets n 0) n) a (Contains-for_nets f nets n place a (omega arith) there)
     ]
-
--- a step of a loop over the columns of an edge
-pub for_pins-skip : {A : Type 0} (f : ℕ → ℕ → A) (side : List ℕ) (n : ℕ) → get_or side n 0 ≡ 0 → for_pins f side (n + 1) ≡ for_pins f side n
-for_pins-skip {A} f side n lacking =
-    let none : List A = [] in
-    rw (add-one, cond-true (eqb (get_or side n 0) 0) none (f (get_or side n 0) n ∷ none) (eq-eqb _ _ lacking)) (append-nil (for_pins f side n))
 
 pub for_pins-push : {A : Type 0} (f : ℕ → ℕ → A) (side : List ℕ) (n : ℕ) (start : List A) → (get_or side n 0 ≡ 0 → ⊥)
     → (start ++ for_pins f side n) ++ f (get_or side n 0) n ∷ [] ≡ start ++ for_pins f side (n + 1)

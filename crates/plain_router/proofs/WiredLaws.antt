@@ -2,6 +2,7 @@ use Rattle.std.proofs.Common.{◌≡◌, ◌<◌, ◌+◌, ◌*◌, ◌++◌, �
 use Rattle.std.proofs.lemmas.Bool.{cases_lt}
 use Rattle.std.proofs.lemmas.List.{get_or_past, get_or-map, length-map}
 use Rattle.std.proofs.lemmas.List.Elements.{All-append, All-map, All-weaker, All-contains, Contains-append_left, Contains-append_right}
+use Rattle.list_facts.proofs.Members.{map-member}
 use Rattle.channel_model.specs.declared.reach.Reach.{Reach}
 use Rattle.channel_model.specs.declared.wiring.Segment.{Segment}
 use Rattle.channel_model.specs.declared.wiring.Via.{Via}
@@ -20,10 +21,6 @@ use Rattle.plain_router.proofs.PinLaws.{All-for_pins, All-for_nets, Contains-for
 use Rattle.plain_router.proofs.ChainLaws.{Linked-trans, Linked-sym}
 use Rattle.plain_router.proofs.OwnerLaws.{Sound, owner_same, all_sound}
 use Rattle.plain_router.proofs.LinkLaws.{home_of, GoesHome, segments_home, vias_home, bottom_via_home, top_via_home, bottom_across_home, top_across_home}
-
-Contains-map : {A B : Type 0} (f : A → B) (xs : List A) (x : A) → Contains xs x → Contains (map f xs) (f x)
-Contains-map f xs x member =
-    (member.0, omega (arith, member.1, length-map xs f), get_or-map f xs member.0 x (f x) member.1 ∙ ap f member.2)
 
 module _ (pins : Pins) (nets : List ℕ) (channel : IsChannel pins) (are : AreNets pins nets) where
   abbrev wiring : Wiring
@@ -51,11 +48,11 @@ module _ (pins : Pins) (nets : List ℕ) (channel : IsChannel pins) (are : AreNe
   -- where the parts of the wiring stand
   from_segments : (s : Segment) → Contains wiring.segments s → Contains (elements wiring) (segment s)
   from_segments s there =
-      Contains-append_left (map segment wiring.segments) (map via wiring.vias) (segment s) (Contains-map segment wiring.segments s there)
+      Contains-append_left (map segment wiring.segments) (map via wiring.vias) (segment s) (map-member segment wiring.segments s there)
 
   from_vias : (v : Via) → Contains wiring.vias v → Contains (elements wiring) (via v)
   from_vias v there =
-      Contains-append_right (map segment wiring.segments) (map via wiring.vias) (via v) (Contains-map via wiring.vias v there)
+      Contains-append_right (map segment wiring.segments) (map via wiring.vias) (via v) (map-member via wiring.vias v there)
 
   bottom_segment : (column : ℕ) → column < length pins.bottom → 0 < get_or pins.bottom column 0
       → Contains wiring.segments (bottom_across nets (get_or pins.bottom column 0) column)

@@ -2,10 +2,11 @@ ghost use Rattle.channel_model.specs.Nets.{AreNets};
 ghost use Rattle.channel_model.specs.Wired.{Wired};
 ghost use Rattle.plain_router.specs.Plain.{plain_of, for_pins, for_nets, net_segments, net_vias, bottom_across, top_across, bottom_via, top_via, lane_segments, lane_vias};
 ghost use Rattle.std.specs.List.Sorted.{IsStrictlyIncreasing};
-ghost use Rattle.std.specs.Prelude.{◌≡◌, ◌<◌, ◌≤◌, ◌++◌, ℕ, IfOk, OnOk, Contains, length, slice_index};
+ghost use Rattle.std.specs.Prelude.{◌*◌, ◌≡◌, ◌<◌, ◌≤◌, ◌++◌, ℕ, IfOk, OnOk, Contains, length, slice_index};
 
 use channel_model::{Channel, Reach, Segment, Via, Wiring, nets_of, place_of, reaches};
 use geom_core::Items;
+use limits::MOST_COLUMNS;
 use std::alloc::{AllocError, Global};
 
 // What a net owns: two tracks, and a column right of the channel.
@@ -91,8 +92,8 @@ fn wire_bottom_pins(
 ) -> Result<(), AllocError>
     requires ascending { IsStrictlyIncreasing nets.now }
     requires listed { (column : ℕ) → 0 < slice_index side.now column → Contains nets.now (slice_index side.now column) }
-    requires short { length side.now ≤ 4000000 }
-    requires few { length nets.now ≤ 8000000 }
+    requires short { length side.now ≤ MOST_COLUMNS }
+    requires few { length nets.now ≤ 2 * MOST_COLUMNS }
     ensures segments { OnOk result (segments.new.items
         ≡ segments.old.items ++ for_pins (bottom_across nets.now) side.now (length side.now)) }
     ensures vias { OnOk result (vias.new.items
@@ -125,8 +126,8 @@ fn wire_top_pins(
 ) -> Result<(), AllocError>
     requires ascending { IsStrictlyIncreasing nets.now }
     requires listed { (column : ℕ) → 0 < slice_index side.now column → Contains nets.now (slice_index side.now column) }
-    requires short { length side.now ≤ 4000000 }
-    requires few { length nets.now ≤ 8000000 }
+    requires short { length side.now ≤ MOST_COLUMNS }
+    requires few { length nets.now ≤ 2 * MOST_COLUMNS }
     ensures segments { OnOk result (segments.new.items
         ≡ segments.old.items ++ for_pins (top_across nets.now) side.now (length side.now)) }
     ensures vias { OnOk result (vias.new.items
@@ -159,7 +160,7 @@ fn wire_nets(
     nets: &[u32],
 ) -> Result<(), AllocError>
     requires nets { AreNets channel.now nets.now }
-    requires few { length nets.now ≤ 8000000 }
+    requires few { length nets.now ≤ 2 * MOST_COLUMNS }
     ensures segments { OnOk result (segments.new.items
         ≡ segments.old.items ++ for_nets (net_segments channel.now nets.now) nets.now (length nets.now)) }
     ensures vias { OnOk result (vias.new.items

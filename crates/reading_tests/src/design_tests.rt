@@ -3,10 +3,9 @@
 use crate::odd_cells::design_in;
 use design_model::{Design, Pin, Position, drawing};
 use geom_core::Name;
-use samples::{SampleFault, designed};
+use samples::{SampleFault, designed, sample_rules};
 use std::alloc::{AllocError, Global};
 use std::test::Fail;
-use tech_rules::Rules;
 
 /// Whether the one kind of a design has these positions.
 fn has_positions(design: &Design, wanted: &[Position]) -> bool {
@@ -123,11 +122,11 @@ fn is_word(design: &Design, net: u32, word: &[u8]) -> bool {
 
 /// The number of shapes in the drawing of a kind under the sample rules; 0 where there is no such kind.
 fn count_shapes(alloc: Global, design: &Design, kind: u32) -> Result<usize, AllocError> {
-    let rules = Rules::sample(alloc)?;
+    let rules = sample_rules(alloc)?;
     if kind as usize >= design.kinds.items().len() {
         return Ok(0);
     }
-    if 2 * rules.grid_pin + rules.vertical_space > design.height {
+    if 2 * rules.grid.pin + rules.vertical.space > design.height {
         return Ok(0);
     }
     Ok(drawing(alloc, design, &rules, kind)?.len())

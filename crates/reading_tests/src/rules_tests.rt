@@ -1,6 +1,6 @@
 //! Rules files, and the sample rules.
 
-use samples::RULES;
+use samples::{RULES, sample_rules};
 use std::alloc::{AllocError, Global};
 use std::test::Fail;
 use tech_rules::{Key, Rules, read_rules};
@@ -100,7 +100,7 @@ fn each_fault_comes_where_it_should(rt: HostRuntime) -> Result<(), Fail> {
 
 /// All fields of the sample rules.
 fn shown_sample(alloc: Global) -> Result<String, AllocError> {
-    let rules = Rules::sample(alloc)?;
+    let rules = sample_rules(alloc)?;
     format!(in alloc; "{rules:?}")
 }
 
@@ -114,13 +114,13 @@ fn shown_text(alloc: Global) -> Result<String, Fail> {
 fn are_sample(rules: &Rules) -> bool {
     rules.pad() == 4
         && rules.yal.items() == b"POLY".as_slice()
-        && rules.outline_layer.text() == b"XP".as_slice()
+        && rules.outline.layer.text() == b"XP".as_slice()
 }
 
 #[test]
 fn the_sample_text_reads_as_the_sample(rt: HostRuntime) -> Result<(), Fail> {
     assert!(rt; shown_text(rt.alloc())? == shown_sample(rt.alloc())?);
-    assert!(rt; are_sample(&Rules::sample(rt.alloc())?));
+    assert!(rt; are_sample(&sample_rules(rt.alloc())?));
     Ok(())
 }
 

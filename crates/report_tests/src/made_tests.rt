@@ -1,8 +1,8 @@
 //! Designs made from a number.
 
 use layout_report::make_design;
+use samples::sample_rules;
 use std::test::Fail;
-use tech_rules::Rules;
 
 // The design of six instances of seed 7 under the sample rules, as another program with that generator made it.
 const SIX_OF_SEVEN: &str = "/* made design */
@@ -89,7 +89,7 @@ ENDMODULE;
 #[test]
 fn six_instances_of_seed_seven(rt: HostRuntime) -> Result<(), Fail> {
     let alloc = rt.alloc();
-    let rules = Rules::sample(alloc)?;
+    let rules = sample_rules(alloc)?;
     let text = make_design(alloc, &rules, 7, 6)?;
     assert!(rt; text.as_slice() == SIX_OF_SEVEN.as_bytes());
     Ok(())
@@ -99,7 +99,7 @@ fn six_instances_of_seed_seven(rt: HostRuntime) -> Result<(), Fail> {
 #[test]
 fn the_most_instances(rt: HostRuntime) -> Result<(), Fail> {
     let alloc = rt.alloc();
-    let rules = Rules::sample(alloc)?;
+    let rules = sample_rules(alloc)?;
     let text = make_design(alloc, &rules, 1, 20_000)?;
     assert_eq!(rt; text.len(), 872273);
     Ok(())

@@ -8,8 +8,8 @@ use Rattle.std.specs.List.Sorted.{IsPermutation}
 use Rattle.list_facts.proofs.Ranges.{range-split}
 use Rattle.design_model.specs.Netlist.{Netlist}
 use Rattle.row_model.specs.Rows.{all_instances, ArePlaced}
-use Rattle.tech_rules.specs.declared.rules.StartBy.{StartBy}
-use Rattle.tech_rules.specs.declared.rules.StartBy.TheVariants.{Width, Count}
+use Rattle.tech_rules.specs.declared.sections.StartBy.{StartBy}
+use Rattle.tech_rules.specs.declared.sections.StartBy.TheVariants.{Width, Count}
 use Rattle.row_model.specs.Start.{counted_row, counted_rows, rounded_up, seats_from, start_rows, upright}
 use Rattle.row_model.specs.Widths.{all_columns}
 use Rattle.row_model.proofs.StartLaws.{upright-instances, width-placed}

@@ -3,7 +3,7 @@ use Rattle.design_model.specs.Netlist.{Netlist}
 use Rattle.design_model.specs.declared.design.CellKind.{CellKind}
 use Rattle.design_model.specs.declared.design.Inst.{Inst}
 use Rattle.design_model.specs.declared.design.Pin.{Pin}
-use Rattle.tech_rules.specs.declared.rules.StartBy.TheVariants.{Width}
+use Rattle.tech_rules.specs.declared.sections.StartBy.TheVariants.{Width}
 use Rattle.row_model.specs.Changes.{mirrored, swapped}
 use Rattle.row_model.specs.Cost.{cost_of, net_cost}
 use Rattle.row_model.specs.Start.{start_rows, upright}

@@ -1,8 +1,8 @@
 use Rattle.std.specs.Prelude.{ℕ, zero, suc, ◌+◌, ◌*◌, ◌-◌, ◌/◌, List, [], ◌∷◌, map, length, false, if◌then◌else◌, nat_le}
 use Rattle.std.specs.List.{range_with_len}
 use Rattle.tech_rules.specs.Rules.{RuleValues}
-use Rattle.tech_rules.specs.declared.rules.StartBy.{StartBy}
-use Rattle.tech_rules.specs.declared.rules.StartBy.TheVariants.{Width, Count}
+use Rattle.tech_rules.specs.declared.sections.StartBy.{StartBy}
+use Rattle.tech_rules.specs.declared.sections.StartBy.TheVariants.{Width, Count}
 use Rattle.design_model.specs.Netlist.{Netlist}
 use Rattle.row_model.specs.Widths.{columns_of, all_columns}
 use Rattle.row_model.specs.declared.rows.Seat.{Seat}
@@ -14,7 +14,7 @@ least_rows area height (suc more) k = if nat_le area (k * k * height) then k els
 
 -- as many rows as make the layout about square, 1 to 512
 unfoldable pub default_rows : RuleValues → Netlist → ℕ
-default_rows r d = least_rows (all_columns d * r.grid_column) d.height 511 1
+default_rows r d = least_rows (all_columns d * r.grid.column) d.height 511 1
 
 -- an instance in its seat, upright
 abbrev pub upright : ℕ → Seat

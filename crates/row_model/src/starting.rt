@@ -17,7 +17,7 @@ pub fn default_rows(design: &Design, rules: &Rules) -> u32
     ensures some { 1 ≤ result }
     ensures few { result ≤ 512 }
 {
-    let area = all_columns(design) * u64::from(rules.grid_column);
+    let area = all_columns(design) * u64::from(rules.grid.column);
     least_rows(area, design.height, 511, 1)
 }
 

@@ -6,11 +6,11 @@ use Rattle.std.proofs.lemmas.Bool.{cases_lt, le-leb, lt-leb}
 use Rattle.std.proofs.lemmas.List.{append-nil, take-take}
 use Rattle.std.proofs.lemmas.Option.{get_or_from_slice_get, slice_get_within}
 use Rattle.std.proofs.lemmas.List.Elements.{All-cons, All-nil}
+use Rattle.list_facts.proofs.Places.{drop-here, drop-past}
 use Rattle.close_rects.specs.Crowds.{KeepsInReach, crowd_of, crowds_of, is_crowded}
 use Rattle.close_rects.specs.declared.member.Member.{Member}
 use Rattle.rule_check.specs.Failing.{failing_from, failing_pairs_from}
 use Rattle.rule_check.specs.Members.{members_from}
-use Rattle.rule_check.proofs.FailingLaws.{drop-here, drop-past}
 
 module _ {A : Type 0} (made : ℕ → A → Option Member) where
   -- what is made of the next is put to the members
@@ -72,9 +72,6 @@ abbrev pub do_crowd : Option Member → Option Member → Bool
 do_crowd None other = false
 do_crowd (Some a) None = false
 do_crowd (Some a) (Some b) = is_crowded a b
-
-do_crowd-none : (a : Member) → do_crowd (Some a) None ≡ false
-do_crowd-none a = refl
 
 module _ {A : Type 0} (made : ℕ → A → Option Member) (fails : A → A → Bool) where
   -- each member has its number
@@ -211,6 +208,3 @@ length-zip (x ∷ xs) [] same = absurd (omega arith)
 length-zip (x ∷ xs) (y ∷ ys) same =
     let later : length xs ≡ length ys = omega arith in
     ap suc (length-zip xs ys later)
-
-pub all-at : {X : Type 0} (P : X → Type 0) (xs : List X) (k : ℕ) (x : X) → All P xs → slice_get xs k ≡ Some x → P x
-all-at P xs k x all is = subst P (get_or_from_slice_get xs k x x is) (all k x (slice_get_within xs k x is))

@@ -4,18 +4,8 @@ use Rattle.std.specs.List.{list_any, slice_get}
 use Rattle.std.proofs.lemmas.Option.{get_or_from_slice_get, slice_get-get_or, slice_get_within}
 use Rattle.std.proofs.lemmas.List.Folds.{list_any_at}
 use Rattle.std.proofs.lemmas.List.Elements.{Contains-append_cases, Contains-append_left, Contains-append_right}
+use Rattle.list_facts.proofs.Members.{map-member, map-cases}
 use Rattle.rule_check.specs.Failing.{failing_from, failing_pairs_from}
-
-pub drop-here : {X : Type 0} (xs : List X) (k : ℕ) (x : X) → slice_get xs k ≡ Some x → drop k xs ≡ x ∷ drop (suc k) xs
-drop-here [] k x is = let never : ⊥ = cc in absurd never
-drop-here (y ∷ ys) zero x is = let same : y ≡ x = cc in ap (λ z. z ∷ ys) same
-drop-here (y ∷ ys) (suc k) x is = drop-here ys k x is
-
-pub drop-past : {X : Type 0} (xs : List X) (k : ℕ) → length xs ≤ k → drop k xs ≡ []
-drop-past [] zero past = refl
-drop-past [] (suc k) past = refl
-drop-past (x ∷ xs) zero past = absurd (omega arith)
-drop-past (x ∷ xs) (suc k) past = drop-past xs k (omega arith)
 
 -- a list with no member is empty
 pub empty-none : {X : Type 0} (xs : List X) → ((x : X) → ¬ Contains xs x) → xs ≡ []
@@ -34,23 +24,6 @@ contains-later x y xs (k, within, is) = (suc k, omega arith, is)
 contains-cases : {X : Type 0} (x y : X) (xs : List X) → Contains (x ∷ xs) y → (x ≡ y) ⊎ Contains xs y
 contains-cases x y xs (zero, within, is) = inl is
 contains-cases x y xs (suc k, within, is) = inr (k, omega arith, is)
-
-contains-map : {X Y : Type 0} (f : X → Y) (xs : List X) (y : Y) → Contains (map f xs) y → (x : X) × Contains xs x × (f x ≡ y)
-contains-map f [] y (k, within, is) = absurd (omega arith)
-contains-map f (x ∷ xs) y among = cases (contains-cases (f x) y (map f xs) among) (contains-map f xs y)
-  where
-    cases : (f x ≡ y) ⊎ Contains (map f xs) y → (Contains (map f xs) y → (z : _) × Contains xs z × (f z ≡ y))
-        → (z : _) × Contains (x ∷ xs) z × (f z ≡ y)
-    cases (inl same) find = (x, contains-here x x xs refl, same)
-    cases (inr later) find = let found : (z : _) × Contains xs z × (f z ≡ y) = find later in (found.0, contains-later x found.0 xs found.1, found.2)
-
-map-contains : {X Y : Type 0} (f : X → Y) (xs : List X) (x : X) → Contains xs x → Contains (map f xs) (f x)
-map-contains f [] x (k, within, is) = absurd (omega arith)
-map-contains f (y ∷ ys) x among = cases (contains-cases y x ys among) (map-contains f ys x)
-  where
-    cases : (y ≡ x) ⊎ Contains ys x → (Contains ys x → Contains (map f ys) (f x)) → Contains (f y ∷ map f ys) (f x)
-    cases (inl same) find = contains-here (f y) (f x) (map f ys) (ap f same)
-    cases (inr later) find = contains-later (f y) (f x) (map f ys) (find later)
 
 -- a member of a list that fails, with its place
 pub record IsFailing {A : Type 0} (fails : A → Bool) (xs : List A) (k : ℕ) : Type 0 where
@@ -114,7 +87,7 @@ pub failing_pairs_from-member : {A : Type 0} (fails : A → A → Bool) (n : ℕ
 failing_pairs_from-member fails n [] p (k, within, is) = absurd (omega arith)
 failing_pairs_from-member {A} fails n (x ∷ xs) p among =
     elim (Contains-append_cases (map (λ later. (n, later)) (failing_from (fails x) (n + 1) xs)) (failing_pairs_from fails (n + 1) xs) p among) [
-      | inl first ↦ with_first (contains-map (λ (later : ℕ). (n, later)) (failing_from (fails x) (n + 1) xs) p first)
+      | inl first ↦ with_first (map-cases (λ (later : ℕ). (n, later)) (failing_from (fails x) (n + 1) xs) p first)
       | inr rest ↦ later (failing_pairs_from-member fails (n + 1) xs p rest)
     ]
   where
@@ -172,7 +145,7 @@ member-failing_pairs_from {A} fails n (x ∷ xs) zero (suc j) p found left right
     let pair : (n, p.1) ≡ p = ap (λ k. (k, p.1)) here in
     Contains-append_left (map (λ later. (n, later)) (failing_from (fails x) (n + 1) xs)) (failing_pairs_from fails (n + 1) xs) p
     (subst (Contains (map (λ later. (n, later)) (failing_from (fails x) (n + 1) xs))) pair
-    (map-contains (λ (later : ℕ). (n, later)) (failing_from (fails x) (n + 1) xs) p.1 among))
+    (map-member (λ (later : ℕ). (n, later)) (failing_from (fails x) (n + 1) xs) p.1 among))
 member-failing_pairs_from fails n (x ∷ xs) (suc i) (suc j) p found left right =
     let order : suc i < suc j = found.order in
     Contains-append_right (map (λ later. (n, later)) (failing_from (fails x) (n + 1) xs)) (failing_pairs_from fails (n + 1) xs) p
@@ -184,17 +157,6 @@ member-failing_pairs_from fails n (x ∷ xs) (suc i) (suc j) p found left right 
       second_is = found.second_is;
       fail = found.fail;
     }) (omega arith) (omega arith))
-
--- what stands at a place is a member
-pub place-contains : {X : Type 0} (xs : List X) (k : ℕ) (x : X) → slice_get xs k ≡ Some x → Contains xs x
-place-contains xs k x is = (k, slice_get_within xs k x is, get_or_from_slice_get xs k x x is)
-
-pub contains-place : {X : Type 0} (xs : List X) (x : X) → Contains xs x → (k : ℕ) × (slice_get xs k ≡ Some x)
-contains-place xs x (k, within, is) = (k, slice_get-get_or xs k x within ∙ ap (λ y. Some y) is)
-
--- one of a list passes a test
-pub any-member : {X : Type 0} (test : X → Bool) (xs : List X) (x : X) → Contains xs x → test x ≡ true → list_any test xs ≡ true
-any-member test xs x (k, within, is) passes = list_any_at test xs k x within (ap test is ∙ passes)
 
 pub member-any : {X : Type 0} (test : X → Bool) (xs : List X) → list_any test xs ≡ true → (x : X) × Contains xs x × (test x ≡ true)
 member-any test [] is = let never : ⊥ = cc in absurd never

@@ -76,14 +76,6 @@ is_held-cover layer shapes rects rect cover =
     ∙ any_enumerated rect 0 (map (λ (s : Shape). s.rect) (filter (is_on layer) shapes))
     ∙ any_filtered rect layer shapes
 
-pub filter-shorter : {X : Type 0} (p : X → Bool) (xs : List X) → length (filter p xs) ≤ length xs
-filter-shorter p [] = omega arith
-filter-shorter p (x ∷ xs) = cases (p x) (filter-shorter p xs)
-  where
-    cases : (t : Bool) → length (filter p xs) ≤ length xs → length (cond t (x ∷ filter p xs) (filter p xs)) ≤ suc (length xs)
-    cases true later = omega arith
-    cases false later = omega arith
-
 -- of a cut it is told whether it lies in both
 pub bare-both : (on in_horizontal in_vertical horizontal vertical both : Bool) → on ≡ true → in_horizontal ≡ horizontal → in_vertical ≡ vertical
     → both ≡ (in_horizontal && in_vertical) → not both ≡ (on && not (horizontal && vertical))

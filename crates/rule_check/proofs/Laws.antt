@@ -6,6 +6,7 @@ use Rattle.std.specs.Ordering.{int_eq}
 use Rattle.std.proofs.lemmas.Bool.{both_ways, and_from, and_parts, cases_order, false_from_ne_true, not-false, or_from, or_parts}
 use Rattle.std.proofs.lemmas.Bool.Decides.{Decides-int_eq}
 use Rattle.std.proofs.lemmas.Slice.Eq.{bytes_eq-Decides}
+use Rattle.list_facts.proofs.Members.{all-get, get-contains, any-member, member-place}
 use Rattle.geom_core.specs.Extent.{Extent}
 use Rattle.geom_core.specs.Rectangles.{Apart, HasSides, IsSquare, grown}
 use Rattle.geom_core.specs.declared.layout.Layout.{Layout}
@@ -19,10 +20,9 @@ use Rattle.tech_rules.specs.Wide.{IsCovered, Wide}
 use Rattle.rule_check.specs.Crowded.{are_out_of_row, do_overlap}
 use Rattle.rule_check.specs.Failing.{failing, failing_pairs}
 use Rattle.rule_check.specs.Narrow.{encloses, has_sides, is_bare, is_covered, is_narrow, is_on, is_square}
-use Rattle.rule_check.proofs.Crowding.{all-at}
 use Rattle.rule_check.proofs.RowGaps.{AreRows, apart-back, apart-close, close-apart, level-rows, rows-back, rows-level}
 use Rattle.rule_check.proofs.Holding.{encloses-true, le-true, true-encloses, true-le}
-use Rattle.rule_check.proofs.FailingLaws.{IsFailing, any-member, contains-place, member-any, place-contains, IsFailingPair, empty-none, failing_from-member, failing_pairs_from-member, member-failing_from, member-failing_pairs_from, none-empty}
+use Rattle.rule_check.proofs.FailingLaws.{IsFailing, member-any, IsFailingPair, empty-none, failing_from-member, failing_pairs_from-member, member-failing_from, member-failing_pairs_from, none-empty}
 
 -- the numbers of those that fail
 pub failing-contains : {A : Type 0} (fails : A → Bool) (xs : List A) (k : ℕ) → Contains (failing fails xs) k ↔ IsFailing fails xs k
@@ -117,9 +117,9 @@ covered-true r l layer cut covered =
 
 true-covered : (r : RuleValues) (l : Layout) (layer : List ℕ) (cut : Shape) → is_covered r l.shapes layer cut ≡ true → IsCovered r l layer cut
 true-covered r l layer cut is =
-    let found : (s : Shape) × Contains l.shapes s × ((is_on layer s && encloses s.rect (grown (length_in r r.cut_enclose) cut.rect)) ≡ true) =
-    member-any (λ (s : Shape). is_on layer s && encloses s.rect (grown (length_in r r.cut_enclose) cut.rect)) l.shapes is in
-    let both : (is_on layer found.0 ≡ true) × (encloses found.0.rect (grown (length_in r r.cut_enclose) cut.rect) ≡ true) = and_parts _ _ found.2 in
+    let found : (s : Shape) × Contains l.shapes s × ((is_on layer s && encloses s.rect (grown (length_in r r.cut.enclose) cut.rect)) ≡ true) =
+    member-any (λ (s : Shape). is_on layer s && encloses s.rect (grown (length_in r r.cut.enclose) cut.rect)) l.shapes is in
+    let both : (is_on layer found.0 ≡ true) × (encloses found.0.rect (grown (length_in r r.cut.enclose) cut.rect) ≡ true) = and_parts _ _ found.2 in
     record {
       cover = found.0;
       is_shape = found.1;
@@ -133,59 +133,59 @@ pub wide-failing : (r : RuleValues) (l : Layout)
 wide-failing r l = (
   λ wide. (
     (failing-none (is_narrow r) l.shapes).1 (λ k s is.
-        let among : Contains l.shapes s = place-contains l.shapes k s is in
+        let among : Contains l.shapes s = get-contains l.shapes k s is in
         or_from _ _
         (or_from _ _
-        (asked-false (is_on r.horizontal_layer s) (has_sides (length_in r r.horizontal_width) s.rect)
-        (λ on. sides-true _ s.rect (wide.horizontal s among (on-layer r.horizontal_layer s on))))
-        (asked-false (is_on r.vertical_layer s) (has_sides (length_in r r.vertical_width) s.rect)
-        (λ on. sides-true _ s.rect (wide.vertical s among (on-layer r.vertical_layer s on)))))
-        (asked-false (is_on r.cut_layer s) (is_square (length_in r r.cut_size) s.rect)
-        (λ on. square-true _ s.rect (wide.cut s among (on-layer r.cut_layer s on))))),
+        (asked-false (is_on r.horizontal.layer s) (has_sides (length_in r r.horizontal.width) s.rect)
+        (λ on. sides-true _ s.rect (wide.horizontal s among (on-layer r.horizontal.layer s on))))
+        (asked-false (is_on r.vertical.layer s) (has_sides (length_in r r.vertical.width) s.rect)
+        (λ on. sides-true _ s.rect (wide.vertical s among (on-layer r.vertical.layer s on)))))
+        (asked-false (is_on r.cut.layer s) (is_square (length_in r r.cut.size) s.rect)
+        (λ on. square-true _ s.rect (wide.cut s among (on-layer r.cut.layer s on))))),
     (failing-none (is_bare r l.shapes) l.shapes).1 (λ k s is.
-        let among : Contains l.shapes s = place-contains l.shapes k s is in
-        asked-false (is_on r.cut_layer s) (is_covered r l.shapes r.horizontal_layer s && is_covered r l.shapes r.vertical_layer s)
-        (λ on. and_from _ _ (covered-true r l r.horizontal_layer s (wide.in_horizontal s among (on-layer r.cut_layer s on)))
-        (covered-true r l r.vertical_layer s (wide.in_vertical s among (on-layer r.cut_layer s on))))),
+        let among : Contains l.shapes s = get-contains l.shapes k s is in
+        asked-false (is_on r.cut.layer s) (is_covered r l.shapes r.horizontal.layer s && is_covered r l.shapes r.vertical.layer s)
+        (λ on. and_from _ _ (covered-true r l r.horizontal.layer s (wide.in_horizontal s among (on-layer r.cut.layer s on)))
+        (covered-true r l r.vertical.layer s (wide.in_vertical s among (on-layer r.cut.layer s on))))),
   ),
   λ none. record {
     horizontal = λ s among on. true-sides _ s.rect
-        (false-asked (is_on r.horizontal_layer s) _ (or_parts _ _ (or_parts _ _ (narrow none.0 s among)).0).0 (layer-on r.horizontal_layer s on));
+        (false-asked (is_on r.horizontal.layer s) _ (or_parts _ _ (or_parts _ _ (narrow none.0 s among)).0).0 (layer-on r.horizontal.layer s on));
     vertical = λ s among on. true-sides _ s.rect
-        (false-asked (is_on r.vertical_layer s) _ (or_parts _ _ (or_parts _ _ (narrow none.0 s among)).0).1 (layer-on r.vertical_layer s on));
+        (false-asked (is_on r.vertical.layer s) _ (or_parts _ _ (or_parts _ _ (narrow none.0 s among)).0).1 (layer-on r.vertical.layer s on));
     cut = λ s among on. true-square _ s.rect
-        (false-asked (is_on r.cut_layer s) _ (or_parts _ _ (narrow none.0 s among)).1 (layer-on r.cut_layer s on));
-    in_horizontal = λ s among on. true-covered r l r.horizontal_layer s (covered none.1 s among on).0;
-    in_vertical = λ s among on. true-covered r l r.vertical_layer s (covered none.1 s among on).1;
+        (false-asked (is_on r.cut.layer s) _ (or_parts _ _ (narrow none.0 s among)).1 (layer-on r.cut.layer s on));
+    in_horizontal = λ s among on. true-covered r l r.horizontal.layer s (covered none.1 s among on).0;
+    in_vertical = λ s among on. true-covered r l r.vertical.layer s (covered none.1 s among on).1;
   },
 )
   where
     narrow : failing (is_narrow r) l.shapes ≡ [] → (s : Shape) → Contains l.shapes s → is_narrow r s ≡ false
     narrow none s among =
-        let at : (k : ℕ) × (slice_get l.shapes k ≡ Some s) = contains-place l.shapes s among in
+        let at : (k : ℕ) × (slice_get l.shapes k ≡ Some s) = member-place l.shapes s among in
         (failing-none (is_narrow r) l.shapes).0 none at.0 s at.1
 
-    covered : failing (is_bare r l.shapes) l.shapes ≡ [] → (s : Shape) → Contains l.shapes s → s.layer ≡ r.cut_layer
-        → (is_covered r l.shapes r.horizontal_layer s ≡ true) × (is_covered r l.shapes r.vertical_layer s ≡ true)
+    covered : failing (is_bare r l.shapes) l.shapes ≡ [] → (s : Shape) → Contains l.shapes s → s.layer ≡ r.cut.layer
+        → (is_covered r l.shapes r.horizontal.layer s ≡ true) × (is_covered r l.shapes r.vertical.layer s ≡ true)
     covered none s among on =
-        let at : (k : ℕ) × (slice_get l.shapes k ≡ Some s) = contains-place l.shapes s among in
-        and_parts _ _ (false-asked (is_on r.cut_layer s) _ ((failing-none (is_bare r l.shapes) l.shapes).0 none at.0 s at.1) (layer-on r.cut_layer s on))
+        let at : (k : ℕ) × (slice_get l.shapes k ≡ Some s) = member-place l.shapes s among in
+        and_parts _ _ (false-asked (is_on r.cut.layer s) _ ((failing-none (is_bare r l.shapes) l.shapes).0 none at.0 s at.1) (layer-on r.cut.layer s on))
 
 -- a test of two outlines
-of-outlines : (r : RuleValues) (s t : Shape) (test : Bool) → (s.layer ≡ r.outline_layer → t.layer ≡ r.outline_layer → test ≡ false)
-    → ((is_on r.outline_layer s && is_on r.outline_layer t) && test) ≡ false
-of-outlines r s t test told = cases (is_on r.outline_layer s) refl (is_on r.outline_layer t) refl
+of-outlines : (r : RuleValues) (s t : Shape) (test : Bool) → (s.layer ≡ r.outline.layer → t.layer ≡ r.outline.layer → test ≡ false)
+    → ((is_on r.outline.layer s && is_on r.outline.layer t) && test) ≡ false
+of-outlines r s t test told = cases (is_on r.outline.layer s) refl (is_on r.outline.layer t) refl
   where
-    cases : (p : Bool) → is_on r.outline_layer s ≡ p → (q : Bool) → is_on r.outline_layer t ≡ q → ((p && q) && test) ≡ false
-    cases true first true second = told (on-layer r.outline_layer s first) (on-layer r.outline_layer t second)
+    cases : (p : Bool) → is_on r.outline.layer s ≡ p → (q : Bool) → is_on r.outline.layer t ≡ q → ((p && q) && test) ≡ false
+    cases true first true second = told (on-layer r.outline.layer s first) (on-layer r.outline.layer t second)
     cases true first false second = refl
     cases false first q second = refl
 
-outlines-of : (r : RuleValues) (s t : Shape) (test : Bool) → ((is_on r.outline_layer s && is_on r.outline_layer t) && test) ≡ false
-    → s.layer ≡ r.outline_layer → t.layer ≡ r.outline_layer → test ≡ false
+outlines-of : (r : RuleValues) (s t : Shape) (test : Bool) → ((is_on r.outline.layer s && is_on r.outline.layer t) && test) ≡ false
+    → s.layer ≡ r.outline.layer → t.layer ≡ r.outline.layer → test ≡ false
 outlines-of r s t test is first second =
-    let both : (is_on r.outline_layer s && is_on r.outline_layer t) ≡ true =
-    and_from _ _ (layer-on r.outline_layer s first) (layer-on r.outline_layer t second) in
+    let both : (is_on r.outline.layer s && is_on r.outline.layer t) ≡ true =
+    and_from _ _ (layer-on r.outline.layer s first) (layer-on r.outline.layer t second) in
     sym (ap (λ p. p && test) both) ∙ is
 
 -- the outlines of a layout are in rows just where none overlap and none are out of row
@@ -219,16 +219,16 @@ rows-failing r l inside = (
 )
   where
     inside-at : (k : ℕ) (s : Shape) → slice_get l.shapes k ≡ Some s → HasInside s.rect
-    inside-at k s is = all-at (λ (s : Shape). HasInside s.rect) l.shapes k s inside is
+    inside-at k s is = all-get (λ (s : Shape). HasInside s.rect) l.shapes k s inside is
 
     in-rows : failing_pairs (are_out_of_row r) l.shapes ≡ [] → (i j : ℕ) (s t : Shape) → i < j → slice_get l.shapes i ≡ Some s
-        → slice_get l.shapes j ≡ Some t → s.layer ≡ r.outline_layer → t.layer ≡ r.outline_layer → AreRows s.rect t.rect
+        → slice_get l.shapes j ≡ Some t → s.layer ≡ r.outline.layer → t.layer ≡ r.outline.layer → AreRows s.rect t.rect
     in-rows none i j s t order s_is t_is first second =
         level-rows s.rect t.rect (inside-at i s s_is) (inside-at j t t_is)
         (outlines-of r s t _ ((failing_pairs-none (are_out_of_row r) l.shapes).0 none i j s t order s_is t_is) first second)
 
     no-overlap : failing_pairs (do_overlap r) l.shapes ≡ [] → (i j : ℕ) (s t : Shape) → i < j → slice_get l.shapes i ≡ Some s
-        → slice_get l.shapes j ≡ Some t → s.layer ≡ r.outline_layer → t.layer ≡ r.outline_layer → Apart (pos 0) s.rect t.rect
+        → slice_get l.shapes j ≡ Some t → s.layer ≡ r.outline.layer → t.layer ≡ r.outline.layer → Apart (pos 0) s.rect t.rect
     no-overlap none i j s t order s_is t_is first second =
         close-apart s.rect t.rect (inside-at i s s_is) (inside-at j t t_is)
         (outlines-of r s t (is_close (pos 0) s.rect t.rect) ((failing_pairs-none (do_overlap r) l.shapes).0 none i j s t order s_is t_is) first second)

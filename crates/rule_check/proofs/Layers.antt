@@ -6,6 +6,8 @@ use Rattle.std.specs.Str.{bytes_eq}
 use Rattle.std.proofs.lemmas.Bool.{and_right, false_from_ne_true}
 use Rattle.std.proofs.lemmas.Int.{ints}
 use Rattle.std.proofs.lemmas.Slice.Eq.{bytes_eq-Decides}
+use Rattle.std.proofs.Math.Nat.{mul-le-mul}
+use Rattle.list_facts.proofs.Members.{all-get}
 use Rattle.geom_core.specs.Extent.{Extent}
 use Rattle.geom_core.specs.Reach.{IsExtentInReach, IsExtentInWideReach, IsShapeInReach}
 use Rattle.geom_core.specs.Rectangles.{gap, gap_between}
@@ -21,7 +23,7 @@ use Rattle.rule_check.specs.Members.{height_of, layer_of, member_on, members_fro
 use Rattle.rule_check.specs.Narrow.{is_on}
 use Rattle.rule_check.specs.declared.wires.Layer.{Layer}
 use Rattle.rule_check.specs.declared.wires.Layer.TheVariants.{Horizontal, Vertical, Cut}
-use Rattle.rule_check.proofs.Crowding.{all-at, at-zip, crowds-failing, do_crowd, members-reach}
+use Rattle.rule_check.proofs.Crowding.{at-zip, crowds-failing, do_crowd, members-reach}
 
 lt-raised : (a b by : ℤ) → int_lt (a +ℤ by) (b +ℤ by) ≡ int_lt a b
 lt-raised a b by = grind (arith, ints)
@@ -74,14 +76,11 @@ far-below reach h k a b short first second below =
     let apart : ((b.y1 +ℤ k) +ℤ pos 2000000) ≤ℤ (a.y0 +ℤ h) = omega (arith, ints) in
     and_right _ _ (wide-gap-below (a.y0 +ℤ h) (a.y1 +ℤ h) (b.y0 +ℤ k) (b.y1 +ℤ k) reach short apart)
 
-product-below : (a b m n : ℕ) → a ≤ m → b ≤ n → a * b ≤ m * n
-product-below a b m n first second = grind arith
-
 -- a length of at most a thousand units
 length-short : (r : RuleValues) (units : ℕ) → ValidRules r → units ≤ 1000 → length_in r units ≤ℤ pos 2000000
 length-short r units valid few =
-    let centi : r.grid_centi ≤ 1000 = valid.ranges.grid_centi.1 in
-    let product : units * r.grid_centi ≤ 1000 * 1000 = product-below units r.grid_centi 1000 1000 few centi in
+    let centi : r.grid.centi ≤ 1000 = valid.ranges.grid.centi.1 in
+    let product : units * r.grid.centi ≤ 1000 * 1000 = mul-le-mul few centi in
     grind (arith, ints)
 
 space-some : (r : RuleValues) (layer : Layer) → pos 0 ≤ℤ space_of r layer
@@ -90,9 +89,9 @@ space-some r Vertical = grind (arith, ints)
 space-some r Cut = grind (arith, ints)
 
 pub space-short : (r : RuleValues) (layer : Layer) → ValidRules r → space_of r layer ≤ℤ pos 2000000
-space-short r Horizontal valid = length-short r r.horizontal_space valid valid.ranges.horizontal_space.1
-space-short r Vertical valid = length-short r r.vertical_space valid valid.ranges.vertical_space.1
-space-short r Cut valid = length-short r r.cut_space valid valid.ranges.cut_space.1
+space-short r Horizontal valid = length-short r r.horizontal.space valid valid.ranges.horizontal.space.1
+space-short r Vertical valid = length-short r r.vertical.space valid valid.ranges.vertical.space.1
+space-short r Cut valid = length-short r r.cut.space valid valid.ranges.cut.space.1
 
 -- whether this is the layer
 abbrev has : Option Layer → Layer → Bool
@@ -126,13 +125,13 @@ other-name name a b apart is =
 
 -- a name is that of the layer that is found by it
 layers-apart : (r : RuleValues) (name : List ℕ) → AreDifferent r
-    → (bytes_eq name r.horizontal_layer ≡ has (layer_of r name) Horizontal) × (bytes_eq name r.vertical_layer ≡ has (layer_of r name) Vertical)
-    × (bytes_eq name r.cut_layer ≡ has (layer_of r name) Cut)
+    → (bytes_eq name r.horizontal.layer ≡ has (layer_of r name) Horizontal) × (bytes_eq name r.vertical.layer ≡ has (layer_of r name) Vertical)
+    × (bytes_eq name r.cut.layer ≡ has (layer_of r name) Cut)
 layers-apart r name different =
-    exclusive (bytes_eq name r.horizontal_layer) (bytes_eq name r.vertical_layer) (bytes_eq name r.cut_layer)
-    (other-name name r.horizontal_layer r.vertical_layer different.horizontal_vertical)
-    (other-name name r.horizontal_layer r.cut_layer different.horizontal_cut)
-    (other-name name r.vertical_layer r.cut_layer different.vertical_cut)
+    exclusive (bytes_eq name r.horizontal.layer) (bytes_eq name r.vertical.layer) (bytes_eq name r.cut.layer)
+    (other-name name r.horizontal.layer r.vertical.layer different.horizontal_vertical)
+    (other-name name r.horizontal.layer r.cut.layer different.horizontal_cut)
+    (other-name name r.vertical.layer r.cut.layer different.vertical_cut)
 
 -- two shapes of classes on layers, one of which both have
 abbrev crowd_test : Bool → Option Layer → Option Layer → Bool → Bool → Bool → Bool
@@ -197,40 +196,40 @@ too-close-members r n m a b valid first second = tests ∙ cases (layer_of r a.1
     close : Layer → Bool
     close layer = is_close (space_of r layer) a.1.rect b.1.rect
 
-    of_first : (is_on r.horizontal_layer a.1 ≡ has (layer_of r a.1.layer) Horizontal)
-        × (is_on r.vertical_layer a.1 ≡ has (layer_of r a.1.layer) Vertical) × (is_on r.cut_layer a.1 ≡ has (layer_of r a.1.layer) Cut)
+    of_first : (is_on r.horizontal.layer a.1 ≡ has (layer_of r a.1.layer) Horizontal)
+        × (is_on r.vertical.layer a.1 ≡ has (layer_of r a.1.layer) Vertical) × (is_on r.cut.layer a.1 ≡ has (layer_of r a.1.layer) Cut)
     of_first = layers-apart r a.1.layer valid.layers
 
-    of_second : (is_on r.horizontal_layer b.1 ≡ has (layer_of r b.1.layer) Horizontal)
-        × (is_on r.vertical_layer b.1 ≡ has (layer_of r b.1.layer) Vertical) × (is_on r.cut_layer b.1 ≡ has (layer_of r b.1.layer) Cut)
+    of_second : (is_on r.horizontal.layer b.1 ≡ has (layer_of r b.1.layer) Horizontal)
+        × (is_on r.vertical.layer b.1 ≡ has (layer_of r b.1.layer) Vertical) × (is_on r.cut.layer b.1 ≡ has (layer_of r b.1.layer) Cut)
     of_second = layers-apart r b.1.layer valid.layers
 
-    horizontal : is_crowded_on r r.horizontal_layer r.horizontal_space a.1 b.1
+    horizontal : is_crowded_on r r.horizontal.layer r.horizontal.space a.1 b.1
         ≡ ((has (layer_of r a.1.layer) Horizontal && has (layer_of r b.1.layer) Horizontal) && close Horizontal)
     horizontal =
-        ap (λ t. (t && is_on r.horizontal_layer b.1) && close Horizontal) of_first.0
+        ap (λ t. (t && is_on r.horizontal.layer b.1) && close Horizontal) of_first.0
         ∙ ap (λ t. (has (layer_of r a.1.layer) Horizontal && t) && close Horizontal) of_second.0
 
-    vertical : is_crowded_on r r.vertical_layer r.vertical_space a.1 b.1
+    vertical : is_crowded_on r r.vertical.layer r.vertical.space a.1 b.1
         ≡ ((has (layer_of r a.1.layer) Vertical && has (layer_of r b.1.layer) Vertical) && close Vertical)
     vertical =
-        ap (λ t. (t && is_on r.vertical_layer b.1) && close Vertical) of_first.1
+        ap (λ t. (t && is_on r.vertical.layer b.1) && close Vertical) of_first.1
         ∙ ap (λ t. (has (layer_of r a.1.layer) Vertical && t) && close Vertical) of_second.1
 
-    cut : is_crowded_on r r.cut_layer r.cut_space a.1 b.1
+    cut : is_crowded_on r r.cut.layer r.cut.space a.1 b.1
         ≡ ((has (layer_of r a.1.layer) Cut && has (layer_of r b.1.layer) Cut) && close Cut)
     cut =
-        ap (λ t. (t && is_on r.cut_layer b.1) && close Cut) of_first.2
+        ap (λ t. (t && is_on r.cut.layer b.1) && close Cut) of_first.2
         ∙ ap (λ t. (has (layer_of r a.1.layer) Cut && t) && close Cut) of_second.2
 
     tests : are_too_close r a b
         ≡ crowd_test (eqb a.0 b.0) (layer_of r a.1.layer) (layer_of r b.1.layer) (close Horizontal) (close Vertical) (close Cut)
     tests =
         ap (λ t. not (eqb a.0 b.0)
-        && (t || is_crowded_on r r.vertical_layer r.vertical_space a.1 b.1 || is_crowded_on r r.cut_layer r.cut_space a.1 b.1)) horizontal
+        && (t || is_crowded_on r r.vertical.layer r.vertical.space a.1 b.1 || is_crowded_on r r.cut.layer r.cut.space a.1 b.1)) horizontal
         ∙ ap (λ t. not (eqb a.0 b.0)
         && (((has (layer_of r a.1.layer) Horizontal && has (layer_of r b.1.layer) Horizontal) && close Horizontal) || t
-        || is_crowded_on r r.cut_layer r.cut_space a.1 b.1)) vertical
+        || is_crowded_on r r.cut.layer r.cut.space a.1 b.1)) vertical
         ∙ ap (λ t. not (eqb a.0 b.0)
         && (((has (layer_of r a.1.layer) Horizontal && has (layer_of r b.1.layer) Horizontal) && close Horizontal)
         || ((has (layer_of r a.1.layer) Vertical && has (layer_of r b.1.layer) Vertical) && close Vertical) || t)) cut
@@ -282,11 +281,11 @@ pub close-failing : (r : RuleValues) (classes : List ℕ) (shapes : List Shape) 
 close-failing r classes shapes valid reach =
     crowds-failing (wire_member r) (are_too_close r) 0 (zip classes shapes) (wire-own r)
     (λ i j x y less x_is y_is. too-close-members r (0 + i) (0 + j) x y valid
-    (all-at IsShapeInReach shapes i x.1 reach (at-zip classes shapes i x x_is).1)
-    (all-at IsShapeInReach shapes j y.1 reach (at-zip classes shapes j y y_is).1))
+    (all-get IsShapeInReach shapes i x.1 reach (at-zip classes shapes i x x_is).1)
+    (all-get IsShapeInReach shapes j y.1 reach (at-zip classes shapes j y y_is).1))
 
 pub close-reach : (r : RuleValues) (classes : List ℕ) (shapes : List Shape) → ValidRules r → All IsShapeInReach shapes
     → All KeepsInReach (members_from (wire_member r) 0 (zip classes shapes))
 close-reach r classes shapes valid reach =
     members-reach (wire_member r) 0 (zip classes shapes)
-    (λ k x a x_is is. wire-reach r (0 + k) x a valid (all-at IsShapeInReach shapes k x.1 reach (at-zip classes shapes k x x_is).1) is)
+    (λ k x a x_is is. wire-reach r (0 + k) x a valid (all-get IsShapeInReach shapes k x.1 reach (at-zip classes shapes k x x_is).1) is)

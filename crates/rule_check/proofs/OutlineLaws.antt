@@ -7,6 +7,7 @@ use Rattle.std.proofs.lemmas.Bool.{cases_lt, and_from, and_parts, eqb-false, eqb
 use Rattle.std.proofs.lemmas.Bool.Decides.{Decides-int_eq}
 use Rattle.std.proofs.lemmas.Int.{ints}
 use Rattle.std.proofs.lemmas.Option.{get_or_from_slice_get}
+use Rattle.list_facts.proofs.Members.{all-get}
 use Rattle.geom_core.specs.Extent.{Extent}
 use Rattle.geom_core.specs.Reach.{IsShapeInReach}
 use Rattle.geom_core.specs.Rectangles.{gap}
@@ -20,13 +21,13 @@ use Rattle.rule_check.specs.Failing.{failing_from, failing_pairs, failing_pairs_
 use Rattle.rule_check.specs.Heights.{AreNumbersOf, heights_of}
 use Rattle.rule_check.specs.Members.{flat, members_from, outline_member, row_member}
 use Rattle.rule_check.specs.Narrow.{is_on}
-use Rattle.rule_check.proofs.Crowding.{all-at, at-zip, crowds-failing, do_crowd, members-reach}
+use Rattle.rule_check.proofs.Crowding.{at-zip, crowds-failing, do_crowd, members-reach}
 use Rattle.rule_check.proofs.Layers.{unless}
 
 -- two outlines overlap exactly where their members crowd
 overlap-members : (r : RuleValues) (n m : ℕ) (s t : Shape) → n < m
     → do_overlap r s t ≡ do_crowd (outline_member r n s) (outline_member r m t)
-overlap-members r n m s t less = cases (is_on r.outline_layer s) (is_on r.outline_layer t)
+overlap-members r n m s t less = cases (is_on r.outline.layer s) (is_on r.outline.layer t)
   where
     apart : eqb n m ≡ false
     apart = ne_eqb n m (λ same. omega arith)
@@ -39,7 +40,7 @@ overlap-members r n m s t less = cases (is_on r.outline_layer s) (is_on r.outlin
     cases true true = sym (ap (λ b. if b then false else is_close (pos 0) s.rect t.rect) apart)
 
 outline-own : (r : RuleValues) (n : ℕ) (s : Shape) (member : Member) → outline_member r n s ≡ Some member → member.number ≡ n
-outline-own r n s member is = cases (is_on r.outline_layer s) is
+outline-own r n s member is = cases (is_on r.outline.layer s) is
   where
     cases : (p : Bool) → (if p then Some (record { number = n; class = n; rect = s.rect; reach = pos 0 }) else None) ≡ Some member → member.number ≡ n
     cases true some =
@@ -49,7 +50,7 @@ outline-own r n s member is = cases (is_on r.outline_layer s) is
     cases false none = let never : ⊥ = cc in absurd never
 
 outline-reach : (r : RuleValues) (n : ℕ) (s : Shape) (member : Member) → IsShapeInReach s → outline_member r n s ≡ Some member → KeepsInReach member
-outline-reach r n s member reach is = cases (is_on r.outline_layer s) is
+outline-reach r n s member reach is = cases (is_on r.outline.layer s) is
   where
     made : Member
     made = record { number = n; class = n; rect = s.rect; reach = pos 0 }
@@ -79,7 +80,7 @@ overlap-failing r shapes =
 
 pub overlap-reach : (r : RuleValues) (shapes : List Shape) → All IsShapeInReach shapes → All KeepsInReach (members_from (outline_member r) 0 shapes)
 overlap-reach r shapes reach =
-    members-reach (outline_member r) 0 shapes (λ k x a x_is is. outline-reach r (0 + k) x a (all-at IsShapeInReach shapes k x reach x_is) is)
+    members-reach (outline_member r) 0 shapes (λ k x a x_is is. outline-reach r (0 + k) x a (all-get IsShapeInReach shapes k x reach x_is) is)
 
 -- whether two rectangles begin and end at the same heights
 abbrev pub are_level : Extent → Extent → Bool
@@ -104,11 +105,11 @@ level-numbers a b n m exact = go (eqb n m) refl
 
 -- two outlines are out of row exactly where their heights crowd
 row-members : (r : RuleValues) (n m : ℕ) (a b : ℕ × Shape)
-    → (is_on r.outline_layer a.1 ≡ true → is_on r.outline_layer b.1 ≡ true → (a.0 ≡ b.0) ↔ (heights_of a.1.rect ≡ heights_of b.1.rect))
+    → (is_on r.outline.layer a.1 ≡ true → is_on r.outline.layer b.1 ≡ true → (a.0 ≡ b.0) ↔ (heights_of a.1.rect ≡ heights_of b.1.rect))
     → are_out_of_row r a.1 b.1 ≡ do_crowd (row_member r n a) (row_member r m b)
-row-members r n m a b exact = cases (is_on r.outline_layer a.1) refl (is_on r.outline_layer b.1) refl
+row-members r n m a b exact = cases (is_on r.outline.layer a.1) refl (is_on r.outline.layer b.1) refl
   where
-    cases : (p : Bool) → is_on r.outline_layer a.1 ≡ p → (q : Bool) → is_on r.outline_layer b.1 ≡ q
+    cases : (p : Bool) → is_on r.outline.layer a.1 ≡ p → (q : Bool) → is_on r.outline.layer b.1 ≡ q
         → ((p && q) && (not (are_level a.1.rect b.1.rect) && int_lt (gap a.1.rect b.1.rect).1 (pos 0)))
         ≡ do_crowd (if p then Some (record { number = n; class = a.0; rect = flat a.1.rect; reach = pos 0 }) else None)
         (if q then Some (record { number = m; class = b.0; rect = flat b.1.rect; reach = pos 0 }) else None)
@@ -119,7 +120,7 @@ row-members r n m a b exact = cases (is_on r.outline_layer a.1) refl (is_on r.ou
         ∙ ap (λ t. if t then false else int_lt (gap a.1.rect b.1.rect).1 (pos 0)) (level-numbers a.1.rect b.1.rect a.0 b.0 (exact first second))
 
 row-own : (r : RuleValues) (n : ℕ) (a : ℕ × Shape) (member : Member) → row_member r n a ≡ Some member → member.number ≡ n
-row-own r n a member is = cases (is_on r.outline_layer a.1) is
+row-own r n a member is = cases (is_on r.outline.layer a.1) is
   where
     cases : (p : Bool) → (if p then Some (record { number = n; class = a.0; rect = flat a.1.rect; reach = pos 0 }) else None) ≡ Some member
         → member.number ≡ n
@@ -130,7 +131,7 @@ row-own r n a member is = cases (is_on r.outline_layer a.1) is
     cases false none = let never : ⊥ = cc in absurd never
 
 row-reach : (r : RuleValues) (n : ℕ) (a : ℕ × Shape) (member : Member) → IsShapeInReach a.1 → row_member r n a ≡ Some member → KeepsInReach member
-row-reach r n a member reach is = cases (is_on r.outline_layer a.1) is
+row-reach r n a member reach is = cases (is_on r.outline.layer a.1) is
   where
     made : Member
     made = record { number = n; class = a.0; rect = flat a.1.rect; reach = pos 0 }
@@ -173,7 +174,7 @@ failing_pairs-zip {X} {Y} fails n (x ∷ xs) (y ∷ ys) same =
     ∙ ap (λ t. map (λ later. (n, later)) (failing_from (fails y) (n + 1) ys) ++ t) (failing_pairs-zip fails (n + 1) xs ys later)
 
 -- the outlines that are out of row are the members that crowd
-pub row-failing : (r : RuleValues) (shapes : List Shape) (numbers : List ℕ) → AreNumbersOf r.outline_layer shapes numbers
+pub row-failing : (r : RuleValues) (shapes : List Shape) (numbers : List ℕ) → AreNumbersOf r.outline.layer shapes numbers
     → crowds_of (members_from (row_member r) 0 (zip numbers shapes)) ≡ failing_pairs (are_out_of_row r) shapes
 row-failing r shapes numbers are =
     crowds-failing (row_member r) (λ (a b : ℕ × Shape). are_out_of_row r a.1 b.1) 0 (zip numbers shapes) (row-own r)
@@ -181,7 +182,7 @@ row-failing r shapes numbers are =
     ∙ failing_pairs-zip (are_out_of_row r) 0 numbers shapes are.each
   where
     exact : (i j : ℕ) (x y : ℕ × Shape) → slice_get (zip numbers shapes) i ≡ Some x → slice_get (zip numbers shapes) j ≡ Some y
-        → is_on r.outline_layer x.1 ≡ true → is_on r.outline_layer y.1 ≡ true → (x.0 ≡ y.0) ↔ (heights_of x.1.rect ≡ heights_of y.1.rect)
+        → is_on r.outline.layer x.1 ≡ true → is_on r.outline.layer y.1 ≡ true → (x.0 ≡ y.0) ↔ (heights_of x.1.rect ≡ heights_of y.1.rect)
     exact i j x y x_is y_is first second =
         let x_at : (slice_get numbers i ≡ Some x.0) × (slice_get shapes i ≡ Some x.1) = at-zip numbers shapes i x x_is in
         let y_at : (slice_get numbers j ≡ Some y.0) × (slice_get shapes j ≡ Some y.1) = at-zip numbers shapes j y y_is in
@@ -197,7 +198,7 @@ pub row-members-reach : (r : RuleValues) (shapes : List Shape) (numbers : List �
     → All KeepsInReach (members_from (row_member r) 0 (zip numbers shapes))
 row-members-reach r shapes numbers reach =
     members-reach (row_member r) 0 (zip numbers shapes)
-    (λ k x a x_is is. row-reach r (0 + k) x a (all-at IsShapeInReach shapes k x.1 reach (at-zip numbers shapes k x x_is).1) is)
+    (λ k x a x_is is. row-reach r (0 + k) x a (all-get IsShapeInReach shapes k x.1 reach (at-zip numbers shapes k x x_is).1) is)
 
 -- one more number is told
 pub told-more : (P : ℕ → Shape → ℕ → Type 0) (shapes : List Shape) (numbers pushed : List ℕ) (k number : ℕ) (shape : Shape) → length numbers ≡ k

@@ -14,12 +14,12 @@ is_crowded_on r layer space s t = (is_on layer s && is_on layer t) && is_close (
 -- two shapes, each behind its class, are of different classes and closer than the space of a layer of wires or of cuts that is both shapes' own
 abbrev pub are_too_close : RuleValues → ℕ × Shape → ℕ × Shape → Bool
 are_too_close r a b = not (a.0 == b.0)
-    && (is_crowded_on r r.horizontal_layer r.horizontal_space a.1 b.1
-    || is_crowded_on r r.vertical_layer r.vertical_space a.1 b.1
-    || is_crowded_on r r.cut_layer r.cut_space a.1 b.1)
+    && (is_crowded_on r r.horizontal.layer r.horizontal.space a.1 b.1
+    || is_crowded_on r r.vertical.layer r.vertical.space a.1 b.1
+    || is_crowded_on r r.cut.layer r.cut.space a.1 b.1)
 
 abbrev pub are_outlines : RuleValues → Shape → Shape → Bool
-are_outlines r s t = is_on r.outline_layer s && is_on r.outline_layer t
+are_outlines r s t = is_on r.outline.layer s && is_on r.outline.layer t
 
 -- two outlines share an inner point
 abbrev pub do_overlap : RuleValues → Shape → Shape → Bool

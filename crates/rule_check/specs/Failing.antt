@@ -1,4 +1,5 @@
 use Rattle.std.specs.Prelude.{◌≡◌, ℕ, ◌+◌, List, [], ◌∷◌, ◌++◌, length, map, take, nat_le, Bool, if◌then◌else◌}
+use Rattle.limits.specs.declared.TheConstants.{MOST_PAIRS}
 use Rattle.rule_check.specs.declared.pairs.Pairs.{Pairs}
 
 -- the numbers of the members of a list that fail, where the first has this number
@@ -20,5 +21,5 @@ failing_pairs fail xs = failing_pairs_from fail 0 xs
 
 -- the first thousand of these pairs, and whether they are all
 pub record AreFirstOf (all : List (ℕ × ℕ)) (pairs : Pairs) : Type 0 where
-  pub list : pairs.list.items ≡ take 1000 all
-  pub whole : pairs.whole ≡ nat_le (length all) 1000
+  pub list : pairs.list.items ≡ take MOST_PAIRS all
+  pub whole : pairs.whole ≡ nat_le (length all) MOST_PAIRS

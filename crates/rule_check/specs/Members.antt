@@ -19,8 +19,8 @@ members_from made n (x ∷ xs) = cons_option (made n x) (members_from made (n + 
 -- which of the layers that keep a space this is
 abbrev pub layer_of : RuleValues → List ℕ → Option Layer
 layer_of r name =
-    if bytes_eq name r.horizontal_layer then Some Horizontal
-    else (if bytes_eq name r.vertical_layer then Some Vertical else (if bytes_eq name r.cut_layer then Some Cut else None))
+    if bytes_eq name r.horizontal.layer then Some Horizontal
+    else (if bytes_eq name r.vertical.layer then Some Vertical else (if bytes_eq name r.cut.layer then Some Cut else None))
 
 -- how far the rectangles of a layer are raised, so that those of different layers lie far apart
 abbrev pub height_of : Layer → ℤ
@@ -29,9 +29,9 @@ height_of Vertical = pos 4000000000000000
 height_of Cut = pos 8000000000000000
 
 abbrev pub space_of : RuleValues → Layer → ℤ
-space_of r Horizontal = length_in r r.horizontal_space
-space_of r Vertical = length_in r r.vertical_space
-space_of r Cut = length_in r r.cut_space
+space_of r Horizontal = length_in r r.horizontal.space
+space_of r Vertical = length_in r r.vertical.space
+space_of r Cut = length_in r r.cut.space
 
 abbrev pub raised : ℤ → Extent → Extent
 raised by e = record { x0 = e.x0; y0 = e.y0 +ℤ by; x1 = e.x1; y1 = e.y1 +ℤ by }
@@ -45,7 +45,7 @@ wire_member r n a = option_map (λ layer. member_on r layer n a) (layer_of r a.1
 
 -- an outline, of a class of its own
 abbrev pub outline_member : RuleValues → ℕ → Shape → Option Member
-outline_member r n s = if is_on r.outline_layer s then Some (record { number = n; class = n; rect = s.rect; reach = pos 0 }) else None
+outline_member r n s = if is_on r.outline.layer s then Some (record { number = n; class = n; rect = s.rect; reach = pos 0 }) else None
 
 -- a rectangle of the same heights in one place
 abbrev pub flat : Extent → Extent
@@ -54,4 +54,4 @@ flat e = record { x0 = pos 0; y0 = e.y0; x1 = pos 1; y1 = e.y1 }
 -- the heights of an outline, of a class for each two heights
 abbrev pub row_member : RuleValues → ℕ → ℕ × Shape → Option Member
 row_member r n a =
-    if is_on r.outline_layer a.1 then Some (record { number = n; class = a.0; rect = flat a.1.rect; reach = pos 0 }) else None
+    if is_on r.outline.layer a.1 then Some (record { number = n; class = a.0; rect = flat a.1.rect; reach = pos 0 }) else None

@@ -25,14 +25,14 @@ encloses outer inner = (int_le outer.x0 inner.x0 && int_le outer.y0 inner.y0) &&
 -- a wire with a side below its layer's width, or a cut that is no square of the cut's size
 abbrev pub is_narrow : RuleValues → Shape → Bool
 is_narrow r s =
-    (is_on r.horizontal_layer s && not (has_sides (length_in r r.horizontal_width) s.rect))
-    || (is_on r.vertical_layer s && not (has_sides (length_in r r.vertical_width) s.rect))
-    || (is_on r.cut_layer s && not (is_square (length_in r r.cut_size) s.rect))
+    (is_on r.horizontal.layer s && not (has_sides (length_in r r.horizontal.width) s.rect))
+    || (is_on r.vertical.layer s && not (has_sides (length_in r r.vertical.width) s.rect))
+    || (is_on r.cut.layer s && not (is_square (length_in r r.cut.size) s.rect))
 
 -- whether a cut, with what has to enclose it, lies in one shape of this layer
 abbrev pub is_covered : RuleValues → List Shape → List ℕ → Shape → Bool
-is_covered r shapes layer cut = list_any (λ s. is_on layer s && encloses s.rect (grown (length_in r r.cut_enclose) cut.rect)) shapes
+is_covered r shapes layer cut = list_any (λ s. is_on layer s && encloses s.rect (grown (length_in r r.cut.enclose) cut.rect)) shapes
 
 -- a cut that does not lie so in a shape of each layer of wires
 abbrev pub is_bare : RuleValues → List Shape → Shape → Bool
-is_bare r shapes s = is_on r.cut_layer s && not (is_covered r shapes r.horizontal_layer s && is_covered r shapes r.vertical_layer s)
+is_bare r shapes s = is_on r.cut.layer s && not (is_covered r shapes r.horizontal.layer s && is_covered r shapes r.vertical.layer s)

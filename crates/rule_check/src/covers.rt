@@ -32,13 +32,13 @@ fn rects_on(alloc: Global, shapes: &[Shape], layer: &LayerName) -> Result<Vec<Re
 // Whether a shape is a cut that does not lie, with what has to enclose it, in one of the wires of each layer.
 pub fn is_bare(rules: &Rules, horizontal: &RectSet, vertical: &RectSet, shape: &Shape) -> bool
     requires { IsShapeInReach shape.now }
-    ensures { (shapes : List Shape) → IsCoverOf rules.now.horizontal_layer shapes horizontal.now
-        → IsCoverOf rules.now.vertical_layer shapes vertical.now → result ≡ is_bare rules.now shapes shape.now }
+    ensures { (shapes : List Shape) → IsCoverOf rules.now.horizontal.layer shapes horizontal.now
+        → IsCoverOf rules.now.vertical.layer shapes vertical.now → result ≡ is_bare rules.now shapes shape.now }
 {
-    if !is_on(&rules.cut_layer, shape) {
+    if !is_on(&rules.cut.layer, shape) {
         return false;
     }
-    let window = grown(&shape.rect, length_in(rules, rules.cut_enclose));
+    let window = grown(&shape.rect, length_in(rules, rules.cut.enclose));
     let in_horizontal = is_held(horizontal, &window);
     let in_vertical = is_held(vertical, &window);
     !(in_horizontal && in_vertical)

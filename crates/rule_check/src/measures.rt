@@ -6,16 +6,17 @@ ghost use Rattle.std.specs.Prelude.{◌≡◌, ◌≤◌, ◌≤ℤ◌, ◌+ℤ�
 ghost use Rattle.tech_rules.specs.Lengths.{length_in};
 
 use geom_core::{LayerName, Rect, Shape};
+use limits::MOST_LENGTH;
 use tech_rules::Rules;
 
 // A length in half centimicrons.
 pub fn length_in(rules: &Rules, units: u32) -> i64
-    requires { units ≤ 1000 }
+    requires { units ≤ MOST_LENGTH }
     ensures is { result ≡ length_in rules.now units }
     ensures low { pos 0 ≤ℤ result }
     ensures high { result ≤ℤ pos 2000000 }
 {
-    i64::from(2 * units * rules.grid_centi)
+    i64::from(2 * units * rules.grid.centi)
 }
 
 pub fn is_on(layer: &LayerName, shape: &Shape) -> bool

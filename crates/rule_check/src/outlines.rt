@@ -64,7 +64,7 @@ fn outline_members(
 fn outline_member(rules: &Rules, shape: &Shape, number: u32) -> Option<Member>
     ensures { result ≡ outline_member rules.now number shape.now }
 {
-    if !is_on(&rules.outline_layer, shape) {
+    if !is_on(&rules.outline.layer, shape) {
         return None;
     }
     Some(Member {
@@ -97,7 +97,7 @@ fn row_members(
 fn row_member(rules: &Rules, shape: &Shape, class: u32, number: u32) -> Option<Member>
     ensures { result ≡ row_member rules.now number (class, shape.now) }
 {
-    if !is_on(&rules.outline_layer, shape) {
+    if !is_on(&rules.outline.layer, shape) {
         return None;
     }
     Some(Member {
@@ -123,7 +123,7 @@ fn flat(rect: &Rect) -> Rect
 // A number for each shape: of outlines, equal ones exactly for those of the same heights.
 fn row_numbers(alloc: Global, shapes: &[Shape], rules: &Rules) -> Result<Vec<u32>, AllocError>
     requires few { length shapes.now < 2 ^ 32 }
-    ensures { IfOk result (λ v. AreNumbersOf rules.now.outline_layer shapes.now v.items) }
+    ensures { IfOk result (λ v. AreNumbersOf rules.now.outline.layer shapes.now v.items) }
 {
     let mut rows = BTreeMap::new(alloc);
     let mut numbers = Vec::with_capacity(alloc, shapes.len())?;
@@ -139,11 +139,11 @@ fn number_of(rows: &mut Rows, rules: &Rules, shape: &Shape) -> Result<u32, Alloc
     requires few { btree_map_len rows.old < 2 ^ 32 }
     requires numbered { AreRows rows.old }
     ensures numbered { AreRows rows.new }
-    ensures told { IfOk result (λ n. is_on rules.now.outline_layer shape.now ≡ true → row_at rows.new (heights_of shape.now.rect) ≡ Some n) }
+    ensures told { IfOk result (λ n. is_on rules.now.outline.layer shape.now ≡ true → row_at rows.new (heights_of shape.now.rect) ≡ Some n) }
     ensures kept { (h : ℤ × ℤ) (n : ℕ) → row_at rows.old h ≡ Some n → row_at rows.new h ≡ Some n }
     ensures len { btree_map_len rows.new ≤ btree_map_len rows.old + 1 }
 {
-    if is_on(&rules.outline_layer, shape) {
+    if is_on(&rules.outline.layer, shape) {
         row_of(rows, heights_of(&shape.rect))
     } else {
         Ok(0)

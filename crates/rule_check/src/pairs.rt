@@ -4,6 +4,7 @@ ghost use Rattle.std.specs.Option.{option_to_list};
 ghost use Rattle.std.specs.Prelude.{◌≡◌, ◌<◌, ◌^◌, ◌++◌, length, All, IfOk, OnOk};
 
 use close_rects::{Member, first_pairs};
+use limits::MOST_PAIRS;
 use std::alloc::{AllocError, Global};
 
 /// Pairs of numbers that fail, the lesser first, in order: the first thousand at most, and whether they are all.
@@ -20,8 +21,8 @@ pub fn crowded(alloc: Global, members: &[Member]) -> Result<Pairs, AllocError>
     ensures { IfOk result (AreFirstOf (crowds_of members.now)) }
 {
     let mut list = first_pairs(alloc, members, 1001)?;
-    let whole = list.len() <= 1000;
-    list.truncate(1000);
+    let whole = list.len() <= MOST_PAIRS;
+    list.truncate(MOST_PAIRS);
     Ok(Pairs { list, whole })
 }
 

@@ -7,6 +7,7 @@ ghost use Rattle.std.specs.Prelude.{◌≡◌, ◌++◌, [], ◌∷◌, ◌<◌,
 use crate::covers::{is_bare, wires_on};
 use crate::measures::{has_sides, is_on, is_square, length_in};
 use geom_core::{LayerName, Shape};
+use limits::MOST_LENGTH;
 use std::alloc::{AllocError, Global};
 use tech_rules::Rules;
 
@@ -33,8 +34,8 @@ pub fn bare_cuts(alloc: Global, shapes: &[Shape], rules: &Rules) -> Result<Vec<u
     requires reach { All IsShapeInReach shapes.now }
     ensures { IfOk result (λ v. v.items ≡ failing (is_bare rules.now shapes.now) shapes.now) }
 {
-    let horizontal = wires_on(alloc, shapes, &rules.horizontal_layer)?;
-    let vertical = wires_on(alloc, shapes, &rules.vertical_layer)?;
+    let horizontal = wires_on(alloc, shapes, &rules.horizontal.layer)?;
+    let vertical = wires_on(alloc, shapes, &rules.vertical.layer)?;
     let mut numbers = Vec::new(alloc);
     for k in 0..shapes.len() {
         let fails = is_bare(rules, &horizontal, &vertical, &shapes[k]);
@@ -59,20 +60,20 @@ fn is_narrow(rules: &Rules, shape: &Shape) -> bool
 {
     let horizontal = is_thin(
         rules,
-        &rules.horizontal_layer,
-        rules.horizontal_width,
+        &rules.horizontal.layer,
+        rules.horizontal.width,
         shape,
     );
-    let vertical = is_thin(rules, &rules.vertical_layer, rules.vertical_width, shape);
-    let size = length_in(rules, rules.cut_size);
-    let cut = is_on(&rules.cut_layer, shape) && !is_square(size, &shape.rect);
+    let vertical = is_thin(rules, &rules.vertical.layer, rules.vertical.width, shape);
+    let size = length_in(rules, rules.cut.size);
+    let cut = is_on(&rules.cut.layer, shape) && !is_square(size, &shape.rect);
     horizontal || vertical || cut
 }
 
 // Whether a shape of this layer has a side below this width.
 fn is_thin(rules: &Rules, layer: &LayerName, width: u32, shape: &Shape) -> bool
     requires reach { IsShapeInReach shape.now }
-    requires small { width ≤ 1000 }
+    requires small { width ≤ MOST_LENGTH }
     ensures { result ≡ (is_on layer.now shape.now && not (has_sides (length_in rules.now width) shape.now.rect)) }
 {
     is_on(layer, shape) && !has_sides(length_in(rules, width), &shape.rect)

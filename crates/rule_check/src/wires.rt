@@ -55,11 +55,11 @@ fn layer_of(rules: &Rules, name: &LayerName) -> Option<Layer>
     ensures { result ≡ layer_of rules.now name.now }
 {
     let text = name.text();
-    if text == rules.horizontal_layer.text() {
+    if text == rules.horizontal.layer.text() {
         Some(Layer::Horizontal)
-    } else if text == rules.vertical_layer.text() {
+    } else if text == rules.vertical.layer.text() {
         Some(Layer::Vertical)
-    } else if text == rules.cut_layer.text() {
+    } else if text == rules.cut.layer.text() {
         Some(Layer::Cut)
     } else {
         None
@@ -85,9 +85,9 @@ fn space_of(rules: &Rules, layer: Layer) -> i64
     ensures high { result ≤ℤ pos 2000000 }
 {
     match layer {
-        Layer::Horizontal => length_in(rules, rules.horizontal_space),
-        Layer::Vertical => length_in(rules, rules.vertical_space),
-        Layer::Cut => length_in(rules, rules.cut_space),
+        Layer::Horizontal => length_in(rules, rules.horizontal.space),
+        Layer::Vertical => length_in(rules, rules.vertical.space),
+        Layer::Cut => length_in(rules, rules.cut.space),
     }
 }
 

@@ -4,9 +4,9 @@ ghost use Rattle.std.specs.Prelude.{◌<◌, ◌≤◌, length};
 
 use crate::shapes::{On, grid, layer_of, numbers, stairs};
 use rule_check::{Pairs, close_pairs, out_of_row, overlaps};
+use samples::sample_rules;
 use std::alloc::{AllocError, Global};
 use std::test::Fail;
-use tech_rules::Rules;
 
 // The pairs of squares with these classes, of which each begins a step right of and above the one before.
 fn close_stairs(
@@ -20,7 +20,7 @@ fn close_stairs(
     requires flat { step ≤ 1000 }
     requires some { 0 < side }
 {
-    let rules = Rules::sample(alloc)?;
+    let rules = sample_rules(alloc)?;
     let shapes = stairs(alloc, layer_of(&rules, on), classes.len(), step, side)?;
     close_pairs(alloc, shapes.as_slice(), &rules, classes)
 }
@@ -85,8 +85,8 @@ fn a_million_in_one_place_of_different_classes(rt: HostRuntime) -> Result<(), Fa
 // A thousand rows of a thousand outlines, which touch.
 #[test]
 fn a_million_outlines_in_rows(rt: HostRuntime) -> Result<(), Fail> {
-    let rules = Rules::sample(rt.alloc())?;
-    let shapes = grid(rt.alloc(), rules.outline_layer, 1000, 1000, 1000, 1000)?;
+    let rules = sample_rules(rt.alloc())?;
+    let shapes = grid(rt.alloc(), rules.outline.layer, 1000, 1000, 1000, 1000)?;
     assert_eq!(rt; shapes.len(), 1_000_000);
     let overlapping = overlaps(rt.alloc(), shapes.as_slice(), &rules)?;
     assert_eq!(rt; overlapping.list.len(), 0);

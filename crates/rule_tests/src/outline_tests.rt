@@ -2,16 +2,16 @@
 
 use crate::shapes::{On, Placed, shapes_of};
 use rule_check::{out_of_row, overlaps};
+use samples::sample_rules;
 use std::alloc::{AllocError, Global};
 use std::test::Fail;
-use tech_rules::Rules;
 
 /// Shapes, and the pairs of them that a check finds.
 type Paired = (&'static [Placed], &'static [(u32, u32)]);
 
 /// Whether just these pairs of outlines overlap.
 fn do_overlap(alloc: Global, table: &[Placed], want: &[(u32, u32)]) -> Result<bool, AllocError> {
-    let rules = Rules::sample(alloc)?;
+    let rules = sample_rules(alloc)?;
     let shapes = shapes_of(alloc, &rules, table)?;
     if shapes.len() > 100 {
         return Ok(false);
@@ -58,7 +58,7 @@ fn are_out_of_row(
     table: &[Placed],
     want: &[(u32, u32)],
 ) -> Result<bool, AllocError> {
-    let rules = Rules::sample(alloc)?;
+    let rules = sample_rules(alloc)?;
     let shapes = shapes_of(alloc, &rules, table)?;
     if shapes.len() > 100 {
         return Ok(false);

@@ -38,10 +38,10 @@ pub fn shape(layer: LayerName, x: u32, y: u32, width: u32, height: u32) -> Shape
 
 pub fn layer_of(rules: &Rules, on: On) -> LayerName {
     match on {
-        On::Horizontal => rules.horizontal_layer,
-        On::Vertical => rules.vertical_layer,
-        On::Cut => rules.cut_layer,
-        On::Outline => rules.outline_layer,
+        On::Horizontal => rules.horizontal.layer,
+        On::Vertical => rules.vertical.layer,
+        On::Cut => rules.cut.layer,
+        On::Outline => rules.outline.layer,
     }
 }
 

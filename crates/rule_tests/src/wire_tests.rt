@@ -2,16 +2,16 @@
 
 use crate::shapes::{On, Placed, shapes_of};
 use rule_check::{bare_cuts, close_pairs, narrow};
+use samples::sample_rules;
 use std::alloc::{AllocError, Global};
 use std::test::Fail;
-use tech_rules::Rules;
 
 /// Shapes, and the numbers of those that a check finds.
 type Numbered = (&'static [Placed], &'static [u32]);
 
 /// Whether just these shapes are too narrow.
 fn are_narrow(alloc: Global, table: &[Placed], want: &[u32]) -> Result<bool, AllocError> {
-    let rules = Rules::sample(alloc)?;
+    let rules = sample_rules(alloc)?;
     let shapes = shapes_of(alloc, &rules, table)?;
     if shapes.len() > 100 {
         return Ok(false);
@@ -21,7 +21,7 @@ fn are_narrow(alloc: Global, table: &[Placed], want: &[u32]) -> Result<bool, All
 
 /// Whether just these cuts are bare.
 fn are_bare(alloc: Global, table: &[Placed], want: &[u32]) -> Result<bool, AllocError> {
-    let rules = Rules::sample(alloc)?;
+    let rules = sample_rules(alloc)?;
     let shapes = shapes_of(alloc, &rules, table)?;
     if shapes.len() > 100 {
         return Ok(false);
@@ -110,7 +110,7 @@ fn are_close(
     classes: &[u32],
     want: &[(u32, u32)],
 ) -> Result<bool, AllocError> {
-    let rules = Rules::sample(alloc)?;
+    let rules = sample_rules(alloc)?;
     let shapes = shapes_of(alloc, &rules, table)?;
     if shapes.len() > 100 || classes.len() != shapes.len() {
         return Ok(false);

@@ -1,5 +1,5 @@
 use Rattle.std.specs.Prelude.{◌≡◌, ℕ, List, Ok}
-use Rattle.tech_rules.specs.Sample.{sample}
+use Rattle.samples.specs.Sample.{sample}
 use Rattle.yal_reader.specs.YalReads.{yal_reads}
 use Rattle.yal_reader.specs.declared.file.YalFile.{YalFile}
 use Rattle.design_model.specs.Netlist.{Netlist}

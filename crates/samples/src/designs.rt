@@ -4,10 +4,10 @@ ghost use Rattle.samples.specs.Sampled.{IsSampled};
 ghost use Rattle.std.specs.Prelude.{◌≡◌, ◌++◌, IfOk};
 ghost use Rattle.std.specs.String.{string_bytes};
 
+use crate::rules::sample_rules;
 use design_model::Design;
 use netlist_core::{DesignFault, to_design};
 use std::alloc::{AllocError, Global};
-use tech_rules::Rules;
 use yal_reader::{YalFault, read_yal};
 
 /// What stands before the calls of a PARENT.
@@ -58,7 +58,7 @@ pub fn design_of(alloc: Global, text: &str) -> Result<Design, SampleFault>
     if text.len() >= 1 << 24 {
         return Err(SampleFault::TooLong);
     }
-    let rules = Rules::sample(alloc)?;
+    let rules = sample_rules(alloc)?;
     let file = match read_yal(alloc, text.as_bytes()) {
         Ok(file) => file,
         Err(fault) => return Err(SampleFault::Yal(fault)),

@@ -7,4 +7,4 @@ mod rules;
 
 pub use cells::{BUFFER, CELLS, DRIVER, INVERTER, POWERED, RING, THROUGH};
 pub use designs::{HEAD, SampleFault, TAIL, design_of, design_text, designed};
-pub use rules::RULES;
+pub use rules::{RULES, sample_rules};

@@ -5,7 +5,8 @@ ghost use Rattle.shelf_io.specs.Count.{Rose};
 ghost use Rattle.shelf_io.specs.Loading.{UnlessReadFault};
 ghost use Rattle.shelf_io.specs.declared.loading.LoadFault.TheVariants.{ReadFault, TooLong, Memory};
 
-use crate::traits::{PIECE, Shelf};
+use crate::traits::Shelf;
+use limits::PIECE;
 use std::alloc::{AllocError, Global};
 use thiserror::Error;
 

@@ -4,7 +4,8 @@ ghost use Rattle.std.specs.Prelude.{◌≡◌, ◌≢◌, ◌<◌, ◌≤◌, �
 ghost use Rattle.shelf_io.specs.Count.{Rose};
 ghost use Rattle.shelf_io.specs.Told.{Refines, EndsWithin, appended};
 
-use crate::traits::{Failed, PIECE, Shelf};
+use crate::traits::{Failed, Shelf};
+use limits::PIECE;
 
 /// Puts all of `bytes` at the end of the name's, in pieces of at most 4,096 bytes, and takes no
 /// memory.

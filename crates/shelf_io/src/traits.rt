@@ -5,9 +5,6 @@ ghost use Rattle.std.specs.Prelude.{◌≡◌, ◌≢◌, ◌<◌, ◌≤◌, Li
 ghost use Rattle.shelf_io.specs.Count.{Rose};
 ghost use Rattle.shelf_io.specs.Told.{Gives, Refines, Emptied, appended};
 
-/// How many bytes at most are moved by one call of a shelf.
-pub(crate) const PIECE: usize = 4096;
-
 /// The answer of a call on a shelf or a sink that failed, as a disk that is full or a name that is
 /// lacking.
 #[derive(Clone, Copy, Debug, PartialEq, Eq)]

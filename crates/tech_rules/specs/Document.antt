@@ -9,8 +9,8 @@ use Rattle.tech_rules.specs.declared.fault.RulesFault.{RulesFault}
 use Rattle.tech_rules.specs.declared.fault.RulesFault.TheVariants.{Missing, Range}
 use Rattle.tech_rules.specs.declared.key.Key.{Key}
 use Rattle.tech_rules.specs.declared.key.Key.TheVariants.{AnnealStart}
-use Rattle.tech_rules.specs.declared.rules.StartBy.{StartBy}
-use Rattle.tech_rules.specs.declared.rules.StartBy.TheVariants.{Width, Count}
+use Rattle.tech_rules.specs.declared.sections.StartBy.{StartBy}
+use Rattle.tech_rules.specs.declared.sections.StartBy.TheVariants.{Width, Count}
 
 -- the table of a text, if the bytes are UTF-8 and TOML has a table for them
 abbrev pub document_of : List ℕ → Option Members

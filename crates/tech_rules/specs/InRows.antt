@@ -17,6 +17,6 @@ IsBelow a b = a.y1 ≤ℤ b.y0
 -- the product's own rule: any two outlines are of one row, or of rows that share no inner height, and they share no inner point
 pub record InRows (r : RuleValues) (l : Layout) : Type 0 where
   pub rows : (i j : ℕ) (s t : Shape) → i ≢ j → slice_get l.shapes i ≡ Some s → slice_get l.shapes j ≡ Some t
-      → s.layer ≡ r.outline_layer → t.layer ≡ r.outline_layer → SameRow s.rect t.rect ⊎ IsBelow s.rect t.rect ⊎ IsBelow t.rect s.rect
+      → s.layer ≡ r.outline.layer → t.layer ≡ r.outline.layer → SameRow s.rect t.rect ⊎ IsBelow s.rect t.rect ⊎ IsBelow t.rect s.rect
   pub apart : (i j : ℕ) (s t : Shape) → i ≢ j → slice_get l.shapes i ≡ Some s → slice_get l.shapes j ≡ Some t
-      → s.layer ≡ r.outline_layer → t.layer ≡ r.outline_layer → Apart (pos 0) s.rect t.rect
+      → s.layer ≡ r.outline.layer → t.layer ≡ r.outline.layer → Apart (pos 0) s.rect t.rect

@@ -3,8 +3,8 @@ use Rattle.tech_rules.specs.Rules.{RuleValues}
 
 -- a length in units, in half centimicrons
 abbrev pub length_in : RuleValues → ℕ → ℤ
-length_in r units = pos (2 * units * r.grid_centi)
+length_in r units = pos (2 * units * r.grid.centi)
 
 -- the layers of wires
 abbrev pub IsWire : RuleValues → List ℕ → Type 0
-IsWire r layer = (layer ≡ r.horizontal_layer) ⊎ (layer ≡ r.vertical_layer)
+IsWire r layer = (layer ≡ r.horizontal.layer) ⊎ (layer ≡ r.vertical.layer)

@@ -1,8 +1,8 @@
+-- the ranges of the keys
+pub mod Ranges
 -- the values of rules, and what makes them valid
 pub mod Rules
 pub mod RulesView
--- the sample rules
-pub mod Sample
 -- lengths, and what rectangles have to do with each other
 pub mod Lengths
 -- widths, and cells in rows, of a layout

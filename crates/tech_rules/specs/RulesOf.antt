@@ -1,13 +1,12 @@
 use Rattle.std.specs.Prelude.{◌≡◌, ◌⊎◌, ℕ, ◌+◌, ◌%◌, List, Bool, not, ◌&&◌, ◌==◌, nat_le, if◌then◌else◌, Option, Some, None, Result, Ok, Err}
 use Rattle.std.specs.Str.{bytes_eq}
-use Rattle.geom_core.specs.LayerText.{is_layer_text}
 use Rattle.toml.specs.Data.{Members}
 use Rattle.tech_rules.specs.Document.{document_of, number_of, text_of}
 use Rattle.tech_rules.specs.Rules.{RuleValues, pad, is_yal_word}
-use Rattle.tech_rules.specs.Sections.{and_then, annealing_in, cut_in, grid_in, wires_in}
+use Rattle.tech_rules.specs.Sections.{and_then, annealing_in, cut_in, grid_in, outline_in, wires_in}
 use Rattle.tech_rules.specs.declared.fault.RulesFault.{RulesFault}
 use Rattle.tech_rules.specs.declared.fault.RulesFault.TheVariants.{Toml, Tight, Memory}
-use Rattle.tech_rules.specs.declared.key.Key.TheVariants.{Version, Yal, HorizontalLayer, HorizontalWidth, HorizontalSpace, VerticalLayer, VerticalWidth, VerticalSpace, OutlineLayer}
+use Rattle.tech_rules.specs.declared.key.Key.TheVariants.{Version, Yal, HorizontalLayer, HorizontalWidth, HorizontalSpace, VerticalLayer, VerticalWidth, VerticalSpace}
 
 -- the values that a document states, each in its range, or the fault of the first key that has one
 abbrev pub values_in : Members → Result RuleValues RulesFault
@@ -18,57 +17,42 @@ values_in document =
     and_then (wires_in document HorizontalLayer HorizontalWidth HorizontalSpace) (λ horizontal.
     and_then (wires_in document VerticalLayer VerticalWidth VerticalSpace) (λ vertical.
     and_then (cut_in document) (λ cut.
-    and_then (text_of document OutlineLayer is_layer_text) (λ outline_layer.
+    and_then (outline_in document) (λ outline.
     and_then (annealing_in document) (λ annealing.
     Ok (record {
       version = version;
       yal = yal;
-      grid_column = grid.column;
-      grid_track = grid.track;
-      grid_centi = grid.centi;
-      grid_pin = grid.pin;
-      horizontal_layer = horizontal.layer;
-      horizontal_width = horizontal.width;
-      horizontal_space = horizontal.space;
-      vertical_layer = vertical.layer;
-      vertical_width = vertical.width;
-      vertical_space = vertical.space;
-      cut_layer = cut.layer;
-      cut_size = cut.size;
-      cut_enclose = cut.enclose;
-      cut_space = cut.space;
-      outline_layer = outline_layer;
-      anneal_temperature = annealing.temperature;
-      anneal_stages = annealing.stages;
-      anneal_moves = annealing.moves;
-      anneal_row_cost = annealing.row_cost;
-      anneal_length_cost = annealing.length_cost;
-      anneal_start = annealing.start;
+      grid = grid;
+      horizontal = horizontal;
+      vertical = vertical;
+      cut = cut;
+      outline = outline;
+      annealing = annealing;
     })))))))))
 
 -- whether the four layers have different names
 abbrev pub are_different : RuleValues → Bool
-are_different r = not (bytes_eq r.horizontal_layer r.vertical_layer)
-    && not (bytes_eq r.horizontal_layer r.cut_layer)
-    && not (bytes_eq r.horizontal_layer r.outline_layer)
-    && not (bytes_eq r.vertical_layer r.cut_layer)
-    && not (bytes_eq r.vertical_layer r.outline_layer)
-    && not (bytes_eq r.cut_layer r.outline_layer)
+are_different r = not (bytes_eq r.horizontal.layer r.vertical.layer)
+    && not (bytes_eq r.horizontal.layer r.cut.layer)
+    && not (bytes_eq r.horizontal.layer r.outline.layer)
+    && not (bytes_eq r.vertical.layer r.cut.layer)
+    && not (bytes_eq r.vertical.layer r.outline.layer)
+    && not (bytes_eq r.cut.layer r.outline.layer)
 
 -- the number of the first rule that fails
 unfoldable pub broken_rule : RuleValues → Option ℕ
 broken_rule r =
-    if not (nat_le r.horizontal_width (pad r)) then Some 1 else
-    if not (nat_le r.vertical_width (pad r)) then Some 2 else
-    if not (nat_le (pad r + r.horizontal_space) r.grid_column) then Some 3 else
-    if not (nat_le (pad r + r.vertical_space) r.grid_column) then Some 4 else
-    if not (nat_le (pad r + r.horizontal_space) r.grid_track) then Some 5 else
-    if not (nat_le (pad r + r.vertical_space) r.grid_track) then Some 6 else
-    if not (nat_le (r.cut_size + r.cut_space) r.grid_column) then Some 7 else
-    if not (nat_le (r.cut_size + r.cut_space) r.grid_track) then Some 8 else
-    if not (r.grid_column % 2 == 0) then Some 9 else
-    if not (r.grid_centi % 4 == 0) then Some 10 else
-    if not (nat_le r.vertical_width r.grid_pin) then Some 11 else
+    if not (nat_le r.horizontal.width (pad r)) then Some 1 else
+    if not (nat_le r.vertical.width (pad r)) then Some 2 else
+    if not (nat_le (pad r + r.horizontal.space) r.grid.column) then Some 3 else
+    if not (nat_le (pad r + r.vertical.space) r.grid.column) then Some 4 else
+    if not (nat_le (pad r + r.horizontal.space) r.grid.track) then Some 5 else
+    if not (nat_le (pad r + r.vertical.space) r.grid.track) then Some 6 else
+    if not (nat_le (r.cut.size + r.cut.space) r.grid.column) then Some 7 else
+    if not (nat_le (r.cut.size + r.cut.space) r.grid.track) then Some 8 else
+    if not (r.grid.column % 2 == 0) then Some 9 else
+    if not (r.grid.centi % 4 == 0) then Some 10 else
+    if not (nat_le r.vertical.width r.grid.pin) then Some 11 else
     if not (are_different r) then Some 12 else
     None
 

@@ -10,12 +10,12 @@ pub record IsCovered (r : RuleValues) (l : Layout) (layer : List ℕ) (cut : Sha
   pub cover : Shape
   pub is_shape : Contains l.shapes cover
   pub on_layer : cover.layer ≡ layer
-  pub encloses : Encloses cover.rect (grown (length_in r r.cut_enclose) cut.rect)
+  pub encloses : Encloses cover.rect (grown (length_in r r.cut.enclose) cut.rect)
 
 -- the product's own rule: each wire is as wide as its layer's rule says, and each cut is a square of the cut's size that a shape of each layer of wires encloses
 pub record Wide (r : RuleValues) (l : Layout) : Type 0 where
-  pub horizontal : (s : Shape) → Contains l.shapes s → s.layer ≡ r.horizontal_layer → HasSides (length_in r r.horizontal_width) s.rect
-  pub vertical : (s : Shape) → Contains l.shapes s → s.layer ≡ r.vertical_layer → HasSides (length_in r r.vertical_width) s.rect
-  pub cut : (s : Shape) → Contains l.shapes s → s.layer ≡ r.cut_layer → IsSquare (length_in r r.cut_size) s.rect
-  pub in_horizontal : (s : Shape) → Contains l.shapes s → s.layer ≡ r.cut_layer → IsCovered r l r.horizontal_layer s
-  pub in_vertical : (s : Shape) → Contains l.shapes s → s.layer ≡ r.cut_layer → IsCovered r l r.vertical_layer s
+  pub horizontal : (s : Shape) → Contains l.shapes s → s.layer ≡ r.horizontal.layer → HasSides (length_in r r.horizontal.width) s.rect
+  pub vertical : (s : Shape) → Contains l.shapes s → s.layer ≡ r.vertical.layer → HasSides (length_in r r.vertical.width) s.rect
+  pub cut : (s : Shape) → Contains l.shapes s → s.layer ≡ r.cut.layer → IsSquare (length_in r r.cut.size) s.rect
+  pub in_horizontal : (s : Shape) → Contains l.shapes s → s.layer ≡ r.cut.layer → IsCovered r l r.horizontal.layer s
+  pub in_vertical : (s : Shape) → Contains l.shapes s → s.layer ≡ r.cut.layer → IsCovered r l r.vertical.layer s

@@ -5,12 +5,14 @@ ghost use Rattle.std.specs.Option.{option_copied, option_map};
 ghost use Rattle.std.specs.Prelude.{◌≡◌, true, IfOk, IfSome};
 ghost use Rattle.std.specs.Result.{result_map_both};
 ghost use Rattle.tech_rules.specs.Document.{data_of, document_of, number_of, number_within, start_in, start_named, start_of, text_of, text_where};
-ghost use Rattle.tech_rules.specs.Rules.{is_yal_code, is_yal_word, IsWithin};
+ghost use Rattle.tech_rules.specs.Rules.{is_yal_code, is_yal_word};
+ghost use Rattle.tech_rules.specs.Ranges.{IsWithin};
 ghost use Rattle.toml.specs.Data.{get_member};
 ghost use Rattle.toml.specs.View.{table_view, view};
 
 use crate::{Key, RulesFault, StartBy};
 use geom_core::LayerName;
+use limits::MOST_WORD;
 use std::alloc::{AllocError, Global};
 use toml::{Table, Value};
 
@@ -137,7 +139,7 @@ fn word_of<'t>(value: &'t Value) -> Option<&'t [u8]>
 fn is_word(word: &[u8]) -> bool
     ensures { result ≡ is_yal_word word.now }
 {
-    !word.is_empty() && word.len() <= 32 && are_word_bytes(word)
+    !word.is_empty() && word.len() <= MOST_WORD && are_word_bytes(word)
 }
 
 fn are_word_bytes(word: &[u8]) -> bool

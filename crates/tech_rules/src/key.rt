@@ -3,8 +3,8 @@ ghost use Rattle.std.specs.Option.{option_copied};
 ghost use Rattle.std.specs.Prelude.{◌≡◌};
 ghost use Rattle.tech_rules.specs.Keys.{name_of, section_of, word_of};
 
-/// A key of a rules file. The keys stand in the order in which faults are sought; each is the field of `Rules` of the same name, where its
-/// range and its unit stand.
+/// A key of a rules file. The keys stand in the order in which faults are sought; each is a field of `Rules` or of one of its
+/// sections, where its range and its unit stand.
 #[derive(Clone, Copy, Debug, PartialEq, Eq)]
 pub enum Key {
     /// `version`

@@ -12,4 +12,5 @@ mod stated;
 pub use fault::RulesFault;
 pub use key::Key;
 pub use reading::read_rules;
-pub use rules::{Rules, StartBy};
+pub use rules::Rules;
+pub use sections::{Annealing, Cut, Grid, Outline, StartBy, Wires};

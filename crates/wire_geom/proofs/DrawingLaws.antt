@@ -6,6 +6,7 @@ use Rattle.std.proofs.lemmas.List.Folds.{flat_map-map}
 use Rattle.std.proofs.lemmas.Int.{ints}
 use Rattle.std.specs.List.{flat_map}
 use Rattle.std.specs.Prelude.{pos, ◌≤ℤ◌}
+use Rattle.list_facts.proofs.Members.{map-member, map-cases}
 use Rattle.channel_model.specs.declared.wiring.Segment.{Segment}
 use Rattle.channel_model.specs.declared.wiring.Segment.TheVariants.{Across, Along}
 use Rattle.channel_model.specs.declared.wiring.Wiring.{Wiring}
@@ -27,7 +28,7 @@ use Rattle.wire_geom.specs.Widths.{IsCovered, AreWide}
 use Rattle.wire_geom.proofs.BoxLaws.{Inside, Clear-inside}
 use Rattle.wire_geom.proofs.EndLaws.{upper_end-edge}
 use Rattle.wire_geom.proofs.GridLaws.{reach-narrow, halo-columns, space_of, reach_of, halo, mask-clear}
-use Rattle.wire_geom.proofs.ListLaws.{Contains-map, Contains-map_cases, Contains-flat_map, Contains-flat_map_cases}
+use Rattle.wire_geom.proofs.ListLaws.{Contains-flat_map, Contains-flat_map_cases}
 use Rattle.wire_geom.proofs.PatchLaws.{within_columns, Lies, layer_of, patch_of, proper, parted_or_meet}
 use Rattle.wire_geom.proofs.PieceLaws.{PieceFacts, IsWide, HasRoom, IsSquareBox, Stands, Stays, Holder, piece_facts}
 use Rattle.wire_geom.proofs.ScaleLaws.{scaled-order, scaled-gap, scaled-before, scaled-sum, scaled-clear, scaled-meet}
@@ -96,7 +97,7 @@ module _ (pins : Pins) (wiring : Wiring) (wired : Wired pins wiring) (r : RuleVa
       → ((p : Piece) → Contains (pieces_of r base wiring.tracks e) p → F e p → P (drawn_of r p))
       → (d : Drawn) → Contains (drawn_by r base wiring.tracks e) d → P d
   each_of P e listed each d member =
-      let found = Contains-map_cases (drawn_of r) (pieces_of r base wiring.tracks e) d member in
+      let found = map-cases (drawn_of r) (pieces_of r base wiring.tracks e) d member in
       subst P found.2 (each found.0 found.1 (facts e listed found.0 found.1))
 
   -- and of each rectangle of the wiring
@@ -112,13 +113,13 @@ module _ (pins : Pins) (wiring : Wiring) (wired : Wired pins wiring) (r : RuleVa
       → Contains (drawing r base wiring) (drawn_of r p)
   is_drawn e p listed member =
       Contains-flat_map (drawn_by r base wiring.tracks) (elements wiring) e (drawn_of r p) listed
-      (Contains-map (drawn_of r) (pieces_of r base wiring.tracks e) p member)
+      (map-member (drawn_of r) (pieces_of r base wiring.tracks e) p member)
 
   -- widths
   wide_on : (mask : Mask) (p : Piece) → IsWide r p.mask p.box → name_of r p.mask ≡ name_of r mask → IsWide r mask p.box
   wide_on mask p wide named = subst (λ (k : Mask). IsWide r k p.box) (mask_is r valid p.mask mask named) wide
 
-  covered : (mask : Mask) (e : Element) (p : Piece) → Contains (elements wiring) e → Holder (2 * r.cut_enclose) (pieces_of r base wiring.tracks e) mask p
+  covered : (mask : Mask) (e : Element) (p : Piece) → Contains (elements wiring) e → Holder (2 * r.cut.enclose) (pieces_of r base wiring.tracks e) mask p
       → IsCovered r (drawing r base wiring) (name_of r mask) (drawn_of r p)
   covered mask e p listed holder = record {
     cover = drawn_of r holder.piece;
@@ -126,24 +127,24 @@ module _ (pins : Pins) (wiring : Wiring) (wired : Wired pins wiring) (r : RuleVa
     on_layer = ap (name_of r) holder.on_mask;
     same_net = holder.same_net;
     encloses = record {
-      left = scaled-before r holder.piece.box.x0 r.cut_enclose p.box.x0 holder.left;
-      low = scaled-before r holder.piece.box.y0 r.cut_enclose p.box.y0 holder.low;
-      right = scaled-gap r p.box.x1 r.cut_enclose holder.piece.box.x1 holder.right;
-      high = scaled-gap r p.box.y1 r.cut_enclose holder.piece.box.y1 holder.high;
+      left = scaled-before r holder.piece.box.x0 r.cut.enclose p.box.x0 holder.left;
+      low = scaled-before r holder.piece.box.y0 r.cut.enclose p.box.y0 holder.low;
+      right = scaled-gap r p.box.x1 r.cut.enclose holder.piece.box.x1 holder.right;
+      high = scaled-gap r p.box.y1 r.cut.enclose holder.piece.box.y1 holder.high;
     };
   }
 
   pub drawing_wide : AreWide r (drawing r base wiring)
   drawing_wide = record {
-    horizontal = each_drawn (λ d. d.shape.layer ≡ r.horizontal_layer → HasSides (length_in r r.horizontal_width) d.shape.rect)
-        (λ e p listed member f named. drawn_room r r.horizontal_width p.box (wide_on on_horizontal p f.wide named));
-    vertical = each_drawn (λ d. d.shape.layer ≡ r.vertical_layer → HasSides (length_in r r.vertical_width) d.shape.rect)
-        (λ e p listed member f named. drawn_room r r.vertical_width p.box (wide_on on_vertical p f.wide named));
-    cut = each_drawn (λ d. d.shape.layer ≡ r.cut_layer → IsSquare (length_in r r.cut_size) d.shape.rect)
-        (λ e p listed member f named. drawn_square r r.cut_size p.box (wide_on on_cut p f.wide named));
-    in_horizontal = each_drawn (λ d. d.shape.layer ≡ r.cut_layer → IsCovered r (drawing r base wiring) r.horizontal_layer d)
+    horizontal = each_drawn (λ d. d.shape.layer ≡ r.horizontal.layer → HasSides (length_in r r.horizontal.width) d.shape.rect)
+        (λ e p listed member f named. drawn_room r r.horizontal.width p.box (wide_on on_horizontal p f.wide named));
+    vertical = each_drawn (λ d. d.shape.layer ≡ r.vertical.layer → HasSides (length_in r r.vertical.width) d.shape.rect)
+        (λ e p listed member f named. drawn_room r r.vertical.width p.box (wide_on on_vertical p f.wide named));
+    cut = each_drawn (λ d. d.shape.layer ≡ r.cut.layer → IsSquare (length_in r r.cut.size) d.shape.rect)
+        (λ e p listed member f named. drawn_square r r.cut.size p.box (wide_on on_cut p f.wide named));
+    in_horizontal = each_drawn (λ d. d.shape.layer ≡ r.cut.layer → IsCovered r (drawing r base wiring) r.horizontal.layer d)
         (λ e p listed member f named. covered on_horizontal e p listed (f.horizontal_pad (mask_is r valid p.mask on_cut named)));
-    in_vertical = each_drawn (λ d. d.shape.layer ≡ r.cut_layer → IsCovered r (drawing r base wiring) r.vertical_layer d)
+    in_vertical = each_drawn (λ d. d.shape.layer ≡ r.cut.layer → IsCovered r (drawing r base wiring) r.vertical.layer d)
         (λ e p listed member f named. covered on_vertical e p listed (f.vertical_pad (mask_is r valid p.mask on_cut named)));
   }
 
@@ -184,9 +185,9 @@ module _ (pins : Pins) (wiring : Wiring) (wired : Wired pins wiring) (r : RuleVa
   pub drawing_columns : InColumns r wiring.columns (drawing r base wiring)
   drawing_columns = record {
     left = each_drawn (λ d. pos 0 ≤ℤ d.shape.rect.x0) (λ e p listed member f. omega (arith, ints));
-    right = each_drawn (λ d. d.shape.rect.x1 ≤ℤ scaled r (2 * (wiring.columns * r.grid_column)))
+    right = each_drawn (λ d. d.shape.rect.x1 ≤ℤ scaled r (2 * (wiring.columns * r.grid.column)))
         (λ e p listed member f.
-        scaled-order r p.box.x1 (2 * (wiring.columns * r.grid_column))
+        scaled-order r p.box.x1 (2 * (wiring.columns * r.grid.column))
         (omega (
           arith,
           f.inside.right,
@@ -232,7 +233,7 @@ module _ (pins : Pins) (wiring : Wiring) (wired : Wired pins wiring) (r : RuleVa
   -- entries
   is_segment : (s : Segment) → Contains wiring.segments s → Contains (elements wiring) (segment s)
   is_segment s member =
-      Contains-append_left (map segment wiring.segments) (map via wiring.vias) (segment s) (Contains-map segment wiring.segments s member)
+      Contains-append_left (map segment wiring.segments) (map via wiring.vias) (segment s) (map-member segment wiring.segments s member)
 
   across_drawn : (net column low high : ℕ) → Contains wiring.segments (Across net column low high)
       → Contains (drawing r base wiring) (drawn_of r (segment_piece r base wiring.tracks (Across net column low high)))

@@ -10,14 +10,14 @@ pub record LowerFacts (r : RuleValues) (base low : ℕ) : Type 0 where
   pub inside : line_at r base low - pad r ≤ lower_end r base low
   pub holds : lower_end r base low ≤ line_at r base low
   pub from : line_at r base 0 ≤ lower_end r base low
-  pub below : (line_at r base 0 + 2 * r.vertical_space ≤ lower_end r base low) ⊎ ((low ≡ 0) × (lower_end r base low ≡ line_at r base 0))
+  pub below : (line_at r base 0 + 2 * r.vertical.space ≤ lower_end r base low) ⊎ ((low ≡ 0) × (lower_end r base low ≡ line_at r base 0))
 
 -- its upper end
 pub record UpperFacts (r : RuleValues) (base tracks high : ℕ) : Type 0 where
   pub inside : upper_end r base tracks high ≤ line_at r base high + pad r
   pub holds : line_at r base high ≤ upper_end r base tracks high
   pub to : upper_end r base tracks high ≤ line_at r base (tracks + 1)
-  pub above : (upper_end r base tracks high + 2 * r.vertical_space ≤ line_at r base (tracks + 1))
+  pub above : (upper_end r base tracks high + 2 * r.vertical.space ≤ line_at r base (tracks + 1))
       ⊎ ((high ≡ tracks + 1) × (upper_end r base tracks high ≡ line_at r base (tracks + 1)))
 
 pub lower_facts : (r : RuleValues) → ValidRules r → (base low : ℕ) → LowerFacts r base low
@@ -29,8 +29,8 @@ lower_facts r valid base low =
           record { inside = omega arith; holds = omega arith; from = omega arith; below = inr (e, is) }
       | inr ne ↦
           let is : lower_end r base low ≡ line_at r base low - pad r = cond-false (eqb low 0) (line_at r base 0) (line_at r base low - pad r) (ne_eqb low 0 ne) in
-          let far : line_at r base 0 + 2 * r.grid_track ≤ line_at r base low = line-step r base 0 low (omega arith) in
-          let room : pad r + r.vertical_space ≤ r.grid_track = valid.track_vertical in
+          let far : line_at r base 0 + 2 * r.grid.track ≤ line_at r base low = line-step r base 0 low (omega arith) in
+          let room : pad r + r.vertical.space ≤ r.grid.track = valid.track_vertical in
           record { inside = omega arith; holds = omega arith; from = omega arith; below = inl (omega arith) }
     ]
 
@@ -45,8 +45,8 @@ upper_facts r valid base tracks high within =
       | inr ne ↦
           let is : upper_end r base tracks high ≡ line_at r base high + pad r =
           cond-false (eqb high (tracks + 1)) (line_at r base (tracks + 1)) (line_at r base high + pad r) (ne_eqb high (tracks + 1) ne) in
-          let far : line_at r base high + 2 * r.grid_track ≤ line_at r base (tracks + 1) = line-step r base high (tracks + 1) (omega arith) in
-          let room : pad r + r.vertical_space ≤ r.grid_track = valid.track_vertical in
+          let far : line_at r base high + 2 * r.grid.track ≤ line_at r base (tracks + 1) = line-step r base high (tracks + 1) (omega arith) in
+          let room : pad r + r.vertical.space ≤ r.grid.track = valid.track_vertical in
           record { inside = omega arith; holds = omega arith; to = omega arith; above = inl (omega arith) }
     ]
 

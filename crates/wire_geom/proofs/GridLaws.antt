@@ -22,14 +22,14 @@ pub data Parted (p q : Patch) : Type 0 where
 
 -- the space of a layer, and how far its rectangles reach beyond their grid lines, in half units
 abbrev pub space_of : RuleValues → Mask → ℕ
-space_of r on_horizontal = r.horizontal_space
-space_of r on_vertical = r.vertical_space
-space_of r on_cut = r.cut_space
+space_of r on_horizontal = r.horizontal.space
+space_of r on_vertical = r.vertical.space
+space_of r on_cut = r.cut.space
 
 abbrev pub reach_of : RuleValues → Mask → ℕ
 reach_of r on_horizontal = pad r
 reach_of r on_vertical = pad r
-reach_of r on_cut = r.cut_size
+reach_of r on_cut = r.cut.size
 
 -- a patch with so many half units around it
 abbrev pub halo : RuleValues → ℕ → ℕ → Patch → Box
@@ -45,21 +45,21 @@ pub step : (a b k : ℕ) → a < b → a * k + k ≤ b * k
 step a b k h = omega (arith, mul-le-mul_right {m = a + 1} {n = b} k (omega arith))
 
 -- the next column and the next line lie a pitch further
-pub centre-step : (r : RuleValues) (a b : ℕ) → a < b → centre r a + 2 * r.grid_column ≤ centre r b
-centre-step r a b h = omega (arith, step a b r.grid_column h)
+pub centre-step : (r : RuleValues) (a b : ℕ) → a < b → centre r a + 2 * r.grid.column ≤ centre r b
+centre-step r a b h = omega (arith, step a b r.grid.column h)
 
-pub line-step : (r : RuleValues) (base a b : ℕ) → a < b → line_at r base a + 2 * r.grid_track ≤ line_at r base b
-line-step r base a b h = omega (arith, step a b r.grid_track h)
+pub line-step : (r : RuleValues) (base a b : ℕ) → a < b → line_at r base a + 2 * r.grid.track ≤ line_at r base b
+line-step r base a b h = omega (arith, step a b r.grid.track h)
 
 -- columns and lines in order
 pub centre-order : (r : RuleValues) (a b : ℕ) → a ≤ b → centre r a ≤ centre r b
-centre-order r a b h = omega (arith, mul-le-mul_right {m = a} {n = b} r.grid_column h)
+centre-order r a b h = omega (arith, mul-le-mul_right {m = a} {n = b} r.grid.column h)
 
 pub line-order : (r : RuleValues) (base a b : ℕ) → a ≤ b → line_at r base a ≤ line_at r base b
-line-order r base a b h = omega (arith, mul-le-mul_right {m = a} {n = b} r.grid_track h)
+line-order r base a b h = omega (arith, mul-le-mul_right {m = a} {n = b} r.grid.track h)
 
 -- halos of patches without a common point, around each of which half a pitch is left
-pub halo-clear : (r : RuleValues) (base size space : ℕ) (p q : Patch) → size + space ≤ r.grid_column → size + space ≤ r.grid_track
+pub halo-clear : (r : RuleValues) (base size space : ℕ) (p q : Patch) → size + space ≤ r.grid.column → size + space ≤ r.grid.track
     → Parted p q → Clear (2 * space) (halo r base size p) (halo r base size q)
 halo-clear r base size space p q c t (left_of h) = before (omega (arith, centre-step r p.to q.from h))
 halo-clear r base size space p q c t (right_of h) = behind (omega (arith, centre-step r q.to p.from h))
@@ -69,17 +69,17 @@ halo-clear r base size space p q c t (above_it h) = over (omega (arith, line-ste
 -- on every layer
 pub mask-clear : (r : RuleValues) → ValidRules r → (base : ℕ) (mask : Mask) (p q : Patch) → Parted p q
     → Clear (2 * space_of r mask) (halo r base (reach_of r mask) p) (halo r base (reach_of r mask) q)
-mask-clear r valid base on_horizontal p q h = halo-clear r base (pad r) r.horizontal_space p q valid.column_horizontal valid.track_horizontal h
-mask-clear r valid base on_vertical p q h = halo-clear r base (pad r) r.vertical_space p q valid.column_vertical valid.track_vertical h
-mask-clear r valid base on_cut p q h = halo-clear r base r.cut_size r.cut_space p q valid.column_cut valid.track_cut h
+mask-clear r valid base on_horizontal p q h = halo-clear r base (pad r) r.horizontal.space p q valid.column_horizontal valid.track_horizontal h
+mask-clear r valid base on_vertical p q h = halo-clear r base (pad r) r.vertical.space p q valid.column_vertical valid.track_vertical h
+mask-clear r valid base on_cut p q h = halo-clear r base r.cut.size r.cut.space p q valid.column_cut valid.track_cut h
 
 -- half of the greatest width fits into half a column
-pub reach-narrow : (r : RuleValues) → ValidRules r → (mask : Mask) → reach_of r mask ≤ r.grid_column
+pub reach-narrow : (r : RuleValues) → ValidRules r → (mask : Mask) → reach_of r mask ≤ r.grid.column
 reach-narrow r valid on_horizontal = omega (arith, valid.column_horizontal)
 reach-narrow r valid on_vertical = omega (arith, valid.column_vertical)
 reach-narrow r valid on_cut = omega (arith, valid.column_cut)
 
 -- so a halo lies in its columns
-pub halo-columns : (r : RuleValues) (base size columns : ℕ) (p : Patch) → size ≤ r.grid_column → p.to < columns
-    → (halo r base size p).x1 ≤ 2 * (columns * r.grid_column)
-halo-columns r base size columns p narrow within = omega (arith, step p.to columns r.grid_column within)
+pub halo-columns : (r : RuleValues) (base size columns : ℕ) (p : Patch) → size ≤ r.grid.column → p.to < columns
+    → (halo r base size p).x1 ≤ 2 * (columns * r.grid.column)
+halo-columns r base size columns p narrow within = omega (arith, step p.to columns r.grid.column within)

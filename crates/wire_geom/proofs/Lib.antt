@@ -15,5 +15,3 @@ pub mod ScaleLaws
 pub mod DrawingPlaces
 -- what the rectangles of a wiring keep
 pub mod DrawingLaws
--- a worked channel
-pub mod Worked

@@ -5,11 +5,6 @@ use Rattle.std.proofs.lemmas.Option.{get_or_from_slice_get, none-some, same_Some
 use Rattle.std.specs.List.{flat_map}
 use Rattle.std.specs.Prelude.{slice_get}
 
--- the image of a member
-pub Contains-map : {A B : Type 0} (f : A → B) (xs : List A) (x : A) → Contains xs x → Contains (map f xs) (f x)
-Contains-map f xs x member =
-    (member.0, omega (arith, member.1, length-map xs f), get_or-map f xs member.0 x (f x) member.1 ∙ ap f member.2)
-
 -- a member of one of the lists
 pub Contains-flat_map : {A B : Type 0} (f : A → List B) (xs : List A) (x : A) (y : B) → Contains xs x → Contains (f x) y → Contains (flat_map f xs) y
 Contains-flat_map f [] x y (k, within, is) inner = absurd (omega (arith, within))
@@ -35,20 +30,6 @@ Contains-flat_map_cases f (a ∷ xs) y member =
       | inl here ↦ (a, (0, omega arith, refl), here)
       | inr later ↦
           let found = Contains-flat_map_cases f xs y later in
-          (found.0, Contains-append_right (a ∷ []) xs found.0 found.1, found.2)
-    ]
-
--- of what a member of the images is the image
-pub Contains-map_cases : {A B : Type 0} (f : A → B) (xs : List A) (y : B) → Contains (map f xs) y → (x : A) × Contains xs x × (f x ≡ y)
-Contains-map_cases f [] y member = absurd (omega (arith, member.1))
-Contains-map_cases f (a ∷ xs) y member =
-    elim (Contains-append_cases (f a ∷ []) (map f xs) y member) [
-      | inl here ↦ elim (Contains-push_cases [] (f a) y here) [
-        | inl none ↦ absurd (omega (arith, none.1))
-        | inr same ↦ (a, (0, omega arith, refl), same)
-      ]
-      | inr later ↦
-          let found = Contains-map_cases f xs y later in
           (found.0, Contains-append_right (a ∷ []) xs found.0 found.1, found.2)
     ]
 
@@ -90,8 +71,3 @@ get-threes {A = A} f three (z ∷ xs) zero j n x y at inner is =
 get-threes f three (z ∷ xs) (suc i) j n x y at inner is =
     get-behind (f z) (flat_map f xs) n (3 * i + j) (let e = is in let t = three z in omega arith)
     ∙ get-threes f three xs i j (3 * i + j) x y at inner refl
-
--- as many elements and one more, by what stands at its place
-pub take-get : {A : Type 0} (xs : List A) (k : ℕ) (x : A) → slice_get xs k ≡ Some x → take (k + 1) xs ≡ take k xs ++ x ∷ []
-take-get xs k x at =
-    take_more xs k x (slice_get_within xs k x at) ∙ ap (λ y. take k xs ++ y ∷ []) (get_or_from_slice_get xs k x x at)

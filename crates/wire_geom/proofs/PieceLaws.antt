@@ -25,16 +25,16 @@ pub record IsSquareBox (d : ℕ) (b : Box) : Type 0 where
   pub up : b.y0 + d ≡ b.y1
 
 abbrev pub IsWide : RuleValues → Mask → Box → Type 0
-IsWide r on_horizontal b = HasRoom (2 * r.horizontal_width) b
-IsWide r on_vertical b = HasRoom (2 * r.vertical_width) b
-IsWide r on_cut b = IsSquareBox (2 * r.cut_size) b
+IsWide r on_horizontal b = HasRoom (2 * r.horizontal.width) b
+IsWide r on_vertical b = HasRoom (2 * r.vertical.width) b
+IsWide r on_cut b = IsSquareBox (2 * r.cut.size) b
 
 -- a vertical wire in a column in which its net has an entry
 pub record Stands (r : RuleValues) (entry : ℕ → ℕ → Type 0) (p : Piece) : Type 0 where
   pub column : ℕ
   pub mask : p.mask ≡ on_vertical
-  pub left : p.box.x0 ≡ centre r column - r.vertical_width
-  pub right : p.box.x1 ≡ centre r column + r.vertical_width
+  pub left : p.box.x0 ≡ centre r column - r.vertical.width
+  pub right : p.box.x1 ≡ centre r column + r.vertical.width
   pub has_entry : entry column p.net
 
 -- a piece keeps its space from the edges, or ends there over an entry
@@ -63,8 +63,8 @@ pub record PieceFacts (pins : Pins) (r : RuleValues) (base tracks : ℕ) (e : El
   pub holds : (layer : Layer) (x y : ℕ) → Covers e layer x y → Holds p.box (centre r x) (line_at r base y)
   pub wide : IsWide r p.mask p.box
   pub stays : Stays r (line_at r base 0) (line_at r base (tracks + 1)) (bottom_entry pins) (top_entry pins) p
-  pub horizontal_pad : p.mask ≡ on_cut → Holder (2 * r.cut_enclose) (pieces_of r base tracks e) on_horizontal p
-  pub vertical_pad : p.mask ≡ on_cut → Holder (2 * r.cut_enclose) (pieces_of r base tracks e) on_vertical p
+  pub horizontal_pad : p.mask ≡ on_cut → Holder (2 * r.cut.enclose) (pieces_of r base tracks e) on_horizontal p
+  pub vertical_pad : p.mask ≡ on_cut → Holder (2 * r.cut.enclose) (pieces_of r base tracks e) on_vertical p
 
 module _ (pins : Pins) (r : RuleValues) (valid : ValidRules r) (base columns tracks : ℕ) where
   abbrev F : Element → Piece → Type 0
@@ -89,10 +89,10 @@ module _ (pins : Pins) (r : RuleValues) (valid : ValidRules r) (base columns tra
   across_facts net column low high grid positive edges =
       let l : LowerFacts r base low = lower_facts r valid base low in
       let u : UpperFacts r base tracks high = upper_facts r valid base tracks high grid.2 in
-      let narrow : r.vertical_width ≤ pad r = valid.pad_vertical in
-      let room : pad r + r.vertical_space ≤ r.grid_column = valid.column_vertical in
-      let pitch : pad r + r.vertical_space ≤ r.grid_track = valid.track_vertical in
-      let long : line_at r base low + 2 * r.grid_track ≤ line_at r base high = line-step r base low high grid.1 in
+      let narrow : r.vertical.width ≤ pad r = valid.pad_vertical in
+      let room : pad r + r.vertical.space ≤ r.grid.column = valid.column_vertical in
+      let pitch : pad r + r.vertical.space ≤ r.grid.track = valid.track_vertical in
+      let long : line_at r base low + 2 * r.grid.track ≤ line_at r base high = line-step r base low high grid.1 in
       record {
         net = refl;
         lies = tt;
@@ -118,12 +118,12 @@ module _ (pins : Pins) (r : RuleValues) (valid : ValidRules r) (base columns tra
   along_facts : (net track from to : ℕ) → IsOnGrid columns tracks (segment (Along net track from to))
       → F (segment (Along net track from to)) (record { mask = on_horizontal; box = along_box r base track from to; net = net })
   along_facts net track from to grid =
-      let narrow : r.horizontal_width ≤ pad r = valid.pad_horizontal in
-      let room : pad r + r.horizontal_space ≤ r.grid_column = valid.column_horizontal in
-      let pitch : pad r + r.horizontal_space ≤ r.grid_track = valid.track_horizontal in
+      let narrow : r.horizontal.width ≤ pad r = valid.pad_horizontal in
+      let room : pad r + r.horizontal.space ≤ r.grid.column = valid.column_horizontal in
+      let pitch : pad r + r.horizontal.space ≤ r.grid.track = valid.track_horizontal in
       let order : centre r from ≤ centre r to = centre-order r from to grid.2 in
-      let floor : line_at r base 0 + 2 * r.grid_track ≤ line_at r base track = line-step r base 0 track grid.0 in
-      let ceiling : line_at r base track + 2 * r.grid_track ≤ line_at r base (tracks + 1) = line-step r base track (tracks + 1) (omega (arith, grid.1)) in
+      let floor : line_at r base 0 + 2 * r.grid.track ≤ line_at r base track = line-step r base 0 track grid.0 in
+      let ceiling : line_at r base track + 2 * r.grid.track ≤ line_at r base (tracks + 1) = line-step r base track (tracks + 1) (omega (arith, grid.1)) in
       record {
         net = refl;
         lies = tt;
@@ -144,30 +144,30 @@ module _ (pins : Pins) (r : RuleValues) (valid : ValidRules r) (base columns tra
       → Holds (square_box r base size v.column v.track) (centre r x) (line_at r base y)
   square_holds v size = holds_points (via v) (square_box r base size v.column v.track) (omega arith) (omega arith) (omega arith) (omega arith)
 
-  square_stays : (mask : Mask) (v : Via) (size : ℕ) → size + space_of r mask ≤ r.grid_track → 0 < v.track → v.track ≤ tracks
+  square_stays : (mask : Mask) (v : Via) (size : ℕ) → size + space_of r mask ≤ r.grid.track → 0 < v.track → v.track ≤ tracks
       → Stays r (line_at r base 0) (line_at r base (tracks + 1)) (bottom_entry pins) (top_entry pins)
       (record { mask = mask; box = square_box r base size v.column v.track; net = v.net })
   square_stays mask v size pitch positive within =
-      let floor : line_at r base 0 + 2 * r.grid_track ≤ line_at r base v.track = line-step r base 0 v.track positive in
-      let ceiling : line_at r base v.track + 2 * r.grid_track ≤ line_at r base (tracks + 1) = line-step r base v.track (tracks + 1) (omega arith) in
+      let floor : line_at r base 0 + 2 * r.grid.track ≤ line_at r base v.track = line-step r base 0 v.track positive in
+      let ceiling : line_at r base v.track + 2 * r.grid.track ≤ line_at r base (tracks + 1) = line-step r base v.track (tracks + 1) (omega arith) in
       record { from = omega arith; to = omega arith; below = inl (omega arith); above = inl (omega arith) }
 
-  square_wide : (v : Via) (size width : ℕ) → width ≤ size → size ≤ r.grid_column → size ≤ r.grid_track → 0 < v.track
+  square_wide : (v : Via) (size width : ℕ) → width ≤ size → size ≤ r.grid.column → size ≤ r.grid.track → 0 < v.track
       → HasRoom (2 * width) (square_box r base size v.column v.track)
   square_wide v size width narrow column track positive =
-      let floor : line_at r base 0 + 2 * r.grid_track ≤ line_at r base v.track = line-step r base 0 v.track positive in
+      let floor : line_at r base 0 + 2 * r.grid.track ≤ line_at r base v.track = line-step r base 0 v.track positive in
       record { across = omega arith; up = omega arith }
 
   abbrev pad_on : Mask → Via → Piece
   pad_on mask v = record { mask = mask; box = square_box r base (pad r) v.column v.track; net = v.net }
 
   pad_holds : (mask : Mask) (v : Via) → Contains (pieces_of r base tracks (via v)) (pad_on mask v) → 0 < v.track
-      → Holder (2 * r.cut_enclose) (pieces_of r base tracks (via v)) mask
-      (record { mask = on_cut; box = square_box r base r.cut_size v.column v.track; net = v.net })
+      → Holder (2 * r.cut.enclose) (pieces_of r base tracks (via v)) mask
+      (record { mask = on_cut; box = square_box r base r.cut.size v.column v.track; net = v.net })
   pad_holds mask v listed positive =
-      let floor : line_at r base 0 + 2 * r.grid_track ≤ line_at r base v.track = line-step r base 0 v.track positive in
-      let room : pad r + r.vertical_space ≤ r.grid_column = valid.column_vertical in
-      let pitch : pad r + r.vertical_space ≤ r.grid_track = valid.track_vertical in
+      let floor : line_at r base 0 + 2 * r.grid.track ≤ line_at r base v.track = line-step r base 0 v.track positive in
+      let room : pad r + r.vertical.space ≤ r.grid.column = valid.column_vertical in
+      let pitch : pad r + r.vertical.space ≤ r.grid.track = valid.track_vertical in
       record {
         piece = pad_on mask v;
         listed = listed;
@@ -186,7 +186,7 @@ module _ (pins : Pins) (r : RuleValues) (valid : ValidRules r) (base columns tra
         lies = tt;
         inside = square_inside on_horizontal v;
         holds = square_holds v (pad r);
-        wide = square_wide v (pad r) r.horizontal_width valid.pad_horizontal (omega (arith, valid.column_horizontal)) (omega (arith, valid.track_horizontal)) grid.1;
+        wide = square_wide v (pad r) r.horizontal.width valid.pad_horizontal (omega (arith, valid.column_horizontal)) (omega (arith, valid.track_horizontal)) grid.1;
         stays = square_stays on_horizontal v (pad r) valid.track_horizontal grid.1 grid.2;
         horizontal_pad = λ no. cc;
         vertical_pad = λ no. cc;
@@ -199,24 +199,24 @@ module _ (pins : Pins) (r : RuleValues) (valid : ValidRules r) (base columns tra
         lies = tt;
         inside = square_inside on_vertical v;
         holds = square_holds v (pad r);
-        wide = square_wide v (pad r) r.vertical_width valid.pad_vertical (omega (arith, valid.column_vertical)) (omega (arith, valid.track_vertical)) grid.1;
+        wide = square_wide v (pad r) r.vertical.width valid.pad_vertical (omega (arith, valid.column_vertical)) (omega (arith, valid.track_vertical)) grid.1;
         stays = square_stays on_vertical v (pad r) valid.track_vertical grid.1 grid.2;
         horizontal_pad = λ no. cc;
         vertical_pad = λ no. cc;
       }
 
-  cut_facts : (v : Via) → IsOnGrid columns tracks (via v) → F (via v) (record { mask = on_cut; box = square_box r base r.cut_size v.column v.track; net = v.net })
+  cut_facts : (v : Via) → IsOnGrid columns tracks (via v) → F (via v) (record { mask = on_cut; box = square_box r base r.cut.size v.column v.track; net = v.net })
   cut_facts v grid =
-      let room : r.cut_size + r.cut_space ≤ r.grid_column = valid.column_cut in
-      let pitch : r.cut_size + r.cut_space ≤ r.grid_track = valid.track_cut in
-      let floor : line_at r base 0 + 2 * r.grid_track ≤ line_at r base v.track = line-step r base 0 v.track grid.1 in
+      let room : r.cut.size + r.cut.space ≤ r.grid.column = valid.column_cut in
+      let pitch : r.cut.size + r.cut.space ≤ r.grid.track = valid.track_cut in
+      let floor : line_at r base 0 + 2 * r.grid.track ≤ line_at r base v.track = line-step r base 0 v.track grid.1 in
       record {
         net = refl;
         lies = tt;
         inside = square_inside on_cut v;
-        holds = square_holds v r.cut_size;
+        holds = square_holds v r.cut.size;
         wide = record { across = omega arith; up = omega arith };
-        stays = square_stays on_cut v r.cut_size valid.track_cut grid.1 grid.2;
+        stays = square_stays on_cut v r.cut.size valid.track_cut grid.1 grid.2;
         horizontal_pad = λ is. pad_holds on_horizontal v (0, omega arith, refl) grid.1;
         vertical_pad = λ is. pad_holds on_vertical v (1, omega arith, refl) grid.1;
       }
@@ -230,7 +230,7 @@ module _ (pins : Pins) (r : RuleValues) (valid : ValidRules r) (base columns tra
       All-cons (F (segment (Along net track from to))) (record { mask = on_horizontal; box = along_box r base track from to; net = net }) []
       (along_facts net track from to grid) (All-nil (F (segment (Along net track from to))))
   piece_facts (via v) grid positive edges =
-      let cut : Piece = record { mask = on_cut; box = square_box r base r.cut_size v.column v.track; net = v.net } in
+      let cut : Piece = record { mask = on_cut; box = square_box r base r.cut.size v.column v.track; net = v.net } in
       All-cons (F (via v)) (pad_on on_horizontal v) (pad_on on_vertical v ∷ (cut ∷ [])) (horizontal_pad_facts v grid)
       (All-cons (F (via v)) (pad_on on_vertical v) (cut ∷ []) (vertical_pad_facts v grid)
       (All-cons (F (via v)) cut [] (cut_facts v grid) (All-nil (F (via v)))))

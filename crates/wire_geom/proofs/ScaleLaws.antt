@@ -12,26 +12,26 @@ use Rattle.wire_geom.proofs.BoxLaws.{Clear, before, behind, under as beneath, ov
 
 -- numbers in order
 pub scaled-order : (r : RuleValues) (a b : ℕ) → a ≤ b → scaled r a ≤ℤ scaled r b
-scaled-order r a b h = let product : a * r.grid_centi ≤ b * r.grid_centi = mul-le-mul_right r.grid_centi h in omega (arith, ints)
+scaled-order r a b h = let product : a * r.grid.centi ≤ b * r.grid.centi = mul-le-mul_right r.grid.centi h in omega (arith, ints)
 
 -- numbers with a gap of so many units
 pub scaled-gap : (r : RuleValues) (a d b : ℕ) → a + 2 * d ≤ b → (scaled r a +ℤ length_in r d) ≤ℤ scaled r b
 scaled-gap r a d b h =
-    let product : (a + 2 * d) * r.grid_centi ≤ b * r.grid_centi = mul-le-mul_right r.grid_centi h in
-    let parted : (a + 2 * d) * r.grid_centi ≡ a * r.grid_centi + 2 * d * r.grid_centi = add-mul a (2 * d) r.grid_centi in
+    let product : (a + 2 * d) * r.grid.centi ≤ b * r.grid.centi = mul-le-mul_right r.grid.centi h in
+    let parted : (a + 2 * d) * r.grid.centi ≡ a * r.grid.centi + 2 * d * r.grid.centi = add-mul a (2 * d) r.grid.centi in
     omega (arith, ints)
 
 pub scaled-before : (r : RuleValues) (a d b : ℕ) → a + 2 * d ≤ b → scaled r a ≤ℤ (scaled r b -ℤ length_in r d)
 scaled-before r a d b h =
-    let product : (a + 2 * d) * r.grid_centi ≤ b * r.grid_centi = mul-le-mul_right r.grid_centi h in
-    let parted : (a + 2 * d) * r.grid_centi ≡ a * r.grid_centi + 2 * d * r.grid_centi = add-mul a (2 * d) r.grid_centi in
+    let product : (a + 2 * d) * r.grid.centi ≤ b * r.grid.centi = mul-le-mul_right r.grid.centi h in
+    let parted : (a + 2 * d) * r.grid.centi ≡ a * r.grid.centi + 2 * d * r.grid.centi = add-mul a (2 * d) r.grid.centi in
     omega (arith, ints)
 
 -- numbers that differ by so many units
 pub scaled-sum : (r : RuleValues) (a d b : ℕ) → a + 2 * d ≡ b → scaled r a +ℤ length_in r d ≡ scaled r b
 scaled-sum r a d b h =
-    let parted : (a + 2 * d) * r.grid_centi ≡ a * r.grid_centi + 2 * d * r.grid_centi = add-mul a (2 * d) r.grid_centi in
-    let product : (a + 2 * d) * r.grid_centi ≡ b * r.grid_centi = ap (λ (n : ℕ). n * r.grid_centi) h in
+    let parted : (a + 2 * d) * r.grid.centi ≡ a * r.grid.centi + 2 * d * r.grid.centi = add-mul a (2 * d) r.grid.centi in
+    let product : (a + 2 * d) * r.grid.centi ≡ b * r.grid.centi = ap (λ (n : ℕ). n * r.grid.centi) h in
     omega (arith, ints)
 
 -- boxes that lie apart

@@ -19,9 +19,9 @@ upper_end r base tracks high = if high == tracks + 1 then line_at r base (tracks
 -- a vertical wire in a column
 abbrev pub across_box : RuleValues → ℕ → ℕ → ℕ → ℕ → ℕ → Box
 across_box r base tracks column low high = record {
-  x0 = centre r column - r.vertical_width;
+  x0 = centre r column - r.vertical.width;
   y0 = lower_end r base low;
-  x1 = centre r column + r.vertical_width;
+  x1 = centre r column + r.vertical.width;
   y1 = upper_end r base tracks high;
 }
 
@@ -29,9 +29,9 @@ across_box r base tracks column low high = record {
 abbrev pub along_box : RuleValues → ℕ → ℕ → ℕ → ℕ → Box
 along_box r base track from to = record {
   x0 = centre r from - pad r;
-  y0 = line_at r base track - r.horizontal_width;
+  y0 = line_at r base track - r.horizontal.width;
   x1 = centre r to + pad r;
-  y1 = line_at r base track + r.horizontal_width;
+  y1 = line_at r base track + r.horizontal.width;
 }
 
 -- a square with a side of `size` units, around a point of a column and a track

@@ -8,8 +8,8 @@ use Rattle.wire_geom.specs.declared.drawn.Drawn.{Drawn}
 
 -- the name of a layer of wires
 abbrev pub layer_name : RuleValues → Layer → List ℕ
-layer_name r vertical = r.vertical_layer
-layer_name r horizontal = r.horizontal_layer
+layer_name r vertical = r.vertical.layer
+layer_name r horizontal = r.horizontal.layer
 
 -- a rectangle is one of those of an element of the wiring
 pub record IsOf (r : RuleValues) (base : ℕ) (wiring : Wiring) (d : Drawn) : Type 0 where

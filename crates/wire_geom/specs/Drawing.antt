@@ -18,9 +18,9 @@ pub data Mask : Type 0 where
   on_cut : Mask
 
 abbrev pub name_of : RuleValues → Mask → List ℕ
-name_of r on_horizontal = r.horizontal_layer
-name_of r on_vertical = r.vertical_layer
-name_of r on_cut = r.cut_layer
+name_of r on_horizontal = r.horizontal.layer
+name_of r on_vertical = r.vertical.layer
+name_of r on_cut = r.cut.layer
 
 -- a rectangle of a net, in half units
 pub record Piece : Type 0 where
@@ -40,7 +40,7 @@ via_piece r base mask size v = record { mask = mask; box = square_box r base siz
 
 abbrev pub via_pieces : RuleValues → ℕ → Via → List Piece
 via_pieces r base v =
-    via_piece r base on_horizontal (pad r) v ∷ (via_piece r base on_vertical (pad r) v ∷ (via_piece r base on_cut r.cut_size v ∷ []))
+    via_piece r base on_horizontal (pad r) v ∷ (via_piece r base on_vertical (pad r) v ∷ (via_piece r base on_cut r.cut.size v ∷ []))
 
 abbrev pub pieces_of : RuleValues → ℕ → ℕ → Element → List Piece
 pieces_of r base tracks (segment s) = segment_piece r base tracks s ∷ []

@@ -14,9 +14,9 @@ top_entry pins column net = (0 < net) × (slice_index pins.top column ≡ net)
 
 -- a vertical wire of the vertical width in the middle of a column
 pub record StandsIn (r : RuleValues) (column : ℕ) (d : Drawn) : Type 0 where
-  pub on_layer : d.shape.layer ≡ r.vertical_layer
-  pub left : d.shape.rect.x0 ≡ scaled r (centre r column - r.vertical_width)
-  pub right : d.shape.rect.x1 ≡ scaled r (centre r column + r.vertical_width)
+  pub on_layer : d.shape.layer ≡ r.vertical.layer
+  pub left : d.shape.rect.x0 ≡ scaled r (centre r column - r.vertical.width)
+  pub right : d.shape.rect.x1 ≡ scaled r (centre r column + r.vertical.width)
 
 -- a vertical wire in a column in which its net has an entry
 pub record Enters (r : RuleValues) (entry : ℕ → ℕ → Type 0) (d : Drawn) : Type 0 where
@@ -33,9 +33,9 @@ pub record Keeps (r : RuleValues) (floor ceiling : ℕ) (lower upper : ℕ → �
 
 -- all rectangles lie between the edges, and come to them only over entries of their nets
 pub record KeepEdges (r : RuleValues) (floor ceiling : ℕ) (lower upper : ℕ → ℕ → Type 0) (drawn : List Drawn) : Type 0 where
-  pub horizontal : (d : Drawn) → Contains drawn d → d.shape.layer ≡ r.horizontal_layer → Keeps r floor ceiling lower upper r.horizontal_space d
-  pub vertical : (d : Drawn) → Contains drawn d → d.shape.layer ≡ r.vertical_layer → Keeps r floor ceiling lower upper r.vertical_space d
-  pub cut : (d : Drawn) → Contains drawn d → d.shape.layer ≡ r.cut_layer → Keeps r floor ceiling lower upper r.cut_space d
+  pub horizontal : (d : Drawn) → Contains drawn d → d.shape.layer ≡ r.horizontal.layer → Keeps r floor ceiling lower upper r.horizontal.space d
+  pub vertical : (d : Drawn) → Contains drawn d → d.shape.layer ≡ r.vertical.layer → Keeps r floor ceiling lower upper r.vertical.space d
+  pub cut : (d : Drawn) → Contains drawn d → d.shape.layer ≡ r.cut.layer → Keeps r floor ceiling lower upper r.cut.space d
 
 -- over each entry of the lower edge, and under each of the upper one, stands a vertical wire of its net that ends exactly at the edge
 pub record MeetEntries (r : RuleValues) (floor ceiling : ℕ) (lower upper : ℕ → ℕ → Type 0) (drawn : List Drawn) : Type 0 where

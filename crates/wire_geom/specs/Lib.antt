@@ -9,5 +9,3 @@ pub mod Spaces
 pub mod Columns
 pub mod Edges
 pub mod Contact
--- worked wirings
-pub mod Samples

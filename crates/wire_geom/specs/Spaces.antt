@@ -11,6 +11,6 @@ NetsKeep r drawn layer space = (a b : Drawn) → Contains drawn a → Contains d
 
 -- rectangles of different nets keep their layer's space
 pub record NetsApart (r : RuleValues) (drawn : List Drawn) : Type 0 where
-  pub horizontal : NetsKeep r drawn r.horizontal_layer r.horizontal_space
-  pub vertical : NetsKeep r drawn r.vertical_layer r.vertical_space
-  pub cut : NetsKeep r drawn r.cut_layer r.cut_space
+  pub horizontal : NetsKeep r drawn r.horizontal.layer r.horizontal.space
+  pub vertical : NetsKeep r drawn r.vertical.layer r.vertical.space
+  pub cut : NetsKeep r drawn r.cut.layer r.cut.space

@@ -10,13 +10,13 @@ pub record IsCovered (r : RuleValues) (drawn : List Drawn) (layer : List ℕ) (c
   pub is_drawn : Contains drawn cover
   pub on_layer : cover.shape.layer ≡ layer
   pub same_net : cover.net ≡ cut.net
-  pub encloses : Encloses cover.shape.rect (grown (length_in r r.cut_enclose) cut.shape.rect)
+  pub encloses : Encloses cover.shape.rect (grown (length_in r r.cut.enclose) cut.shape.rect)
 
 -- each wire is as wide as its layer's rule says, and each cut is a square of the cut's size that a rectangle of its net encloses on each
 -- layer of wires
 pub record AreWide (r : RuleValues) (drawn : List Drawn) : Type 0 where
-  pub horizontal : (d : Drawn) → Contains drawn d → d.shape.layer ≡ r.horizontal_layer → HasSides (length_in r r.horizontal_width) d.shape.rect
-  pub vertical : (d : Drawn) → Contains drawn d → d.shape.layer ≡ r.vertical_layer → HasSides (length_in r r.vertical_width) d.shape.rect
-  pub cut : (d : Drawn) → Contains drawn d → d.shape.layer ≡ r.cut_layer → IsSquare (length_in r r.cut_size) d.shape.rect
-  pub in_horizontal : (d : Drawn) → Contains drawn d → d.shape.layer ≡ r.cut_layer → IsCovered r drawn r.horizontal_layer d
-  pub in_vertical : (d : Drawn) → Contains drawn d → d.shape.layer ≡ r.cut_layer → IsCovered r drawn r.vertical_layer d
+  pub horizontal : (d : Drawn) → Contains drawn d → d.shape.layer ≡ r.horizontal.layer → HasSides (length_in r r.horizontal.width) d.shape.rect
+  pub vertical : (d : Drawn) → Contains drawn d → d.shape.layer ≡ r.vertical.layer → HasSides (length_in r r.vertical.width) d.shape.rect
+  pub cut : (d : Drawn) → Contains drawn d → d.shape.layer ≡ r.cut.layer → IsSquare (length_in r r.cut.size) d.shape.rect
+  pub in_horizontal : (d : Drawn) → Contains drawn d → d.shape.layer ≡ r.cut.layer → IsCovered r drawn r.horizontal.layer d
+  pub in_vertical : (d : Drawn) → Contains drawn d → d.shape.layer ≡ r.cut.layer → IsCovered r drawn r.vertical.layer d

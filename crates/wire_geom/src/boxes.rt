@@ -12,7 +12,7 @@ fn centre(rules: &Rules, column: u32) -> u64
     ensures is { result ≡ centre rules.now column }
     ensures within { result ≤ 9000000000000 }
 {
-    let pitch = u64::from(rules.grid_column);
+    let pitch = u64::from(rules.grid.column);
     2 * (u64::from(column) * pitch) + pitch
 }
 
@@ -22,7 +22,7 @@ fn line_at(rules: &Rules, base: u32, line: u64) -> u64
     ensures is { result ≡ line_at rules.now base line }
     ensures within { result ≤ 9000000000000 }
 {
-    2 * (u64::from(base) + line * u64::from(rules.grid_track))
+    2 * (u64::from(base) + line * u64::from(rules.grid.track))
 }
 
 // Where a vertical wire ends that comes down to this line.
@@ -57,7 +57,7 @@ fn rect(rules: &Rules, x0: u64, y0: u64, x1: u64, y1: u64) -> Rect
     requires y { y1 ≤ 10000000000000 }
     ensures { result ≡ extent_of rules.now (record { x0 = x0; y0 = y0; x1 = x1; y1 = y1 }) }
 {
-    let centi = u64::from(rules.grid_centi);
+    let centi = u64::from(rules.grid.centi);
     Rect {
         x0: (x0 * centi) as i64,
         y0: (y0 * centi) as i64,
@@ -80,7 +80,7 @@ pub(crate) fn across_rect(
     ensures { result ≡ extent_of rules.now (across_box rules.now base tracks column low high) }
 {
     let middle = centre(rules, column);
-    let width = u64::from(rules.vertical_width);
+    let width = u64::from(rules.vertical.width);
     rect(
         rules,
         middle.saturating_sub(width),
@@ -96,7 +96,7 @@ pub(crate) fn along_rect(rules: &Rules, base: u32, track: u32, from: u32, to: u3
     ensures { result ≡ extent_of rules.now (along_box rules.now base track from to) }
 {
     let height = line_at(rules, base, u64::from(track));
-    let width = u64::from(rules.horizontal_width);
+    let width = u64::from(rules.horizontal.width);
     let pad = u64::from(rules.pad());
     rect(
         rules,

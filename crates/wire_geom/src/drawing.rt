@@ -90,14 +90,14 @@ fn via_drawn(via: Via, part: u64, base: u32, rules: &Rules) -> Drawn
     ensures { slice_get (map (drawn_of rules.now) (via_pieces rules.now base via)) part ≡ Some result }
 {
     let side = if part == 2 {
-        rules.cut_size
+        rules.cut.size
     } else {
         rules.pad()
     };
     let layer = match part {
-        0 => rules.horizontal_layer,
-        1 => rules.vertical_layer,
-        _ => rules.cut_layer,
+        0 => rules.horizontal.layer,
+        1 => rules.vertical.layer,
+        _ => rules.cut.layer,
     };
     drawn_on(
         layer,
@@ -118,7 +118,7 @@ fn segment_drawn(segment: Segment, wiring: &Wiring, base: u32, rules: &Rules) ->
             low,
             high,
         } => drawn_on(
-            rules.vertical_layer,
+            rules.vertical.layer,
             across_rect(rules, base, wiring.tracks, column, low, high),
             net,
         ),
@@ -128,7 +128,7 @@ fn segment_drawn(segment: Segment, wiring: &Wiring, base: u32, rules: &Rules) ->
             from,
             to,
         } => drawn_on(
-            rules.horizontal_layer,
+            rules.horizontal.layer,
             along_rect(rules, base, track, from, to),
             net,
         ),

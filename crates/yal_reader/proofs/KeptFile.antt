@@ -3,8 +3,9 @@ use Rattle.std.proofs.lemmas.Cmp.{nat_list_eq_equiv}
 use Rattle.std.proofs.lemmas.Map.Keys.{IsDistinct-push}
 use Rattle.std.specs.List.{AllByRecursion, IsDistinct}
 use Rattle.std.specs.Str.{bytes_eq}
+use Rattle.list_facts.proofs.Every.{every-push}
 use Rattle.yal_reader.proofs.FuelLaws.{module_names-push}
-use Rattle.yal_reader.proofs.KeptLists.{IsCalls, IsLine, IsLines, each-push, kept-io_list, kept-network, no-calls}
+use Rattle.yal_reader.proofs.KeptLists.{IsCalls, IsLine, IsLines, kept-io_list, kept-network, no-calls}
 use Rattle.yal_reader.proofs.KeptWords.{Keeps, Named, ascii-plain, either, err, kept-end, kept-keyword, kept-kind, kept-numbers, kept-past, kept-statement, kept-stop, kept-word, next, ok, tokens-named, uncommented-kept, weaker}
 use Rattle.geom_core.specs.Names.{IsName}
 use Rattle.yal_reader.specs.Kept.{HasAtMost, HasSpots, HasSpotWhereDue, IsKept, IsKeptLine, IsKeptModule, IsNear, IsShort, is_standard, module_names}
@@ -161,7 +162,7 @@ pub record AreModules (most : ℕ) (modules : List Module) : Type 0 where
 -- one more module
 modules-push : (most : ℕ) (before : List Module) (m : Module) → AreModules most before → IsRead most m → is_among (module_names before) m.name ≡ false → AreModules most (before ++ m ∷ [])
 modules-push most before m h is free = record {
-  each = each-push (IsRead most) before m h.each is;
+  each = every-push (IsRead most) before m h.each is;
   distinct = rw (module_names-push before m) (IsDistinct-push nat_list_eq_equiv (module_names before) m.name h.distinct free);
 }
 

@@ -3,6 +3,7 @@ use Rattle.std.proofs.lemmas.Cmp.{nat_list_eq_equiv}
 use Rattle.std.proofs.lemmas.Map.Keys.{IsDistinct-push}
 use Rattle.std.specs.List.{AllByRecursion, IsDistinct}
 use Rattle.std.specs.Str.{bytes_eq}
+use Rattle.list_facts.proofs.Every.{every-push}
 use Rattle.yal_reader.proofs.FuelLaws.{call_names-push}
 use Rattle.yal_reader.proofs.KeptWords.{Keeps, Named, either, err, kept-end, kept-flow, kept-number, kept-past, kept-statement, kept-stop, kept-word, kept-words, next, ok, weaker}
 use Rattle.geom_core.specs.Names.{IsName}
@@ -16,11 +17,6 @@ use Rattle.yal_reader.specs.declared.file.Flow.{Flow}
 use Rattle.yal_reader.specs.declared.file.Kind.{Kind}
 use Rattle.yal_reader.specs.declared.file.Line.{Line}
 use Rattle.yal_reader.specs.declared.stuck.Stuck.{Stuck}
-
--- an item at the end of a list whose items have P
-pub each-push : {A : Type 0} (P : A → Type 0) (xs : List A) (x : A) → AllByRecursion P xs → P x → AllByRecursion P (xs ++ x ∷ [])
-each-push P [] x h is = (is, tt)
-each-push P (y ∷ ys) x h is = (h.0, each-push P ys x h.1 is)
 
 -- what a list of statements gives has P, if each item keeps it, and no more items than the fuel allows
 pub kept-items : {A : Type 0} (P : List A → Type 0) (keyword : List ℕ) (item : List A → Spelled → List Token → Result (A × List Token) Stuck)
@@ -81,7 +77,7 @@ pub kept-lines_until : (n : ℕ) (kind : Kind) (ts : List Token) → Named ts �
 kept-lines_until n kind ts h =
     weaker (lines_until kind n [] ts)
     (kept-items (AllByRecursion (IsLine kind)) (codes "ENDIOLIST") (λ _. line_after kind)
-    (λ before w rest each is named. weaker (line_after kind w rest) (kept-line kind w rest is named) (λ x k. (each-push (IsLine kind) before x.0 each k.0, k.1))) n [] ts tt h)
+    (λ before w rest each is named. weaker (line_after kind w rest) (kept-line kind w rest is named) (λ x k. (every-push (IsLine kind) before x.0 each k.0, k.1))) n [] ts tt h)
     (λ x k. (record { each = k.0; few = omega (arith, k.1) }, k.2))
 
 -- the lines of a list, or none
@@ -117,7 +113,7 @@ kept-call names name ts is named =
 -- one more call
 calls-push : (calls : List Call) (call : Call) → AreCalls calls → IsKeptCall call → is_among (call_names calls) call.name ≡ false → AreCalls (calls ++ call ∷ [])
 calls-push calls call h is free = record {
-  each = each-push IsKeptCall calls call h.each is;
+  each = every-push IsKeptCall calls call h.each is;
   distinct = rw (call_names-push calls call) (IsDistinct-push nat_list_eq_equiv (call_names calls) call.name h.distinct free);
 }
 

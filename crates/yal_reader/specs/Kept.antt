@@ -1,6 +1,7 @@
 use Rattle.std.specs.Prelude.{◌≡◌, ◌≤◌, ◌≤ℤ◌, ℕ, ℤ, pos, negsuc, List, length, map, Bool, true, false, ◌&&◌, not, ◌==◌, nat_le, is_some, IfSome}
 use Rattle.std.specs.List.{AllByRecursion, IsDistinct, list_all}
 use Rattle.std.specs.Str.{bytes_eq}
+use Rattle.limits.specs.declared.TheConstants.{MOST_COORDINATE}
 use Rattle.geom_core.specs.Names.{IsName}
 use Rattle.yal_reader.specs.declared.file.Kind.{Kind}
 use Rattle.yal_reader.specs.declared.file.Kind.TheVariants as kinds
@@ -15,7 +16,7 @@ use Rattle.yal_reader.specs.declared.file.YalFile.{YalFile}
 -- a number of magnitude at most 100,000,000
 pub record IsNear (z : ℤ) : Type 0 where
   pub low : negsuc 99999999 ≤ℤ z
-  pub high : z ≤ℤ pos 100000000
+  pub high : z ≤ℤ pos MOST_COORDINATE
 
 abbrev pub is_standard : Kind → Bool
 is_standard kinds.Standard = true

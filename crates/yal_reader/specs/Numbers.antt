@@ -1,5 +1,6 @@
 use Rattle.std.specs.Prelude.{ℕ, ◌+◌, ◌-◌, ◌*◌, ℤ, pos, neg_ℤ, List, [], ◌∷◌, length, Option, None, Some, Result, Ok, option_map, nat_le, ◌==◌, if◌then◌else◌}
 use Rattle.std.specs.Char.{is_ascii_digit}
+use Rattle.limits.specs.declared.TheConstants.{MOST_COORDINATE}
 use Rattle.yal_reader.specs.Reading.{◌>>=◌}
 use Rattle.yal_reader.specs.Tokens.{Token, word, semicolon}
 use Rattle.yal_reader.specs.Words.{a_word, or_bad, stuck}
@@ -8,7 +9,7 @@ use Rattle.yal_reader.specs.declared.stuck.Stuck.{Stuck}
 
 -- the number that these digits make behind the number n, if it is at most 100,000,000
 abbrev pub digits_after : ℕ → List ℕ → Option ℕ
-digits_after n [] = if nat_le n 100000000 then Some n else None
+digits_after n [] = if nat_le n MOST_COORDINATE then Some n else None
 digits_after n (c ∷ cs) = if is_ascii_digit c then digits_after (10 * n + (c - 48)) cs else None
 
 -- one or more digits

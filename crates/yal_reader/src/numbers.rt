@@ -6,9 +6,7 @@ ghost use Rattle.yal_reader.specs.Tokens.{tokens};
 use crate::fault::YalKind;
 use crate::stuck::Stuck;
 use crate::tokens::{bad, word_at};
-
-/// The greatest magnitude of a number.
-const GREATEST: u32 = 100_000_000;
+use limits::MOST_COORDINATE;
 
 /// What these digits make, or None where one is no digit or they make more than the greatest.
 fn digits_value(digits: &[u8]) -> Option<u32>
@@ -21,7 +19,7 @@ fn digits_value(digits: &[u8]) -> Option<u32>
             return None;
         }
         n = 10 * n + u32::from(*byte - b'0');
-        if n > GREATEST {
+        if n > MOST_COORDINATE {
             return None;
         }
         rest = after;

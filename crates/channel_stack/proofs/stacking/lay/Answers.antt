@@ -35,7 +35,7 @@ overflow_mul-result-3 c =
     let fits : stack_top c.args.rules.now c.design.inside.height 0 c.args.wirings.now < 2 ^ 32 =
     top-fits c.args.rules.now c.args.design.now c.args.fed.now c.args.wirings.now c.design.inside.height valid c.requires.fed c.requires.routed same in
     let low : c.stack_top.result ≤ 2 ^ 32 = omega arith in
-    let fine : c.from-centi.result ≤ 1000 = omega (arith, c.rules.invariant.ranges.grid_centi) in
+    let fine : c.from-centi.result ≤ 1000 = omega (arith, c.rules.invariant.ranges.grid.centi) in
     let product : c.stack_top.result * c.from-centi.result ≤ 2 ^ 32 * 1000 = mul-le-mul low fine in
     omega arith
 

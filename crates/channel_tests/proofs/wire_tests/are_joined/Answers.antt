@@ -1,4 +1,4 @@
-use Rattle.wire_geom.proofs.Worked.{joined_pins_on_grid}
+use Rattle.channel_tests.proofs.Worked.{joined_pins_on_grid}
 use Rattle.channel_tests.proofs.wire_tests.are_joined.Goals as goal
 
 pub are_wires-requires : goal.are_wires-requires

@@ -1,4 +1,4 @@
-use Rattle.tech_rules.specs.Sample.{sample}
+use Rattle.samples.specs.Sample.{sample}
 use Rattle.netlist_core.proofs.HighKinds.{grid-high}
 use Rattle.check_tests.proofs.texts.sampled.Goals as goal
 

@@ -1,4 +1,6 @@
 use Rattle.std.proofs.Common.{◌∙◌, ap, sym, Ok}
+use Rattle.cif_text.proofs.DrawnLaws.{meaning-drawn}
+use Rattle.cif_reader.proofs.AgreementLaws.{expansion-means}
 use Rattle.cif_reader.proofs.WithinLaws.{expansion-within}
 use Rattle.cif_reader.proofs.ExpandLemmas.{up-to-next, refused-at, expanded}
 use Rattle.cif_reader.proofs.expanding.expand.Goals as goal
@@ -23,3 +25,10 @@ returns-clause-within c =
     expansion-within c.args.commands.now c.layout_of.result c.requires.sound
     (expanded c.args.commands.now c.loop-command.standing c.loop-command.at c.loop-command.rest.now c.loop-command.invariant c.in_default.ensures.cases
     ∙ ap (λ l. Ok l) (sym c.layout_of.ensures))
+
+pub returns-clause-drawn : goal.returns-clause-drawn
+returns-clause-drawn c =
+    meaning-drawn c.args.commands.now c.layout_of.result
+    (expansion-means c.args.commands.now c.layout_of.result
+    (expanded c.args.commands.now c.loop-command.standing c.loop-command.at c.loop-command.rest.now c.loop-command.invariant c.in_default.ensures.cases
+    ∙ ap (λ l. Ok l) (sym c.layout_of.ensures)))

@@ -1,6 +1,6 @@
 use Rattle.std.proofs.Common.{arith, sym, ap, ◌∙◌}
 use Rattle.std.proofs.lemmas.Result.{err_from_is_err_and}
-use Rattle.cif_text.specs.Transforms.{moves_from}
+use Rattle.cif_text.proofs.Moves.{moves_from}
 use Rattle.cif_text.proofs.MoveLaws.{step-left, moves-on, moves-fail, moves-end, empty-is, within-more}
 use Rattle.cif_text.proofs.calls.moves_at.Goals as goal
 

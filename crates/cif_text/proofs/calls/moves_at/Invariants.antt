@@ -1,6 +1,7 @@
 use Rattle.std.proofs.Common.{◌≡◌, ◌*◌, ◌-◌, ◌≤◌, length, IfOk}
 use Rattle.cif_text.specs.Numbers.{greatest}
-use Rattle.cif_text.specs.Transforms.{IsWithin, moves_from, moves_of}
+use Rattle.cif_text.specs.Transforms.{IsWithin, moves_of}
+use Rattle.cif_text.proofs.Moves.{moves_from}
 use Rattle.cif_text.proofs.calls.moves_at.Given as goal
 
 abbrev pub invariant-loop-letter : goal.invariant-loop-letter

@@ -1,10 +1,10 @@
 use Rattle.std.proofs.Common.{rules, ◌≡◌, ◌++◌, ◌∷◌, ◌∙◌, ◌<◌, [], List, length, map, take, get_or, ap, ap₂, sym}
 use Rattle.std.proofs.lemmas.List.{map-append}
 use Rattle.std.proofs.lemmas.Option.{slice_get-get_or}
+use Rattle.list_facts.proofs.Places.{take-here}
 use Rattle.design_model.specs.Drawing.{drawing_of}
 use Rattle.design_model.specs.declared.design.CellKind.{CellKind}
 use Rattle.geom_core.specs.declared.layout.Shape.{Shape}
-use Rattle.wire_geom.proofs.ListLaws.{take-get}
 use Rattle.cif_writer.proofs.drawings.kind_drawings.Goals as goal
 
 pub loop-n-preserved : goal.loop-n-preserved
@@ -16,5 +16,5 @@ loop-n-preserved c =
     let at = slice_get-get_or kinds c.loop-n.n (record { name = []; columns = 0; terminals = []; positions = [] }) within in
     c.in_ok-push.ensures.items
     ∙ ap₂ (λ (l : List (List Shape)) (x : List Shape). l ++ x ∷ []) c.loop-n.invariant (c.new.ensures ∙ c.in_ok-drawing.ensures kind at)
-    ∙ sym (ap (map (drawing_of c.args.rules.now c.args.design.now.height)) (take-get kinds c.loop-n.n kind at)
+    ∙ sym (ap (map (drawing_of c.args.rules.now c.args.design.now.height)) (take-here kinds c.loop-n.n kind at)
     ∙ map-append (drawing_of c.args.rules.now c.args.design.now.height) (take c.loop-n.n kinds) (kind ∷ []))

@@ -1,4 +1,5 @@
-use Rattle.command_inputs.proofs.LayoutLaws.{expansion-means, measured}
+use Rattle.cif_reader.proofs.AgreementLaws.{expansion-means}
+use Rattle.command_inputs.proofs.LayoutLaws.{measured}
 use Rattle.command_inputs.proofs.layout_file.expand_commands.Goals as goal
 
 pub returns-in-Ok-clause-means : goal.returns-in-Ok-clause-means

@@ -1,4 +1,4 @@
-use Rattle.std.proofs.Common.{◌∙◌, Ok, Err, ap}
+use Rattle.std.proofs.Common.{◌∙◌, Ok, Err, ap, is_ok}
 use Rattle.design_model.specs.Netlist.{Netlist}
 use Rattle.tech_rules.specs.Rules.{RuleValues}
 use Rattle.command_ends.specs.Refusing.{◌>>=◌}
@@ -46,3 +46,11 @@ returns-clause-are g c = λ stated bytes states told.
           (ap (λ holds. design_text (source_seen c.args.source.now) holds c.in_ok-rules.rules) c.in_ok-rules.ensures.files
           ∙ source-text (source_seen c.args.source.now) (g.S.Shelf.holds c.args.shelf.now) stated bytes c.in_ok-rules.rules rules told);
     }
+
+pub returns-clause-passed : goal.returns-clause-passed
+returns-clause-passed g c = record {
+  stated = λ bytes told. c.in_ok-rules.ensures.told bytes told;
+  designed = λ bytes told.
+      ap is_ok
+      (c.in_ok-design.ensures.told bytes (ap (λ holds. design_text (source_seen c.args.source.now) holds c.in_ok-rules.rules) c.in_ok-rules.ensures.files ∙ told));
+}

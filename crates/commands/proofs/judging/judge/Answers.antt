@@ -9,7 +9,6 @@ use Rattle.commands.specs.declared.judging.Judged.{Judged}
 use Rattle.command_inputs.specs.declared.stages.Inputs.{Inputs}
 use Rattle.command_ends.proofs.StopLaws.{handed-status}
 use Rattle.command_ends.proofs.FindsLaws.{handed-on, of-file, stops, told-goes-on, told-stops}
-use Rattle.command_inputs.proofs.LimitLaws.{passed}
 use Rattle.commands.proofs.judging.judge.Goals as goal
 
 pub returns-in_err-inputs-clause-told : goal.returns-in_err-inputs-clause-told
@@ -53,5 +52,5 @@ returns-in_err-layout-clause-cause g c = λ eight.
     let rose = c.in_err-layout.ensures.cause (sym (handed-status c.from_residual-in_err-layout.result _ c.from_residual-in_err-layout.ensures.1) ∙ eight) in
     inr (
       subst (λ (f : List ℕ → ℕ). Rose (f c.args.names.now.cif.now) (g.S.Shelf.read_faults c.load_layout.new.shelf c.args.names.now.cif.now)) quiet rose,
-      passed _ c.in_ok-inputs.inputs c.in_ok-inputs.ensures.told,
+      (c.in_ok-inputs.inputs.rules, c.in_ok-inputs.ensures.passed),
     )

@@ -1,4 +1,4 @@
-use Rattle.std.proofs.Common.{◌≡◌, ◌⊎◌, ℕ, List, Option, Err, ap, subst, sym}
+use Rattle.std.proofs.Common.{◌≡◌, ◌⊎◌, ℕ, List, Option, Err, ap, arith, subst, sym}
 use Rattle.shelf_io.specs.Count.{Still}
 use Rattle.commands.specs.Ends.{Ends}
 use Rattle.commands.specs.Done.{IsStatusOf}
@@ -82,3 +82,13 @@ returns-in-Err-clause-complete g c = λ said is quiet.
     (λ eight.
     inputs-still c.args.names.now.rules.now (source_seen c.args.names.now.design) (g.S.Shelf.holds c.args.shelf.now) (g.S.Shelf.read_faults c.args.shelf.now)
     (g.S.Shelf.read_faults c.load_inputs.new.shelf) quiet.reads.0 quiet.reads.1 (c.in-Err.ensures.cause eight)))
+
+pub returns-in-Ok-clause-fault : goal.returns-in-Ok-clause-fault
+returns-in-Ok-clause-fault g c = λ rose.
+    let old = ap (λ (f : List ℕ → ℕ). f c.args.names.now.out.now) c.in-Ok.ensures.writes in
+    c.lay_and_report.ensures.fault (omega (arith, old, rose))
+
+pub returns-in-Err-clause-fault : goal.returns-in-Err-clause-fault
+returns-in-Err-clause-fault g c = λ rose.
+    let same = ap (λ (f : List ℕ → ℕ). f c.args.names.now.out.now) c.in-Err.ensures.writes in
+    absurd (omega (arith, rose, same))

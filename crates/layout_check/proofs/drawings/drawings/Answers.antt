@@ -5,10 +5,9 @@ use Rattle.tech_rules.specs.Rules.{ValidRules}
 use Rattle.design_model.specs.Drawing.{drawing_of}
 use Rattle.design_model.specs.Netlist.{IsNetlist, Netlist}
 use Rattle.design_model.specs.declared.design.CellKind.{CellKind}
-use Rattle.list_facts.proofs.Places.{at-place}
+use Rattle.list_facts.proofs.Places.{at-place, take-here}
 use Rattle.layout_check.specs.Drawings.{AreForKinds, drawings_of}
 use Rattle.layout_check.proofs.DrawingReach.{drawings-reach}
-use Rattle.layout_check.proofs.Tables.{take-here}
 use Rattle.layout_check.proofs.drawings.drawings.Goals as goal
 
 pub loop-n-preserved : goal.loop-n-preserved

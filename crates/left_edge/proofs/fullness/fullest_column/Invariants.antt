@@ -6,6 +6,6 @@ use Rattle.left_edge.proofs.fullness.fullest_column.Given as goal
 
 abbrev pub invariant-loop-column : goal.invariant-loop-column
 invariant-loop-column l = record {
-  going : l.fullness.open ≡ count_by (is_carried l.column) l.spans;
-  most : IsFirstMost (λ c. count_by (is_over c) l.spans) l.column l.fullness.most l.fullness.column;
+  going : l.fullness.open ≡ count_by (is_carried l.column) l.spanned.spans.now;
+  most : IsFirstMost (λ c. count_by (is_over c) l.spanned.spans.now) l.column l.fullness.most l.fullness.column;
 }

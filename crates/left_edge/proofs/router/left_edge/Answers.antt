@@ -29,6 +29,6 @@ returns-clause-least c =
 pub returns-clause-as_many : goal.returns-clause-as_many
 returns-clause-as_many c =
     let free : IsUnconstrained c.args.channel.now = search rules in
-    ap length c.new.ensures ∙ ap length c.in_ok-over.ensures
+    ap length c.new.ensures ∙ ap length c.in_ok-nets_over.ensures
     ∙ over_fullest c.args.channel.now c.first_constrained.ensures.channel free c.fullest_column-column.result c.fullest_column-column.ensures.fullest
     ∙ sym (ap (λ (w : Wiring). w.tracks) c.in_ok-wiring_of.ensures ∙ tracks-density c.args.channel.now c.first_constrained.ensures.channel free)

@@ -6,15 +6,15 @@ use Rattle.left_edge.proofs.sweep.sweep_columns.Goals as goal
 
 pub loop-column-init : goal.loop-column-init
 loop-column-init c =
-    swept-none c.args.channel.now (subst IsChannel c.channel.view_is c.channel.invariant) c.requires.free _ refl
+    swept-none c.args.spanned.now.channel.now (subst IsChannel c.channel.view_is c.channel.invariant) c.args.spanned.now.free _ refl
     (λ level. rw c.new.ensures.empty refl) (search rules)
 
 pub returns : goal.returns
 returns c =
-    let top : c.items-column-end.result.now ≡ c.args.channel.now.top = c.items-column-end.ensures ∙ ap (λ (p : Pins). p.top) c.channel.view_is in
+    let top : c.items-column-end.result.now ≡ c.args.spanned.now.channel.now.top = c.items-column-end.ensures ∙ ap (λ (p : Pins). p.top) c.channel.view_is in
     let bound = rw top at c.loop-column.auto.column-end in
     let past = rw top at c.loop-column-test.false in
-    let all : c.loop-column.column ≡ length c.args.channel.now.top = omega arith in
-    let swept = subst (λ n. IsSwept c.args.channel.now n n c.loop-column.sweep) all c.loop-column.invariant in
+    let all : c.loop-column.column ≡ length c.args.spanned.now.channel.now.top = omega arith in
+    let swept = subst (λ n. IsSwept c.args.spanned.now.channel.now n n c.loop-column.sweep) all c.loop-column.invariant in
     let channel = subst IsChannel c.channel.view_is c.channel.invariant in
-    record { count = swept.count; levels = rw c.requires.nets (swept-all c.args.channel.now channel c.requires.free c.loop-column.sweep swept) }
+    record { count = swept.count; levels = rw c.args.spanned.now.listed (swept-all c.args.spanned.now.channel.now channel c.args.spanned.now.free c.loop-column.sweep swept) }

@@ -2,4 +2,4 @@ use Rattle.left_edge.specs.Swept.{IsSwept}
 use Rattle.left_edge.proofs.sweep.sweep_columns.Given as goal
 
 abbrev pub invariant-loop-column : goal.invariant-loop-column
-invariant-loop-column l = IsSwept l.channel l.column l.column l.sweep
+invariant-loop-column l = IsSwept l.spanned.channel.now l.column l.column l.sweep

@@ -2,8 +2,8 @@ use Rattle.std.proofs.Common.{arith}
 use Rattle.left_edge.proofs.WireLaws.{level_few}
 use Rattle.left_edge.proofs.wires.lay_nets.Goals as goal
 
-pub overflow_add-levels : goal.overflow_add-levels
-overflow_add-levels c =
-    let few = level_few c.args.channel.now c.requires.channel c.requires.free c.args.nets.now c.args.levels.now c.loop-place.place c.requires.nets
-    c.requires.levels c.loop-place-test.true 0 in
+pub overflow_add-leveled : goal.overflow_add-leveled
+overflow_add-leveled c =
+    let few = level_few c.args.leveled.now.channel.now c.args.leveled.now.valid c.args.leveled.now.free c.args.leveled.now.nets.now c.args.leveled.now.levels.now c.loop-place.place c.args.leveled.now.listed
+    c.args.leveled.now.leveled c.loop-place-test.true 0 in
     omega arith

@@ -3,4 +3,4 @@ use Rattle.left_edge.specs.EdgeWiring.{by_column, bottom_across}
 use Rattle.left_edge.proofs.wires.wire_bottom_pins.Given as goal
 
 abbrev pub invariant-loop-column : goal.invariant-loop-column
-invariant-loop-column l = l.segments.items ≡ l.fn.segments.items ++ by_column (bottom_across l.channel) l.column
+invariant-loop-column l = l.segments.items ≡ l.fn.segments.items ++ by_column (bottom_across l.leveled.channel.now) l.column

@@ -1,9 +1,9 @@
 use Rattle.std.proofs.Common.{◌≡◌, ◌≤◌, ◌∙◌, length, ap, arith}
 use Rattle.std.specs.Prelude.{filter}
 use Rattle.std.proofs.lemmas.List.{length-map}
+use Rattle.list_facts.proofs.Counts.{filter-short}
 use Rattle.geom_core.specs.declared.layout.Shape.{Shape}
 use Rattle.rule_check.specs.Narrow.{is_on}
-use Rattle.rule_check.proofs.Holding.{filter-shorter}
 use Rattle.rule_check.proofs.covers.wires_on.Goals as goal
 
 pub new-requires : goal.new-requires
@@ -12,5 +12,5 @@ new-requires c =
     ap length c.as_slice.ensures.value ∙ ap length c.in_ok-rects.ensures
     ∙ length-map (filter (is_on c.args.layer.now) c.args.shapes.now) (λ (s : Shape). s.rect) in
     let less : length (filter (is_on c.args.layer.now) c.args.shapes.now) ≤ length c.args.shapes.now =
-    filter-shorter (is_on c.args.layer.now) c.args.shapes.now in
+    filter-short (is_on c.args.layer.now) c.args.shapes.now in
     record { few = omega arith }

@@ -14,7 +14,7 @@ loop-k-preserved c =
       each = search rules;
       few = omega (arith, c.number_of.ensures.len);
       rows = c.number_of.ensures.numbered;
-      told = told-more (λ i s n. is_on c.args.rules.now.outline_layer s ≡ true → row_at c.number_of.new.rows (heights_of s.rect) ≡ Some n)
+      told = told-more (λ i s n. is_on c.args.rules.now.outline.layer s ≡ true → row_at c.number_of.new.rows (heights_of s.rect) ≡ Some n)
           c.args.shapes.now c.loop-k.numbers.items _ c.loop-k.k c.in_ok-number.number c.index-shapes-k.result c.loop-k.invariant.each
           c.in_ok-push.ensures.items shape c.in_ok-number.ensures.told
           (λ i s below at on. c.number_of.ensures.kept (heights_of s.rect) _ (c.loop-k.invariant.told i s below at on));

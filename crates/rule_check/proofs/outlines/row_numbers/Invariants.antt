@@ -11,6 +11,6 @@ invariant-loop-k l = record {
   each : length l.numbers.items ≡ l.k;
   few : btree_map_len l.rows ≤ l.k;
   rows : AreRows l.rows;
-  told : (i : ℕ) (s : Shape) → i < l.k → slice_get l.shapes i ≡ Some s → is_on l.rules.outline_layer s ≡ true
+  told : (i : ℕ) (s : Shape) → i < l.k → slice_get l.shapes i ≡ Some s → is_on l.rules.outline.layer s ≡ true
       → row_at l.rows (heights_of s.rect) ≡ Some (slice_index l.numbers.items i);
 }

@@ -1,14 +1,14 @@
 use Rattle.std.proofs.Common.{◌≡◌, ◌∙◌, arith, length, sym}
 use Rattle.std.proofs.lemmas.List.{take_all}
+use Rattle.list_facts.proofs.Places.{take-here}
 use Rattle.wire_geom.proofs.DrawingLaws.{drawing_wide, drawing_apart, drawing_columns, drawing_contact, drawing_edges, drawing_entries}
-use Rattle.wire_geom.proofs.ListLaws.{take-get}
 use Rattle.wire_geom.specs.Drawing.{drawing}
 use Rattle.wire_geom.proofs.drawing.draw.Goals as goal
 
 pub loop-k-preserved : goal.loop-k-preserved
 loop-k-preserved c =
     rw (c.in_ok-push.ensures.items, c.loop-k.invariant)
-    (sym (take-get (drawing c.args.rules.now c.args.base c.args.wiring.now) c.loop-k.k c.shape_at.result c.shape_at.ensures))
+    (sym (take-here (drawing c.args.rules.now c.args.base c.args.wiring.now) c.loop-k.k c.shape_at.result c.shape_at.ensures))
 
 pub returns-clause-drawn : goal.returns-clause-drawn
 returns-clause-drawn c =

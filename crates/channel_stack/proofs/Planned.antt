@@ -1,0 +1,104 @@
+use Rattle.std.specs.Prelude.{◌==◌, ℕ, ◌+◌, ◌-◌, ◌*◌, List, [], ◌∷◌, ◌++◌, map, length, ◌&&◌, if◌then◌else◌, Option, None, Some, slice_get, slice_index, unwrap_or}
+use Rattle.std.specs.List.{find}
+use Rattle.tech_rules.specs.Rules.{RuleValues}
+use Rattle.design_model.specs.Drawing.{extent_of}
+use Rattle.design_model.specs.Netlist.{Netlist}
+use Rattle.design_model.specs.declared.design.Pin.{Pin}
+use Rattle.design_model.specs.declared.design.Position.{Position}
+use Rattle.channel_model.specs.declared.wiring.Wiring.{Wiring}
+use Rattle.row_model.specs.Stands.{turned_column, positions_of}
+use Rattle.row_model.specs.Widths.{columns_of}
+use Rattle.row_model.specs.declared.rows.Seat as seats
+use Rattle.feed_cells.specs.Fed.{Fed}
+use Rattle.feed_cells.specs.declared.fed.Item.{Item}
+use Rattle.feed_cells.specs.declared.fed.Item.TheVariants.{Cell, Feed}
+use Rattle.pin_assign.specs.Tables.{table_of}
+use Rattle.layout_laws.specs.Heights.{channel_height}
+use Rattle.layout_laws.proofs.Plans.{Plan}
+use Rattle.layout_laws.proofs.Seats.{Upright, Seat}
+use Rattle.layout_laws.proofs.Uprights.{upright_rect}
+use Rattle.wire_geom.specs.declared.drawn.Drawn.{Drawn}
+use Rattle.channel_stack.specs.Stack.{channel_bases}
+
+-- the net of a terminal of an instance, 0 where it has no pin
+abbrev pub net_found : Option Pin → ℕ
+net_found None = 0
+net_found (Some p) = p.net
+
+unfoldable pub net_at : Netlist → ℕ → ℕ → ℕ
+net_at d instance terminal = net_found (find (λ (p : Pin). p.instance == instance && p.terminal == terminal) d.pins)
+
+-- a position of a seated cell as an upright of its row, which has this height: as long as a pin, from its edge inward
+abbrev pub low_of : RuleValues → ℕ → Position → ℕ
+low_of r height p = if p.top then height - r.grid.pin else 0
+
+abbrev pub high_of : RuleValues → ℕ → Position → ℕ
+high_of r height p = if p.top then height else r.grid.pin
+
+abbrev pub upright_of : RuleValues → Netlist → seats.Seat → Position → Upright
+upright_of r d s p = record {
+  column = turned_column s.mirror (columns_of d s.instance) p.column;
+  low = low_of r d.height p;
+  high = high_of r d.height p;
+  net = net_at d s.instance p.terminal;
+}
+
+-- a feed stands from edge to edge
+abbrev pub feed_upright : ℕ → ℕ → Upright
+feed_upright height net = record { column = 0; low = 0; high = height; net = net }
+
+-- an item as a seat of its row
+abbrev pub seat_of : RuleValues → Netlist → Item → Seat
+seat_of r d (Cell s) = record { width = columns_of d s.instance; uprights = map (upright_of r d s) (positions_of d s.instance) }
+seat_of r d (Feed net) = record { width = 1; uprights = feed_upright d.height net ∷ [] }
+
+-- the outline of an item in a row
+abbrev pub outline_drawn : RuleValues → ℕ → ℕ → ℕ → ℕ → Drawn
+outline_drawn r base height left right = record {
+  shape = record {
+    layer = r.outline.layer;
+    rect = extent_of r.grid.centi (2 * (left * r.grid.column)) (2 * base) (2 * (right * r.grid.column)) (2 * (base + height));
+  };
+  net = 0;
+}
+
+-- an upright of an item that begins in column `left` of a row
+abbrev pub upright_drawn : RuleValues → ℕ → ℕ → Upright → Drawn
+upright_drawn r base left u = record {
+  shape = record { layer = r.vertical.layer; rect = upright_rect r base u (left + u.column) };
+  net = u.net;
+}
+
+-- the rectangles of an item: its outline, and then its uprights in order
+abbrev pub seat_drawn : RuleValues → ℕ → ℕ → ℕ → Seat → List Drawn
+seat_drawn r base height left seat = outline_drawn r base height left (left + seat.width) ∷ map (upright_drawn r base left) seat.uprights
+
+-- the rectangles of seats side by side, the first of which begins in column `left`
+abbrev pub row_drawn : RuleValues → ℕ → ℕ → ℕ → List Seat → List Drawn
+row_drawn r base height left [] = []
+row_drawn r base height left (seat ∷ rest) = seat_drawn r base height left seat ++ row_drawn r base height (left + seat.width) rest
+
+abbrev pub no_wiring : Wiring
+no_wiring = record { tracks = 0; columns = 0; segments = []; vias = [] }
+
+-- row k as seats, none where there is no such row
+abbrev pub row_seats : RuleValues → Netlist → Fed → ℕ → List Seat
+row_seats r d fed k = map (seat_of r d) (unwrap_or (slice_get fed.rows k) [])
+
+abbrev pub wiring_at : List Wiring → ℕ → Wiring
+wiring_at ws k = unwrap_or (slice_get ws k) no_wiring
+
+abbrev pub base_at : RuleValues → Netlist → List Wiring → ℕ → ℕ
+base_at r d ws k = slice_index (channel_bases r d.height 0 ws) k
+
+-- the rows and channels of a routed design as a plan
+abbrev pub plan_of : RuleValues → Netlist → Fed → List Wiring → Plan
+plan_of r d fed ws = record {
+  rows = length fed.rows;
+  height = λ (k : ℕ). d.height;
+  pins = table_of d fed;
+  wiring = wiring_at ws;
+  base = base_at r d ws;
+  seats = row_seats r d fed;
+  row = λ (k : ℕ). row_drawn r (base_at r d ws k + channel_height r (wiring_at ws k)) d.height 0 (row_seats r d fed k);
+}

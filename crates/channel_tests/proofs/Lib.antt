@@ -1,0 +1,2 @@
+-- worked wirings: their rectangles, and that they lie on their grids
+pub mod Worked

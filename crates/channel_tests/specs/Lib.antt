@@ -1,0 +1,2 @@
+-- worked wirings
+pub mod Samples
