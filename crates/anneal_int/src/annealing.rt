@@ -4,7 +4,7 @@ ghost use Rattle.anneal_int.specs.Annealed.{all_changes, annealed, changed, end_
 ghost use Rattle.anneal_int.specs.Changes.{IsAmong};
 ghost use Rattle.anneal_int.specs.Cooling.{cooler};
 ghost use Rattle.anneal_int.specs.Stages.{after_stage};
-ghost use Rattle.row_model.specs.Cost.{cost_of};
+ghost use Rattle.row_board.specs.Cost.{cost_of};
 ghost use Rattle.row_model.specs.Rows.{ArePlaced};
 ghost use Rattle.std.specs.Bool.{OnFalse, OnTrue};
 ghost use Rattle.std.specs.Prelude.{◌≡◌, ◌+◌, ◌<◌, ◌≤◌, ℕ, IfOk, length, nat_le};
@@ -15,7 +15,8 @@ use crate::schedule::Schedule;
 use crate::thresholds::greatest_rise;
 use design_model::Design;
 use geom_core::Items;
-use row_model::{Rows, Spans};
+use row_board::Spans;
+use row_model::Rows;
 use std::alloc::{AllocError, Global};
 
 const MOST_CHANGES: u64 = 50_000_000;
