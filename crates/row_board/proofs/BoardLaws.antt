@@ -1,30 +1,28 @@
-use Rattle.std.proofs.Common.{◌≡◌, ◌≢◌, ◌≤◌, ℕ, ◌+◌, ◌-◌, List, length, map, set, Bool, true, false, cond, Option, None, Some, refl, ap, ap₂, sym, ◌∙◌, arith}
+use Rattle.std.proofs.Common.{◌≡◌, ◌≢◌, ◌<◌, ◌≤◌, ℕ, ◌+◌, ◌-◌, List, length, map, set, Bool, true, false, cond, Option, None, Some, refl, ap, ap₂, sym, ◌∙◌, arith}
 use Rattle.std.proofs.lemmas.Bool.Decides.{nat_tests}
-use Rattle.std.proofs.lemmas.List.{length-map, length-set, take_all}
+use Rattle.std.proofs.lemmas.List.{length-set, take_all}
 use Rattle.std.proofs.lemmas.Option.{none-some, same_Some, slice_get-map, slice_get_within}
-use Rattle.std.proofs.lemmas.List.FromFn.{length-range_with_len}
-use Rattle.std.specs.List.{range_with_len, slice_get}
+use Rattle.std.specs.List.{slice_get}
 use Rattle.std.specs.Option.{option_map}
 use Rattle.std.specs.Prelude.{nat_eq}
 use Rattle.list_facts.proofs.Counts.{few-numbers}
-use Rattle.list_facts.proofs.Ranges.{image-at}
 use Rattle.design_model.specs.declared.design.Pin.{Pin}
 use Rattle.design_model.specs.Netlist.{IsNetlist, Netlist}
-use Rattle.row_board.specs.Board.{net_costs, AreBothRemeasured}
-use Rattle.row_board.specs.Cost.{net_cost}
-use Rattle.row_board.specs.Moving.{ArePut, IsAt, KeepsUnmoved}
-use Rattle.row_board.specs.NetPins.{AreNets, ArePins, net_measured}
+use Rattle.row_board.specs.Board.{lengths_of, AreSeated}
+use Rattle.row_board.specs.Cost.{target_of}
+use Rattle.row_board.specs.Moving.{AreExchanged, ArePut, IsAt}
+use Rattle.row_board.specs.RowLengths.{Lengths}
+use Rattle.row_board.specs.Spot.{Spot}
+use Rattle.row_model.specs.Changes.{mirrored, swapped}
 use Rattle.row_model.specs.Rows.{ArePlaced}
-use Rattle.row_board.specs.Standings.{AreEntered, put_in}
-use Rattle.row_board.specs.Weights.{Weighing}
+use Rattle.row_board.specs.Standings.{put_in, standing_of}
 use Rattle.row_model.specs.Widths.{columns_of, row_width}
-use Rattle.row_board.specs.declared.moving.Reach.{Reach}
-use Rattle.row_board.specs.declared.net_pins.NetPin.{NetPin}
 use Rattle.row_model.specs.declared.rows.Seat.{Seat}
-use Rattle.row_board.specs.declared.standings.Standing.{Standing}
-use Rattle.row_board.proofs.CostLaws.{costs-right, net-right, untouched-same}
+use Rattle.row_board.proofs.MoveLaws.{cell-told}
 use Rattle.row_board.proofs.PlaceLaws.{row-short, width-few}
 use Rattle.row_board.proofs.PutLaws.{get-put-other, list-same, width-set}
+use Rattle.row_board.proofs.TurnLaws.{turned-width}
+use Rattle.row_model.proofs.SwapLaws.{mirrored-length, swapped-length}
 
 -- the width of a row after a seat is put into it
 pub width-whole : (d : Netlist) (row place : ℕ) (seat old : Seat) (number : ℕ) (seats : List Seat) → (number ≡ row → slice_get seats place ≡ Some old)
@@ -94,37 +92,45 @@ lengths-few d rows widths good placed is r width at = by (slice_get rows r) refl
         let same : row_width d seats ≡ width = same_Some (row_width d seats) width (sym (slice_get-map (row_width d) rows r ∙ ap (option_map (row_width d)) here) ∙ there) in
         omega (arith, same, width-few d good seats, row-short d rows good placed r seats here)
 
--- the costs of nets after a change of the rows whose moved instances' nets were measured anew
-pub costs-moved : (d : Netlist) (rows new : List (List Seat)) (w : Weighing) (pins : List (List NetPin)) (nets : List (List ℕ)) (before after : List Standing) (first second : Reach) (old costs : List ℕ)
-    → IsNetlist d → ArePlaced d rows → ArePlaced d new → ArePins d pins → AreNets d nets → AreEntered d rows before → AreEntered d new after → KeepsUnmoved new first second before after
-    → old ≡ net_costs d rows w → AreBothRemeasured (net_measured w.row_cost after pins) nets new first second old costs → costs ≡ net_costs d new w
-costs-moved d rows new w pins nets before after first second old costs good placed placed_new are_pins are_nets entered entered_new kept is measured =
-    costs-right d new w costs (measured.count ∙ count)
-    (λ net within. measured.each net (omega (arith, count)) (λ off off_too. known net within
-    ∙ ap (λ (n : ℕ). Some n) (sym (net-right d rows w before pins good placed entered are_pins net within)
-    ∙ untouched-same d new w.row_cost before after pins nets first second net good are_pins are_nets within kept off off_too))
-    ∙ ap (λ (n : ℕ). Some n) (net-right d new w after pins good placed_new entered_new are_pins net within))
+changed-few : (r row more fewer width : ℕ) (old : Option ℕ) → ((w : ℕ) → old ≡ Some w → w ≤ 2000000000000) → more ≤ 100000000
+    → option_map (λ (w : ℕ). cond (nat_eq r row) (w + more - fewer) w) old ≡ Some width → width ≤ 2000100000000
+changed-few r row more fewer width None few small is = absurd (none-some width is)
+changed-few r row more fewer width (Some w) few small is = by (nat_eq r row) (few w refl) (same_Some _ _ is)
   where
-    count : length old ≡ length d.nets + 1
-    count = ap length is ∙ length-map (range_with_len 0 (length d.nets + 1)) (net_cost d rows w) ∙ length-range_with_len 0 (length d.nets + 1)
+    by : (b : Bool) → w ≤ 2000000000000 → cond b (w + more - fewer) w ≡ width → width ≤ 2000100000000
+    by true low is = omega arith
+    by false low is = omega arith
 
-    known : (net : ℕ) → net ≤ length d.nets → slice_get old net ≡ Some (net_cost d rows w net)
-    known net within =
-        let none : 0 + net ≡ net = omega arith in
-        ap (λ (l : List ℕ). slice_get l net) is ∙ image-at (net_cost d rows w) 0 (length d.nets + 1) net (omega arith) ∙ ap (λ (n : ℕ). Some (net_cost d rows w n)) none
+-- nor after one of them is changed
+pub lengths-changed : (d : Netlist) (rows : List (List Seat)) (old new : List ℕ) (row more fewer : ℕ) → IsNetlist d → ArePlaced d rows → old ≡ map (row_width d) rows → more ≤ 100000000
+    → ((r : ℕ) → slice_get new r ≡ option_map (λ (w : ℕ). cond (nat_eq r row) (w + more - fewer) w) (slice_get old r)) → (r width : ℕ) → slice_get new r ≡ Some width → width ≤ 2000100000000
+lengths-changed d rows old new row more fewer good placed is small changed r width at =
+    changed-few r row more fewer width (slice_get old r) (lengths-few d rows old good placed is r) small (sym (changed r) ∙ at)
+
+-- the widths of rows and their target after a swap
+pub lengths-swapped : (d : Netlist) (rows new : List (List Seat)) (standings : List Spot) (a b one other ca cb : ℕ) (l0 l1 l2 : Lengths) → IsNetlist d → AreSeated d rows standings → a ≢ b
+    → a < length d.instances → b < length d.instances → new ≡ swapped a b rows → AreExchanged standings a b rows new
+    → one ≡ (standing_of standings a).row → other ≡ (standing_of standings b).row → ca ≡ columns_of d a → cb ≡ columns_of d b → l0 ≡ lengths_of d rows
+    → ((r : ℕ) → slice_get l1.widths r ≡ option_map (λ (w : ℕ). cond (nat_eq r one) (w + cb - ca) w) (slice_get l0.widths r)) → l1.target ≡ l0.target
+    → ((r : ℕ) → slice_get l2.widths r ≡ option_map (λ (w : ℕ). cond (nat_eq r other) (w + ca - cb) w) (slice_get l1.widths r)) → l2.target ≡ l1.target → l2 ≡ lengths_of d new
+lengths-swapped d rows new standings a b one other ca cb l0 l1 l2 good seated apart in_a in_b swap puts is_one is_other is_a is_b are first kept last kept_too =
+    let st_a = standing_of standings a in
+    let st_b = standing_of standings b in
+    let cell_a = cell-told d rows standings a st_a good seated.placed seated.entered in_a refl in
+    let cell_b = cell-told d rows standings b st_b good seated.placed seated.entered in_b refl in
+    let widths = lengths-put d rows new st_a.row st_a.place st_b.row st_b.place (record { instance = a; mirror = st_a.mirror }) (record { instance = b; mirror = st_b.mirror }) l0.widths l1.widths l2.widths ca cb
+    cell_a.at cell_b.at apart puts is_a is_b (ap (λ (l : Lengths). l.widths) are)
+    (λ r. first r ∙ ap (λ (n : ℕ). option_map (λ (w : ℕ). cond (nat_eq r n) (w + cb - ca) w) (slice_get l0.widths r)) is_one)
+    (λ r. last r ∙ ap (λ (n : ℕ). option_map (λ (w : ℕ). cond (nat_eq r n) (w + ca - cb) w) (slice_get l1.widths r)) is_other) in
+    let count : length rows ≡ length new = sym (ap length swap ∙ swapped-length rows a b) in
+    ap₂ (λ (ws : List ℕ) (t : ℕ). record { widths = ws; target = t }) widths (kept_too ∙ kept ∙ ap (λ (l : Lengths). l.target) are ∙ ap (target_of d) count)
+
+-- and after a cell is turned over
+pub lengths-mirrored : (d : Netlist) (a : ℕ) (rows new : List (List Seat)) → new ≡ mirrored a rows → lengths_of d rows ≡ lengths_of d new
+lengths-mirrored d a rows new turned =
+    ap₂ (λ (ws : List ℕ) (t : ℕ). record { widths = ws; target = t }) (sym (ap (map (row_width d)) turned ∙ turned-width d a rows))
+    (ap (target_of d) (sym (ap length turned ∙ mirrored-length rows a)))
 
 -- a design has no more nets than pins
 pub few-nets : (d : Netlist) → IsNetlist d → length d.nets ≤ 200000
 few-nets d good = omega (arith, few-numbers (λ (p : Pin). p.net) (length d.nets) d.pins good.used, good.few_pins)
-
--- measured costs are what the nets cost
-pub costs-built : (d : Netlist) (rows : List (List Seat)) (w : Weighing) (standings : List Standing) (pins : List (List NetPin)) (costs : List ℕ) (count : ℕ) → IsNetlist d → ArePlaced d rows
-    → AreEntered d rows standings → ArePins d pins → count ≡ length d.nets + 1 → costs ≡ map (net_measured w.row_cost standings pins) (range_with_len 0 count) → costs ≡ net_costs d rows w
-costs-built d rows w standings pins costs count good placed entered are many is =
-    costs-right d rows w costs long
-    (λ net within. let none : 0 + net ≡ net = omega arith in
-    ap (λ (l : List ℕ). slice_get l net) is ∙ image-at (net_measured w.row_cost standings pins) 0 count net (omega arith)
-    ∙ ap (λ (n : ℕ). Some (net_measured w.row_cost standings pins n)) none ∙ ap (λ (n : ℕ). Some n) (net-right d rows w standings pins good placed entered are net within))
-  where
-    long : length costs ≡ length d.nets + 1
-    long = ap length is ∙ length-map (range_with_len 0 count) (net_measured w.row_cost standings pins) ∙ length-range_with_len 0 count ∙ many

@@ -11,6 +11,7 @@ pub mod PutLaws
 -- what a swap moves
 pub mod MoveLaws
 pub mod OutsideLaws
+pub mod ReachLaws
 -- costs by tables
 pub mod CostLaws
 -- all tables of weighed rows after a change

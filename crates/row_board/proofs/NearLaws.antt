@@ -12,12 +12,12 @@ use Rattle.row_model.specs.Changes.{swapped}
 use Rattle.row_board.specs.Cost.{difference}
 use Rattle.row_board.specs.Moving.{ArePut, IsAt, reach_end, row_length, row_there}
 use Rattle.row_model.specs.Rows.{ArePlaced, AreRows}
-use Rattle.row_board.specs.Standings.{AreEntered, put_in, standing_at, standing_in, standing_of}
+use Rattle.row_board.specs.Standings.{AreEntered, in_place_of, put_in, standing_at, standing_in, standing_of, traded}
 use Rattle.row_model.specs.Stands.{stand_of}
-use Rattle.row_board.specs.Trial.{in_place_of, seats_between, seats_to, traded}
+use Rattle.row_board.specs.Trial.{seats_between, seats_to}
 use Rattle.row_model.specs.Widths.{columns_of, row_width}
 use Rattle.row_model.specs.declared.rows.Seat.{Seat}
-use Rattle.row_board.specs.declared.standings.Standing.{Standing}
+use Rattle.row_board.specs.Spot.{Spot}
 use Rattle.row_board.proofs.MoveLaws.{cell-told, end-ordered, inside, IsCell}
 use Rattle.row_board.proofs.OutsideLaws.{outside}
 use Rattle.row_model.proofs.PlacedLaws.{placed-distinct}
@@ -52,7 +52,7 @@ hits-between : (from to k : ℕ) (seats : List Seat) (s : Seat) → slice_get se
 hits-between from to k seats s at low high = hits-taken (to - from) (k - from) (drop from seats) s (dropped from (k - from) k seats (omega (arith, low)) ∙ at) (omega arith)
 
 -- two instances by a table of rows, with the ends of what their swap shifts
-pub record IsTrial (d : Netlist) (rows : List (List Seat)) (standings : List Standing) (a b end_a end_b : ℕ) : Type 0 where
+pub record IsTrial (d : Netlist) (rows : List (List Seat)) (standings : List Spot) (a b end_a end_b : ℕ) : Type 0 where
   pub good : IsNetlist d
   pub placed : ArePlaced d rows
   pub entered : AreEntered d rows standings
@@ -66,8 +66,8 @@ pub record IsTrial (d : Netlist) (rows : List (List Seat)) (standings : List Sta
       (row_length (slice_get rows (standing_of standings b).row))
 
 -- an instance stands in rows as a table tells, but for some columns
-pub record IsClose (d : Netlist) (new : List (List Seat)) (standings : List Standing) (i e : ℕ) : Type 0 where
-  pub standing : Standing
+pub record IsClose (d : Netlist) (new : List (List Seat)) (standings : List Spot) (i e : ℕ) : Type 0 where
+  pub standing : Spot
   pub told : slice_get standings i ≡ Some standing
   pub left : ℕ
   pub stand : stand_of d new i ≡ Some (record { row = standing.row; left = left; mirror = standing.mirror })
@@ -92,7 +92,7 @@ at-least : (x u n : ℕ) → x ≤ u → 1 ≤ n → x ≤ u * n
 at-least x u n low some = let more : u * 1 ≤ u * n = mul-le-mul_left u some in omega (arith, low, more)
 
 -- two seats of rows, the rows after they are exchanged, and tables of both
-record Setting (d : Netlist) (rows new : List (List Seat)) (standings trial : List Standing) (a b end_a end_b : ℕ) (one other : Standing) : Type 0 where
+record Setting (d : Netlist) (rows new : List (List Seat)) (standings trial : List Spot) (a b end_a end_b : ℕ) (one other : Spot) : Type 0 where
   placed : ArePlaced d rows
   entered : AreEntered d rows standings
   apart : a ≢ b
@@ -110,12 +110,12 @@ record Setting (d : Netlist) (rows new : List (List Seat)) (standings trial : Li
   left_a : one.left ≡ row_width d (take one.place cell_a.at.seats)
   left_b : other.left ≡ row_width d (take other.place cell_b.at.seats)
 
-abbrev pub bound : Netlist → List (List Seat) → ℕ → ℕ → ℕ → ℕ → Standing → Standing → ℕ → ℕ
+abbrev pub bound : Netlist → List (List Seat) → ℕ → ℕ → ℕ → ℕ → Spot → Spot → ℕ → ℕ
 bound d rows a b end_a end_b one other i =
     difference (columns_of d a) (columns_of d b) * (hits (seats_to rows one end_a) i + hits (seats_to rows other end_b) i)
 
 -- a seat in a reach is hit
-hits-there : (rows : List (List Seat)) (one : Standing) (to r k : ℕ) (seats : List Seat) (s : Seat) → slice_get rows r ≡ Some seats → slice_get seats k ≡ Some s
+hits-there : (rows : List (List Seat)) (one : Spot) (to r k : ℕ) (seats : List Seat) (s : Seat) → slice_get rows r ≡ Some seats → slice_get seats k ≡ Some s
     → r ≡ one.row → one.place ≤ k → k < to → 1 ≤ hits (seats_to rows one to) s.instance
 hits-there rows one to r k seats s in_row at here low high =
     hits-between one.place to k (row_there (slice_get rows one.row)) s
@@ -138,7 +138,7 @@ second rows ra pa rb pb a b at_a at_b apart r seats in_row same =
     get-put-other ra pa b r pb seats (λ h. places-apart rows ra pa rb pb a b at_a at_b apart (sym h.0 ∙ same, sym h.1)) ∙ was rows r seats in_row b rb pb at_b same
 
 -- what stands at a place of the new rows, where a table has it by the old rows' widths
-made : (d : Netlist) (rows new : List (List Seat)) (standings trial : List Standing) (a b end_a end_b : ℕ) (one other : Standing) → Setting d rows new standings trial a b end_a end_b one other
+made : (d : Netlist) (rows new : List (List Seat)) (standings trial : List Spot) (a b end_a end_b : ℕ) (one other : Spot) → Setting d rows new standings trial a b end_a end_b one other
     → (r k : ℕ) (seats : List Seat) (s : Seat) (e : ℕ) → slice_get rows r ≡ Some seats
     → slice_get (put_in other.row other.place (record { instance = a; mirror = one.mirror }) r (put_in one.row one.place (record { instance = b; mirror = other.mirror }) r seats)) k ≡ Some s
     → slice_get trial s.instance ≡ Some (record { row = r; mirror = s.mirror; place = k; left = row_width d (take k seats) })
@@ -156,7 +156,7 @@ made d rows new standings trial a b end_a end_b one other h r k seats s e in_row
 }
 
 -- how far a place of the new rows is from that of the old
-place-near : (d : Netlist) (rows new : List (List Seat)) (standings trial : List Standing) (a b end_a end_b : ℕ) (one other : Standing) → Setting d rows new standings trial a b end_a end_b one other
+place-near : (d : Netlist) (rows new : List (List Seat)) (standings trial : List Spot) (a b end_a end_b : ℕ) (one other : Spot) → Setting d rows new standings trial a b end_a end_b one other
     → (r k : ℕ) (seats : List Seat) → slice_get rows r ≡ Some seats
     → difference (row_width d (take k seats))
     (row_width d (take k (put_in other.row other.place (record { instance = a; mirror = one.mirror }) r (put_in one.row one.place (record { instance = b; mirror = other.mirror }) r seats))))
@@ -166,7 +166,7 @@ place-near d rows new standings trial a b end_a end_b one other h r k seats in_r
     (was rows r seats in_row (record { instance = a; mirror = one.mirror }) one.row one.place h.cell_a.at)
     (second rows one.row one.place other.row other.place (record { instance = a; mirror = one.mirror }) (record { instance = b; mirror = other.mirror }) h.cell_a.at h.cell_b.at h.apart r seats in_row)
 
-close-first : (d : Netlist) (rows new : List (List Seat)) (standings trial : List Standing) (a b end_a end_b : ℕ) (one other : Standing) → Setting d rows new standings trial a b end_a end_b one other
+close-first : (d : Netlist) (rows new : List (List Seat)) (standings trial : List Spot) (a b end_a end_b : ℕ) (one other : Spot) → Setting d rows new standings trial a b end_a end_b one other
     → IsClose d new trial a (bound d rows a b end_a end_b one other a)
 close-first d rows new standings trial a b end_a end_b one other h =
     let seats = h.cell_b.at.seats in
@@ -179,7 +179,7 @@ close-first d rows new standings trial a b end_a end_b one other h =
     (at-least _ (difference (columns_of d a) (columns_of d b)) (hits (seats_to rows one end_a) a + hits (seats_to rows other end_b) a)
     (place-near d rows new standings trial a b end_a end_b one other h other.row other.place seats h.cell_b.at.in_row) (omega (arith, hit)))
 
-close-second : (d : Netlist) (rows new : List (List Seat)) (standings trial : List Standing) (a b end_a end_b : ℕ) (one other : Standing) → Setting d rows new standings trial a b end_a end_b one other
+close-second : (d : Netlist) (rows new : List (List Seat)) (standings trial : List Spot) (a b end_a end_b : ℕ) (one other : Spot) → Setting d rows new standings trial a b end_a end_b one other
     → IsClose d new trial b (bound d rows a b end_a end_b one other b)
 close-second d rows new standings trial a b end_a end_b one other h =
     let seats = h.cell_a.at.seats in
@@ -193,7 +193,7 @@ close-second d rows new standings trial a b end_a end_b one other h =
     (at-least _ (difference (columns_of d a) (columns_of d b)) (hits (seats_to rows one end_a) b + hits (seats_to rows other end_b) b)
     (place-near d rows new standings trial a b end_a end_b one other h one.row one.place seats h.cell_a.at.in_row) (omega (arith, hit)))
 
-close-other : (d : Netlist) (rows new : List (List Seat)) (standings trial : List Standing) (a b end_a end_b : ℕ) (one other : Standing) → Setting d rows new standings trial a b end_a end_b one other
+close-other : (d : Netlist) (rows new : List (List Seat)) (standings trial : List Spot) (a b end_a end_b : ℕ) (one other : Spot) → Setting d rows new standings trial a b end_a end_b one other
     → (i : ℕ) → i ≢ a → i ≢ b → i < length d.instances → IsClose d new trial i (bound d rows a b end_a end_b one other i)
 close-other d rows new standings trial a b end_a end_b one other h i not_a not_b within =
     let t = told d rows standings i h.placed h.entered within in
@@ -237,17 +237,17 @@ close-other d rows new standings trial a b end_a end_b one other h i not_a not_b
         let same : t.standing ≡ standing_at d t.standing.row t.standing.place
         (put_in other.row other.place (record { instance = a; mirror = one.mirror }) t.standing.row (put_in one.row one.place (record { instance = b; mirror = other.mirror }) t.standing.row t.seats))
         (record { instance = i; mirror = t.standing.mirror }) = same_Some _ _ (sym t.told ∙ entered) in
-        omega (arith, t.left, ap (λ (x : Standing). x.left) same)
+        omega (arith, t.left, ap (λ (x : Spot). x.left) same)
 
 -- where the table has two instances by the rows
-left-told : (d : Netlist) (rows : List (List Seat)) (standings : List Standing) (a : ℕ) (mirror : Bool) → AreEntered d rows standings
+left-told : (d : Netlist) (rows : List (List Seat)) (standings : List Spot) (a : ℕ) (mirror : Bool) → AreEntered d rows standings
     → (is : IsAt rows (standing_of standings a).row (standing_of standings a).place (record { instance = a; mirror = mirror }))
     → (standing_of standings a).left ≡ row_width d (take (standing_of standings a).place is.seats)
 left-told d rows standings a mirror entered is =
-    ap (λ (x : Standing). x.left)
+    ap (λ (x : Spot). x.left)
     (ap standing_in (entered.each (standing_of standings a).row (standing_of standings a).place is.seats (record { instance = a; mirror = mirror }) is.in_row is.at))
 
-setting : (d : Netlist) (rows : List (List Seat)) (standings : List Standing) (a b end_a end_b : ℕ) → IsTrial d rows standings a b end_a end_b
+setting : (d : Netlist) (rows : List (List Seat)) (standings : List Spot) (a b end_a end_b : ℕ) → IsTrial d rows standings a b end_a end_b
     → Setting d rows (swapped a b rows) standings (traded a b standings) a b end_a end_b (standing_of standings a) (standing_of standings b)
 setting d rows standings a b end_a end_b h =
     let one = standing_of standings a in
@@ -276,7 +276,7 @@ setting d rows standings a b end_a end_b h =
     }
 
 -- each instance stands in the rows after the swap as the table tells, but that those in reach are shifted by no more than the difference of the two widths
-pub close : (d : Netlist) (rows : List (List Seat)) (standings : List Standing) (a b end_a end_b : ℕ) → IsTrial d rows standings a b end_a end_b → (i : ℕ) → i < length d.instances
+pub close : (d : Netlist) (rows : List (List Seat)) (standings : List Spot) (a b end_a end_b : ℕ) → IsTrial d rows standings a b end_a end_b → (i : ℕ) → i < length d.instances
     → IsClose d (swapped a b rows) (traded a b standings) i (bound d rows a b end_a end_b (standing_of standings a) (standing_of standings b) i)
 close d rows standings a b end_a end_b h i within = by (setting d rows standings a b end_a end_b h) (nat_eq i a) refl (nat_eq i b) refl
   where

@@ -9,7 +9,7 @@ use Rattle.row_board.specs.Moving.{ArePut, IsAt, reach_end, row_length, row_ther
 use Rattle.row_board.specs.Standings.{AreEntered, IsEntered, put_in, standing_at}
 use Rattle.row_model.specs.Widths.{columns_of, row_width}
 use Rattle.row_model.specs.declared.rows.Seat.{Seat}
-use Rattle.row_board.specs.declared.standings.Standing.{Standing}
+use Rattle.row_board.specs.Spot.{Spot}
 use Rattle.row_board.proofs.PutLaws.{get-put-other, is_before, width-put}
 
 -- behind a swapped seat and its reach, where the other is not before, the two are of one width
@@ -46,7 +46,7 @@ even-behind false ca cb r k ra pa rb pb count end even is off within before othe
         absurd (off (here, omega arith, omega (arith, within here, ends)))
 
 -- a seat in no reach is where the table tells that was right before the swap
-pub outside : (d : Netlist) (rows new : List (List Seat)) (standings : List Standing) (ra pa rb pb : ℕ) (a b : Seat) (even : Bool) (end_a end_b : ℕ)
+pub outside : (d : Netlist) (rows new : List (List Seat)) (standings : List Spot) (ra pa rb pb : ℕ) (a b : Seat) (even : Bool) (end_a end_b : ℕ)
     → AreEntered d rows standings → IsAt rows ra pa a → IsAt rows rb pb b → a.instance ≢ b.instance → ArePut ra pa b rb pb a rows new
     → (even ≡ true → columns_of d a.instance ≡ columns_of d b.instance)
     → end_a ≡ reach_end even (nat_eq ra rb) pa pb (row_length (slice_get rows ra)) → end_b ≡ reach_end even (nat_eq rb ra) pb pa (row_length (slice_get rows rb))

@@ -1,4 +1,4 @@
-use Rattle.std.proofs.Common.{◌≡◌, ◌≢◌, ◌<◌, ◌≤◌, ℕ, zero, suc, ◌*◌, List, [], ◌∷◌, ◌++◌, length, take, drop, get_or, Bool, true, false, Some, refl, ap, sym, ◌∙◌, subst, arith}
+use Rattle.std.proofs.Common.{◌≡◌, ◌≢◌, ◌<◌, ◌≤◌, ℕ, zero, suc, ◌*◌, List, [], ◌∷◌, ◌++◌, length, take, drop, get_or, Bool, true, false, Option, None, Some, refl, ap, sym, ◌∙◌, subst, arith}
 use Rattle.std.proofs.lemmas.Bool.Decides.{nat_tests}
 use Rattle.std.proofs.lemmas.List.{length-map}
 use Rattle.std.proofs.lemmas.Option.{get_or_from_slice_get, none-some, same_Some, slice_get-map, slice_get_within}
@@ -7,15 +7,15 @@ use Rattle.std.specs.Option.{option_map}
 use Rattle.std.specs.Prelude.{nat_eq}
 use Rattle.list_facts.proofs.Distinct.{first-distinct, second-distinct}
 use Rattle.list_facts.proofs.Every.{every-get}
-use Rattle.list_facts.proofs.Places.{get-front}
+use Rattle.list_facts.proofs.Places.{at-place, get-front}
 use Rattle.design_model.specs.Netlist.{IsNetlist, Netlist}
-use Rattle.row_board.specs.NetPins.{AreNear}
+use Rattle.row_board.specs.Moving.{row_there}
 use Rattle.row_model.specs.Rows.{all_instances, ArePlaced, AreRows, instances_in}
 use Rattle.row_board.specs.Standings.{AreApart, AreEntered, standing_at}
 use Rattle.row_model.specs.Stands.{stand_of}
 use Rattle.row_model.specs.Widths.{row_width}
 use Rattle.row_model.specs.declared.rows.Seat.{Seat}
-use Rattle.row_board.specs.declared.standings.Standing.{Standing}
+use Rattle.row_board.specs.Spot.{Spot}
 use Rattle.row_model.specs.declared.stands.Stand.{Stand}
 use Rattle.row_model.proofs.PlacedLaws.{placed-distinct, rows-within}
 use Rattle.row_model.proofs.SeatLaws.{seat-stands}
@@ -85,8 +85,8 @@ pub row-short : (d : Netlist) (rows : List (List Seat)) → IsNetlist d → AreP
 row-short d rows good placed row seats at = (every-get _ rows row seats (rows-within d rows good placed) at).1
 
 -- what a right table says of an instance
-pub record IsTold (d : Netlist) (rows : List (List Seat)) (standings : List Standing) (instance : ℕ) : Type 0 where
-  pub standing : Standing
+pub record IsTold (d : Netlist) (rows : List (List Seat)) (standings : List Spot) (instance : ℕ) : Type 0 where
+  pub standing : Spot
   pub told : slice_get standings instance ≡ Some standing
   pub stand : stand_of d rows instance ≡ Some (record { row = standing.row; left = standing.left; mirror = standing.mirror })
   pub seats : List Seat
@@ -94,7 +94,7 @@ pub record IsTold (d : Netlist) (rows : List (List Seat)) (standings : List Stan
   pub at : slice_get seats standing.place ≡ Some (record { instance = instance; mirror = standing.mirror })
   pub left : standing.left ≡ row_width d (take standing.place seats)
 
-pub told : (d : Netlist) (rows : List (List Seat)) (standings : List Standing) (instance : ℕ) → ArePlaced d rows → AreEntered d rows standings → instance < length d.instances
+pub told : (d : Netlist) (rows : List (List Seat)) (standings : List Spot) (instance : ℕ) → ArePlaced d rows → AreEntered d rows standings → instance < length d.instances
     → IsTold d rows standings instance
 told d rows standings instance placed entered within =
     let there = stand-there d rows instance placed within in
@@ -120,21 +120,20 @@ take-few zero xs = omega arith
 take-few (suc k) [] = omega arith
 take-few (suc k) (x ∷ xs) = let rest = take-few k xs in omega arith
 
--- a right table's stands are near
-pub entered-near : (d : Netlist) (rows : List (List Seat)) (standings : List Standing) → IsNetlist d → ArePlaced d rows → AreEntered d rows standings
-    → length standings ≡ length d.instances → AreNear standings
-entered-near d rows standings good placed entered count = record { each = λ i s at. near i s at (told d rows standings i placed entered (within i s at)) }
+-- so it is of a row that may not be there
+pub there-apart : (d : Netlist) (rows : List (List Seat)) → IsNetlist d → ArePlaced d rows → (row : ℕ) → AreApart (length d.instances) (row_there (slice_get rows row))
+there-apart d rows good placed row = by (slice_get rows row) refl
   where
-    within : (i : ℕ) (s : Standing) → slice_get standings i ≡ Some s → i < length d.instances
-    within i s at = omega (arith, slice_get_within standings i s at, count)
+    by : (o : Option (List Seat)) → slice_get rows row ≡ o → AreApart (length d.instances) (row_there o)
+    by None at = record { within = λ k s none. absurd (none-some s none); apart = λ j k s t none. absurd (none-some s none) }
+    by (Some seats) at = row-apart d rows good placed row seats at
 
-    near : (i : ℕ) (s : Standing) → slice_get standings i ≡ Some s → IsTold d rows standings i → (s.row < 514) × (s.left ≤ 2000000000000)
-    near i s at is =
-        let same : is.standing ≡ s = same_Some is.standing s (sym is.told ∙ at) in
-        let low = slice_get_within rows is.standing.row is.seats is.in_row in
-        let wide = width-few d good (take is.standing.place is.seats) in
-        let short = take-few is.standing.place is.seats in
-        let few = row-short d rows good placed is.standing.row is.seats is.in_row in (
-          omega (arith, low, placed.few, ap (λ (a : Standing). a.row) same),
-          omega (arith, wide, short, few, is.left, ap (λ (a : Standing). a.left) same),
-        )
+pub there-short : (d : Netlist) (rows : List (List Seat)) → IsNetlist d → ArePlaced d rows → (row : ℕ) → length (row_there (slice_get rows row)) ≤ 20000
+there-short d rows good placed row = by (slice_get rows row) refl
+  where
+    by : (o : Option (List Seat)) → slice_get rows row ≡ o → length (row_there o) ≤ 20000
+    by None at = omega arith
+    by (Some seats) at = row-short d rows good placed row seats at
+
+pub row-here : (rows : List (List Seat)) (row : ℕ) → row < length rows → slice_get rows row ≡ Some (row_there (slice_get rows row))
+row-here rows row within = let here = at-place rows row within in here.1 ∙ ap (λ (o : Option (List Seat)). Some (row_there o)) (sym here.1)

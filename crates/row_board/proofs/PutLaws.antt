@@ -216,6 +216,12 @@ twice : (f g : List Seat → List Seat) (o : Option (List Seat)) → option_map 
 twice f g None = refl
 twice f g (Some l) = refl
 
+pub puts-are : (rows rows1 rows2 : List (List Seat)) (ra pa rb pb : ℕ) (a b : Seat) → ((r : ℕ) → slice_get rows1 r ≡ option_map (put_in ra pa b r) (slice_get rows r))
+    → ((r : ℕ) → slice_get rows2 r ≡ option_map (put_in rb pb a r) (slice_get rows1 r)) → ArePut ra pa b rb pb a rows rows2
+puts-are rows rows1 rows2 ra pa rb pb a b first second = record {
+  each = λ r. second r ∙ ap (option_map (put_in rb pb a r)) (first r) ∙ twice (put_in ra pa b r) (put_in rb pb a r) (slice_get rows r);
+}
+
 -- where two instances stand in rows, the rows after their swap have each other's seats there
 pub swap-puts : (d : Netlist) (rows : List (List Seat)) (ra pa rb pb : ℕ) (a b : Seat) → AreRows rows → IsAt rows ra pa a → IsAt rows rb pb b
     → ArePut ra pa b rb pb a rows (swapped a.instance b.instance rows)
@@ -223,7 +229,5 @@ swap-puts d rows ra pa rb pb a b different at_a at_b =
     subst (ArePut ra pa b rb pb a rows)
     (puts-swap d rows (numbered (put_in ra pa b) rows) (numbered (put_in rb pb a) (numbered (put_in ra pa b) rows)) ra pa rb pb a b different at_a at_b
     (λ r. numbered-at (put_in ra pa b) rows r) (λ r. numbered-at (put_in rb pb a) (numbered (put_in ra pa b) rows) r))
-    (record {
-      each = λ r. numbered-at (put_in rb pb a) (numbered (put_in ra pa b) rows) r ∙ ap (option_map (put_in rb pb a r)) (numbered-at (put_in ra pa b) rows r)
-          ∙ twice (put_in ra pa b r) (put_in rb pb a r) (slice_get rows r);
-    })
+    (puts-are rows (numbered (put_in ra pa b) rows) (numbered (put_in rb pb a) (numbered (put_in ra pa b) rows)) ra pa rb pb a b (λ r. numbered-at (put_in ra pa b) rows r)
+    (λ r. numbered-at (put_in rb pb a) (numbered (put_in ra pa b) rows) r))

@@ -8,7 +8,7 @@ use Rattle.design_model.specs.Netlist.{Netlist}
 use Rattle.row_board.specs.Standings.{AreApart, HasEntered, KeepsOthers, put_in, standing_at}
 use Rattle.row_model.specs.Widths.{columns_of, row_width}
 use Rattle.row_model.specs.declared.rows.Seat.{Seat}
-use Rattle.row_board.specs.declared.standings.Standing.{Standing}
+use Rattle.row_board.specs.Spot.{Spot}
 use Rattle.row_model.proofs.WidthLaws.{width-cons}
 
 -- what stands at a place of a list after another is written there
@@ -47,7 +47,7 @@ equal_or_not : (i j : ℕ) → (i ≡ j) ⊎ (i ≢ j)
 equal_or_not i j = grind arith
 
 -- one more seat is entered
-pub entered-more : (d : Netlist) (row from place n : ℕ) (seats : List Seat) (s : Seat) (old : List Standing) → HasEntered d row from place seats old → AreApart n seats
+pub entered-more : (d : Netlist) (row from place n : ℕ) (seats : List Seat) (s : Seat) (old : List Spot) → HasEntered d row from place seats old → AreApart n seats
     → slice_get seats place ≡ Some s → s.instance < length old → HasEntered d row from (place + 1) seats (set old s.instance (standing_at d row place seats s))
 entered-more d row from place n seats s old so_far apart at within = record { each = λ k t low high here. by k t low high here (equal_or_not k place) }
   where
@@ -63,7 +63,7 @@ entered-more d row from place n seats s old so_far apart at within = record { ea
         ∙ so_far.each k t low (omega arith) here
 
 -- and the others stay
-pub others-more : (from place : ℕ) (seats : List Seat) (s : Seat) (old now : List Standing) (new : Standing) → KeepsOthers from place seats old now
+pub others-more : (from place : ℕ) (seats : List Seat) (s : Seat) (old now : List Spot) (new : Spot) → KeepsOthers from place seats old now
     → from ≤ place → slice_get seats place ≡ Some s → KeepsOthers from (place + 1) seats old (set now s.instance new)
 others-more from place seats s old now new so_far low at = record {
   each = λ j none.

@@ -5,24 +5,23 @@ use Rattle.std.proofs.lemmas.List.{length-drop, length-map}
 use Rattle.std.specs.List.{filter, range_with_len, slice_get, AllByRecursion}
 use Rattle.std.specs.Prelude.{nat_eq}
 use Rattle.list_facts.proofs.Every.{every-get}
-use Rattle.list_facts.proofs.Ranges.{map-map, map-same}
-use Rattle.list_facts.specs.Lists.{list_there}
+use Rattle.list_facts.proofs.Counts.{filter-short}
+use Rattle.list_facts.proofs.Ranges.{map-map, map-same, range-bounds}
 use Rattle.design_model.specs.Netlist.{IsNetlist, Netlist}
 use Rattle.design_model.specs.declared.design.Pin.{Pin}
-use Rattle.row_board.specs.Board.{net_costs}
 use Rattle.row_model.specs.Changes.{swapped}
 use Rattle.row_board.specs.Cost.{difference, net_cost, pins_of_net, spread}
 use Rattle.row_board.specs.Moving.{row_there}
-use Rattle.row_board.specs.NetPins.{AreNets, ArePins, net_measured, measured, net_pin, offset_of, pin_column, pin_row}
+use Rattle.row_board.specs.NetCosts.{table_costs}
+use Rattle.row_board.specs.NetPins.{cost_by, measured, net_pin, nets_of, offset_of, pin_column, pin_row}
 use Rattle.row_model.specs.Rows.{ArePlaced}
-use Rattle.row_board.specs.Standings.{standing_in, standing_of}
+use Rattle.row_board.specs.Standings.{standing_in, standing_of, traded}
 use Rattle.row_model.specs.Stands.{column_at, column_of, first_column, row_in, row_of}
-use Rattle.row_board.specs.Trial.{pins_in, seats_to, traded}
+use Rattle.row_board.specs.Trial.{pins_in, seats_to}
 use Rattle.row_board.specs.Weights.{Weighing}
 use Rattle.row_model.specs.Widths.{columns_of}
-use Rattle.row_board.specs.declared.net_pins.NetPin.{NetPin}
 use Rattle.row_model.specs.declared.rows.Seat.{Seat}
-use Rattle.row_board.specs.declared.standings.Standing.{Standing}
+use Rattle.row_board.specs.Spot.{Spot}
 use Rattle.row_model.specs.declared.stands.Stand.{Stand}
 use Rattle.row_board.proofs.CostLaws.{net-pins-within}
 use Rattle.row_board.proofs.NearLaws.{bound, close, IsClose, IsTrial}
@@ -32,13 +31,13 @@ use Rattle.row_board.proofs.ShareLaws.{hits, pins-of-seats, shares-by, sum-both,
 use Rattle.row_board.proofs.ShiftLaws.{spread-near}
 
 -- a pin's column by a table is no farther from its column in the rows than its instance
-column-close : (d : Netlist) (new : List (List Seat)) (trial : List Standing) (p : Pin) (e : ℕ) → IsClose d new trial p.instance e
+column-close : (d : Netlist) (new : List (List Seat)) (trial : List Spot) (p : Pin) (e : ℕ) → IsClose d new trial p.instance e
     → difference (pin_column trial (net_pin d p)) (column_of d new p) ≤ e
 unfolding column_of
 column-close d new trial p e is =
     let one : pin_column trial (net_pin d p)
     ≡ is.standing.left + cond is.standing.mirror (offset_of true (columns_of d p.instance) (first_column d p)) (offset_of false (columns_of d p.instance) (first_column d p)) =
-    ap (λ (s : Standing). s.left + cond s.mirror (offset_of true (columns_of d p.instance) (first_column d p)) (offset_of false (columns_of d p.instance) (first_column d p))) (ap standing_in is.told) in
+    ap (λ (s : Spot). s.left + cond s.mirror (offset_of true (columns_of d p.instance) (first_column d p)) (offset_of false (columns_of d p.instance) (first_column d p))) (ap standing_in is.told) in
     let three = ap (λ (o : Option Stand). column_at o (columns_of d p.instance) (first_column d p)) is.stand in
     omega (arith, one, by (first_column d p) is.standing.mirror, three, is.near)
   where
@@ -49,18 +48,17 @@ column-close d new trial p e is =
     by (Some column) true = refl
     by (Some column) false = refl
 
-row-close : (d : Netlist) (new : List (List Seat)) (trial : List Standing) (p : Pin) (e : ℕ) → IsClose d new trial p.instance e → pin_row trial (net_pin d p) ≡ row_of d new p.instance
-row-close d new trial p e is = ap (λ (s : Standing). s.row) (ap standing_in is.told) ∙ sym (ap row_in is.stand)
+row-close : (d : Netlist) (new : List (List Seat)) (trial : List Spot) (p : Pin) (e : ℕ) → IsClose d new trial p.instance e → pin_row trial (net_pin d p) ≡ row_of d new p.instance
+row-close d new trial p e is = ap (λ (s : Spot). s.row) (ap standing_in is.told) ∙ sym (ap row_in is.stand)
 
 -- so a net costs by the table no more than in the rows and by how far its pins are from there
-net-close : (d : Netlist) (new : List (List Seat)) (w : Weighing) (trial : List Standing) (pins : List (List NetPin)) (f : ℕ → ℕ) → IsNetlist d → ArePins d pins
-    → ((i : ℕ) → i < length d.instances → IsClose d new trial i (f i)) → (net : ℕ) → net ≤ length d.nets
-    → net_measured w.row_cost trial pins net ≤ net_cost d new w net + sum (map (λ (p : Pin). f p.instance) (pins_of_net d net))
+net-close : (d : Netlist) (new : List (List Seat)) (w : Weighing) (trial : List Spot) (f : ℕ → ℕ) → IsNetlist d
+    → ((i : ℕ) → i < length d.instances → IsClose d new trial i (f i)) → (net : ℕ)
+    → cost_by d w trial net ≤ net_cost d new w net + sum (map (λ (p : Pin). f p.instance) (pins_of_net d net))
 unfolding measured net_cost
-net-close d new w trial pins f good are near net within =
+net-close d new w trial f good near net =
     let all = net-pins-within d good net in
-    let same = ap (λ (l : List NetPin). spread (map (pin_column trial) l) + w.row_cost * spread (map (pin_row trial) l)) (ap list_there (are.each net within))
-    ∙ ap₂ (λ (columns lines : List ℕ). spread columns + w.row_cost * spread lines) (map-map (net_pin d) (pin_column trial) (pins_of_net d net))
+    let same = ap₂ (λ (columns lines : List ℕ). spread columns + w.row_cost * spread lines) (map-map (net_pin d) (pin_column trial) (pins_of_net d net))
     (map-map (net_pin d) (pin_row trial) (pins_of_net d net)
     ∙ map-same (λ (p : Pin). p.instance < length d.instances) (λ (p : Pin). pin_row trial (net_pin d p)) (λ (p : Pin). row_of d new p.instance)
     (λ p below. row-close d new trial p (f p.instance) (near p.instance below)) (pins_of_net d net) all) in
@@ -69,16 +67,12 @@ net-close d new w trial pins f good are near net within =
     (λ p below. column-close d new trial p (f p.instance) (near p.instance below)) (pins_of_net d net) all in
     omega (arith, same, far, under)
 
-range-within : (a n top : ℕ) → a + n ≤ top + 1 → AllByRecursion (λ (k : ℕ). k ≤ top) (range_with_len a n)
-range-within a zero top few = tt
-range-within a (suc n) top few = (omega (arith, few), range-within (a + 1) n top (omega (arith, few)))
-
-nets-close : (d : Netlist) (new : List (List Seat)) (w : Weighing) (trial : List Standing) (pins : List (List NetPin)) (f : ℕ → ℕ) → IsNetlist d → ArePins d pins
+nets-close : (d : Netlist) (new : List (List Seat)) (w : Weighing) (trial : List Spot) (f : ℕ → ℕ) → IsNetlist d
     → ((i : ℕ) → i < length d.instances → IsClose d new trial i (f i))
-    → sum (map (net_measured w.row_cost trial pins) (range_with_len 0 (length d.nets + 1))) ≤ sum (net_costs d new w) + sum (map (λ (p : Pin). f p.instance) d.pins)
-nets-close d new w trial pins f good are near =
-    let each = sum-under (λ (net : ℕ). net ≤ length d.nets) (net_measured w.row_cost trial pins) (λ (net : ℕ). net_cost d new w net + sum (map (λ (p : Pin). f p.instance) (pins_of_net d net)))
-    (net-close d new w trial pins f good are near) (range_with_len 0 (length d.nets + 1)) (range-within 0 (length d.nets + 1) (length d.nets) (omega arith)) in
+    → sum (table_costs d w trial) ≤ sum (map (net_cost d new w) (range_with_len 0 (length d.nets + 1))) + sum (map (λ (p : Pin). f p.instance) d.pins)
+nets-close d new w trial f good near =
+    let each = sum-under (λ (net : ℕ). (0 ≤ net) × (net < 0 + (length d.nets + 1))) (cost_by d w trial) (λ (net : ℕ). net_cost d new w net + sum (map (λ (p : Pin). f p.instance) (pins_of_net d net)))
+    (λ net within. net-close d new w trial f good near net) (range_with_len 0 (length d.nets + 1)) (range-bounds 0 (length d.nets + 1)) in
     let split = sum-both (net_cost d new w) (λ (net : ℕ). sum (map (λ (p : Pin). f p.instance) (pins_of_net d net))) (range_with_len 0 (length d.nets + 1)) in
     omega (arith, each, split, shares-by (λ (p : Pin). f p.instance) d.pins 0 (length d.nets + 1))
 
@@ -93,7 +87,7 @@ every-dropped P (suc n) [] all = tt
 every-dropped P (suc n) (x ∷ xs) all = every-dropped P n xs all.1
 
 -- the seats of a reach are of instances of the design
-pub reach-within : (d : Netlist) (rows : List (List Seat)) (one : Standing) (to : ℕ) → IsNetlist d → ArePlaced d rows → AllByRecursion (λ (s : Seat). s.instance < length d.instances) (seats_to rows one to)
+pub reach-within : (d : Netlist) (rows : List (List Seat)) (one : Spot) (to : ℕ) → IsNetlist d → ArePlaced d rows → AllByRecursion (λ (s : Seat). s.instance < length d.instances) (seats_to rows one to)
 reach-within d rows one to good placed =
     every-taken (λ (s : Seat). s.instance < length d.instances) _ (drop one.place (row_there (slice_get rows one.row)))
     (every-dropped (λ (s : Seat). s.instance < length d.instances) one.place (row_there (slice_get rows one.row)) (by (slice_get rows one.row) refl))
@@ -102,68 +96,52 @@ reach-within d rows one to good placed =
     by None at = tt
     by (Some seats) at = (every-get _ rows one.row seats (rows-within d rows good placed) at).0
 
--- their pins are those that the table of nets has of them
-reach-pins : (d : Netlist) (nets : List (List ℕ)) (seats : List Seat) → AreNets d nets → AllByRecursion (λ (s : Seat). s.instance < length d.instances) seats
-    → sum (map (λ (p : Pin). hits seats p.instance) d.pins) ≤ pins_in nets seats
-reach-pins d nets seats are all =
-    let under = sum-under (λ (s : Seat). s.instance < length d.instances) (λ (s : Seat). length (filter (λ (p : Pin). nat_eq p.instance s.instance) d.pins))
-    (λ (s : Seat). length (list_there (slice_get nets s.instance)))
-    (λ s below. let listed = ap (λ (o : Option (List ℕ)). length (list_there o)) (are.each s.instance below) in
-    omega (arith, listed, length-map (filter (λ (p : Pin). nat_eq p.instance s.instance) d.pins) (λ (p : Pin). p.net))) seats all in
+-- their pins are those of their nets
+reach-pins : (d : Netlist) (seats : List Seat) → AllByRecursion (λ (s : Seat). s.instance < length d.instances) seats → sum (map (λ (p : Pin). hits seats p.instance) d.pins) ≤ pins_in d seats
+reach-pins d seats all =
+    let under = sum-under (λ (s : Seat). s.instance < length d.instances) (λ (s : Seat). length (filter (λ (p : Pin). nat_eq p.instance s.instance) d.pins)) (λ (s : Seat). length (nets_of d s.instance))
+    (λ s below. omega (arith, length-map (filter (λ (p : Pin). nat_eq p.instance s.instance) d.pins) (λ (p : Pin). p.net))) seats all in
     omega (arith, under, pins-of-seats seats d.pins)
 
 -- what all nets cost by the table of the trade, at most
-pub trial-costs : (d : Netlist) (rows : List (List Seat)) (w : Weighing) (pins : List (List NetPin)) (nets : List (List ℕ)) (standings : List Standing) (a b end_a end_b : ℕ)
-    → ArePins d pins → AreNets d nets → IsTrial d rows standings a b end_a end_b
-    → sum (map (net_measured w.row_cost (traded a b standings) pins) (range_with_len 0 (length d.nets + 1))) ≤ sum (net_costs d (swapped a b rows) w)
-    + difference (columns_of d a) (columns_of d b) * (pins_in nets (seats_to rows (standing_of standings a) end_a) + pins_in nets (seats_to rows (standing_of standings b) end_b))
-trial-costs d rows w pins nets standings a b end_a end_b are_pins are_nets h =
+pub trial-costs : (d : Netlist) (rows : List (List Seat)) (w : Weighing) (standings : List Spot) (a b end_a end_b : ℕ) → IsTrial d rows standings a b end_a end_b
+    → sum (table_costs d w (traded a b standings)) ≤ sum (map (net_cost d (swapped a b rows) w) (range_with_len 0 (length d.nets + 1)))
+    + difference (columns_of d a) (columns_of d b) * (pins_in d (seats_to rows (standing_of standings a) end_a) + pins_in d (seats_to rows (standing_of standings b) end_b))
+trial-costs d rows w standings a b end_a end_b h =
     let u = difference (columns_of d a) (columns_of d b) in
     let first = seats_to rows (standing_of standings a) end_a in
     let last = seats_to rows (standing_of standings b) end_b in
-    let all = nets-close d (swapped a b rows) w (traded a b standings) pins (bound d rows a b end_a end_b (standing_of standings a) (standing_of standings b)) h.good are_pins
+    let all = nets-close d (swapped a b rows) w (traded a b standings) (bound d rows a b end_a end_b (standing_of standings a) (standing_of standings b)) h.good
     (close d rows standings a b end_a end_b h) in
     let scaled = sum-scaled u (λ (p : Pin). hits first p.instance + hits last p.instance) d.pins in
     let both = sum-both (λ (p : Pin). hits first p.instance) (λ (p : Pin). hits last p.instance) d.pins in
-    let one = reach-pins d nets first are_nets (reach-within d rows (standing_of standings a) end_a h.good h.placed) in
-    let two = reach-pins d nets last are_nets (reach-within d rows (standing_of standings b) end_b h.good h.placed) in
+    let one = reach-pins d first (reach-within d rows (standing_of standings a) end_a h.good h.placed) in
+    let two = reach-pins d last (reach-within d rows (standing_of standings b) end_b h.good h.placed) in
     let more = mul-le-mul_left u (sums first last one two both) in
     omega (arith, all, scaled, more)
   where
-    sums : (first last : List Seat) → sum (map (λ (p : Pin). hits first p.instance) d.pins) ≤ pins_in nets first → sum (map (λ (p : Pin). hits last p.instance) d.pins) ≤ pins_in nets last
+    sums : (first last : List Seat) → sum (map (λ (p : Pin). hits first p.instance) d.pins) ≤ pins_in d first → sum (map (λ (p : Pin). hits last p.instance) d.pins) ≤ pins_in d last
         → sum (map (λ (p : Pin). hits first p.instance + hits last p.instance) d.pins) ≡ sum (map (λ (p : Pin). hits first p.instance) d.pins) + sum (map (λ (p : Pin). hits last p.instance) d.pins)
-        → sum (map (λ (p : Pin). hits first p.instance + hits last p.instance) d.pins) ≤ pins_in nets first + pins_in nets last
+        → sum (map (λ (p : Pin). hits first p.instance + hits last p.instance) d.pins) ≤ pins_in d first + pins_in d last
     sums first last one two both = omega (arith, one, two, both)
 
 -- a reach has fewer than 2^32 pins
-nets-short : (d : Netlist) (nets : List (List ℕ)) (i : ℕ) → IsNetlist d → AreNets d nets → i < length d.instances → length (list_there (slice_get nets i)) ≤ 200000
-nets-short d nets i good are below =
-    let listed = ap (λ (o : Option (List ℕ)). length (list_there o)) (are.each i below) in
-    omega (arith, listed, length-map (filter (λ (p : Pin). nat_eq p.instance i) d.pins) (λ (p : Pin). p.net), passing (λ (p : Pin). nat_eq p.instance i) d.pins, good.few_pins)
-  where
-    passing : (f : Pin → Bool) (ps : List Pin) → length (filter f ps) ≤ length ps
-    passing f [] = omega arith
-    passing f (p ∷ ps) = by (f p) (passing f ps)
-      where
-        by : (b : Bool) → length (filter f ps) ≤ length ps → length (cond b (p ∷ filter f ps) (filter f ps)) ≤ length (p ∷ ps)
-        by true rest = omega (arith, rest)
-        by false rest = omega (arith, rest)
-
-pins-few : (d : Netlist) (nets : List (List ℕ)) (seats : List Seat) → IsNetlist d → AreNets d nets → AllByRecursion (λ (s : Seat). s.instance < length d.instances) seats
-    → pins_in nets seats ≤ 200000 * length seats
-pins-few d nets [] good are all = omega arith
-pins-few d nets (s ∷ seats) good are all =
-    let rest = pins-few d nets seats good are all.1 in
+pins-few : (d : Netlist) (seats : List Seat) → IsNetlist d → pins_in d seats ≤ 200000 * length seats
+pins-few d [] good = omega arith
+pins-few d (s ∷ seats) good =
+    let rest = pins-few d seats good in
     omega (
       arith,
       rest,
-      nets-short d nets s.instance good are all.0,
-      sum_by-cons (λ (n : ℕ). n) (length (list_there (slice_get nets s.instance))) (map (λ (s : Seat). length (list_there (slice_get nets s.instance))) seats),
+      length-map (filter (λ (p : Pin). nat_eq p.instance s.instance) d.pins) (λ (p : Pin). p.net),
+      filter-short (λ (p : Pin). nat_eq p.instance s.instance) d.pins,
+      good.few_pins,
+      sum_by-cons (λ (n : ℕ). n) (length (nets_of d s.instance)) (map (λ (s : Seat). length (nets_of d s.instance)) seats),
     )
 
-pub reach-few : (d : Netlist) (rows : List (List Seat)) (nets : List (List ℕ)) (one : Standing) (to : ℕ) → IsNetlist d → ArePlaced d rows → AreNets d nets → pins_in nets (seats_to rows one to) < 4294967296
-reach-few d rows nets one to good placed are =
-    let few = pins-few d nets (seats_to rows one to) good are (reach-within d rows one to good placed) in
+pub reach-few : (d : Netlist) (rows : List (List Seat)) (one : Spot) (to : ℕ) → IsNetlist d → ArePlaced d rows → pins_in d (seats_to rows one to) < 4294967296
+reach-few d rows one to good placed =
+    let few = pins-few d (seats_to rows one to) good in
     let short = take-few (to - one.place) (drop one.place (row_there (slice_get rows one.row))) in
     omega (arith, few, short, length-drop one.place (row_there (slice_get rows one.row)), by (slice_get rows one.row) refl)
   where

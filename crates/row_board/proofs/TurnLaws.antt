@@ -11,7 +11,7 @@ use Rattle.row_model.specs.Rows.{AreRows}
 use Rattle.row_board.specs.Standings.{AreEntered, IsEntered, put_in, standing_at}
 use Rattle.row_model.specs.Widths.{columns_of, row_width}
 use Rattle.row_model.specs.declared.rows.Seat.{Seat}
-use Rattle.row_board.specs.declared.standings.Standing.{Standing}
+use Rattle.row_board.specs.Spot.{Spot}
 use Rattle.row_board.proofs.PlaceLaws.{one-place}
 use Rattle.row_board.proofs.PutLaws.{get-put-other, get-put-same, list-same, put-length, same-place, width-put}
 use Rattle.row_board.proofs.RemeasureLaws.{none-past}
@@ -81,7 +81,7 @@ put-turns d rows new ra pa a different at_a put = list-same new (map (map (turne
         ∙ sym (slice_get-map (map (turned a.instance)) rows r ∙ ap (option_map (map (turned a.instance))) at)
 
 -- each other seat is where the table tells that was right before
-pub outside-one : (d : Netlist) (rows new : List (List Seat)) (standings : List Standing) (ra pa : ℕ) (a : Seat) → AreEntered d rows standings → IsAt rows ra pa a
+pub outside-one : (d : Netlist) (rows new : List (List Seat)) (standings : List Spot) (ra pa : ℕ) (a : Seat) → AreEntered d rows standings → IsAt rows ra pa a
     → ((r : ℕ) → slice_get new r ≡ option_map (put_in ra pa (flipped a) r) (slice_get rows r)) → (r k : ℕ) → ((r ≡ ra) × (k ≡ pa) → ⊥) → IsEntered d new standings r k
 outside-one d rows new standings ra pa a entered at_a put r k off = λ seats2 s in_row2 at2. by seats2 s in_row2 at2 (slice_get rows r) refl
   where

@@ -6,19 +6,24 @@ pub mod Cost
 -- rows that are weighed
 pub mod WeighedRows
 pub mod SpansView
--- tables of where instances stand
+-- where an instance stands, and tables of that
+pub mod Spot
+pub mod SpotView
 pub mod Standings
--- tables of the pins of nets and of the nets of instances
+-- the pins of nets and the nets of instances
 pub mod NetPins
+pub mod NetsView
+-- what nets cost by a table of where instances stand
+pub mod NetCosts
+pub mod NetCostsView
 -- numbers with their sum
 pub mod SummedView
-pub mod Remeasured
 -- what a swap moves
 pub mod Moving
 -- the widths of rows, and how far they are from their target
 pub mod RowLengths
 pub mod RowLengthsView
--- all tables of weighed rows
+-- tables of placed rows
 pub mod Board
 -- two instances that take each other's place while no other is shifted
 pub mod Trial

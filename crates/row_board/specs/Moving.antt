@@ -1,11 +1,11 @@
-use Rattle.std.specs.Prelude.{◌≡◌, ◌≢◌, ℕ, ◌+◌, ◌<◌, ◌≤◌, List, slice_get, length, if◌then◌else◌, Bool, [], Option, None, Some}
+use Rattle.std.specs.Prelude.{◌≡◌, ℕ, ◌+◌, ◌<◌, ◌≤◌, List, slice_get, length, if◌then◌else◌, nat_le, Bool, [], Option, None, Some}
 use Rattle.std.specs.Prelude.{max}
 use Rattle.design_model.specs.Netlist.{Netlist}
 use Rattle.std.specs.Option.{option_map}
 use Rattle.row_board.specs.Standings.{put_in, standing_of, IsEntered}
 use Rattle.row_board.specs.declared.moving.Reach.{Reach}
 use Rattle.row_model.specs.declared.rows.Seat.{Seat}
-use Rattle.row_board.specs.declared.standings.Standing.{Standing}
+use Rattle.row_board.specs.Spot.{Spot}
 
 -- a seat is at a place of a row
 pub record IsAt (rows : List (List Seat)) (row place : ℕ) (seat : Seat) : Type 0 where
@@ -36,25 +36,23 @@ pub record IsReach (rows : List (List Seat)) (reach : Reach) : Type 0 where
   pub ordered : reach.from ≤ reach.to
   pub within : reach.to ≤ row_length (slice_get rows reach.row)
 
+-- two reaches, the one that begins at the lower place first
+abbrev pub in_order : Reach → Reach → Reach × Reach
+in_order one other = if nat_le one.from other.from then (one, other) else (other, one)
+
 -- each seat that is in none of two reaches, the first of which begins no later than the second, is where a table tells
-pub record AreUnmoved (d : Netlist) (rows : List (List Seat)) (standings : List Standing) (first second : Reach) : Type 0 where
+pub record AreUnmoved (d : Netlist) (rows : List (List Seat)) (standings : List Spot) (first second : Reach) : Type 0 where
   pub is_first : IsReach rows first
   pub is_second : IsReach rows second
   pub ordered : first.from ≤ second.from
   pub each : (row place : ℕ) → (IsIn first row place → ⊥) → (IsIn second row place → ⊥) → IsEntered d rows standings row place
-
--- two tables have the same for each instance that has no seat in two reaches
-pub record KeepsUnmoved (rows : List (List Seat)) (first second : Reach) (old new : List Standing) : Type 0 where
-  pub each : (i : ℕ) → ((k : ℕ) (s : Seat) → first.from ≤ k → k < first.to → slice_get (row_there (slice_get rows first.row)) k ≡ Some s → s.instance ≢ i)
-      → ((k : ℕ) (s : Seat) → second.from ≤ k → k < second.to → slice_get (row_there (slice_get rows second.row)) k ≡ Some s → s.instance ≢ i)
-      → slice_get new i ≡ slice_get old i
 
 -- two seats are put into rows, each at its place
 pub record ArePut (row place : ℕ) (seat : Seat) (row' place' : ℕ) (seat' : Seat) (old new : List (List Seat)) : Type 0 where
   pub each : (r : ℕ) → slice_get new r ≡ option_map (λ (seats : List Seat). put_in row' place' seat' r (put_in row place seat r seats)) (slice_get old r)
 
 -- two instances exchange their places in rows, where a table tells where they stood
-abbrev pub AreExchanged : List Standing → ℕ → ℕ → List (List Seat) → List (List Seat) → Type 0
+abbrev pub AreExchanged : List Spot → ℕ → ℕ → List (List Seat) → List (List Seat) → Type 0
 AreExchanged standings a b old new =
     ArePut (standing_of standings a).row (standing_of standings a).place (record { instance = b; mirror = (standing_of standings b).mirror })
     (standing_of standings b).row (standing_of standings b).place (record { instance = a; mirror = (standing_of standings a).mirror }) old new

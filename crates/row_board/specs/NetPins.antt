@@ -1,6 +1,5 @@
 use Rattle.std.specs.Prelude.{◌≡◌, ℕ, ◌+◌, ◌*◌, ◌<◌, ◌≤◌, ◌==◌, List, length, map, filter, Bool, true, false, if◌then◌else◌, Option, None, Some, slice_get}
 use Rattle.std.specs.List.{list_any}
-use Rattle.list_facts.specs.Lists.{list_there}
 use Rattle.design_model.specs.Netlist.{Netlist}
 use Rattle.design_model.specs.declared.design.Pin.{Pin}
 use Rattle.row_board.specs.Cost.{pins_of_net, spread}
@@ -8,7 +7,8 @@ use Rattle.row_board.specs.Standings.{standing_of}
 use Rattle.row_model.specs.Stands.{first_column, turned_column}
 use Rattle.row_model.specs.Widths.{columns_of}
 use Rattle.row_board.specs.declared.net_pins.NetPin.{NetPin}
-use Rattle.row_board.specs.declared.standings.Standing.{Standing}
+use Rattle.row_board.specs.Spot.{Spot}
+use Rattle.row_board.specs.Weights.{Weighing}
 
 -- how far a pin stands from the left side of its cell, which may be mirrored
 abbrev pub offset_of : Bool → ℕ → Option ℕ → ℕ
@@ -35,26 +35,25 @@ pub record ArePins (d : Netlist) (pins : List (List NetPin)) : Type 0 where
 pub record AreNets (d : Netlist) (nets : List (List ℕ)) : Type 0 where
   pub each : (instance : ℕ) → instance < length d.instances → slice_get nets instance ≡ Some (nets_of d instance)
 
--- the column and the row of a pin by a table
-abbrev pub pin_column : List Standing → NetPin → ℕ
-pin_column standings p =
-    (standing_of standings p.instance).left + (if (standing_of standings p.instance).mirror then p.mirrored else p.upright)
+-- how far a pin is from the left side of its cell, which may be mirrored
+abbrev pub offset_in : NetPin → Bool → ℕ
+offset_in p mirror = if mirror then p.mirrored else p.upright
 
-abbrev pub pin_row : List Standing → NetPin → ℕ
+-- the column and the row of a pin by a table
+abbrev pub pin_column : List Spot → NetPin → ℕ
+pin_column standings p = (standing_of standings p.instance).left + offset_in p (standing_of standings p.instance).mirror
+
+abbrev pub pin_row : List Spot → NetPin → ℕ
 pin_row standings p = (standing_of standings p.instance).row
 
 -- what a net with these pins costs by a table
-unfoldable pub measured : ℕ → List Standing → List NetPin → ℕ
+unfoldable pub measured : ℕ → List Spot → List NetPin → ℕ
 measured row_cost standings pins = spread (map (pin_column standings) pins) + row_cost * spread (map (pin_row standings) pins)
 
--- what the net with a number costs by tables
-abbrev pub net_measured : ℕ → List Standing → List (List NetPin) → ℕ → ℕ
-net_measured row_cost standings pins net = measured row_cost standings (list_there (slice_get pins net))
+-- what a net of a design costs by a table
+abbrev pub cost_by : Netlist → Weighing → List Spot → ℕ → ℕ
+cost_by d w standings net = measured w.row_cost standings (map (net_pin d) (pins_of_net d net))
 
 -- whether a net is that of a pin of one of these seats
 abbrev pub has_net : List ℕ → ℕ → Bool
 has_net nets net = list_any (λ (n : ℕ). n == net) nets
-
--- stands in one of 514 rows of at most 20,000 cells
-pub record AreNear (standings : List Standing) : Type 0 where
-  pub each : (i : ℕ) (s : Standing) → slice_get standings i ≡ Some s → (s.row < 514) × (s.left ≤ 2000000000000)

@@ -1,4 +1,4 @@
-use Rattle.std.specs.Prelude.{◌≡◌, ℕ, ◌≤◌, List, map}
+use Rattle.std.specs.Prelude.{◌≡◌, ℕ, ◌≤◌, List, length, map}
 use Rattle.row_board.specs.Cost.{difference}
 use Rattle.row_board.specs.RowLengths.{Lengths}
 use Rattle.row_board.specs.declared.row_lengths.RowLengths.TheInside.{Inside}
@@ -13,3 +13,4 @@ misses_of l = map (λ (width : ℕ). difference width l.target) l.widths
 pub record AreLengths (a : Inside) : Type 0 where
   pub misses : a.misses ≡ misses_of (lengths_in a)
   pub low : a.target ≤ 2000000000000
+  pub few : length a.widths.items ≤ 514

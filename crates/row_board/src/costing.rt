@@ -2,7 +2,10 @@ ghost use Rattle.row_board.specs.Cost.{cost_of};
 ghost use Rattle.row_model.specs.Rows.{ArePlaced};
 ghost use Rattle.std.specs.Prelude.{◌≡◌, IfOk};
 
-use crate::building::{board_of, total_of};
+use crate::building::standings_of;
+use crate::net_costs::NetCosts;
+use crate::row_lengths::RowLengths;
+use crate::trial::total_of;
 use crate::weights::Weights;
 use design_model::Design;
 use row_model::Rows;
@@ -21,6 +24,8 @@ pub fn cost(
 {
     // The bounds of the design's type are known once a field is read.
     let _pins = &design.pins;
-    let board = board_of(alloc, design, rows.rows.items(), weights)?;
-    Ok(total_of(&board.costs, &board.lengths, weights.length_cost))
+    let standings = standings_of(alloc, design, rows.rows.items())?;
+    let lengths = RowLengths::of(alloc, design, rows.rows.items())?;
+    let costs = NetCosts::new(alloc, design, weights, standings)?;
+    Ok(total_of(&costs, &lengths))
 }

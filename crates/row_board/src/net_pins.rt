@@ -1,19 +1,19 @@
 ghost use Rattle.row_board.specs.NetPins.{
-  AreNear,
   AreNets,
   ArePins,
   measured,
   net_pin,
+  offset_in,
   offset_of,
   pin_column,
   pin_row,
 };
 ghost use Rattle.row_board.specs.Standings.{standing_of};
 ghost use Rattle.row_model.specs.PinColumns.{kind_columns};
-ghost use Rattle.row_model.specs.Stands.{first_column};
-ghost use Rattle.std.specs.Prelude.{◌≡◌, ◌<◌, ◌≤◌, Option, length, map, slice_get, IfOk};
+ghost use Rattle.std.specs.Prelude.{◌≡◌, ◌<◌, ◌≤◌, map, IfOk};
 
 use crate::standings::Standing;
+use crate::weights::Weights;
 use design_model::{Design, Pin};
 use geom_core::Items;
 use list_facts::Lists;
@@ -79,47 +79,39 @@ pub fn instance_nets(alloc: Global, design: &Design) -> Result<Lists<u32>, Alloc
     Ok(lists)
 }
 
-// Where an instance stands by a table of near stands.
-fn near_standing(standings: &[Standing], instance: u32) -> Standing
-    requires { AreNear standings.now }
-    ensures is { result ≡ standing_of standings.now instance }
-    ensures row { result.row < 514 }
-    ensures left { result.left ≤ 2000000000000 }
+/// Where an instance stands by a table, or at the lower left where that has none.
+pub fn standing_of(standings: &[Standing], instance: u32) -> Standing
+    ensures { result ≡ standing_of standings.now instance }
 {
     match standings.get(instance as usize) {
         Some(standing) => *standing,
-        None => Standing {
-            row: 0,
-            mirror: false,
-            place: 0,
-            left: 0,
-        },
+        None => Standing::lower_left(),
     }
+}
+
+// How far a pin is from the left side of its cell, which may be mirrored.
+fn offset_in(pin: NetPin, mirror: bool) -> u32
+    ensures { result ≡ offset_in pin mirror }
+{
+    if mirror { pin.mirrored } else { pin.upright }
 }
 
 // The column and the row of a pin by a table.
 fn place_of(standings: &[Standing], pin: NetPin) -> (u64, u64)
-    requires { AreNear standings.now }
     ensures column { result.0 ≡ pin_column standings.now pin }
     ensures row { result.1 ≡ pin_row standings.now pin }
     ensures far { result.0 ≤ 2004294967295 }
     ensures high { result.1 < 514 }
 {
-    let standing = near_standing(standings, pin.instance);
-    let offset = if standing.mirror {
-        pin.mirrored
-    } else {
-        pin.upright
-    };
+    let standing = standing_of(standings, pin.instance);
+    let offset = offset_in(pin, standing.mirror);
     (standing.left + u64::from(offset), u64::from(standing.row))
 }
 
 /// What a net with these pins costs by a table of where instances stand. Takes no memory, and steps as the number of pins.
 #[tactic(auto, unfolding(crate::specs::NetPins::measured))]
-pub fn measure(pins: &[NetPin], standings: &[Standing], row_cost: u64) -> u64
-    requires near { AreNear standings.now }
-    requires cost { row_cost ≤ 1000 }
-    ensures is { result ≡ measured row_cost standings.now pins.now }
+pub fn measure(pins: &[NetPin], standings: &[Standing], weights: Weights) -> u64
+    ensures is { result ≡ measured weights.row_cost standings.now pins.now }
     ensures small { result ≤ 2199023255552 }
 {
     let Some((first, others)) = pins.split_first() else {
@@ -139,5 +131,6 @@ pub fn measure(pins: &[NetPin], standings: &[Standing], row_cost: u64) -> u64
         high = high.max(row);
         rest = after;
     }
+    let row_cost = weights.row_cost;
     (right - left) + row_cost * (high - low)
 }

@@ -1,7 +1,11 @@
 ghost use Rattle.row_board.specs.Cost.{difference};
-ghost use Rattle.std.specs.Prelude.{◌≡◌};
+ghost use Rattle.row_model.specs.Widths.{row_width};
+ghost use Rattle.std.specs.Prelude.{◌≡◌, ◌≤◌, length};
 
 use crate::summed::Summed;
+use design_model::Design;
+use geom_core::Items;
+use row_model::{Seat, all_columns, columns_of};
 use std::alloc::{AllocError, Global};
 use std::marker::Model;
 
@@ -32,34 +36,56 @@ pub fn difference(a: u64, b: u64) -> u64
     if a < b { b - a } else { a - b }
 }
 
+// The width of seats side by side.
+fn row_width(design: &Design, seats: &[Seat]) -> u64
+    requires { length seats.now ≤ 20000 }
+    ensures is { result ≡ row_width design.now seats.now }
+    ensures few { result ≤ 2000000000000 }
+{
+    let mut width = 0;
+    let mut rest = seats;
+    while let Some((seat, after)) = rest.split_first() {
+        width += u64::from(columns_of(design, seat.instance));
+        rest = after;
+    }
+    width
+}
+
 impl RowLengths {
+    ghost use Rattle.row_board.specs.Board.{lengths_of};
     ghost use Rattle.row_board.specs.RowLengths.{Lengths};
     ghost use Rattle.row_board.specs.RowLengthsView.{misses_of};
+    ghost use Rattle.row_model.specs.Rows.{ArePlaced};
     ghost use Rattle.std.specs.Option.{option_map};
-    ghost use Rattle.std.specs.Prelude.{◌≡◌, ◌==◌, ◌+◌, ◌-◌, ◌*◌, ◌≤◌, ◌<◌, ◌++◌, ◌∷◌, [], ℕ, Some, length, slice_get, sum, if◌then◌else◌, OnOk};
+    ghost use Rattle.std.specs.Prelude.{◌≡◌, ◌==◌, ◌+◌, ◌-◌, ◌*◌, ◌≤◌, ◌<◌, ℕ, Some, length, slice_get, sum, if◌then◌else◌, IfOk};
 
-    /// No rows, and this target. Takes no memory.
-    pub fn new(alloc: Global, target: u64) -> RowLengths
-        requires { target ≤ 2000000000000 }
-        ensures { result ≡ record { widths = []; target = target } }
+    /// The widths of placed rows, and the target: the width of all instances divided by the number of rows, rounded up. The one error is want of memory.
+    pub fn of(
+        alloc: Global,
+        design: &Design,
+        rows: &[Items<Seat>],
+    ) -> Result<RowLengths, AllocError>
+        requires { ArePlaced design.now rows.now }
+        ensures { IfOk result (λ lengths. lengths ≡ lengths_of design.now rows.now) }
     {
-        RowLengths {
-            widths: Vec::new(alloc),
-            misses: Summed::new(alloc),
-            target,
+        // The bounds of the design's type are known once a field is read.
+        let _pins = &design.pins;
+        let count = rows.len() as u64;
+        let target = (all_columns(design) + (count - 1)) / count;
+        let mut widths = Vec::new(alloc);
+        let mut misses = Summed::new(alloc);
+        let mut rest = rows;
+        while let Some((seats, after)) = rest.split_first() {
+            let width = row_width(design, seats.items());
+            misses.push(difference(width, target))?;
+            widths.push(width)?;
+            rest = after;
         }
-    }
-
-    /// Puts the width of one more row behind the others. The one error is want of memory.
-    pub fn push(&mut self, width: u64) -> Result<(), AllocError>
-        requires small { width ≤ 2000000000000 }
-        requires few { length self.old.widths < 200001 }
-        ensures { OnOk result (self.new ≡ record self.old { widths = self.old.widths ++ width ∷ [] }) }
-    {
-        self.widths.reserve(1)?;
-        self.misses.push(difference(width, self.target))?;
-        self.widths.push(width)?;
-        Ok(())
+        Ok(RowLengths {
+            widths,
+            misses,
+            target,
+        })
     }
 
     /// A row gets so many columns more, and then so many fewer, where there is this row. Takes no memory.
@@ -80,7 +106,7 @@ impl RowLengths {
     /// By how many columns all rows miss the target. Takes no memory.
     pub fn unevenness(&self) -> u64
         ensures is { result ≡ sum (misses_of self.now) }
-        ensures small { result ≤ 2199023255552 * length self.now.widths }
+        ensures small { result ≤ 2199023255552 * 514 }
     {
         self.misses.sum()
     }

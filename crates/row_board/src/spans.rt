@@ -1,6 +1,8 @@
 use crate::board::{mirror_on_board, swap_on_board};
-use crate::building::{Board, board_of, total_of};
-use crate::trial::is_too_dear;
+use crate::building::standings_of;
+use crate::net_costs::NetCosts;
+use crate::row_lengths::RowLengths;
+use crate::trial::{is_too_dear, total_of};
 use crate::weights::Weights;
 use design_model::Design;
 use row_model::{Rows, columns_of};
@@ -11,10 +13,9 @@ use std::marker::Model;
 /// Contracts see the design, the rows and the weights.
 #[derive(Drop)]
 pub struct Spans<'d> {
-    design: &'d Design,
     rows: Rows,
-    weights: Weights,
-    board: Board,
+    costs: NetCosts<'d>,
+    lengths: RowLengths,
 }
 
 impl<'d> Model for Spans<'d> {
@@ -49,12 +50,13 @@ impl<'d> Spans<'d> {
     {
         // The bounds of the design's type are known once a field is read.
         let _pins = &design.pins;
-        let board = board_of(alloc, design, rows.rows.items(), weights)?;
+        let standings = standings_of(alloc, design, rows.rows.items())?;
+        let lengths = RowLengths::of(alloc, design, rows.rows.items())?;
+        let costs = NetCosts::new(alloc, design, weights, standings)?;
         Ok(Spans {
-            design,
             rows,
-            weights,
-            board,
+            costs,
+            lengths,
         })
     }
 
@@ -63,11 +65,7 @@ impl<'d> Spans<'d> {
         ensures is { result ≡ cost_of self.now.design self.now.rows self.now.weights }
         ensures few { result < 2 ^ 58 }
     {
-        total_of(
-            &self.board.costs,
-            &self.board.lengths,
-            self.weights.length_cost,
-        )
+        total_of(&self.costs, &self.lengths)
     }
 
     /// The rows, which hold each instance of the design once. Takes no memory.
@@ -86,13 +84,9 @@ impl<'d> Spans<'d> {
     {
         if a != b {
             swap_on_board(
-                self.design,
                 self.rows.rows.items_mut(),
-                self.weights,
-                &self.board.tables,
-                self.board.standings.as_mut_slice(),
-                &mut self.board.costs,
-                &mut self.board.lengths,
+                &mut self.costs,
+                &mut self.lengths,
                 a,
                 b,
             );
@@ -105,13 +99,9 @@ impl<'d> Spans<'d> {
         ensures { self.new ≡ record self.old { rows = mirrored a self.old.rows } }
     {
         mirror_on_board(
-            self.design,
             self.rows.rows.items_mut(),
-            self.weights,
-            &self.board.tables,
-            self.board.standings.as_mut_slice(),
-            &mut self.board.costs,
-            &self.board.lengths,
+            &mut self.costs,
+            &self.lengths,
             a,
         );
     }
@@ -124,17 +114,14 @@ impl<'d> Spans<'d> {
         ensures left { self.new ≡ self.old }
     {
         // Where both are of one width, a swap shifts no other and is soon taken back.
-        if columns_of(self.design, a) == columns_of(self.design, b) {
+        let design = self.costs.design();
+        if columns_of(design, a) == columns_of(design, b) {
             return false;
         }
         is_too_dear(
-            self.design,
+            &mut self.costs,
             self.rows.rows.items(),
-            self.weights,
-            &self.board.tables,
-            self.board.standings.as_mut_slice(),
-            &mut self.board.costs,
-            &self.board.lengths,
+            &self.lengths,
             a,
             b,
             most,

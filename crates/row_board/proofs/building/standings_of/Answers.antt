@@ -1,51 +1,39 @@
-use Rattle.std.proofs.Common.{◌≡◌, ◌≢◌, ◌⊎◌, ◌<◌, ◌≤◌, ◌+◌, ℕ, List, inl, inr, ◌++◌, take, drop, length, ap, sym, ◌∙◌, arith, rules, subst}
+use Rattle.std.proofs.Common.{◌≡◌, ℕ, ◌++◌, take, drop, length, ap, sym, ◌∙◌, arith, rules, subst, List}
 use Rattle.std.proofs.lemmas.Option.{slice_get_within}
-use Rattle.std.specs.List.{slice_get}
-use Rattle.design_model.specs.Netlist.{IsNetlist, Netlist}
-use Rattle.row_board.specs.Moving.{row_length, row_there}
-use Rattle.row_board.specs.Standings.{IsEntered}
-use Rattle.row_board.specs.declared.moving.Reach.{Reach}
-use Rattle.row_model.specs.declared.rows.Seat.{Seat}
-use Rattle.row_board.specs.declared.standings.Standing.{Standing}
+use Rattle.design_model.specs.Netlist.{IsNetlist}
+use Rattle.row_board.specs.Spot.{Spot}
+use Rattle.row_board.specs.Standings.{AreApart, IsEntered, KeepsOthers}
+use Rattle.row_board.proofs.MoveLaws.{row-entered}
+use Rattle.row_board.proofs.PlaceLaws.{there-apart, there-short}
 use Rattle.row_model.proofs.ChangeLaws.{overwritten-same}
-use Rattle.row_model.proofs.PlacedLaws.{placed-short}
+use Rattle.row_model.proofs.PlacedLaws.{placed-distinct}
 use Rattle.row_board.proofs.building.standings_of.Goals as goal
 
-pub row_reach-reach-requires-clause-short : goal.row_reach-reach-requires-clause-short
-row_reach-reach-requires-clause-short c =
+pub enter_row-requires-clause-apart : goal.enter_row-requires-clause-apart
+enter_row-requires-clause-apart c =
     let good : IsNetlist c.args.design.now = search rules in
-    placed-short c.args.design.now c.args.rows.now good c.requires
+    subst (λ (n : ℕ). AreApart n c.row_at-seats.result.now) (sym (ap length c.as_mut_slice.ensures.value ∙ c.loop-row.invariant.count))
+    (subst (AreApart (length c.args.design.now.instances)) (sym c.row_at-seats.ensures) (there-apart c.args.design.now c.args.rows.now good c.requires c.loop-row.row))
 
-more-entered : (d : Netlist) (rows : List (List Seat)) (old new : List Standing) (row : ℕ) (reach : Reach) → ((r k : ℕ) → r < row → IsEntered d rows old r k)
-    → reach.row ≡ row → reach.from ≡ 0 → reach.to ≡ row_length (slice_get rows row)
-    → ((k : ℕ) → reach.from ≤ k → k < reach.to → IsEntered d rows new reach.row k) → ((r k : ℕ) → IsEntered d rows old r k → IsEntered d rows new r k)
-    → (r k : ℕ) → r < row + 1 → IsEntered d rows new r k
-more-entered d rows old new row reach before is from to here kept r k below = by (split r row)
-  where
-    split : (r row : ℕ) → (r ≡ row) ⊎ (r ≢ row)
-    split r row = grind arith
-
-    by : (r ≡ row) ⊎ (r ≢ row) → IsEntered d rows new r k
-    by (inr other) = kept r k (before r k (omega arith))
-    by (inl same) = λ seats s in_row at.
-        let long : length seats ≡ row_length (slice_get rows row) = ap (λ (o : _). length (row_there o)) (sym in_row ∙ ap (slice_get rows) same) in
-        let within = slice_get_within seats k s at in
-        subst (λ (n : ℕ). IsEntered d rows new n k) (is ∙ sym same) (here k (omega arith) (omega (arith, to, long, within))) seats s in_row at
+pub enter_row-requires-clause-short : goal.enter_row-requires-clause-short
+enter_row-requires-clause-short c =
+    let good : IsNetlist c.args.design.now = search rules in
+    omega (arith, there-short c.args.design.now c.args.rows.now good c.requires c.loop-row.row, ap length c.row_at-seats.ensures)
 
 pub loop-row-preserved : goal.loop-row-preserved
 loop-row-preserved c =
     let old : c.as_mut_slice.result.now ≡ c.loop-row.standings.items = c.as_mut_slice.ensures.value in
-    let long : length c.enter_reach.new.standings ≡ length c.loop-row.standings.items = c.enter_reach.auto.standings ∙ ap length old in
+    let long : length c.enter_row.new.standings ≡ length c.loop-row.standings.items = c.enter_row.auto.standings ∙ ap length old in
     let count : c.loop-row.standings.len ≡ length c.loop-row.standings.items = sym c.as_mut_slice.ensures.len ∙ ap length old in
-    let written : take c.loop-row.standings.len (c.enter_reach.new.standings ++ drop (length c.enter_reach.new.standings) c.loop-row.standings.items) ≡ c.enter_reach.new.standings =
-    ap (λ (n : ℕ). take n (c.enter_reach.new.standings ++ drop (length c.enter_reach.new.standings) c.loop-row.standings.items)) count
-    ∙ overwritten-same c.enter_reach.new.standings c.loop-row.standings.items long in
+    let written : take c.loop-row.standings.len (c.enter_row.new.standings ++ drop (length c.enter_row.new.standings) c.loop-row.standings.items) ≡ c.enter_row.new.standings =
+    ap (λ (n : ℕ). take n (c.enter_row.new.standings ++ drop (length c.enter_row.new.standings) c.loop-row.standings.items)) count
+    ∙ overwritten-same c.enter_row.new.standings c.loop-row.standings.items long in
+    let others = subst (λ (l : List Spot). KeepsOthers 0 (length c.row_at-seats.result.now) c.row_at-seats.result.now l c.enter_row.new.standings) old c.enter_row.ensures.others in
     record {
       count = ap length written ∙ long ∙ c.loop-row.invariant.count;
-      entered = λ r k below. subst (λ (l : List Standing). IsEntered c.args.design.now c.args.rows.now l r k) (sym written)
-          (more-entered c.args.design.now c.args.rows.now c.loop-row.standings.items c.enter_reach.new.standings c.loop-row.row c.row_reach-reach.result c.loop-row.invariant.entered
-          c.row_reach-reach.ensures.row c.row_reach-reach.ensures.from c.row_reach-reach.ensures.to c.enter_reach.ensures.entered
-          (λ r k was. c.enter_reach.ensures.kept r k (subst (λ (l : List Standing). IsEntered c.args.design.now c.args.rows.now l r k) (sym old) was)) r k below);
+      entered = λ r k below. subst (λ (l : List Spot). IsEntered c.args.design.now c.args.rows.now l r k) (sym written)
+          (row-entered c.args.design.now c.args.rows.now c.loop-row.row c.row_at-seats.result.now c.loop-row.standings.items c.enter_row.new.standings
+          (placed-distinct c.args.design.now c.args.rows.now c.requires) c.loop-row-test.true c.row_at-seats.ensures c.enter_row.ensures.entered others c.loop-row.invariant.entered r k below);
     }
 
 pub returns-clause-entered : goal.returns-clause-entered

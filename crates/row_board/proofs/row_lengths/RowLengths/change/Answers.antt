@@ -1,7 +1,7 @@
 use Rattle.std.proofs.Common.{◌≡◌, ◌≢◌, ◌+◌, ◌-◌, ◌≤◌, ℕ, List, Bool, true, false, cond, length, map, set, refl, ap, sym, ◌∙◌, arith}
 use Rattle.std.proofs.lemmas.Bool.Decides.{nat_tests}
 use Rattle.std.proofs.lemmas.Grind.{common_steps}
-use Rattle.std.proofs.lemmas.List.{map-set}
+use Rattle.std.proofs.lemmas.List.{length-set, map-set}
 use Rattle.std.proofs.lemmas.Option.{get_or_from_slice_get}
 use Rattle.std.specs.List.{slice_get}
 use Rattle.std.specs.Option.{option_map}
@@ -18,6 +18,7 @@ invariant_of-self c = record {
       ∙ ap (λ (n : ℕ). set (map (λ (width : ℕ). difference width c.self.inside.target) c.self.inside.widths.items) c.args.row n) c.difference.ensures
       ∙ sym (map-set (λ (width : ℕ). difference width c.self.inside.target) c.self.inside.widths.items c.args.row c.saturating_sub-width.result);
   low = c.self.invariant.low;
+  few = omega (arith, c.self.invariant.few, length-set c.self.inside.widths.items c.args.row c.saturating_sub-width.result);
 }
 
 here-changed : (row more fewer x new got m f : ℕ) → got ≡ x → m ≡ more → f ≡ fewer → new ≡ got + m - f → new ≡ cond (nat_eq row row) (x + more - fewer) x
