@@ -6,9 +6,9 @@ use Rattle.std.specs.Bool.{OnFalse, OnTrue}
 use Rattle.std.proofs.lemmas.List.Sums.{fold-append}
 use Rattle.std.proofs.lemmas.Nat.{div-mul-add}
 use Rattle.design_model.specs.Netlist.{Netlist}
-use Rattle.row_model.specs.Cost.{cost_of}
-use Rattle.row_model.specs.WeighedRows.{WeighedRows}
-use Rattle.row_model.specs.Weights.{Weighing}
+use Rattle.row_board.specs.Cost.{cost_of}
+use Rattle.row_board.specs.WeighedRows.{WeighedRows}
+use Rattle.row_board.specs.Weights.{Weighing}
 use Rattle.row_model.specs.declared.rows.Seat.{Seat}
 use Rattle.anneal_int.specs.Annealed.{all_changes, after_change, after_change_at, after_changes, changed, judged, stage_changes}
 use Rattle.anneal_int.specs.Changes.{chance_number, change_number}

@@ -1,7 +1,7 @@
 use Rattle.std.proofs.Common.{◌≡◌, List, [], ◌∷◌, true, false, refl}
 use Rattle.design_model.specs.Netlist.{Netlist}
 use Rattle.row_model.specs.Changes.{mirrored, swapped}
-use Rattle.row_model.specs.Cost.{cost_of, net_cost}
+use Rattle.row_board.specs.Cost.{cost_of, net_cost}
 use Rattle.row_model.specs.Start.{upright}
 use Rattle.row_model.specs.Stands.{column_of}
 use Rattle.row_model.specs.Widths.{all_columns}

@@ -2,8 +2,8 @@ use Rattle.std.specs.Prelude.{ℕ, ◌*◌, ◌/◌, List, length, fold, nat_le,
 use Rattle.std.specs.List.{range_with_len}
 use Rattle.design_model.specs.Netlist.{Netlist}
 use Rattle.row_model.specs.Changes.{mirrored, swapped}
-use Rattle.row_model.specs.Cost.{cost_of}
-use Rattle.row_model.specs.Weights.{Weighing}
+use Rattle.row_board.specs.Cost.{cost_of}
+use Rattle.row_board.specs.Weights.{Weighing}
 use Rattle.row_model.specs.declared.rows.Seat.{Seat}
 use Rattle.anneal_int.specs.Changes.{chance_number, change_number}
 use Rattle.anneal_int.specs.Schedule.{Annealing}

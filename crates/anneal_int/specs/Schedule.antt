@@ -1,5 +1,5 @@
 use Rattle.std.specs.Prelude.{ℕ, ◌≤◌}
-use Rattle.row_model.specs.Weights.{Weighing}
+use Rattle.row_board.specs.Weights.{Weighing}
 
 -- how rows are annealed: the temperature at first, the number of stages, the number of changes of a stage for each instance, and what the cost weighs
 pub record Annealing : Type 0 where

@@ -1,7 +1,7 @@
 use Rattle.std.specs.Prelude.{ℕ, List, fold}
 use Rattle.std.specs.List.{range_with_len}
 use Rattle.design_model.specs.Netlist.{Netlist}
-use Rattle.row_model.specs.Weights.{Weighing}
+use Rattle.row_board.specs.Weights.{Weighing}
 use Rattle.row_model.specs.declared.rows.Seat.{Seat}
 use Rattle.anneal_int.specs.Annealed.{after_change_at}
 

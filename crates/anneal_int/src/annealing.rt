@@ -2,9 +2,8 @@
 
 ghost use Rattle.anneal_int.specs.Annealed.{all_changes, annealed, changed, end_of, judged, stage_changes};
 ghost use Rattle.anneal_int.specs.Changes.{IsAmong};
-ghost use Rattle.anneal_int.specs.Cooling.{cooler};
 ghost use Rattle.anneal_int.specs.Stages.{after_stage};
-ghost use Rattle.row_model.specs.Cost.{cost_of};
+ghost use Rattle.row_board.specs.Cost.{cost_of};
 ghost use Rattle.row_model.specs.Rows.{ArePlaced};
 ghost use Rattle.std.specs.Bool.{OnFalse, OnTrue};
 ghost use Rattle.std.specs.Prelude.{◌≡◌, ◌+◌, ◌<◌, ◌≤◌, ℕ, IfOk, length, nat_le};
@@ -12,10 +11,12 @@ ghost use Rattle.std.specs.Prelude.{◌≡◌, ◌+◌, ◌<◌, ◌≤◌, ℕ,
 use crate::draws::{Change, Drawn, Draws};
 use crate::fault::AnnealFault;
 use crate::schedule::Schedule;
+use crate::temperature::Temperature;
 use crate::thresholds::greatest_rise;
 use design_model::Design;
 use geom_core::Items;
-use row_model::{Rows, Spans};
+use row_board::Spans;
+use row_model::Rows;
 use std::alloc::{AllocError, Global};
 
 const MOST_CHANGES: u64 = 50_000_000;
@@ -37,16 +38,6 @@ fn stage_changes(design: &Design, schedule: &Schedule) -> u64
     schedule.moves * design.instances.items().len() as u64
 }
 
-// The temperature of the stage behind one of this temperature.
-fn cooler(temperature: u64) -> u64
-    requires { temperature ≤ 1000000000 }
-    ensures is { result ≡ cooler temperature }
-    ensures some { 0 < result }
-    ensures few { result ≤ 1000000000 }
-{
-    (temperature * 9 / 10).max(1)
-}
-
 /// The annealed rows of a design: each change of the seed is made where it is taken at the temperature of its stage, and the rows behind all changes stand where they cost no
 /// more than those at first; else those. `TooMuch` exactly where there are more than 50,000,000 changes, with their number; all memory is taken before the first change.
 /// After a refusal the rows are given up.
@@ -60,6 +51,7 @@ pub fn anneal(
     requires { ArePlaced design.now start }
     ensures annealed { IfOk result (λ rows. rows ≡ annealed design.now start schedule.now seed) }
     ensures placed { IfOk result (λ rows. ArePlaced design.now rows) }
+    ensures no_dearer { IfOk result (λ rows. cost_of design.now rows schedule.now.weights ≤ cost_of design.now start schedule.now.weights) }
     ensures much { 50000000 < all_changes design.now schedule.now → result ≡ Err (AnnealFault.TooMuch (all_changes design.now schedule.now)) }
     ensures few { (n : ℕ) → result ≡ Err (AnnealFault.TooMuch n) → (50000000 < n) × (n ≡ all_changes design.now schedule.now) }
 {
@@ -83,6 +75,7 @@ fn annealed(
     requires few { all_changes design.now schedule.now ≤ 50000000 }
     ensures annealed { IfOk result (λ rows. rows ≡ annealed design.now start schedule.now seed) }
     ensures placed { IfOk result (λ rows. ArePlaced design.now rows) }
+    ensures no_dearer { IfOk result (λ rows. cost_of design.now rows schedule.now.weights ≤ cost_of design.now start schedule.now.weights) }
 {
     let kept = copy(alloc, &start)?;
     let mut spans = Spans::new(alloc, design, start, schedule.weights)?;
@@ -116,20 +109,24 @@ fn run(spans: &mut Spans, design: &Design, schedule: &Schedule, seed: u64)
     let instances = design.instances.items().len() as u32;
     let count = stage_changes(design, schedule);
     let mut draws = Draws::new(seed);
-    let mut temperature = schedule.temperature;
+    let mut temperature = Temperature::first(schedule);
     for _stage in 0..schedule.stages {
         run_stage(spans, &mut draws, instances, temperature, count);
-        temperature = cooler(temperature);
+        temperature = temperature.cooler();
     }
 }
 
 // Judges so many changes at one temperature.
-fn run_stage(spans: &mut Spans, draws: &mut Draws, instances: u32, temperature: u64, count: u64)
+fn run_stage(
+    spans: &mut Spans,
+    draws: &mut Draws,
+    instances: u32,
+    temperature: Temperature,
+    count: u64,
+)
     requires instances { instances ≡ length spans.old.design.instances }
     requires some { 0 < count → 0 < instances }
     requires few { draws.old.number + count ≤ 50000000 }
-    requires warm { 0 < temperature }
-    requires hot { temperature ≤ 1000000000 }
     ensures rows { spans.new ≡ record spans.old { rows = after_stage spans.old.design spans.old.weights draws.old.seed temperature spans.old.rows draws.old.number count } }
     ensures number { draws.new.number ≡ draws.old.number + count }
     ensures seed { draws.new.seed ≡ draws.old.seed }
@@ -140,10 +137,8 @@ fn run_stage(spans: &mut Spans, draws: &mut Draws, instances: u32, temperature: 
 }
 
 // Judges a change: it is made where it is taken at this temperature.
-fn judge(spans: &mut Spans, temperature: u64, drawn: Drawn)
-    requires among { IsAmong (length spans.old.design.instances) drawn.change }
-    requires warm { 0 < temperature }
-    requires hot { temperature ≤ 1000000000 }
+fn judge(spans: &mut Spans, temperature: Temperature, drawn: Drawn)
+    requires { IsAmong (length spans.old.design.instances) drawn.change }
     ensures { spans.new ≡ record spans.old { rows = judged spans.old.design spans.old.weights temperature drawn.chance drawn.change spans.old.rows } }
 {
     make_within(

@@ -5,6 +5,7 @@ mod annealing;
 mod draws;
 mod fault;
 mod schedule;
+mod temperature;
 mod thresholds;
 
 pub use annealing::{anneal, changes};

@@ -1,4 +1,4 @@
-use row_model::Weights;
+use row_board::Weights;
 use std::marker::Model;
 
 /// How rows are annealed: the temperature at first, 1 to 1,000,000,000; the number of stages and the number of changes of a stage for each instance, each at most 1,000; and

@@ -4,6 +4,8 @@ ghost use Rattle.anneal_int.specs.Judging.{is_taken};
 ghost use Rattle.anneal_int.specs.Threshold.{AreAbove, threshold};
 ghost use Rattle.std.specs.Prelude.{◌≡◌, ◌+◌, ◌*◌, ◌/◌, ◌<◌, ◌≤◌, ◌%◌, ℕ, nat_le};
 
+use crate::temperature::Temperature;
+
 const FIRST: u16 = 65535;
 
 const COUNT: u32 = 64;
@@ -43,11 +45,9 @@ fn above(number: u16) -> u32
 
 /// The greatest rise of the cost that is taken at this temperature with this random word; a change without a rise is taken with each. Takes no memory.
 #[tactic(auto, using(crate::proofs::JudgingLaws::taken_within))]
-pub fn greatest_rise(temperature: u64, word: u32) -> u64
-    requires some { 0 < temperature }
-    requires few { temperature ≤ 1000000000 }
+pub fn greatest_rise(temperature: Temperature, word: u32) -> u64
     ensures { (old new : ℕ) → is_taken temperature word old new ≡ nat_le new (old + result) }
 {
     let count = above((word % 65536) as u16);
-    (u64::from(count) * temperature).saturating_sub(1) / 8
+    (u64::from(count) * temperature.degrees()).saturating_sub(1) / 8
 }

@@ -5,7 +5,7 @@ ghost use Rattle.std.specs.Prelude.{◌<◌};
 use crate::made::{first_rows, made_design};
 use crate::schedules::{are_same, schedule_of, weights};
 use anneal_int::{AnnealFault, anneal};
-use row_model::cost;
+use row_board::cost;
 use samples::{CELLS, designed};
 use std::alloc::Global;
 use std::test::Fail;

@@ -1,7 +1,8 @@
 //! Schedules with the weights of the sample rules, and rows that are the same.
 
 use anneal_int::Schedule;
-use row_model::{Rows, Seat, Weights};
+use row_board::Weights;
+use row_model::{Rows, Seat};
 
 /// The weights of the sample rules.
 pub fn weights() -> Weights {

@@ -19,7 +19,8 @@ use command_words::{RowCount, Wanted};
 use design_model::Design;
 use feed_cells::{FedRows, Placement, insert_feeds, place};
 use limits::MOST_ROWS;
-use row_model::{Rows, Weights, cost, default_rows, start};
+use row_board::{Weights, cost};
+use row_model::{Rows, default_rows, start};
 use std::alloc::{AllocError, Global};
 use tech_rules::Rules;
 

@@ -3,7 +3,8 @@
 ghost use Rattle.std.specs.Prelude.{◌≡◌, ◌<◌, ◌≤◌, length};
 
 use design_model::Design;
-use row_model::{Spans, Weights, cost, start};
+use row_board::{Spans, Weights, cost};
+use row_model::start;
 use samples::{CELLS, designed};
 use std::alloc::{AllocError, Global};
 use std::test::Fail;

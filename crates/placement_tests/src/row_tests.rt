@@ -3,9 +3,9 @@
 ghost use Rattle.row_model.specs.Rows.{ArePlaced};
 
 use design_model::Design;
+use row_board::Weights;
 use row_model::{
-    PinPlace, Rows, Seat, Weights, column_of, columns_of, default_rows, pin_place, pin_places,
-    start,
+    PinPlace, Rows, Seat, column_of, columns_of, default_rows, pin_place, pin_places, start,
 };
 use samples::{CELLS, designed, sample_rules};
 use std::alloc::{AllocError, Global};

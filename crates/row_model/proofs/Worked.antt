@@ -5,10 +5,8 @@ use Rattle.design_model.specs.declared.design.Inst.{Inst}
 use Rattle.design_model.specs.declared.design.Pin.{Pin}
 use Rattle.tech_rules.specs.declared.sections.StartBy.TheVariants.{Width}
 use Rattle.row_model.specs.Changes.{mirrored, swapped}
-use Rattle.row_model.specs.Cost.{cost_of, net_cost}
 use Rattle.row_model.specs.Start.{start_rows, upright}
 use Rattle.row_model.specs.Stands.{column_of}
-use Rattle.row_model.specs.Weights.{Weighing}
 use Rattle.row_model.specs.Widths.{all_columns}
 
 -- a kind of so many columns with one terminal, which has a position above in the first column
@@ -26,9 +24,6 @@ inst kind = record { name = []; kind = kind }
 abbrev pin_in : ℕ → ℕ → Pin
 pin_in instance net = record { instance = instance; terminal = 0; net = net }
 
-abbrev weights : Weighing
-weights = record { row_cost = 4; length_cost = 1 }
-
 -- two nets of two pins each that cross two rows of two cells
 abbrev crossed : Netlist
 crossed = record {
@@ -43,14 +38,6 @@ crossed-start : start_rows Width crossed 2 ≡ (upright 0 ∷ (upright 1 ∷ [])
 unfolding start_rows all_columns
 crossed-start = refl
 
-crossed-cost : cost_of crossed (start_rows Width crossed 2) weights ≡ 10
-unfolding start_rows all_columns column_of cost_of net_cost
-crossed-cost = refl
-
-crossed-less : cost_of crossed (swapped 2 3 (start_rows Width crossed 2)) weights ≡ 8
-unfolding start_rows all_columns column_of cost_of net_cost swapped
-crossed-less = refl
-
 -- a net of two pins in a row with a cell between them
 abbrev apart : Netlist
 apart = record {
@@ -60,15 +47,6 @@ apart = record {
   pins = pin_in 0 1 ∷ (pin_in 1 2 ∷ (pin_in 2 1 ∷ []));
   nets = [] ∷ ([] ∷ []);
 }
-
-apart-costs : List ℕ
-apart-costs =
-    let rows = start_rows Width apart 1 in
-    cost_of apart rows weights ∷ (cost_of apart (swapped 1 2 rows) weights ∷ (cost_of apart (swapped 1 2 (swapped 1 2 rows)) weights ∷ []))
-
-two-one-two : apart-costs ≡ 2 ∷ (1 ∷ (2 ∷ []))
-unfolding apart-costs start_rows all_columns column_of cost_of net_cost swapped
-two-one-two = refl
 
 -- a cell of two columns with its pin in the first
 abbrev wide : Netlist

@@ -16,9 +16,7 @@ loop-stage-init c =
       rows = ap (λ (r : List (List Seat)). record start { rows = r }) (sym (ap (after_changes d s c.args.seed start.rows) none ∙ changes_none d s c.args.seed start.rows));
       number = c.new-draws.ensures.number ∙ sym none;
       seed = c.new-draws.ensures.seed;
-      temperature = ap (λ (a : Annealing). a.temperature) c.schedule.view_is ∙ sym (temperature_first s.temperature);
-      warm = c.schedule.invariant.some;
-      hot = c.schedule.invariant.hot;
+      temperature = c.first-temperature.ensures ∙ sym (temperature_first s.temperature);
     }
 
 pub run_stage-requires-clause-few : goal.run_stage-requires-clause-few
@@ -35,9 +33,7 @@ loop-stage-preserved c = record {
       c.stage_changes-count.ensures.is c.loop-stage.invariant.temperature c.run_stage.ensures.rows;
   number = omega (arith, c.run_stage.ensures.number, c.loop-stage.invariant.number, c.stage_changes-count.ensures.is);
   seed = c.run_stage.ensures.seed ∙ c.loop-stage.invariant.seed;
-  temperature = c.cooler-temperature.ensures.is ∙ ap cooler c.loop-stage.invariant.temperature ∙ sym (temperature_more c.args.schedule.now.temperature c.loop-stage._stage);
-  warm = c.cooler-temperature.ensures.some;
-  hot = c.cooler-temperature.ensures.few;
+  temperature = c.cooler-temperature.ensures ∙ ap cooler c.loop-stage.invariant.temperature ∙ sym (temperature_more c.args.schedule.now.temperature c.loop-stage._stage);
 }
 
 pub returns : goal.returns

@@ -1,4 +1,4 @@
-use Rattle.std.proofs.Common.{◌≡◌, ◌*◌, ◌<◌, ◌≤◌}
+use Rattle.std.proofs.Common.{◌≡◌, ◌*◌}
 use Rattle.anneal_int.specs.Annealed.{after_changes, stage_changes}
 use Rattle.anneal_int.specs.Cooling.{temperature_of}
 use Rattle.anneal_int.proofs.annealing.run.Given as goal
@@ -9,6 +9,4 @@ invariant-loop-stage l = record {
   number : l.draws.number ≡ l._stage * stage_changes l.design l.schedule;
   seed : l.draws.seed ≡ l.seed;
   temperature : l.temperature ≡ temperature_of l.schedule.temperature l._stage;
-  warm : 0 < l.temperature;
-  hot : l.temperature ≤ 1000000000;
 }

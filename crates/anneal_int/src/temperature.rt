@@ -1,0 +1,52 @@
+use crate::schedule::Schedule;
+use std::marker::Model;
+
+/// A temperature from 1 to 1,000,000,000, which every value keeps. Contracts see the number.
+#[derive(Clone, Copy, Debug)]
+pub struct Temperature {
+    degrees: u64,
+}
+
+impl Model for Temperature {
+    ghost use Rattle.std.specs.Prelude.{ℕ, ◌<◌, ◌≤◌};
+
+    ghost Value = { ℕ };
+
+    ghost view = { λ t. t.degrees };
+
+    ghost invariant = { λ t. (0 < t.degrees) × (t.degrees ≤ 1000000000) };
+
+    ghost inverse = { λ n. record { degrees = n } };
+}
+
+impl Temperature {
+    ghost use Rattle.anneal_int.specs.Cooling.{cooler};
+    ghost use Rattle.std.specs.Prelude.{◌≡◌, ◌<◌, ◌≤◌};
+
+    /// The temperature of the first stage of a schedule.
+    pub fn first(schedule: &Schedule) -> Temperature
+        ensures { result ≡ schedule.now.temperature }
+    {
+        Temperature {
+            degrees: schedule.temperature,
+        }
+    }
+
+    /// The temperature of the stage behind one of this temperature.
+    pub fn cooler(self) -> Temperature
+        ensures { result ≡ cooler self }
+    {
+        Temperature {
+            degrees: (self.degrees * 9 / 10).max(1),
+        }
+    }
+
+    /// The number, from 1 to 1,000,000,000.
+    pub fn degrees(self) -> u64
+        ensures is { result ≡ self }
+        ensures some { 0 < result }
+        ensures few { result ≤ 1000000000 }
+    {
+        self.degrees
+    }
+}

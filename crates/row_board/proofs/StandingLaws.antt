@@ -1,0 +1,102 @@
+use Rattle.std.proofs.Common.{◌≡◌, ◌≢◌, ◌<◌, ◌≤◌, ◌⊎◌, ℕ, zero, suc, ◌+◌, List, [], ◌∷◌, length, take, set, Bool, true, false, cond, Option, None, Some, refl, ap, ap₂, sym, ◌∙◌, inl, inr, arith}
+use Rattle.std.proofs.lemmas.Bool.Decides.{nat_tests}
+use Rattle.std.proofs.lemmas.Option.{none-some, same_Some, slice_get_within}
+use Rattle.std.specs.List.{slice_get}
+use Rattle.std.specs.Option.{option_map}
+use Rattle.std.specs.Prelude.{nat_eq, slice_set}
+use Rattle.design_model.specs.Netlist.{Netlist}
+use Rattle.row_board.specs.Standings.{AreApart, HasEntered, KeepsOthers, put_in, standing_at}
+use Rattle.row_model.specs.Widths.{columns_of, row_width}
+use Rattle.row_model.specs.declared.rows.Seat.{Seat}
+use Rattle.row_board.specs.Spot.{Spot}
+use Rattle.row_model.proofs.WidthLaws.{width-cons}
+
+-- what stands at a place of a list after another is written there
+pub get-set-same : {X : Type 0} (xs : List X) (i : ℕ) (x : X) → i < length xs → slice_get (set xs i x) i ≡ Some x
+get-set-same [] i x within = absurd (omega arith)
+get-set-same (y ∷ ys) zero x within = refl
+get-set-same (y ∷ ys) (suc i) x within = get-set-same ys i x (omega arith)
+
+-- and elsewhere
+pub get-set-other : {X : Type 0} (xs : List X) (i k : ℕ) (x : X) → k ≢ i → slice_get (set xs i x) k ≡ slice_get xs k
+get-set-other [] i k x other = refl
+get-set-other (y ∷ ys) zero zero x other = absurd (other refl)
+get-set-other (y ∷ ys) zero (suc k) x other = refl
+get-set-other (y ∷ ys) (suc i) zero x other = refl
+get-set-other (y ∷ ys) (suc i) (suc k) x other = get-set-other ys i k x (λ h. other (ap suc h))
+
+-- a write past the end writes nothing
+pub set-past : {X : Type 0} (xs : List X) (i : ℕ) (x : X) → length xs ≤ i → set xs i x ≡ xs
+set-past [] i x past = refl
+set-past (y ∷ ys) zero x past = absurd (omega arith)
+set-past {X} (y ∷ ys) (suc i) x past = ap (λ (l : List X). y ∷ l) (set-past ys i x (omega arith))
+
+-- the width of one more seat
+pub width-more : (d : Netlist) (seats : List Seat) (k : ℕ) (s : Seat) → slice_get seats k ≡ Some s → row_width d (take (k + 1) seats) ≡ row_width d (take k seats) + columns_of d s.instance
+width-more d [] k s at = absurd (none-some s at)
+width-more d (x ∷ xs) zero s at =
+    let same : x ≡ s = same_Some x s at in
+    omega (arith, width-cons d x [], ap (λ (y : Seat). columns_of d y.instance) same)
+width-more d (x ∷ xs) (suc k) s at =
+    let rest = width-more d xs k s at in
+    let number : suc k + 1 ≡ suc (k + 1) = omega arith in
+    let more = ap (λ (n : ℕ). row_width d (take n (x ∷ xs))) number in
+    omega (arith, more, rest, width-cons d x (take (k + 1) xs), width-cons d x (take k xs))
+
+equal_or_not : (i j : ℕ) → (i ≡ j) ⊎ (i ≢ j)
+equal_or_not i j = grind arith
+
+-- one more seat is entered
+pub entered-more : (d : Netlist) (row from place n : ℕ) (seats : List Seat) (s : Seat) (old : List Spot) → HasEntered d row from place seats old → AreApart n seats
+    → slice_get seats place ≡ Some s → s.instance < length old → HasEntered d row from (place + 1) seats (set old s.instance (standing_at d row place seats s))
+entered-more d row from place n seats s old so_far apart at within = record { each = λ k t low high here. by k t low high here (equal_or_not k place) }
+  where
+    by : (k : ℕ) (t : Seat) → from ≤ k → k < place + 1 → slice_get seats k ≡ Some t → (k ≡ place) ⊎ (k ≢ place)
+        → slice_get (set old s.instance (standing_at d row place seats s)) t.instance ≡ Some (standing_at d row k seats t)
+    by k t low high here (inl same) =
+        let one : t ≡ s = same_Some t s (sym here ∙ ap (slice_get seats) same ∙ at) in
+        ap (λ (x : Seat). slice_get (set old s.instance (standing_at d row place seats s)) x.instance) one
+        ∙ get-set-same old s.instance (standing_at d row place seats s) within
+        ∙ ap₂ (λ (m : ℕ) (x : Seat). Some (standing_at d row m seats x)) (sym same) (sym one)
+    by k t low high here (inr other) =
+        get-set-other old s.instance t.instance (standing_at d row place seats s) (λ h. other (apart.apart k place t s here at h))
+        ∙ so_far.each k t low (omega arith) here
+
+-- and the others stay
+pub others-more : (from place : ℕ) (seats : List Seat) (s : Seat) (old now : List Spot) (new : Spot) → KeepsOthers from place seats old now
+    → from ≤ place → slice_get seats place ≡ Some s → KeepsOthers from (place + 1) seats old (set now s.instance new)
+others-more from place seats s old now new so_far low at = record {
+  each = λ j none.
+      get-set-other now s.instance j new (λ h. none place s low (omega arith) at (sym h))
+      ∙ so_far.each j (λ k t from_k to_k here. none k t from_k (omega arith) here);
+}
+
+-- a row of rows is written
+pub row-put : (rows : List (List Seat)) (row place : ℕ) (seat : Seat) (item new : List Seat) → row < length rows → slice_get rows row ≡ Some item → new ≡ set item place seat
+    → (r : ℕ) → slice_get (set rows row new) r ≡ option_map (put_in row place seat r) (slice_get rows r)
+row-put rows row place seat item new within at is r = by (nat_eq r row) refl
+  where
+    same : (o : Option (List Seat)) → o ≡ option_map (λ (seats : List Seat). seats) o
+    same None = refl
+    same (Some x) = refl
+
+    by : (b : Bool) → nat_eq r row ≡ b → slice_get (set rows row new) r ≡ option_map (λ (seats : List Seat). cond b (slice_set seats place seat) seats) (slice_get rows r)
+    by true test =
+        let same : r ≡ row = grind (arith, nat_tests) in
+        ap (slice_get (set rows row new)) same ∙ get-set-same rows row new within ∙ ap (λ (l : List Seat). Some l) is
+        ∙ sym (ap (option_map (λ (seats : List Seat). slice_set seats place seat)) (ap (slice_get rows) same ∙ at))
+    by false test =
+        let other : r ≢ row = grind (arith, nat_tests) in
+        get-set-other rows row r new other ∙ same (slice_get rows r)
+
+-- and none where there is no such row
+pub row-past : (rows : List (List Seat)) (row place : ℕ) (seat : Seat) → length rows ≤ row
+    → (r : ℕ) → slice_get rows r ≡ option_map (put_in row place seat r) (slice_get rows r)
+row-past rows row place seat past r = by (slice_get rows r) refl
+  where
+    by : (o : Option (List Seat)) → slice_get rows r ≡ o → o ≡ option_map (put_in row place seat r) o
+    by None at = refl
+    by (Some seats) at =
+        let in_rows = slice_get_within rows r seats at in
+        let off : nat_eq r row ≡ false = grind (arith, nat_tests, in_rows) in
+        ap (λ (b : Bool). Some (cond b (slice_set seats place seat) seats)) (sym off)

@@ -1,0 +1,29 @@
+-- what annealing weighs
+pub mod Weights
+pub mod WeightsView
+-- what rows cost
+pub mod Cost
+-- rows that are weighed
+pub mod WeighedRows
+pub mod SpansView
+-- where an instance stands, and tables of that
+pub mod Spot
+pub mod SpotView
+pub mod Standings
+-- the pins of nets and the nets of instances
+pub mod NetPins
+pub mod NetsView
+-- what nets cost by a table of where instances stand
+pub mod NetCosts
+pub mod NetCostsView
+-- numbers with their sum
+pub mod SummedView
+-- what a swap moves
+pub mod Moving
+-- the widths of rows, and how far they are from their target
+pub mod RowLengths
+pub mod RowLengthsView
+-- tables of placed rows
+pub mod Board
+-- two instances that take each other's place while no other is shifted
+pub mod Trial

@@ -1,0 +1,59 @@
+use Rattle.std.specs.Prelude.{◌≡◌, ℕ, ◌+◌, ◌*◌, ◌<◌, ◌≤◌, ◌==◌, List, length, map, filter, Bool, true, false, if◌then◌else◌, Option, None, Some, slice_get}
+use Rattle.std.specs.List.{list_any}
+use Rattle.design_model.specs.Netlist.{Netlist}
+use Rattle.design_model.specs.declared.design.Pin.{Pin}
+use Rattle.row_board.specs.Cost.{pins_of_net, spread}
+use Rattle.row_board.specs.Standings.{standing_of}
+use Rattle.row_model.specs.Stands.{first_column, turned_column}
+use Rattle.row_model.specs.Widths.{columns_of}
+use Rattle.row_board.specs.declared.net_pins.NetPin.{NetPin}
+use Rattle.row_board.specs.Spot.{Spot}
+use Rattle.row_board.specs.Weights.{Weighing}
+
+-- how far a pin stands from the left side of its cell, which may be mirrored
+abbrev pub offset_of : Bool → ℕ → Option ℕ → ℕ
+offset_of mirror columns None = 0
+offset_of mirror columns (Some column) = turned_column mirror columns column
+
+-- a pin as its net has it
+abbrev pub net_pin : Netlist → Pin → NetPin
+net_pin d p = record {
+  instance = p.instance;
+  upright = offset_of false (columns_of d p.instance) (first_column d p);
+  mirrored = offset_of true (columns_of d p.instance) (first_column d p);
+}
+
+-- the nets of an instance, one for each of its pins
+abbrev pub nets_of : Netlist → ℕ → List ℕ
+nets_of d instance = map (λ (p : Pin). p.net) (filter (λ (p : Pin). p.instance == instance) d.pins)
+
+-- a table has the pins of each net
+pub record ArePins (d : Netlist) (pins : List (List NetPin)) : Type 0 where
+  pub each : (net : ℕ) → net ≤ length d.nets → slice_get pins net ≡ Some (map (net_pin d) (pins_of_net d net))
+
+-- a table has the nets of each instance
+pub record AreNets (d : Netlist) (nets : List (List ℕ)) : Type 0 where
+  pub each : (instance : ℕ) → instance < length d.instances → slice_get nets instance ≡ Some (nets_of d instance)
+
+-- how far a pin is from the left side of its cell, which may be mirrored
+abbrev pub offset_in : NetPin → Bool → ℕ
+offset_in p mirror = if mirror then p.mirrored else p.upright
+
+-- the column and the row of a pin by a table
+abbrev pub pin_column : List Spot → NetPin → ℕ
+pin_column standings p = (standing_of standings p.instance).left + offset_in p (standing_of standings p.instance).mirror
+
+abbrev pub pin_row : List Spot → NetPin → ℕ
+pin_row standings p = (standing_of standings p.instance).row
+
+-- what a net with these pins costs by a table
+unfoldable pub measured : ℕ → List Spot → List NetPin → ℕ
+measured row_cost standings pins = spread (map (pin_column standings) pins) + row_cost * spread (map (pin_row standings) pins)
+
+-- what a net of a design costs by a table
+abbrev pub cost_by : Netlist → Weighing → List Spot → ℕ → ℕ
+cost_by d w standings net = measured w.row_cost standings (map (net_pin d) (pins_of_net d net))
+
+-- whether a net is that of a pin of one of these seats
+abbrev pub has_net : List ℕ → ℕ → Bool
+has_net nets net = list_any (λ (n : ℕ). n == net) nets

@@ -1,0 +1,51 @@
+ghost use Rattle.row_board.specs.Standings.{AreApart, AreEntered, HasEntered, KeepsOthers};
+ghost use Rattle.row_model.specs.Rows.{ArePlaced};
+ghost use Rattle.std.specs.Prelude.{◌≡◌, ◌≤◌, ◌<◌, length, IfOk};
+
+use crate::seats::row_at;
+use crate::standings::Standing;
+use design_model::Design;
+use geom_core::Items;
+use row_model::{Seat, columns_of};
+use std::alloc::{AllocError, Global};
+
+// Enters where the instances of a row's seats stand.
+fn enter_row(design: &Design, row: u16, seats: &[Seat], standings: &mut [Standing])
+    requires apart { AreApart (length standings.old) seats.now }
+    requires short { length seats.now ≤ 20000 }
+    requires low { row < 514 }
+    ensures entered { HasEntered design.now row 0 (length seats.now) seats.now standings.new }
+    ensures others { KeepsOthers 0 (length seats.now) seats.now standings.old standings.new }
+{
+    let mut left = 0;
+    for place in 0..seats.len() {
+        let seat = seats[place];
+        standings[seat.instance as usize] = Standing {
+            row,
+            mirror: seat.mirror,
+            place: place as u32,
+            left,
+        };
+        left += u64::from(columns_of(design, seat.instance));
+    }
+}
+
+/// Where each instance of placed rows stands. The one error is want of memory.
+pub fn standings_of(
+    alloc: Global,
+    design: &Design,
+    rows: &[Items<Seat>],
+) -> Result<Vec<Standing>, AllocError>
+    requires { ArePlaced design.now rows.now }
+    ensures count { IfOk result (λ v. length v.items ≡ length design.now.instances) }
+    ensures entered { IfOk result (λ v. AreEntered design.now rows.now v.items) }
+{
+    // The bounds of the design's type are known once a field is read.
+    let _pins = &design.pins;
+    let mut standings = vec![in alloc; Standing::lower_left(); design.instances.items().len()]?;
+    for row in 0..rows.len() as u16 {
+        let seats = row_at(rows, row);
+        enter_row(design, row, seats, standings.as_mut_slice());
+    }
+    Ok(standings)
+}

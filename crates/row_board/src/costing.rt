@@ -1,0 +1,31 @@
+ghost use Rattle.row_board.specs.Cost.{cost_of};
+ghost use Rattle.row_model.specs.Rows.{ArePlaced};
+ghost use Rattle.std.specs.Prelude.{◌≡◌, IfOk};
+
+use crate::building::standings_of;
+use crate::net_costs::NetCosts;
+use crate::row_lengths::RowLengths;
+use crate::trial::total_of;
+use crate::weights::Weights;
+use design_model::Design;
+use row_model::Rows;
+use std::alloc::{AllocError, Global};
+
+/// What rows of a design cost, in columns: the sum, over its nets, of the columns between the net's pins and, for each row between them, the
+/// weight of a row; and for each column by which a row's width misses the target the weight of a length. The one error is want of memory.
+pub fn cost(
+    alloc: Global,
+    design: &Design,
+    rows: &Rows,
+    weights: Weights,
+) -> Result<u64, AllocError>
+    requires { ArePlaced design.now rows.now }
+    ensures { IfOk result (λ c. c ≡ cost_of design.now rows.now weights) }
+{
+    // The bounds of the design's type are known once a field is read.
+    let _pins = &design.pins;
+    let standings = standings_of(alloc, design, rows.rows.items())?;
+    let lengths = RowLengths::of(alloc, design, rows.rows.items())?;
+    let costs = NetCosts::new(alloc, design, weights, standings)?;
+    Ok(total_of(&costs, &lengths))
+}

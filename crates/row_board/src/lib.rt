@@ -1,0 +1,21 @@
+//! Rows that are weighed: what they cost, which is kept while their cells exchange places or are mirrored.
+#![tactic(auto)]
+
+mod board;
+mod building;
+mod costing;
+mod moving;
+mod net_costs;
+mod net_pins;
+mod nets;
+mod row_lengths;
+mod seats;
+mod spans;
+mod standings;
+mod summed;
+mod trial;
+mod weights;
+
+pub use costing::cost;
+pub use spans::Spans;
+pub use weights::Weights;

@@ -1,0 +1,136 @@
+ghost use Rattle.row_board.specs.NetPins.{
+  AreNets,
+  ArePins,
+  measured,
+  net_pin,
+  offset_in,
+  offset_of,
+  pin_column,
+  pin_row,
+};
+ghost use Rattle.row_board.specs.Standings.{standing_of};
+ghost use Rattle.row_model.specs.PinColumns.{kind_columns};
+ghost use Rattle.std.specs.Prelude.{◌≡◌, ◌<◌, ◌≤◌, map, IfOk};
+
+use crate::standings::Standing;
+use crate::weights::Weights;
+use design_model::{Design, Pin};
+use geom_core::Items;
+use list_facts::Lists;
+use row_model::{PinColumns, columns_of, kind_tables, tabled_columns, turned_column};
+use std::alloc::{AllocError, Global};
+
+/// A pin of a net: its instance, and how far its first position is from the left side of the cell, upright and mirrored.
+#[derive(Clone, Copy, Debug)]
+pub struct NetPin {
+    pub instance: u32,
+    pub upright: u32,
+    pub mirrored: u32,
+}
+
+// How far a position stands from the left side of a cell of so many columns.
+fn offset_of(mirror: bool, columns: u32, column: Option<u32>) -> u32
+    ensures { result ≡ offset_of mirror columns column }
+{
+    match column {
+        Some(column) => turned_column(mirror, columns, column),
+        None => 0,
+    }
+}
+
+// A pin as its net has it, by the tables of the kinds.
+fn net_pin(design: &Design, tables: &[Items<PinColumns>], pin: Pin) -> NetPin
+    requires { tables.now ≡ map kind_columns design.now.kinds }
+    ensures { result ≡ net_pin design.now pin }
+{
+    let columns = columns_of(design, pin.instance);
+    let first = tabled_columns(design, tables, pin).first;
+    NetPin {
+        instance: pin.instance,
+        upright: offset_of(false, columns, first),
+        mirrored: offset_of(true, columns, first),
+    }
+}
+
+/// The pins of each net, by the numbers of the nets, from 1. The one error is want of memory; steps as the number of pins and positions.
+pub fn net_pins(alloc: Global, design: &Design) -> Result<Lists<NetPin>, AllocError>
+    ensures { IfOk result (λ pins. ArePins design.now pins) }
+{
+    let tables = kind_tables(alloc, design.kinds.items())?;
+    let mut lists = Lists::new(alloc, design.nets.items().len() + 1)?;
+    let mut rest = design.pins.items();
+    while let Some((pin, after)) = rest.split_first() {
+        lists.push(pin.net as usize, net_pin(design, tables.as_slice(), *pin))?;
+        rest = after;
+    }
+    Ok(lists)
+}
+
+/// The nets of the pins of each instance. The one error is want of memory; steps as the number of pins.
+pub fn instance_nets(alloc: Global, design: &Design) -> Result<Lists<u32>, AllocError>
+    ensures { IfOk result (λ nets. AreNets design.now nets) }
+{
+    let mut lists = Lists::new(alloc, design.instances.items().len())?;
+    let mut rest = design.pins.items();
+    while let Some((pin, after)) = rest.split_first() {
+        lists.push(pin.instance as usize, pin.net)?;
+        rest = after;
+    }
+    Ok(lists)
+}
+
+/// Where an instance stands by a table, or at the lower left where that has none.
+pub fn standing_of(standings: &[Standing], instance: u32) -> Standing
+    ensures { result ≡ standing_of standings.now instance }
+{
+    match standings.get(instance as usize) {
+        Some(standing) => *standing,
+        None => Standing::lower_left(),
+    }
+}
+
+// How far a pin is from the left side of its cell, which may be mirrored.
+fn offset_in(pin: NetPin, mirror: bool) -> u32
+    ensures { result ≡ offset_in pin mirror }
+{
+    if mirror { pin.mirrored } else { pin.upright }
+}
+
+// The column and the row of a pin by a table.
+fn place_of(standings: &[Standing], pin: NetPin) -> (u64, u64)
+    ensures column { result.0 ≡ pin_column standings.now pin }
+    ensures row { result.1 ≡ pin_row standings.now pin }
+    ensures far { result.0 ≤ 2004294967295 }
+    ensures high { result.1 < 514 }
+{
+    let standing = standing_of(standings, pin.instance);
+    let offset = offset_in(pin, standing.mirror);
+    (standing.left + u64::from(offset), u64::from(standing.row))
+}
+
+/// What a net with these pins costs by a table of where instances stand. Takes no memory, and steps as the number of pins.
+#[tactic(auto, unfolding(crate::specs::NetPins::measured))]
+pub fn measure(pins: &[NetPin], standings: &[Standing], weights: Weights) -> u64
+    ensures is { result ≡ measured weights.row_cost standings.now pins.now }
+    ensures small { result ≤ 2199023255552 }
+{
+    let Some((first, others)) = pins.split_first() else {
+        return 0;
+    };
+    let (column, row) = place_of(standings, *first);
+    let mut left = column;
+    let mut right = column;
+    let mut low = row;
+    let mut high = row;
+    let mut rest = others;
+    while let Some((pin, after)) = rest.split_first() {
+        let (column, row) = place_of(standings, *pin);
+        left = left.min(column);
+        right = right.max(column);
+        low = low.min(row);
+        high = high.max(row);
+        rest = after;
+    }
+    let row_cost = weights.row_cost;
+    (right - left) + row_cost * (high - low)
+}

@@ -1,0 +1,113 @@
+ghost use Rattle.row_board.specs.Cost.{difference};
+ghost use Rattle.row_model.specs.Widths.{row_width};
+ghost use Rattle.std.specs.Prelude.{◌≡◌, ◌≤◌, length};
+
+use crate::summed::Summed;
+use design_model::Design;
+use geom_core::Items;
+use row_model::{Seat, all_columns, columns_of};
+use std::alloc::{AllocError, Global};
+use std::marker::Model;
+
+/// The widths of rows in columns, and how far they are from the width that each should have. Contracts see the widths and that target.
+#[derive(Drop)]
+pub struct RowLengths {
+    widths: Vec<u64>,
+    misses: Summed,
+    target: u64,
+}
+
+impl Model for RowLengths {
+    ghost use Rattle.row_board.specs.RowLengths.{Lengths};
+
+    ghost Value = { Lengths };
+
+    ghost use Rattle.row_board.specs.RowLengthsView.{lengths_in, AreLengths};
+
+    ghost view = { lengths_in };
+
+    ghost invariant = { AreLengths };
+}
+
+/// The difference of two numbers, without sign.
+pub fn difference(a: u64, b: u64) -> u64
+    ensures { result ≡ difference a b }
+{
+    if a < b { b - a } else { a - b }
+}
+
+// The width of seats side by side.
+fn row_width(design: &Design, seats: &[Seat]) -> u64
+    requires { length seats.now ≤ 20000 }
+    ensures is { result ≡ row_width design.now seats.now }
+    ensures few { result ≤ 2000000000000 }
+{
+    let mut width = 0;
+    let mut rest = seats;
+    while let Some((seat, after)) = rest.split_first() {
+        width += u64::from(columns_of(design, seat.instance));
+        rest = after;
+    }
+    width
+}
+
+impl RowLengths {
+    ghost use Rattle.row_board.specs.Board.{lengths_of};
+    ghost use Rattle.row_board.specs.RowLengths.{Lengths};
+    ghost use Rattle.row_board.specs.RowLengthsView.{misses_of};
+    ghost use Rattle.row_model.specs.Rows.{ArePlaced};
+    ghost use Rattle.std.specs.Option.{option_map};
+    ghost use Rattle.std.specs.Prelude.{◌≡◌, ◌==◌, ◌+◌, ◌-◌, ◌*◌, ◌≤◌, ◌<◌, ℕ, Some, length, slice_get, sum, if◌then◌else◌, IfOk};
+
+    /// The widths of placed rows, and the target: the width of all instances divided by the number of rows, rounded up. The one error is want of memory.
+    pub fn of(
+        alloc: Global,
+        design: &Design,
+        rows: &[Items<Seat>],
+    ) -> Result<RowLengths, AllocError>
+        requires { ArePlaced design.now rows.now }
+        ensures { IfOk result (λ lengths. lengths ≡ lengths_of design.now rows.now) }
+    {
+        // The bounds of the design's type are known once a field is read.
+        let _pins = &design.pins;
+        let count = rows.len() as u64;
+        let target = (all_columns(design) + (count - 1)) / count;
+        let mut widths = Vec::new(alloc);
+        let mut misses = Summed::new(alloc);
+        let mut rest = rows;
+        while let Some((seats, after)) = rest.split_first() {
+            let width = row_width(design, seats.items());
+            misses.push(difference(width, target))?;
+            widths.push(width)?;
+            rest = after;
+        }
+        Ok(RowLengths {
+            widths,
+            misses,
+            target,
+        })
+    }
+
+    /// A row gets so many columns more, and then so many fewer, where there is this row. Takes no memory.
+    pub fn change(&mut self, row: u16, more: u32, fewer: u32)
+        requires small { (width : ℕ) → slice_get self.old.widths row ≡ Some width → width ≤ 2000100000000 }
+        requires more { more ≤ 100000000 }
+        ensures widths { (r : ℕ) → slice_get self.new.widths r ≡ option_map (λ (width : ℕ). if r == row then width + more - fewer else width) (slice_get self.old.widths r) }
+        ensures target { self.new.target ≡ self.old.target }
+    {
+        let n = row as usize;
+        if n < self.widths.len() {
+            let width = (self.widths[n] + u64::from(more)).saturating_sub(u64::from(fewer));
+            self.misses.set(n, difference(width, self.target));
+            self.widths[n] = width;
+        }
+    }
+
+    /// By how many columns all rows miss the target. Takes no memory.
+    pub fn unevenness(&self) -> u64
+        ensures is { result ≡ sum (misses_of self.now) }
+        ensures small { result ≤ 2199023255552 * 514 }
+    {
+        self.misses.sum()
+    }
+}

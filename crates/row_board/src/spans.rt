@@ -1,0 +1,179 @@
+use crate::board::{mirror_on_board, swap_on_board};
+use crate::building::standings_of;
+use crate::net_costs::NetCosts;
+use crate::row_lengths::RowLengths;
+use crate::trial::{is_too_dear, total_of};
+use crate::weights::Weights;
+use design_model::Design;
+use row_model::{Rows, columns_of};
+use std::alloc::{AllocError, Global};
+use std::marker::Model;
+
+/// Rows of a design with their cost, which is kept while the rows change: for each net what it costs, and for each instance where it stands.
+/// Contracts see the design, the rows and the weights.
+#[derive(Drop)]
+pub struct Spans<'d> {
+    rows: Rows,
+    costs: NetCosts<'d>,
+    lengths: RowLengths,
+}
+
+impl<'d> Model for Spans<'d> {
+    ghost use Rattle.row_board.specs.WeighedRows.{WeighedRows};
+
+    ghost Value = { WeighedRows };
+
+    ghost use Rattle.row_board.specs.SpansView.{weighed_in, AreSpans};
+
+    ghost view = { weighed_in };
+
+    ghost invariant = { AreSpans };
+}
+
+impl<'d> Spans<'d> {
+    ghost use Rattle.row_model.specs.Changes.{mirrored, swapped};
+    ghost use Rattle.row_board.specs.Cost.{cost_of};
+    ghost use Rattle.row_model.specs.Rows.{ArePlaced};
+    ghost use Rattle.row_board.specs.WeighedRows.{WeighedRows};
+    ghost use Rattle.std.specs.Bool.{OnFalse, OnTrue};
+    ghost use Rattle.std.specs.Prelude.{◌≡◌, ◌<◌, ◌+◌, ◌^◌, length, IfOk, nat_le};
+
+    /// These rows of a design with their cost. All memory is taken here. The one error is want of memory, which gives the rows up.
+    pub fn new(
+        alloc: Global,
+        design: &'d Design,
+        rows: Rows,
+        weights: Weights,
+    ) -> Result<Spans<'d>, AllocError>
+        requires { ArePlaced design.now rows }
+        ensures { IfOk result (λ s. s ≡ record { design = design.entry.now; rows = rows; weights = weights }) }
+    {
+        // The bounds of the design's type are known once a field is read.
+        let _pins = &design.pins;
+        let standings = standings_of(alloc, design, rows.rows.items())?;
+        let lengths = RowLengths::of(alloc, design, rows.rows.items())?;
+        let costs = NetCosts::new(alloc, design, weights, standings)?;
+        Ok(Spans {
+            rows,
+            costs,
+            lengths,
+        })
+    }
+
+    /// What the rows cost, in columns. Takes no memory.
+    pub fn cost(&self) -> u64
+        ensures is { result ≡ cost_of self.now.design self.now.rows self.now.weights }
+        ensures few { result < 2 ^ 58 }
+    {
+        total_of(&self.costs, &self.lengths)
+    }
+
+    /// The rows, which hold each instance of the design once. Takes no memory.
+    pub fn rows(&self) -> &Rows
+        ensures is { result.now ≡ self.now.rows }
+        ensures placed { ArePlaced self.now.design self.now.rows }
+    {
+        &self.rows
+    }
+
+    /// Two instances, by their numbers, exchange their places, each with its mirror. Takes no memory.
+    pub fn swap(&mut self, a: u32, b: u32)
+        requires a { a < length self.old.design.instances }
+        requires b { b < length self.old.design.instances }
+        ensures { self.new ≡ record self.old { rows = swapped a b self.old.rows } }
+    {
+        if a != b {
+            swap_on_board(
+                self.rows.rows.items_mut(),
+                &mut self.costs,
+                &mut self.lengths,
+                a,
+                b,
+            );
+        }
+    }
+
+    /// An instance, by its number, is turned over. Takes no memory.
+    pub fn mirror(&mut self, a: u32)
+        requires { a < length self.old.design.instances }
+        ensures { self.new ≡ record self.old { rows = mirrored a self.old.rows } }
+    {
+        mirror_on_board(
+            self.rows.rows.items_mut(),
+            &mut self.costs,
+            &self.lengths,
+            a,
+        );
+    }
+
+    // Whether the rows surely cost more than so much more than before after a swap of two instances, of which one is wider. All stays as it is.
+    fn is_too_dear(&mut self, a: u32, b: u32, most: u64) -> bool
+        requires a { a < length self.old.design.instances }
+        requires b { b < length self.old.design.instances }
+        ensures dear { OnTrue result (cost_of self.old.design self.old.rows self.old.weights + most < cost_of self.old.design (swapped a b self.old.rows) self.old.weights) }
+        ensures left { self.new ≡ self.old }
+    {
+        // Where both are of one width, a swap shifts no other and is soon taken back.
+        let design = self.costs.design();
+        if columns_of(design, a) == columns_of(design, b) {
+            return false;
+        }
+        is_too_dear(
+            &mut self.costs,
+            self.rows.rows.items(),
+            &self.lengths,
+            a,
+            b,
+            most,
+        )
+    }
+
+    /// Two instances exchange their places, each with its mirror, exactly where the rows then cost at most so much more than before. Whether
+    /// they did. Takes no memory.
+    pub fn swap_within(&mut self, a: u32, b: u32, most: u64) -> bool
+        requires a { a < length self.old.design.instances }
+        requires b { b < length self.old.design.instances }
+        ensures is { result ≡ nat_le (cost_of self.old.design (swapped a b self.old.rows) self.old.weights) (cost_of self.old.design self.old.rows self.old.weights + most) }
+        ensures done { OnTrue result (self.new ≡ record self.old { rows = swapped a b self.old.rows }) }
+        ensures left { OnFalse result (self.new ≡ self.old) }
+    {
+        // What every value keeps is known once a field is read.
+        let _rows = &self.rows;
+        if self.is_too_dear(a, b, most) {
+            return false;
+        }
+        let limit = self.cost().saturating_add(most);
+        self.swap(a, b);
+        if self.cost() <= limit {
+            return true;
+        }
+        self.swap(a, b);
+        false
+    }
+
+    /// An instance is turned over, exactly where the rows then cost at most so much more than before. Whether it was. Takes no memory.
+    pub fn mirror_within(&mut self, a: u32, most: u64) -> bool
+        requires { a < length self.old.design.instances }
+        ensures is { result ≡ nat_le (cost_of self.old.design (mirrored a self.old.rows) self.old.weights) (cost_of self.old.design self.old.rows self.old.weights + most) }
+        ensures done { OnTrue result (self.new ≡ record self.old { rows = mirrored a self.old.rows }) }
+        ensures left { OnFalse result (self.new ≡ self.old) }
+    {
+        // What every value keeps is known once a field is read.
+        let _rows = &self.rows;
+        let limit = self.cost().saturating_add(most);
+        self.mirror(a);
+        if self.cost() <= limit {
+            return true;
+        }
+        self.mirror(a);
+        false
+    }
+
+    /// The rows, as they are last. Takes no memory.
+    pub fn end(self) -> Rows
+        ensures is { result ≡ self.entry.rows }
+        ensures placed { ArePlaced self.entry.design result }
+    {
+        self.rows
+    }
+}

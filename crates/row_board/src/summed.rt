@@ -1,0 +1,68 @@
+use std::alloc::{AllocError, Global};
+use std::marker::Model;
+
+/// Numbers with their sum, which is kept while they change: at most 200,001 numbers of at most 2^41 each. Contracts see their list.
+#[derive(Drop)]
+pub struct Summed {
+    items: Vec<u64>,
+    sum: u64,
+}
+
+impl Model for Summed {
+    ghost use Rattle.std.specs.Prelude.{List, ℕ};
+
+    ghost Value = { List ℕ };
+
+    ghost use Rattle.row_board.specs.SummedView.{numbers_in, IsSummed};
+
+    ghost view = { numbers_in };
+
+    ghost invariant = { IsSummed };
+}
+
+impl Summed {
+    ghost use Rattle.std.specs.Prelude.{◌≡◌, ◌≤◌, ◌<◌, ◌*◌, ◌++◌, ◌∷◌, [], length, slice_set, sum, OnErr, OnOk};
+
+    /// No numbers. Takes no memory.
+    pub fn new(alloc: Global) -> Summed
+        ensures { result ≡ [] }
+    {
+        Summed {
+            items: Vec::new(alloc),
+            sum: 0,
+        }
+    }
+
+    /// Puts a number behind the others. The one error is want of memory.
+    pub fn push(&mut self, number: u64) -> Result<(), AllocError>
+        requires small { number ≤ 2199023255552 }
+        requires few { length self.old < 200001 }
+        ensures put { OnOk result (self.new ≡ self.old ++ number ∷ []) }
+        ensures kept { OnErr result (self.new ≡ self.old) }
+    {
+        self.items.push(number)?;
+        self.sum += number;
+        Ok(())
+    }
+
+    /// Puts a number at a place, where there is this place. Takes no memory.
+    pub fn set(&mut self, at: usize, number: u64)
+        requires { number ≤ 2199023255552 }
+        ensures { self.new ≡ slice_set self.old at number }
+    {
+        if at < self.items.len() {
+            self.sum -= self.items[at];
+            self.sum += number;
+            self.items[at] = number;
+        }
+    }
+
+    /// The sum of the numbers. Takes no memory.
+    pub fn sum(&self) -> u64
+        ensures is { result ≡ sum self.now }
+        ensures small { result ≤ 2199023255552 * length self.now }
+        ensures few { length self.now ≤ 200001 }
+    {
+        self.sum
+    }
+}

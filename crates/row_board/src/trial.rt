@@ -1,0 +1,97 @@
+ghost use Rattle.row_board.specs.Board.{AreSeated, IsBoard};
+ghost use Rattle.row_board.specs.Cost.{cost_of};
+ghost use Rattle.row_board.specs.NetCosts.{Tabled, table_costs};
+ghost use Rattle.row_board.specs.RowLengthsView.{misses_of};
+ghost use Rattle.row_board.specs.Standings.{standing_of, traded};
+ghost use Rattle.row_board.specs.Trial.{seats_between, shifted_pins, slack};
+ghost use Rattle.row_model.specs.Changes.{swapped};
+ghost use Rattle.std.specs.Bool.{OnTrue};
+ghost use Rattle.std.specs.Prelude.{◌≡◌, ◌≢◌, ◌<◌, ◌≤◌, ◌+◌, ◌*◌, ◌^◌, length, sum};
+
+use crate::moving::reach_of;
+use crate::net_costs::NetCosts;
+use crate::row_lengths::{RowLengths, difference};
+use crate::seats::row_at;
+use geom_core::Items;
+use row_model::{Seat, columns_of};
+
+/// What rows cost by their tables: the sum of what the nets cost, and the columns by which the rows miss their target as the weights tell. Takes no memory.
+pub fn total_of(costs: &NetCosts, lengths: &RowLengths) -> u64
+    ensures { result ≡ sum (table_costs costs.now.design costs.now.weights costs.now.standings) + costs.now.weights.length_cost * sum (misses_of lengths.now) }
+{
+    let length_cost = costs.weights().length_cost;
+    costs.sum() + length_cost * lengths.unevenness()
+}
+
+// What rows cost where two instances take each other's place and no other is shifted. All is as before after that.
+fn trial_cost(costs: &mut NetCosts, lengths: &RowLengths, a: u32, b: u32) -> u64
+    requires apart { a ≢ b }
+    requires a { a < length costs.old.standings }
+    requires b { b < length costs.old.standings }
+    ensures is { result ≡ sum (table_costs costs.old.design costs.old.weights (traded a b costs.old.standings)) + costs.old.weights.length_cost * sum (misses_of lengths.now) }
+    ensures same { costs.new ≡ costs.old }
+{
+    costs.trade(a, b);
+    let cost = total_of(costs, lengths);
+    costs.trade(a, b);
+    cost
+}
+
+// Some seats of a row: those from a place up to another.
+fn between(seats: &[Seat], from: usize, to: usize) -> &[Seat]
+    ensures { result.now ≡ seats_between from to seats.now }
+{
+    let end = to.min(seats.len());
+    &seats[from.min(end)..end]
+}
+
+// The number of pins that shift where an instance exchanges its place with another of another width.
+fn shifted_pins(costs: &NetCosts, rows: &[Items<Seat>], a: u32, b: u32) -> u64
+    requires seated { AreSeated costs.now.design rows.now costs.now.standings }
+    ensures is { result ≡ shifted_pins costs.now.design rows.now (standing_of costs.now.standings a) (standing_of costs.now.standings b) }
+    ensures few { result < 2 ^ 32 }
+{
+    let _design = costs.design();
+    let one = costs.standing(a);
+    let other = costs.standing(b);
+    let reach = reach_of(rows, one, other, false);
+    costs.pins_in(between(row_at(rows, reach.row), reach.from, reach.to))
+}
+
+// By how much rows may cost less after a swap of two instances than where these only take each other's place.
+fn slack_of(costs: &NetCosts, rows: &[Items<Seat>], a: u32, b: u32) -> u64
+    requires seated { AreSeated costs.now.design rows.now costs.now.standings }
+    ensures { result ≡ slack costs.now.design rows.now costs.now.weights costs.now.standings a b }
+{
+    let design = costs.design();
+    let width = u64::from(columns_of(design, a));
+    let other_width = u64::from(columns_of(design, b));
+    let pins = shifted_pins(costs, rows, a, b);
+    let other_pins = shifted_pins(costs, rows, b, a);
+    let length_cost = costs.weights().length_cost;
+    difference(width, other_width) * (pins + other_pins + 2 * length_cost)
+}
+
+/// Whether rows surely cost more than so much more than before where two instances exchange their places, each with its mirror. All is as
+/// before after that. Takes no memory.
+pub fn is_too_dear(
+    costs: &mut NetCosts,
+    rows: &[Items<Seat>],
+    lengths: &RowLengths,
+    a: u32,
+    b: u32,
+    most: u64,
+) -> bool
+    requires board { IsBoard costs.old.design rows.now costs.old.standings lengths.now }
+    requires apart { a ≢ b }
+    requires a { a < length costs.old.design.instances }
+    requires b { b < length costs.old.design.instances }
+    ensures dear { OnTrue result (cost_of costs.old.design rows.now costs.old.weights + most < cost_of costs.old.design (swapped a b rows.now) costs.old.weights) }
+    ensures same { costs.new ≡ costs.old }
+{
+    let _design = costs.design();
+    let before = total_of(costs, lengths);
+    let slack = slack_of(costs, rows, a, b);
+    let trial = trial_cost(costs, lengths, a, b);
+    trial.saturating_sub(most).saturating_sub(slack) > before
+}

@@ -1,9 +1,0 @@
-use Rattle.std.proofs.Common.{◌≡◌, ◌<◌, ℕ, length}
-use Rattle.row_model.specs.Standings.{IsEntered}
-use Rattle.row_model.proofs.building.standings_of.Given as goal
-
-abbrev pub invariant-loop-row : goal.invariant-loop-row
-invariant-loop-row l = record {
-  count : length l.standings.items ≡ length l.design.instances;
-  entered : (r k : ℕ) → r < l.row → IsEntered l.design l.rows l.standings.items r k;
-}
