@@ -45,6 +45,8 @@ pub mod GoingLaws
 pub mod FewLaws
 -- how a sweep ends
 pub mod EndedLaws
+-- a channel that is routed by a sweep
+pub mod RoutedLaws
 -- the left-edge router's wiring of a channel
 pub mod EdgeLaws
 -- the best of the sweeps that a plan tries

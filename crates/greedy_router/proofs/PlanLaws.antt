@@ -1,15 +1,21 @@
-use Rattle.std.proofs.Common.{◌≡◌, inl, inr, ◌<◌, ◌++◌, eqb, ltb, ℕ, zero, suc, List, [], ◌∷◌, Bool, true, false, cond, Some, length, refl, sym, subst, ap, ◌∙◌, arith, length-append, eqb-true, eq-eqb}
+use Rattle.std.proofs.Common.{◌≡◌, inl, inr, ◌<◌, ◌++◌, eqb, ltb, ℕ, zero, suc, List, [], ◌∷◌, Bool, true, false, Some, length, refl, sym, subst, ap, ◌∙◌, arith, get_or, length-append, eqb-true, eq-eqb}
 use Rattle.std.specs.Prelude.{◌&&◌, ◌||◌, slice_get}
 use Rattle.std.proofs.lemmas.Bool.{and_parts, and_from, or_parts, cases_lt, ltb-true, lt-ltb, cond-true, cond-false}
-use Rattle.std.proofs.lemmas.Option.{slice_get_within}
-use Rattle.channel_model.specs.Pins.{Pins}
+use Rattle.std.proofs.lemmas.Option.{slice_get_within, slice_get-get_or}
+use Rattle.channel_model.specs.Pins.{IsChannel, Pins}
+use Rattle.channel_model.specs.Limits.{most_extra, most_tracks}
+use Rattle.channel_model.specs.Nets.{nets_of}
+use Rattle.channel_model.specs.Wired.{Wired}
 use Rattle.channel_model.specs.declared.wiring.Wiring.{Wiring}
 use Rattle.choose_core.specs.declared.candidate.Candidate.{Candidate}
 use Rattle.choose_core.specs.declared.plan.Manner.{Manner}
-use Rattle.greedy_router.specs.Answers.{IsBest, IsPlanned, IsRoutedWithin, IsSmaller}
-use Rattle.greedy_router.specs.Planning.{better, is_smaller}
+use Rattle.choose_core.specs.declared.plan.Plan.{Plan}
+use Rattle.greedy_router.specs.Answers.{IsBest, IsPlanned, IsRoutedWithin, IsSmaller, IsWithinLimits}
+use Rattle.greedy_router.specs.Begun.{begun_of}
+use Rattle.greedy_router.specs.Planning.{better, is_smaller, size_of}
 use Rattle.greedy_router.specs.declared.sweep.Routed.{Routed}
 use Rattle.greedy_router.proofs.ListLaws.{each-push}
+use Rattle.greedy_router.proofs.RoutedLaws.{routed-wired, routed-within}
 
 -- an element of a list with one more is the last, or was there before
 pub there-last : {X : Type 0} (xs : List X) (x : X) → slice_get (xs ++ x ∷ []) (length xs) ≡ Some x
@@ -22,7 +28,7 @@ there-before (z ∷ xs) x y zero within = refl
 there-before (z ∷ xs) x y (suc k) within = there-before xs x y k (omega (arith, within))
 
 -- what the test of two wirings says
-pub smaller-is : (one other : Wiring) → is_smaller one other ≡ true → IsSmaller one other
+pub smaller-is : (one other : Wiring) → is_smaller (size_of one) (size_of other) ≡ true → IsSmaller one other
 smaller-is one other is = step (ltb one.tracks other.tracks) refl is where
   step : (b : Bool) → ltb one.tracks other.tracks ≡ b → (b || (eqb one.tracks other.tracks && ltb one.columns other.columns)) ≡ true → IsSmaller one other
   step true less is = inl (ltb-true one.tracks other.tracks less)
@@ -30,7 +36,7 @@ smaller-is one other is = step (ltb one.tracks other.tracks) refl is where
       let parts = and_parts (eqb one.tracks other.tracks) (ltb one.columns other.columns) is in
       inr (eqb-true one.tracks other.tracks parts.0, ltb-true one.columns other.columns parts.1)
 
-pub smaller-not : (one other : Wiring) → is_smaller one other ≡ false → IsSmaller one other → ⊥
+pub smaller-not : (one other : Wiring) → is_smaller (size_of one) (size_of other) ≡ false → IsSmaller one other → ⊥
 smaller-not one other not_smaller (inl less) =
     let parts = or_parts (ltb one.tracks other.tracks) (eqb one.tracks other.tracks && ltb one.columns other.columns) not_smaller in
     let is = lt-ltb one.tracks other.tracks less in cc (parts.0, is)
@@ -108,21 +114,14 @@ module _ (tried : List Routed) (best one : Routed) (was : IsBest tried best) whe
   }
 
   pub best-more : IsBest (tried ++ one ∷ []) (better best one)
-  best-more = step (is_smaller one.wiring best.wiring) refl where
-    step : (b : Bool) → is_smaller one.wiring best.wiring ≡ b → IsBest (tried ++ one ∷ []) (better best one)
+  best-more = step (is_smaller (size_of one.wiring) (size_of best.wiring)) refl where
+    step : (b : Bool) → is_smaller (size_of one.wiring) (size_of best.wiring) ≡ b → IsBest (tried ++ one ∷ []) (better best one)
     step true is =
-        subst (λ (r : Routed). IsBest (tried ++ one ∷ []) r) (sym (cond-true (is_smaller one.wiring best.wiring) one best is))
+        subst (λ (r : Routed). IsBest (tried ++ one ∷ []) r) (sym (cond-true (is_smaller (size_of one.wiring) (size_of best.wiring)) one best is))
         (best-new (smaller-is one.wiring best.wiring is))
     step false is =
-        subst (λ (r : Routed). IsBest (tried ++ one ∷ []) r) (sym (cond-false (is_smaller one.wiring best.wiring) one best is))
+        subst (λ (r : Routed). IsBest (tried ++ one ∷ []) r) (sym (cond-false (is_smaller (size_of one.wiring) (size_of best.wiring)) one best is))
         (best-kept (smaller-not one.wiring best.wiring is))
-
--- what holds of both of two holds of the one that is kept
-pub better-keeps : (P : Routed → Type 0) (best one : Routed) → P best → P one → P (better best one)
-better-keeps P best one of_best of_one = step (is_smaller one.wiring best.wiring) where
-  step : (b : Bool) → P (cond b one best)
-  step true = of_one
-  step false = of_best
 
 module _ (manner : Manner) (may : List Candidate → ℕ → Type 0) (pins : Pins) (first : ℕ) where
   -- the first sweep alone
@@ -166,3 +165,26 @@ module _ (manner : Manner) (may : List Candidate → ℕ → Type 0) (pins : Pin
         };
         best = best-more tried best one was.best;
       }
+
+-- the best was routed by one of the sweeps
+planned-routed : (plan : Plan) (may : List Candidate → ℕ → Type 0) (pins : Pins) (one : Routed) → IsPlanned plan may pins one
+    → (share : ℕ) × IsRoutedWithin plan.manner may pins share one
+planned-routed plan may pins one planned =
+    let shares : List ℕ = plan.first ∷ plan.others in
+    let place : ℕ = planned.best.place in
+    let inside : place < length shares =
+    omega (arith, slice_get_within planned.tried place one planned.best.there, planned.are_tried.each) in
+    (get_or shares place 0, planned.are_tried.routed place (get_or shares place 0) one (slice_get-get_or shares place 0 inside) planned.best.there)
+
+-- so its wiring connects the channel, and is within what a router may take
+pub planned-wired : (plan : Plan) (may : List Candidate → ℕ → Type 0) (pins : Pins) (one : Routed) → IsChannel pins → IsPlanned plan may pins one
+    → Wired pins one.wiring
+planned-wired plan may pins one is planned =
+    let from = planned-routed plan may pins one planned in
+    routed-wired plan.manner (begun_of from.0 pins) may pins (most_tracks (length (nets_of pins))) (most_extra (length (nets_of pins))) one is from.1
+
+pub planned-within : (plan : Plan) (may : List Candidate → ℕ → Type 0) (pins : Pins) (one : Routed) → IsPlanned plan may pins one
+    → IsWithinLimits pins one.wiring
+planned-within plan may pins one planned =
+    let from = planned-routed plan may pins one planned in
+    routed-within plan.manner (begun_of from.0 pins) may pins (most_tracks (length (nets_of pins))) (most_extra (length (nets_of pins))) one refl refl from.1

@@ -12,6 +12,10 @@ pub mod Answers
 pub mod Tables
 -- the records of a sweep that goes on
 pub mod Running
+-- a sweep that was made, and how the channel is routed by it
+pub mod Runs
+-- the same as the program has it, beside its facts
+pub mod RunView
 -- which of two routed channels is kept
 pub mod Planning
 -- lists that lie one behind another

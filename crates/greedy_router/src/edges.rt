@@ -8,10 +8,11 @@ ghost use Rattle.left_edge.specs.Columns.{IsConstrained, IsUnconstrained};
 ghost use Rattle.std.specs.Prelude.{◌≡◌, [], IfNone, IfOk, IfSome, ℕ, length, true};
 
 use crate::columns::Columns;
+use crate::limits::{Limits, Start};
 use crate::routing::route_with;
 use crate::sweep::{By, Routed, Sweep};
 use channel_model::{Channel, Wiring};
-use choose_core::{Chooser, Chooses, Manner};
+use choose_core::{Chooser, Chooses};
 use geom_core::Items;
 use left_edge::{EdgeFault, left_edge};
 use std::alloc::{AllocError, Global};
@@ -52,22 +53,20 @@ pub fn route_free(alloc: Global, channel: &Channel) -> Result<Option<Routed>, Al
 fn route_edge_with<C: Chooses>(
     alloc: Global,
     channel: &Channel,
-    manner: Manner,
-    share: u32,
+    start: Start,
+    limits: Limits,
     chooser: &C,
-    tracks: u32,
-    extra: u32,
 ) -> Result<Routed, AllocError>
     ensures routed { IfOk result (λ routed.
-        IsRoutedOr true (λ one. IsChannelRouted manner (begun_of share channel.now) (C.answers chooser.now) channel.now tracks extra one)
-        channel.now routed) }
+        IsRoutedOr true (λ one. IsChannelRouted start.manner (begun_of start.share channel.now) (C.answers chooser.now) channel.now
+        limits.tracks limits.extra one) channel.now routed) }
     ensures wired { IfOk result (λ routed. Wired channel.now routed.wiring) }
-    ensures within { IfOk result (λ routed. tracks ≡ most_tracks (length (nets_of channel.now)) → extra ≡ most_extra (length (nets_of channel.now))
-        → IsWithinLimits channel.now routed.wiring) }
+    ensures within { IfOk result (λ routed. limits.tracks ≡ most_tracks (length (nets_of channel.now))
+        → limits.extra ≡ most_extra (length (nets_of channel.now)) → IsWithinLimits channel.now routed.wiring) }
 {
     match route_free(alloc, channel)? {
         Some(routed) => Ok(routed),
-        None => route_with(alloc, channel, manner, share, chooser, tracks, extra),
+        None => route_with(alloc, channel, start, limits, chooser),
     }
 }
 
@@ -76,18 +75,16 @@ fn route_edge_with<C: Chooses>(
 pub fn route_edge(
     alloc: Global,
     channel: &Channel,
-    manner: Manner,
-    share: u32,
+    start: Start,
+    limits: Limits,
     chooser: &Chooser,
-    tracks: u32,
-    extra: u32,
 ) -> Result<Routed, AllocError>
     ensures routed { IfOk result (λ routed.
-        IsRoutedOr true (λ one. IsChannelRouted manner (begun_of share channel.now) (⟦<Chooser as Chooses>⟧.answers chooser.now)
-        channel.now tracks extra one) channel.now routed) }
+        IsRoutedOr true (λ one. IsChannelRouted start.manner (begun_of start.share channel.now) (⟦<Chooser as Chooses>⟧.answers chooser.now)
+        channel.now limits.tracks limits.extra one) channel.now routed) }
     ensures wired { IfOk result (λ routed. Wired channel.now routed.wiring) }
-    ensures within { IfOk result (λ routed. tracks ≡ most_tracks (length (nets_of channel.now)) → extra ≡ most_extra (length (nets_of channel.now))
-        → IsWithinLimits channel.now routed.wiring) }
+    ensures within { IfOk result (λ routed. limits.tracks ≡ most_tracks (length (nets_of channel.now))
+        → limits.extra ≡ most_extra (length (nets_of channel.now)) → IsWithinLimits channel.now routed.wiring) }
 {
-    route_edge_with(alloc, channel, manner, share, chooser, tracks, extra)
+    route_edge_with(alloc, channel, start, limits, chooser)
 }

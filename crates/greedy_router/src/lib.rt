@@ -3,15 +3,17 @@
 //! vertical constraint.
 #![tactic(auto)]
 
-mod begun;
 mod channels;
 mod columns;
 mod edges;
+mod limits;
 mod packed;
 mod pieces;
 mod planning;
 mod routing;
+mod run;
 mod running;
+mod surveyed;
 mod sweep;
 mod sweeping;
 mod tables;
@@ -20,6 +22,7 @@ mod wiring;
 pub use channels::route_channels;
 pub use columns::{Columns, LentColumn};
 pub use edges::route_edge;
+pub use limits::{Limits, Start};
 pub use planning::route_best;
 pub use routing::route_channel;
 pub use sweep::{By, Routed, Sweep, Swept};

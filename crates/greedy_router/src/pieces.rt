@@ -1,7 +1,7 @@
 ghost use Rattle.channel_model.specs.declared.wiring.Segment.{Segment};
-ghost use Rattle.greedy_column.specs.Tracks.{ids, line_of};
+ghost use Rattle.greedy_column.specs.Tracks.{ids};
 ghost use Rattle.greedy_router.specs.SweepWiring.{is_of, leaves};
-ghost use Rattle.greedy_router.specs.Tables.{across_on, along_by, alongs_by, has_via_by, meets_by, pair_span, via_by, vias_by};
+ghost use Rattle.greedy_router.specs.Tables.{across_on, along_by, alongs_by, column_segments_by, has_via_by, meets_by, pair_span, via_by, vias_by};
 ghost use Rattle.std.specs.List.{list_any};
 ghost use Rattle.std.specs.Prelude.{◌≡◌, ◌==◌, ◌<◌, ◌+◌, ◌^◌, ◌++◌, ℕ, IfOk, OnOk, length, map};
 
@@ -10,45 +10,20 @@ use channel_model::{Segment, Via};
 use greedy_column::{Column, Span, Track, held_by, line_of};
 use std::alloc::{AllocError, Global};
 
-// The piece between two tracks of a moment, on the lines of the final order.
-fn pair_span(now: &[Track], order: &[Track], pair: (u32, u32)) -> Span
-    requires now { length now.now + 1 < 2 ^ 32 }
-    requires order { length order.now + 1 < 2 ^ 32 }
-    ensures { result ≡ pair_span now.now (ids order.now) pair }
-{
-    let net = held_by(now, pair.0);
-    let first = line_of(order, pair.0);
-    let second = line_of(order, pair.1);
-    if line_of(now, pair.0) <= line_of(now, pair.1) {
-        Span {
-            net,
-            low: first,
-            high: second,
-        }
-    } else {
-        Span {
-            net,
-            low: second,
-            high: first,
-        }
-    }
-}
-
-// Those of several pairs.
-pub fn pair_spans(
-    alloc: Global,
-    now: &[Track],
-    order: &[Track],
-    pairs: &[(u32, u32)],
-) -> Result<Vec<Span>, AllocError>
-    requires now { length now.now + 1 < 2 ^ 32 }
-    requires order { length order.now + 1 < 2 ^ 32 }
-    ensures { IfOk result (λ spans. spans.items ≡ map (pair_span now.now (ids order.now)) pairs.now) }
-{
-    pairs
-        .iter()
-        .map(|pair| pair_span(now, order, *pair))
-        .collect(alloc)
+// A column of a sweep that is drawn: its record, the tracks once its pins have entered, those of the final order, on whose lines it is
+// drawn, the pieces of its pins, and by ids the nets that hold the tracks, those that hold them after the column, and since when.
+#[derive(Clone, Copy)]
+pub struct Moment<'a> {
+    pub column: u32,
+    pub done: &'a Column,
+    pub entered: &'a [Track],
+    pub order: &'a [Track],
+    pub pins: &'a [Span],
+    pub nets: &'a [u32],
+    pub laters: &'a [u32],
+    pub since: &'a [u32],
+    ghost few_entered: { length entered.now + 1 < 2 ^ 32 },
+    ghost few: { length order.now + 1 < 2 ^ 32 },
 }
 
 // A piece of wire in a column.
@@ -64,11 +39,7 @@ fn across(column: u32, span: Span) -> Segment
 }
 
 // Adds the pieces of a column.
-pub fn push_across(
-    segments: &mut Vec<Segment>,
-    column: u32,
-    spans: &[Span],
-) -> Result<(), AllocError>
+fn push_across(segments: &mut Vec<Segment>, column: u32, spans: &[Span]) -> Result<(), AllocError>
     ensures { OnOk result (segments.new.items ≡ segments.old.items ++ map (across_on column) spans.now) }
 {
     let mut rest = spans;
@@ -100,68 +71,11 @@ fn is_left(moves: &[(u32, u32)], id: u32) -> bool
     moves.iter().any(|step| step.0 == id)
 }
 
-// The wire along a track that is left in a column.
-fn along(order: &[Track], column: u32, nets: &[u32], since: &[u32], id: u32) -> Segment
-    requires { length order.now + 1 < 2 ^ 32 }
-    ensures { result ≡ along_by (ids order.now) column nets.now since.now id }
-{
-    Segment::Along {
-        net: entry(nets, id),
-        track: line_of(order, id),
-        from: entry(since, id),
-        to: column,
-    }
-}
-
-// The wires along the tracks that are left in a column, from bottom to top.
-pub fn alongs(
-    alloc: Global,
-    order: &[Track],
-    column: u32,
-    nets: &[u32],
-    since: &[u32],
-    done: &Column,
-) -> Result<Vec<Segment>, AllocError>
-    requires { length order.now + 1 < 2 ^ 32 }
-    ensures { IfOk result (λ alongs. alongs.items ≡ alongs_by (ids order.now) column nets.now since.now done.now) }
-{
-    let ids = order.iter().map(|track| track.id);
-    ids.filter(|id| leaves(done, *id))
-        .map(|id| along(order, column, nets, since, id))
-        .collect(alloc)
-}
-
-// Whether a pin's piece meets a track of its net.
-fn meets(order: &[Track], nets: &[u32], id: u32, span: Span) -> bool
-    requires { length order.now + 1 < 2 ^ 32 }
-    ensures { result ≡ meets_by (ids order.now) nets.now id span }
-{
-    span.net == entry(nets, id)
-        && (span.low <= line_of(order, id) && line_of(order, id) <= span.high)
-}
-
 // Whether a pair has an id.
 fn is_of(id: u32, pair: (u32, u32)) -> bool
     ensures { result ≡ is_of id pair }
 {
     pair.0 == id || pair.1 == id
-}
-
-// Whether a track has a via in a column.
-fn has_via(order: &[Track], nets: &[u32], spans: &[Span], done: &Column, id: u32) -> bool
-    requires { length order.now + 1 < 2 ^ 32 }
-    ensures { result ≡ has_via_by (ids order.now) nets.now spans.now done.now id }
-{
-    is_met(order, nets, id, spans)
-        || (is_in_some(id, done.joins.items()) || is_in_some(id, done.moves.items()))
-}
-
-// Whether a piece of some pin meets a track of its net.
-fn is_met(order: &[Track], nets: &[u32], id: u32, spans: &[Span]) -> bool
-    requires { length order.now + 1 < 2 ^ 32 }
-    ensures { result ≡ list_any (meets_by (ids order.now) nets.now id) spans.now }
-{
-    spans.iter().any(|span| meets(order, nets, id, *span))
 }
 
 // Whether one of some pairs has an id.
@@ -171,39 +85,138 @@ fn is_in_some(id: u32, pairs: &[(u32, u32)]) -> bool
     pairs.iter().any(|pair| is_of(id, *pair))
 }
 
-// The via of a track in a column.
-fn via(order: &[Track], column: u32, nets: &[u32], later: &[u32], id: u32) -> Via
-    requires { length order.now + 1 < 2 ^ 32 }
-    ensures { result ≡ via_by (ids order.now) column nets.now later.now id }
-{
-    let net = entry(nets, id);
-    let track = line_of(order, id);
-    if net == 0 {
+impl Moment<'_> {
+    // The piece between two tracks, on the lines of the final order.
+    fn pair_span(&self, pair: (u32, u32)) -> Span
+        ensures { result ≡ pair_span self.now.entered.now (ids self.now.order.now) pair }
+    {
+        let net = held_by(self.entered, pair.0);
+        let first = line_of(self.order, pair.0);
+        let second = line_of(self.order, pair.1);
+        if line_of(self.entered, pair.0) <= line_of(self.entered, pair.1) {
+            Span {
+                net,
+                low: first,
+                high: second,
+            }
+        } else {
+            Span {
+                net,
+                low: second,
+                high: first,
+            }
+        }
+    }
+
+    // Those of several pairs.
+    fn pair_spans(&self, alloc: Global, pairs: &[(u32, u32)]) -> Result<Vec<Span>, AllocError>
+        ensures { IfOk result (λ spans.
+            spans.items ≡ map (pair_span self.now.entered.now (ids self.now.order.now)) pairs.now) }
+    {
+        pairs
+            .iter()
+            .map(|pair| self.pair_span(*pair))
+            .collect(alloc)
+    }
+
+    // The wire along a track that is left.
+    fn along(&self, id: u32) -> Segment
+        ensures { result ≡ along_by (ids self.now.order.now) self.now.column self.now.nets.now self.now.since.now id }
+    {
+        Segment::Along {
+            net: entry(self.nets, id),
+            track: line_of(self.order, id),
+            from: entry(self.since, id),
+            to: self.column,
+        }
+    }
+
+    // The wires along the tracks that are left, from bottom to top.
+    fn alongs(&self, alloc: Global) -> Result<Vec<Segment>, AllocError>
+        ensures { IfOk result (λ alongs. alongs.items
+            ≡ alongs_by (ids self.now.order.now) self.now.column self.now.nets.now self.now.since.now self.now.done.now) }
+    {
+        let ids = self.order.iter().map(|track| track.id);
+        ids.filter(|id| leaves(self.done, *id))
+            .map(|id| self.along(id))
+            .collect(alloc)
+    }
+
+    // Adds the segments: the verticals, and the wires along the tracks that are left.
+    pub fn push_segments(
+        &self,
+        alloc: Global,
+        segments: &mut Vec<Segment>,
+    ) -> Result<(), AllocError>
+        ensures { OnOk result (segments.new.items ≡ segments.old.items ++ column_segments_by (ids self.now.order.now) self.now.column
+            self.now.entered.now self.now.nets.now self.now.since.now self.now.pins.now self.now.done.now) }
+    {
+        let joins = self.pair_spans(alloc, self.done.joins.items())?;
+        let moves = self.pair_spans(alloc, self.done.moves.items())?;
+        let alongs = self.alongs(alloc)?;
+        push_across(segments, self.column, self.pins)?;
+        push_across(segments, self.column, &joins)?;
+        push_across(segments, self.column, &moves)?;
+        segments.extend_from_slice(&alongs)
+    }
+
+    // Whether a pin's piece meets a track of its net.
+    fn meets(&self, id: u32, span: Span) -> bool
+        ensures { result ≡ meets_by (ids self.now.order.now) self.now.nets.now id span }
+    {
+        span.net == entry(self.nets, id)
+            && (span.low <= line_of(self.order, id) && line_of(self.order, id) <= span.high)
+    }
+
+    // Whether a piece of some pin meets a track of its net.
+    fn is_met(&self, id: u32) -> bool
+        ensures { result ≡ list_any (meets_by (ids self.now.order.now) self.now.nets.now id) self.now.pins.now }
+    {
+        self.pins.iter().any(|span| self.meets(id, *span))
+    }
+
+    // Whether a track has a via.
+    fn has_via(&self, id: u32) -> bool
+        ensures { result ≡ has_via_by (ids self.now.order.now) self.now.nets.now self.now.pins.now self.now.done.now id }
+    {
+        self.is_met(id)
+            || (is_in_some(id, self.done.joins.items()) || is_in_some(id, self.done.moves.items()))
+    }
+
+    // The via of a track.
+    fn via(&self, id: u32) -> Via
+        ensures { result ≡ via_by (ids self.now.order.now) self.now.column self.now.nets.now self.now.laters.now id }
+    {
+        let net = entry(self.nets, id);
+        let track = line_of(self.order, id);
         Via {
-            net: entry(later, id),
-            column,
+            net: if net == 0 {
+                entry(self.laters, id)
+            } else {
+                net
+            },
+            column: self.column,
             track,
         }
-    } else {
-        Via { net, column, track }
     }
-}
 
-// The vias of a column, from bottom to top.
-pub fn column_vias(
-    alloc: Global,
-    order: &[Track],
-    column: u32,
-    nets: &[u32],
-    later: &[u32],
-    spans: &[Span],
-    done: &Column,
-) -> Result<Vec<Via>, AllocError>
-    requires { length order.now + 1 < 2 ^ 32 }
-    ensures { IfOk result (λ vias. vias.items ≡ vias_by (ids order.now) column nets.now later.now spans.now done.now) }
-{
-    let ids = order.iter().map(|track| track.id);
-    ids.filter(|id| has_via(order, nets, spans, done, *id))
-        .map(|id| via(order, column, nets, later, id))
-        .collect(alloc)
+    // The vias, from bottom to top.
+    fn vias(&self, alloc: Global) -> Result<Vec<Via>, AllocError>
+        ensures { IfOk result (λ vias. vias.items ≡ vias_by (ids self.now.order.now) self.now.column self.now.nets.now self.now.laters.now
+            self.now.pins.now self.now.done.now) }
+    {
+        let ids = self.order.iter().map(|track| track.id);
+        ids.filter(|id| self.has_via(*id))
+            .map(|id| self.via(id))
+            .collect(alloc)
+    }
+
+    // Adds the vias.
+    pub fn push_vias(&self, alloc: Global, vias: &mut Vec<Via>) -> Result<(), AllocError>
+        ensures { OnOk result (vias.new.items ≡ vias.old.items ++ vias_by (ids self.now.order.now) self.now.column self.now.nets.now
+            self.now.laters.now self.now.pins.now self.now.done.now) }
+    {
+        let more = self.vias(alloc)?;
+        vias.extend_from_slice(&more)
+    }
 }

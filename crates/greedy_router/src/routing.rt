@@ -5,61 +5,50 @@ ghost use Rattle.greedy_router.specs.Answers.{IsChannelRouted, IsWithinLimits};
 ghost use Rattle.greedy_router.specs.Begun.{begun_of};
 ghost use Rattle.std.specs.Prelude.{◌≡◌, IfOk, length};
 
-use crate::sweep::{By, Routed, Swept};
-use crate::sweeping::sweep_share;
+use crate::limits::{Limits, Start};
+use crate::running::run_columns;
+use crate::surveyed::Surveyed;
+use crate::sweep::Routed;
 use channel_model::Channel;
-use choose_core::{Chooser, Chooses, Manner};
-use plain_router::plain;
+use choose_core::{Chooser, Chooses};
 use std::alloc::{AllocError, Global};
 
 // Routes a channel by a sweep, for all that chooses.
 pub fn route_with<C: Chooses>(
     alloc: Global,
     channel: &Channel,
-    manner: Manner,
-    share: u32,
+    start: Start,
+    limits: Limits,
     chooser: &C,
-    tracks: u32,
-    extra: u32,
 ) -> Result<Routed, AllocError>
-    ensures routed { IfOk result (λ routed.
-        IsChannelRouted manner (begun_of share channel.now) (C.answers chooser.now) channel.now tracks extra routed) }
+    ensures routed { IfOk result (λ routed. IsChannelRouted start.manner (begun_of start.share channel.now) (C.answers chooser.now) channel.now
+        limits.tracks limits.extra routed) }
     ensures wired { IfOk result (λ routed. Wired channel.now routed.wiring) }
-    ensures within { IfOk result (λ routed. tracks ≡ most_tracks (length (nets_of channel.now)) → extra ≡ most_extra (length (nets_of channel.now))
-        → IsWithinLimits channel.now routed.wiring) }
+    ensures within { IfOk result (λ routed. limits.tracks ≡ most_tracks (length (nets_of channel.now))
+        → limits.extra ≡ most_extra (length (nets_of channel.now)) → IsWithinLimits channel.now routed.wiring) }
 {
-    match sweep_share(alloc, channel, manner, share, chooser, tracks, extra)? {
-        Swept::Finished { sweep, wiring } => Ok(Routed {
-            by: By::Greedy,
-            wiring,
-            sweep,
-        }),
-        Swept::Over { sweep } => Ok(Routed {
-            by: By::Plain,
-            wiring: plain(alloc, channel)?,
-            sweep,
-        }),
-    }
+    // The bounds of the channel's type are known once a field is read.
+    let _ = &channel.top;
+    let surveyed = Surveyed::new(alloc, channel)?;
+    run_columns(alloc, &surveyed, start, limits, chooser)?.routed(alloc)
 }
 
-/// Routes a channel: by the wiring of its sweep in this manner, which begins with `share` hundredths of the channel's cut density as free
-/// tracks, where that ends within `tracks` tracks and `extra` columns beyond the channel's, and by that of the plain router exactly where
-/// the sweep passes these limits. The sweep is kept in either case. Each choice is an answer of the chooser. The one error is want of
-/// memory.
+/// Routes a channel: by the wiring of its sweep, which begins as `start` says, where that ends within `limits`, and by that of the plain
+/// router exactly where the sweep passes these. The sweep is kept in either case. Each choice is an answer of the chooser. The one error is
+/// want of memory.
 pub fn route_channel(
     alloc: Global,
     channel: &Channel,
-    manner: Manner,
-    share: u32,
+    start: Start,
+    limits: Limits,
     chooser: &Chooser,
-    tracks: u32,
-    extra: u32,
 ) -> Result<Routed, AllocError>
     ensures routed { IfOk result (λ routed.
-        IsChannelRouted manner (begun_of share channel.now) (⟦<Chooser as Chooses>⟧.answers chooser.now) channel.now tracks extra routed) }
+        IsChannelRouted start.manner (begun_of start.share channel.now) (⟦<Chooser as Chooses>⟧.answers chooser.now) channel.now
+        limits.tracks limits.extra routed) }
     ensures wired { IfOk result (λ routed. Wired channel.now routed.wiring) }
-    ensures within { IfOk result (λ routed. tracks ≡ most_tracks (length (nets_of channel.now)) → extra ≡ most_extra (length (nets_of channel.now))
-        → IsWithinLimits channel.now routed.wiring) }
+    ensures within { IfOk result (λ routed. limits.tracks ≡ most_tracks (length (nets_of channel.now))
+        → limits.extra ≡ most_extra (length (nets_of channel.now)) → IsWithinLimits channel.now routed.wiring) }
 {
-    route_with(alloc, channel, manner, share, chooser, tracks, extra)
+    route_with(alloc, channel, start, limits, chooser)
 }

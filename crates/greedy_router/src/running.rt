@@ -1,10 +1,16 @@
+ghost use Rattle.greedy_router.specs.Answers.{IsChannelRouted};
+ghost use Rattle.greedy_router.specs.Begun.{begun_of};
 ghost use Rattle.greedy_router.specs.Moments.{held_count};
-ghost use Rattle.greedy_router.specs.Running.{IsRun, is_going, is_held, is_past, is_wanted};
-ghost use Rattle.std.specs.Prelude.{◌≡◌, ◌≤◌, ◌+◌, IfOk, length, false};
+ghost use Rattle.greedy_router.specs.Running.{is_going, is_held, is_past, is_wanted};
+ghost use Rattle.greedy_router.specs.Runs.{routed_of};
+ghost use Rattle.greedy_router.specs.Sweeps.{Lessens};
+ghost use Rattle.std.specs.Prelude.{◌≡◌, IfOk};
 
-use channel_model::Channel;
-use choose_core::{Chooses, Manner};
-use greedy_column::{Ahead, Column, ColumnState, Track, step_with};
+use crate::limits::{Limits, Start};
+use crate::run::Run;
+use crate::surveyed::Surveyed;
+use choose_core::Chooses;
+use greedy_column::{ColumnState, Track, step_with};
 use std::alloc::{AllocError, Global};
 
 // How many tracks nets hold.
@@ -42,45 +48,43 @@ fn is_going(tracks: &[Track], taken: usize, width: usize, last: usize, most: u32
     !is_past(tracks, taken, last, most) && is_wanted(tracks, taken, width)
 }
 
-// The records of a sweep, the state after the last of them, and whether it is past its limits.
-#[derive(Drop)]
-pub struct Run {
-    pub columns: Vec<Column>,
-    pub state: ColumnState,
-    pub over: bool,
-}
-
-// Takes columns as long as the sweep goes on, from so many free tracks.
-pub fn run_columns<C: Chooses>(
+// Takes columns as long as the sweep goes on.
+pub fn run_columns<'s, C: Chooses>(
     alloc: Global,
-    channel: &Channel,
-    manner: Manner,
-    begun: u32,
+    surveyed: &'s Surveyed<'s>,
+    start: Start,
+    limits: Limits,
     chooser: &C,
-    tracks: u32,
-    extra: u32,
-) -> Result<Run, AllocError>
-    requires begun { begun ≤ 16000000 }
-    ensures run { IfOk result (λ run. IsRun manner begun (C.answers chooser.now) channel.now tracks extra
-        run.columns.items run.state.fresh run.state.order) }
-    ensures over { IfOk result (λ run. run.over
-        ≡ is_past run.state.order (length run.columns.items) (length channel.now.top + extra) tracks) }
-    ensures stopped { IfOk result (λ run. is_going run.state.order (length run.columns.items) (length channel.now.top)
-        (length channel.now.top + extra) tracks ≡ false) }
-    ensures fresh { IfOk result (λ run. run.state.fresh ≤ 24000001) }
+) -> Result<Run<'s>, AllocError>
+    ensures routed { IfOk result (λ run. IsChannelRouted start.manner (begun_of start.share surveyed.now.channel.now) (C.answers chooser.now)
+        surveyed.now.channel.now limits.tracks limits.extra (routed_of run)) }
+    ensures lessens { IfOk result (λ run. Lessens surveyed.now.channel.now run.sweep) }
 {
-    let ahead = Ahead::new(alloc, channel)?;
+    let channel = surveyed.channel;
+    let Start { manner, share } = start;
+    let Limits { tracks, extra } = limits;
+    let begun = surveyed.begun(share);
     let mut state = ColumnState::new(alloc, begun)?;
     let mut columns = Vec::new(alloc);
     let width = channel.top.items().len();
     let last = width + extra as usize;
     'columns: while is_going(state.order.items(), columns.len(), width, last, tracks) {
         let column = columns.len() as u32;
-        let done = step_with(alloc, &mut state, channel, &ahead, column, manner, chooser)?;
+        let done = step_with(
+            alloc,
+            &mut state,
+            channel,
+            &surveyed.ahead,
+            column,
+            manner,
+            chooser,
+        )?;
         columns.push(done)?;
     }
     let over = is_past(state.order.items(), columns.len(), last, tracks);
     Ok(Run {
+        surveyed,
+        begun,
         columns,
         state,
         over,

@@ -37,3 +37,22 @@ pub struct Routed {
     pub wiring: Wiring,
     pub sweep: Sweep,
 }
+
+// How many tracks and columns a wiring has.
+#[derive(Clone, Copy)]
+pub struct Size {
+    pub tracks: u32,
+    pub columns: u32,
+}
+
+impl Size {
+    ghost use Rattle.greedy_router.specs.Planning.{is_smaller};
+    ghost use Rattle.std.specs.Prelude.{◌≡◌};
+
+    // Whether there are fewer tracks than in another, or as many and fewer columns.
+    pub fn is_smaller(self, other: Size) -> bool
+        ensures { result ≡ is_smaller self other }
+    {
+        self.tracks < other.tracks || (self.tracks == other.tracks && self.columns < other.columns)
+    }
+}

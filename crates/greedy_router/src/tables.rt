@@ -1,6 +1,7 @@
 ghost use Rattle.greedy_column.specs.Tracks.{held_by};
+ghost use Rattle.greedy_router.specs.SweepWiring.{since_after};
 ghost use Rattle.greedy_router.specs.Tables.{Tells, since_by};
-ghost use Rattle.std.specs.Prelude.{◌≡◌, IfOk, length, slice_index, slice_set};
+ghost use Rattle.std.specs.Prelude.{◌≡◌, ◌==◌, IfOk, OnOk, length, slice_index, slice_set};
 
 use greedy_column::Track;
 use std::alloc::{AllocError, Global};
@@ -12,6 +13,16 @@ pub fn entry(table: &[u32], id: u32) -> u32
     match table.get(id as usize) {
         Some(value) => *value,
         None => 0,
+    }
+}
+
+// Whether a table has 0 for an id, as it has past its end.
+fn is_blank(table: &[u32], id: usize) -> bool
+    ensures { result ≡ (slice_index table.now id == 0) }
+{
+    match table.get(id) {
+        Some(value) => *value == 0,
+        None => true,
     }
 }
 
@@ -40,13 +51,26 @@ pub fn nets_by_id(alloc: Global, tracks: &[Track], room: usize) -> Result<Vec<u3
 }
 
 // Notes the column as that since when each track is held that was free before it, from the nets before.
-pub fn note_column(since: &mut [u32], nets: &[u32], column: u32)
-    requires { length nets.now ≡ length since.old }
+fn note_column(since: &mut [u32], nets: &[u32], column: u32)
     ensures { Tells since.new (since_by column nets.now since.old) }
 {
     for id in 0..since.len() {
-        if nets[id] == 0 {
+        if is_blank(nets, id) {
             since[id] = column;
         }
     }
+}
+
+// Notes the column for the tracks that were free before it.
+pub fn note_free(
+    alloc: Global,
+    since: &mut [u32],
+    before: &[Track],
+    column: u32,
+) -> Result<(), AllocError>
+    ensures { OnOk result (Tells since.new (since_after column before.now (λ id. slice_index since.old id))) }
+{
+    let nets = nets_by_id(alloc, before, since.len())?;
+    note_column(since, &nets, column);
+    Ok(())
 }

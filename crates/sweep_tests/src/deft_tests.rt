@@ -4,21 +4,34 @@ use crate::choosers::{deft_chooser, near_chooser};
 use crate::worked_tests::channel_of;
 use channel_model::Channel;
 use choose_core::{Chooser, Manner};
-use greedy_router::{Swept, run_sweep};
+use greedy_router::{Limits, Start, Swept, run_sweep};
 use std::alloc::Global;
 use std::test::Fail;
+
+/// No sweep of these channels is near its limits.
+const LIMITS: Limits = Limits {
+    tracks: 100,
+    extra: 100,
+};
+
+// A sweep that looks ahead and begins with this share of the cut density.
+fn ahead(share: u32) -> Start {
+    Start {
+        manner: Manner::LookingAhead,
+        share,
+    }
+}
 
 // Whether the sweep of a channel ends, with no more columns than so many beyond the channel's and with its tracks in this order.
 fn ends_with(
     alloc: Global,
     channel: &Channel,
-    manner: Manner,
-    share: u32,
+    start: Start,
     chooser: &Chooser,
     extra: usize,
     order: &[u32],
 ) -> Result<bool, Fail> {
-    match run_sweep(alloc, channel, manner, share, chooser, 100, 100)? {
+    match run_sweep(alloc, channel, start, LIMITS, chooser)? {
         Swept::Finished { sweep, wiring } => {
             let columns = channel.top.items().len().saturating_add(extra);
             Ok(
@@ -63,9 +76,8 @@ const SPLIT: [u32; 3] = [2, 1, 3];
 fn a_cycle_by_deft(rt: HostRuntime) -> Result<(), Fail> {
     let deft = deft_chooser(rt.alloc())?;
     let channel = channel_of(rt.alloc(), &CYCLE.0, &CYCLE.1)?;
-    let ahead = Manner::LookingAhead;
-    assert!(rt; ends_with(rt.alloc(), &channel, ahead, 0, &deft, 1, &UP[..3])?);
-    assert!(rt; ends_with(rt.alloc(), &channel, ahead, 100, &deft, 1, &UP[..3])?);
+    assert!(rt; ends_with(rt.alloc(), &channel, ahead(0), &deft, 1, &UP[..3])?);
+    assert!(rt; ends_with(rt.alloc(), &channel, ahead(100), &deft, 1, &UP[..3])?);
     Ok(())
 }
 
@@ -73,9 +85,8 @@ fn a_cycle_by_deft(rt: HostRuntime) -> Result<(), Fail> {
 fn ten_columns_by_deft(rt: HostRuntime) -> Result<(), Fail> {
     let deft = deft_chooser(rt.alloc())?;
     let channel = channel_of(rt.alloc(), &TEN.0, &TEN.1)?;
-    let ahead = Manner::LookingAhead;
-    assert!(rt; ends_with(rt.alloc(), &channel, ahead, 0, &deft, 1, &TEN_FROM_NONE)?);
-    assert!(rt; ends_with(rt.alloc(), &channel, ahead, 100, &deft, 1, &UP)?);
+    assert!(rt; ends_with(rt.alloc(), &channel, ahead(0), &deft, 1, &TEN_FROM_NONE)?);
+    assert!(rt; ends_with(rt.alloc(), &channel, ahead(100), &deft, 1, &UP)?);
     Ok(())
 }
 
@@ -83,19 +94,17 @@ fn ten_columns_by_deft(rt: HostRuntime) -> Result<(), Fail> {
 fn fourteen_columns_by_deft(rt: HostRuntime) -> Result<(), Fail> {
     let deft = deft_chooser(rt.alloc())?;
     let channel = channel_of(rt.alloc(), &FOURTEEN.0, &FOURTEEN.1)?;
-    let ahead = Manner::LookingAhead;
     assert!(rt;
         ends_with(
             rt.alloc(),
             &channel,
-            ahead,
-            0,
+            ahead(0),
             &deft,
             0,
             &FOURTEEN_FROM_NONE
         )?
     );
-    assert!(rt; ends_with(rt.alloc(), &channel, ahead, 100, &deft, 0, &UP[..5])?);
+    assert!(rt; ends_with(rt.alloc(), &channel, ahead(100), &deft, 0, &UP[..5])?);
     Ok(())
 }
 
@@ -103,9 +112,8 @@ fn fourteen_columns_by_deft(rt: HostRuntime) -> Result<(), Fail> {
 fn two_nets_side_by_side_by_deft(rt: HostRuntime) -> Result<(), Fail> {
     let deft = deft_chooser(rt.alloc())?;
     let channel = channel_of(rt.alloc(), &PAIRS.0, &PAIRS.1)?;
-    let ahead = Manner::LookingAhead;
-    assert!(rt; ends_with(rt.alloc(), &channel, ahead, 0, &deft, 0, &UP[..1])?);
-    assert!(rt; ends_with(rt.alloc(), &channel, ahead, 100, &deft, 0, &UP[..1])?);
+    assert!(rt; ends_with(rt.alloc(), &channel, ahead(0), &deft, 0, &UP[..1])?);
+    assert!(rt; ends_with(rt.alloc(), &channel, ahead(100), &deft, 0, &UP[..1])?);
     Ok(())
 }
 
@@ -114,17 +122,11 @@ fn two_nets_side_by_side_by_deft(rt: HostRuntime) -> Result<(), Fail> {
 fn a_new_track_by_its_next_pin_is_never_split(rt: HostRuntime) -> Result<(), Fail> {
     let near = near_chooser(rt.alloc())?;
     let channel = channel_of(rt.alloc(), &CORNER.0, &CORNER.1)?;
-    assert!(rt; ends_with(rt.alloc(), &channel, Manner::Published, 0, &near, 1, &SPLIT)?);
-    assert!(rt;
-        ends_with(
-            rt.alloc(),
-            &channel,
-            Manner::LookingAhead,
-            0,
-            &near,
-            0,
-            &UP[..2]
-        )?
-    );
+    let published = Start {
+        manner: Manner::Published,
+        share: 0,
+    };
+    assert!(rt; ends_with(rt.alloc(), &channel, published, &near, 1, &SPLIT)?);
+    assert!(rt; ends_with(rt.alloc(), &channel, ahead(0), &near, 0, &UP[..2])?);
     Ok(())
 }

@@ -4,7 +4,7 @@ use crate::choosers::{near_chooser, near_style};
 use crate::worked_tests::channel_of;
 use channel_model::{Channel, Segment};
 use choose_core::{Manner, Style};
-use greedy_router::{By, Routed, route_channels, route_edge};
+use greedy_router::{By, Limits, Routed, Start, route_channels, route_edge};
 use std::alloc::Global;
 use std::test::Fail;
 
@@ -29,11 +29,12 @@ fn edge_routed_in(
     Ok(route_edge(
         alloc,
         channel,
-        Manner::Published,
-        0,
+        Start {
+            manner: Manner::Published,
+            share: 0,
+        },
+        Limits { tracks, extra },
         &chooser,
-        tracks,
-        extra,
     )?)
 }
 

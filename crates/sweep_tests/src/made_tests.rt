@@ -7,7 +7,7 @@ use crate::connected::is_connected;
 use crate::made::made_channel;
 use channel_model::{Channel, nets_of};
 use choose_core::{Chooser, Manner};
-use greedy_router::{By, route_channel};
+use greedy_router::{By, Limits, Start, route_channel};
 use std::alloc::Global;
 use std::test::Fail;
 
@@ -24,11 +24,15 @@ fn routed(alloc: Global, channel: &Channel, chooser: &Chooser) -> Result<(bool, 
     let routed = route_channel(
         alloc,
         channel,
-        Manner::Published,
-        0,
+        Start {
+            manner: Manner::Published,
+            share: 0,
+        },
+        Limits {
+            tracks: 2 * nets,
+            extra: nets,
+        },
         chooser,
-        2 * nets,
-        nets,
     )?;
     Ok((is_connected(alloc, channel, &routed.wiring)?, routed.by))
 }

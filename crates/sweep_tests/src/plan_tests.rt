@@ -6,7 +6,7 @@ use crate::made::made_channel;
 use crate::made_tests::count_of_nets;
 use channel_model::Channel;
 use choose_core::{Chooser, Manner, Style};
-use greedy_router::{route_best, route_channel};
+use greedy_router::{Limits, Start, route_best, route_channel};
 use std::alloc::Global;
 use std::test::Fail;
 
@@ -16,11 +16,15 @@ fn tracks_of(alloc: Global, channel: &Channel, share: u32, chooser: &Chooser) ->
     let routed = route_channel(
         alloc,
         channel,
-        Manner::Published,
-        share,
+        Start {
+            manner: Manner::Published,
+            share,
+        },
+        Limits {
+            tracks: 2 * nets,
+            extra: nets,
+        },
         chooser,
-        2 * nets,
-        nets,
     )?;
     Ok(routed.wiring.tracks)
 }

@@ -3,7 +3,9 @@
 use crate::choosers::{near_chooser, near_style};
 use channel_model::{Channel, Segment, Via, Wiring};
 use choose_core::{Chooser, Manner, Style};
-use greedy_router::{By, Routed, Sweep, Swept, route_channel, route_channels, run_sweep};
+use greedy_router::{
+    By, Limits, Routed, Start, Sweep, Swept, route_channel, route_channels, run_sweep,
+};
 use std::alloc::Global;
 use std::test::Fail;
 
@@ -42,11 +44,12 @@ fn end_by(
     let swept = run_sweep(
         alloc,
         channel,
-        Manner::Published,
-        share,
+        Start {
+            manner: Manner::Published,
+            share,
+        },
+        Limits { tracks, extra },
         chooser,
-        tracks,
-        extra,
     )?;
     Ok(told(&swept))
 }
@@ -141,11 +144,12 @@ fn routed_by_near(
     Ok(route_channel(
         alloc,
         channel,
-        Manner::Published,
-        0,
+        Start {
+            manner: Manner::Published,
+            share: 0,
+        },
+        Limits { tracks, extra },
         &chooser,
-        tracks,
-        extra,
     )?)
 }
 

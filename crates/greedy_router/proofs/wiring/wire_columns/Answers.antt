@@ -1,76 +1,100 @@
-use Rattle.std.proofs.Common.{◌≡◌, ◌+◌, ◌∷◌, ℕ, suc, List, length, ap, arith, add-one, rules, Contains, All, ◌∙◌, get_or, replicate}
+use Rattle.std.proofs.Common.{◌≡◌, ◌<◌, ◌+◌, ◌∷◌, ℕ, suc, List, length, ap, arith, add-one, rules, sym, Contains, All, ◌∙◌, get_or, refl, replicate, subst}
 use Rattle.std.proofs.lemmas.List.{get_or-replicate}
 use Rattle.std.proofs.lemmas.List.Elements.{All-head, All-tail}
 use Rattle.std.specs.List.Sorted.{IsNonDecreasing}
 use Rattle.greedy_column.specs.declared.column.Track.{Track}
 use Rattle.greedy_column.specs.declared.column.Column.{Column}
 use Rattle.greedy_column.specs.Tracks.{ids}
-use Rattle.greedy_column.specs.Replay.{after}
+use Rattle.greedy_column.specs.Replay.{after, entered}
 use Rattle.greedy_router.specs.SweepWiring.{since_after}
 use Rattle.greedy_router.proofs.TellLaws.{segments_from-agree}
 use Rattle.greedy_router.proofs.ReplayLaws.{entered-few, fair-more, replay-more}
 use Rattle.greedy_router.proofs.WiringLaws.{segments-more, vias-more}
 use Rattle.greedy_router.proofs.wiring.wire_columns.Goals as goal
 
+-- the ids of tracks that are the same are below the same
+below : {tracks others : List Track} {room : ℕ} → others ≡ tracks → ((id : ℕ) → Contains (ids tracks) id → id < room)
+    → (id : ℕ) → Contains (ids others) id → id < room
+below {room} same within = subst (λ (l : List Track). (id : ℕ) → Contains (ids l) id → id < room) (sym same) within
+
 pub loop-done-init : goal.loop-done-init
 loop-done-init c =
-    let blank : c.as_mut_slice-since.result.now ≡ replicate c.args.room 0 = search rules in
-    let long : length c.as_mut_slice-since.result.now ≡ c.args.room = search rules in
-    record {
+    let run = c.run.invariant in
+    let blank : c.as_mut_slice-since.result.now ≡ replicate c.run.inside.state.fresh 0 = search rules in
+    rw (← c.run.view_is, c.as_slice-rest.ensures.value, c.items-order.ensures, c.in_ok-before.ensures, ← c.run.view_is)
+    (record {
       counted = omega arith;
-      fair = (c.args.begun + 1, rw c.in_ok-before.ensures c.requires.fair);
-      ascending = c.requires.ascending;
-      replay = rw c.in_ok-before.ensures c.requires.order;
-      below = λ id member. let less = c.requires.below id member in omega (arith, less, long);
-      segments = rw (c.new.ensures.items, c.in_ok-before.ensures)
-          (segments_from-agree (ids c.args.order.now) c.args.channel.now 0 _ (λ id. get_or c.as_mut_slice-since.result.now id 0) (λ id. 0) c.args.columns.now
-          (λ id member. ap (λ l. get_or l id 0) blank ∙ get_or-replicate c.args.room id 0 0 (c.requires.below id member)));
-      vias = rw (c.new-2.ensures.items, c.in_ok-before.ensures);
-    }
+      fair = (c.run.inside.begun + 1, run.fair);
+      ascending = run.ascending;
+      replay = run.order;
+      long = search rules;
+      segments = rw c.new.ensures.items
+          (segments_from-agree (ids c.run.inside.state.order) c.run.inside.surveyed.now.channel.now 0 _ (λ id. get_or c.as_mut_slice-since.result.now id 0) (λ id. 0)
+          c.run.inside.columns.items (λ id member. ap (λ l. get_or l id 0) blank ∙ get_or-replicate c.run.inside.state.fresh id 0 0 (run.below id member)));
+      vias = rw c.new-2.ensures.items refl;
+    })
 
-pub wire_column-requires-clause-ascending : goal.wire_column-requires-clause-ascending
-wire_column-requires-clause-ascending c =
+pub pass-requires-clause-made : goal.pass-requires-clause-made
+pass-requires-clause-made c =
+    let done : Column = c.in-Some.done.now in
+    let later : List Column = c.in-Some.later.now in
+    let cut : c.loop-done.rest.now ≡ done ∷ later = search rules in
+    let kept = rw cut at c.loop-done.invariant in
+    rw c.deref.ensures.value (kept.fair.0, kept.fair.1.0.lawful.made)
+
+pub pass-requires-clause-ascending : goal.pass-requires-clause-ascending
+pass-requires-clause-ascending c =
     let done : Column = c.in-Some.done.now in
     let later : List Column = c.in-Some.later.now in
     let cut : c.loop-done.rest.now ≡ done ∷ later = search rules in
     let kept : All (λ (d : Column). IsNonDecreasing d.ended) (done ∷ later) = rw cut at c.loop-done.invariant.ascending in
     All-head (λ (d : Column). IsNonDecreasing d.ended) done later kept
 
-pub wire_column-requires-clause-now : goal.wire_column-requires-clause-now
-wire_column-requires-clause-now c =
-    let done : Column = c.in-Some.done.now in
-    let later : List Column = c.in-Some.later.now in
-    let cut : c.loop-done.rest.now ≡ done ∷ later = search rules in
-    let kept = rw cut at c.loop-done.invariant in
-    rw c.deref.ensures.value
-    (let few = entered-few c.args.channel.now c.loop-done.column kept.fair.0 c.loop-done.before.items c.args.order.now done later kept.fair.1 kept.replay in
-    omega (arith, few, c.requires.few_tracks))
-
 pub loop-done-preserved : goal.loop-done-preserved
 loop-done-preserved c =
     let done : Column = c.in-Some.done.now in
     let later : List Column = c.in-Some.later.now in
-    let order : List ℕ = ids c.args.order.now in
-    let pins = c.args.channel.now in
+    let order : List ℕ = ids c.items-order.result.now in
+    let pins = c.run.inside.surveyed.now.channel.now in
     let before : List Track = c.loop-done.before.items in
     let column : ℕ = c.loop-done.column in
     let cut : c.loop-done.rest.now ≡ done ∷ later = search rules in
     let kept = rw cut at c.loop-done.invariant in
     let one : column + 1 ≡ suc column = add-one column in
-    let made = rw c.deref.ensures.value at c.in_ok-before-2.ensures in
-    let left : c.in_ok-before-2.before.items ≡ after pins column done before = made.after in
-    let long : length c.wire_column.new.since ≡ length c.loop-done.since = search rules in
-    let noted : (id : ℕ) → Contains order id → get_or c.wire_column.new.since id 0 ≡ since_after column before (λ i. get_or c.loop-done.since i 0) id =
-    λ id member. made.since id (let less = kept.below id member in omega (arith, less, long)) in
+    let left : c.in_ok-entered.field-0.left.items ≡ after pins column done before = rw c.deref.ensures.value at c.in_ok-entered.ensures.left in
+    let now : c.in_ok-entered.field-0.entered.items ≡ entered pins column done before = rw c.deref.ensures.value at c.in_ok-entered.ensures.entered in
+    let made = rw (c.deref-in-Some.ensures.value, c.deref-in-Some-2.ensures.value, c.deref-in-Some-3.ensures.value, now, left) at c.in_ok-wire.ensures in
+    let long : length c.wire.new.since ≡ length c.loop-done.since = search rules in
+    let room : length c.loop-done.since ≡ c.run.inside.state.fresh = kept.long in
+    let noted : (id : ℕ) → Contains order id → get_or c.wire.new.since id 0 ≡ since_after column before (λ i. get_or c.loop-done.since i 0) id =
+    λ id member. made.since id (let less = below c.items-order.ensures c.run.invariant.below id member in omega (arith, less, long, room)) in
     record {
       counted = omega (arith, kept.counted);
-      fair = fair-more pins column (column + 1) kept.fair.0 before c.in_ok-before-2.before.items done later one left kept.fair.1;
+      fair = fair-more pins column (column + 1) kept.fair.0 before c.in_ok-entered.field-0.left.items done later one left kept.fair.1;
       ascending = All-tail (λ (d : Column). IsNonDecreasing d.ended) done later kept.ascending;
-      replay = replay-more pins column (column + 1) before c.in_ok-before-2.before.items c.args.order.now done later one left kept.replay;
-      below = λ id member. let less = kept.below id member in omega (arith, less, long);
-      segments = segments-more order pins column (column + 1) before c.in_ok-before-2.before.items done later c.loop-done.wires.segments.items
-          c.wire_column.new.wires.segments.items _ (λ id. get_or c.loop-done.since id 0) (λ id. get_or c.wire_column.new.since id 0) one left noted
+      replay = replay-more pins column (column + 1) before c.in_ok-entered.field-0.left.items c.items-order.result.now done later one left kept.replay;
+      long = long ∙ room;
+      segments = segments-more order pins column (column + 1) before c.in_ok-entered.field-0.left.items done later c.loop-done.wires.segments.items
+          c.wire.new.wires.segments.items _ (λ id. get_or c.loop-done.since id 0) (λ id. get_or c.wire.new.since id 0) one left noted
           made.segments kept.segments;
-      vias = vias-more order pins column (column + 1) before c.in_ok-before-2.before.items done later c.loop-done.wires.vias.items
-          c.wire_column.new.wires.vias.items _ one left made.vias kept.vias;
+      vias = vias-more order pins column (column + 1) before c.in_ok-entered.field-0.left.items done later c.loop-done.wires.vias.items
+          c.wire.new.wires.vias.items _ one left made.vias kept.vias;
+    }
+
+pub invariant_of-turn : goal.invariant_of-turn
+invariant_of-turn c =
+    let done : Column = c.in-Some.done.now in
+    let later : List Column = c.in-Some.later.now in
+    let pins = c.run.inside.surveyed.now.channel.now in
+    let before : List Track = c.loop-done.before.items in
+    let column : ℕ = c.loop-done.column in
+    let cut : c.loop-done.rest.now ≡ done ∷ later = search rules in
+    let kept = rw cut at c.loop-done.invariant in
+    let now : c.in_ok-entered.field-0.entered.items ≡ entered pins column done before = rw c.deref.ensures.value at c.in_ok-entered.ensures.entered in
+    let few = entered-few pins column kept.fair.0 before c.items-order.result.now done later kept.fair.1 kept.replay in
+    let order = ap (λ (l : List Track). length l) c.items-order.ensures in
+    record {
+      few_entered = rw (c.deref-in-Some-2.ensures.value, now) (omega (arith, few, order, c.run.invariant.few_tracks));
+      few = omega (arith, order, c.run.invariant.few_tracks);
+      below = below c.items-order.ensures c.run.invariant.below;
     }

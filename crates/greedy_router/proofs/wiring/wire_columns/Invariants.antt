@@ -1,4 +1,4 @@
-use Rattle.std.proofs.Common.{◌≡◌, ◌<◌, ◌+◌, ◌++◌, ℕ, get_or, length, All, Contains}
+use Rattle.std.proofs.Common.{◌≡◌, ◌+◌, ◌++◌, ℕ, get_or, length, All}
 use Rattle.std.specs.List.Sorted.{IsNonDecreasing}
 use Rattle.greedy_column.specs.declared.column.Column.{Column}
 use Rattle.greedy_column.specs.Tracks.{ids}
@@ -9,16 +9,16 @@ use Rattle.greedy_router.proofs.wiring.wire_columns.Given as goal
 
 abbrev pub invariant-loop-done : goal.invariant-loop-done
 invariant-loop-done l = record {
-  counted : l.column + length l.rest ≡ length l.columns;
+  counted : l.column + length l.rest ≡ length l.run.sweep.columns;
   fair : (fresh : ℕ) × AllFair l.channel l.column fresh l.before.items l.rest;
   ascending : All (λ (done : Column). IsNonDecreasing done.ended) l.rest;
   replay : l.order ≡ replay_from l.channel l.column l.before.items l.rest;
-  below : (id : ℕ) → Contains (ids l.order) id → id < length l.since;
+  long : length l.since ≡ l.room;
   segments : l.wires.segments.items
       ++ segments_from (ids l.order) l.channel l.column l.before.items (λ id. get_or l.since id 0) l.rest
-      ≡ segments_from (ids l.order) l.channel 0 (free_tracks l.begun) (λ id. 0) l.columns;
+      ≡ segments_from (ids l.order) l.channel 0 (free_tracks l.run.sweep.begun) (λ id. 0) l.run.sweep.columns;
   vias : l.wires.vias.items ++ vias_from (ids l.order) l.channel l.column l.before.items l.rest
-      ≡ vias_from (ids l.order) l.channel 0 (free_tracks l.begun) l.columns;
+      ≡ vias_from (ids l.order) l.channel 0 (free_tracks l.run.sweep.begun) l.run.sweep.columns;
 }
 
 abbrev pub decreases-loop-done : goal.decreases-loop-done
