@@ -13,7 +13,8 @@ use crate::column::Track;
 use crate::entering::is_ending;
 use crate::grouping::{Grouping, group_at, grouping_of, lowest_lines};
 use crate::lines::{net_on, own_lines};
-use crate::question::{Question, pick_line};
+use crate::moment::Moment;
+use crate::question::Question;
 use crate::sorted::is_among;
 use crate::span::Span;
 use choose_core::{Ask, Chooses, Next};
@@ -43,47 +44,119 @@ fn is_given_up(next: Next, split: bool) -> bool
     is_ending(next) && !split
 }
 
-// The lines of a group that end.
-fn ends_of<C: Chooses>(
-    alloc: Global,
-    chooser: &C,
-    tracks: &[Track],
-    net: u32,
-    next: Next,
-    given_up: bool,
-    group: Vec<u32>,
-) -> Result<Vec<u32>, AllocError>
-    requires few { length tracks.now + 1 < 2 ^ 32 }
-    requires within { length group.items ≤ length tracks.now }
-    ensures { IfOk result (λ ending. EndsOf (C.answers chooser.now) (length tracks.now) next (own_lines net tracks.now) given_up group.items ending.items) }
-{
-    if given_up {
-        return Ok(group);
+impl<C: Chooses> Moment<'_, C> {
+    // The lines of a group that end.
+    fn ends_of(
+        &self,
+        tracks: &[Track],
+        net: u32,
+        next: Next,
+        given_up: bool,
+        group: Vec<u32>,
+    ) -> Result<Vec<u32>, AllocError>
+        requires few { length tracks.now + 1 < 2 ^ 32 }
+        requires within { length group.items ≤ length tracks.now }
+        ensures { IfOk result (λ ending. EndsOf (C.answers self.now.chooser.now) (length tracks.now) next (own_lines net tracks.now) given_up group.items ending.items) }
+    {
+        if given_up {
+            return Ok(group);
+        }
+        if group.len() < 2 {
+            return Ok(Vec::new(self.alloc));
+        }
+        self.ends_but_one(tracks, net, next, &group)
     }
-    if group.len() < 2 {
-        return Ok(Vec::new(alloc));
-    }
-    ends_but_one(alloc, chooser, tracks, net, next, &group)
-}
 
-// The lines of a group that end where its net has more to do: all but one.
-fn ends_but_one<C: Chooses>(
-    alloc: Global,
-    chooser: &C,
-    tracks: &[Track],
-    net: u32,
-    next: Next,
-    group: &[u32],
-) -> Result<Vec<u32>, AllocError>
-    requires few { length tracks.now + 1 < 2 ^ 32 }
-    requires some { 2 ≤ length group.now }
-    requires within { length group.now ≤ length tracks.now }
-    ensures { IfOk result (λ ending. EndsButOne (C.answers chooser.now) (length tracks.now) next (own_lines net tracks.now) group.now ending.items) }
-{
-    let others = other_groups(alloc, tracks, net, group)?;
-    let question = keep_question(tracks.len(), next);
-    let kept = pick_line(alloc, chooser, question, &others, group)?;
-    others_of(alloc, group, kept)
+    // The lines of a group that end where its net has more to do: all but one.
+    fn ends_but_one(
+        &self,
+        tracks: &[Track],
+        net: u32,
+        next: Next,
+        group: &[u32],
+    ) -> Result<Vec<u32>, AllocError>
+        requires few { length tracks.now + 1 < 2 ^ 32 }
+        requires some { 2 ≤ length group.now }
+        requires within { length group.now ≤ length tracks.now }
+        ensures { IfOk result (λ ending. EndsButOne (C.answers self.now.chooser.now) (length tracks.now) next (own_lines net tracks.now) group.now ending.items) }
+    {
+        let others = other_groups(self.alloc, tracks, net, group)?;
+        let question = keep_question(tracks.len(), next);
+        let kept = self.pick_line(question, &others, group)?;
+        others_of(self.alloc, group, kept)
+    }
+
+    // The lines that end of the group whose lowest line is this one.
+    fn ends_from(
+        &self,
+        tracks: &[Track],
+        grouping: &Grouping,
+        line: u32,
+    ) -> Result<Vec<u32>, AllocError>
+        requires few { length tracks.now + 1 < 2 ^ 32 }
+        requires lower_sorted { IsNonDecreasing grouping.now.lower.items }
+        requires lower { (line : ℕ)
+            → list_any (λ n. n == line) grouping.now.lower.items ≡ list_any (λ pair. pair.low == line) grouping.now.joined.items }
+        requires split_sorted { IsNonDecreasing grouping.now.split.items }
+        requires within { length (chain_from grouping.now.joined.items line) ≤ length tracks.now }
+        ensures { IfOk result (λ ending.
+            let net = net_on tracks.now line in
+            let next = next_after self.now.ahead.now.uses.items self.now.column net in
+            EndsOf (C.answers self.now.chooser.now) (length tracks.now) next (own_lines net tracks.now)
+            (is_given_up next (list_any (λ n. n == net) grouping.now.split.items)) (chain_from grouping.now.joined.items line) ending.items) }
+    {
+        let net = net_on(tracks, line);
+        let next = self.ahead.next(net, self.column);
+        let given_up = is_given_up(next, is_among(&grouping.split, net));
+        let group = group_at(self.alloc, &grouping.joined, &grouping.lower, line)?;
+        self.ends_of(tracks, net, next, given_up, group)
+    }
+
+    // The lines that end of the groups whose lowest lines are these.
+    fn ends_among(
+        &self,
+        tracks: &[Track],
+        grouping: &Grouping,
+        lines: &[u32],
+    ) -> Result<Vec<u32>, AllocError>
+        requires few { length tracks.now + 1 < 2 ^ 32 }
+        requires lower_sorted { IsNonDecreasing grouping.now.lower.items }
+        requires lower { (line : ℕ)
+            → list_any (λ n. n == line) grouping.now.lower.items ≡ list_any (λ pair. pair.low == line) grouping.now.joined.items }
+        requires split_sorted { IsNonDecreasing grouping.now.split.items }
+        requires within { (line : ℕ) → Contains lines.now line → length (chain_from grouping.now.joined.items line) ≤ length tracks.now }
+        ensures { IfOk result (λ ending. (spans : List Span)
+            → ((net : ℕ) → list_any (λ n. n == net) grouping.now.split.items ≡ is_split spans (neighbours tracks.now) net)
+            → EndsFollow (C.answers self.now.chooser.now) (next_after self.now.ahead.now.uses.items self.now.column) tracks.now spans
+            (map (chain_from grouping.now.joined.items) lines.now) ending.items) }
+    {
+        let mut ending = Vec::new(self.alloc);
+        let mut rest = lines;
+        while let Some((line, later)) = rest.split_first() {
+            let ends = self.ends_from(tracks, grouping, *line)?;
+            ending.extend_from_slice(&ends)?;
+            rest = later;
+        }
+        Ok(ending)
+    }
+
+    // The lines that end, group by group.
+    pub fn ending_lines(
+        &self,
+        tracks: &[Track],
+        pairs: &[Span],
+        spans: &[Span],
+    ) -> Result<Vec<u32>, AllocError>
+        requires few { length tracks.now + 1 < 2 ^ 32 }
+        requires pairs { pairs.now ≡ neighbours tracks.now }
+        ensures { IfOk result (λ ending.
+            EndsFollow (C.answers self.now.chooser.now) (next_after self.now.ahead.now.uses.items self.now.column) tracks.now spans.now
+            (groups (joined_pairs spans.now (neighbours tracks.now)) (held_lines tracks.now)) ending.items) }
+    {
+        let grouping = grouping_of(self.alloc, spans, pairs)?;
+        let lowest = lowest_lines(self.alloc, tracks, &grouping.joined)?;
+        self.ends_among(tracks, &grouping, &lowest)
+    }
 }
 
 // The lines of a group's net outside the group.
@@ -127,85 +200,4 @@ fn is_member(group: &[u32], line: u32) -> bool
     ensures { result ≡ list_any (λ member. member == line) group.now }
 {
     group.iter().any(|member| *member == line)
-}
-
-// The lines that end of the group whose lowest line is this one.
-fn ends_from<C: Chooses>(
-    alloc: Global,
-    chooser: &C,
-    ahead: &Ahead,
-    column: u32,
-    tracks: &[Track],
-    grouping: &Grouping,
-    line: u32,
-) -> Result<Vec<u32>, AllocError>
-    requires few { length tracks.now + 1 < 2 ^ 32 }
-    requires lower_sorted { IsNonDecreasing grouping.now.lower.items }
-    requires lower { (line : ℕ)
-        → list_any (λ n. n == line) grouping.now.lower.items ≡ list_any (λ pair. pair.low == line) grouping.now.joined.items }
-    requires split_sorted { IsNonDecreasing grouping.now.split.items }
-    requires within { length (chain_from grouping.now.joined.items line) ≤ length tracks.now }
-    ensures { IfOk result (λ ending.
-        let net = net_on tracks.now line in
-        let next = next_after ahead.now.uses.items column net in
-        EndsOf (C.answers chooser.now) (length tracks.now) next (own_lines net tracks.now)
-        (is_given_up next (list_any (λ n. n == net) grouping.now.split.items)) (chain_from grouping.now.joined.items line) ending.items) }
-{
-    let net = net_on(tracks, line);
-    let next = ahead.next(net, column);
-    let given_up = is_given_up(next, is_among(&grouping.split, net));
-    let group = group_at(alloc, &grouping.joined, &grouping.lower, line)?;
-    ends_of(alloc, chooser, tracks, net, next, given_up, group)
-}
-
-// The lines that end of the groups whose lowest lines are these.
-fn ends_among<C: Chooses>(
-    alloc: Global,
-    chooser: &C,
-    ahead: &Ahead,
-    column: u32,
-    tracks: &[Track],
-    grouping: &Grouping,
-    lines: &[u32],
-) -> Result<Vec<u32>, AllocError>
-    requires few { length tracks.now + 1 < 2 ^ 32 }
-    requires lower_sorted { IsNonDecreasing grouping.now.lower.items }
-    requires lower { (line : ℕ)
-        → list_any (λ n. n == line) grouping.now.lower.items ≡ list_any (λ pair. pair.low == line) grouping.now.joined.items }
-    requires split_sorted { IsNonDecreasing grouping.now.split.items }
-    requires within { (line : ℕ) → Contains lines.now line → length (chain_from grouping.now.joined.items line) ≤ length tracks.now }
-    ensures { IfOk result (λ ending. (spans : List Span)
-        → ((net : ℕ) → list_any (λ n. n == net) grouping.now.split.items ≡ is_split spans (neighbours tracks.now) net)
-        → EndsFollow (C.answers chooser.now) (next_after ahead.now.uses.items column) tracks.now spans
-        (map (chain_from grouping.now.joined.items) lines.now) ending.items) }
-{
-    let mut ending = Vec::new(alloc);
-    let mut rest = lines;
-    while let Some((line, later)) = rest.split_first() {
-        let ends = ends_from(alloc, chooser, ahead, column, tracks, grouping, *line)?;
-        ending.extend_from_slice(&ends)?;
-        rest = later;
-    }
-    Ok(ending)
-}
-
-// The lines that end, group by group.
-pub fn ending_lines<C: Chooses>(
-    alloc: Global,
-    chooser: &C,
-    ahead: &Ahead,
-    column: u32,
-    tracks: &[Track],
-    pairs: &[Span],
-    spans: &[Span],
-) -> Result<Vec<u32>, AllocError>
-    requires few { length tracks.now + 1 < 2 ^ 32 }
-    requires pairs { pairs.now ≡ neighbours tracks.now }
-    ensures { IfOk result (λ ending.
-        EndsFollow (C.answers chooser.now) (next_after ahead.now.uses.items column) tracks.now spans.now
-        (groups (joined_pairs spans.now (neighbours tracks.now)) (held_lines tracks.now)) ending.items) }
-{
-    let grouping = grouping_of(alloc, spans, pairs)?;
-    let lowest = lowest_lines(alloc, tracks, &grouping.joined)?;
-    ends_among(alloc, chooser, ahead, column, tracks, &grouping, &lowest)
 }

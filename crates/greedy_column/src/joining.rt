@@ -8,6 +8,7 @@ ghost use Rattle.std.specs.Prelude.{◌≡◌, ◌<◌, ◌+◌, ◌++◌, ◌^�
 use crate::ahead::Ahead;
 use crate::column::Track;
 use crate::lines::id_on;
+use crate::moment::Moment;
 use crate::span::Span;
 use choose_core::{Ask, Candidate, Chooses};
 use std::alloc::{AllocError, Global};
@@ -88,22 +89,51 @@ fn join_offer(ahead: &Ahead, column: u32, pair: Span) -> Candidate
     }
 }
 
-// One of these joins, picked by the chooser.
-fn pick_join<C: Chooses>(
-    alloc: Global,
-    chooser: &C,
-    ahead: &Ahead,
-    column: u32,
-    joins: &[Span],
-) -> Result<Span, AllocError>
-    requires some { 0 < length joins.now }
-    requires few { length joins.now < 2 ^ 32 }
-    requires above { StandAbove joins.now }
-    ensures picked { IfOk result (λ pair.
-        IsPicked (C.answers chooser.now) (join_offer (next_after ahead.now.uses.items column)) joins.now pair) }
-{
-    let offers = join_offers(alloc, ahead, column, joins)?;
-    Ok(joins[chooser.choose(&offers)])
+impl<C: Chooses> Moment<'_, C> {
+    // One of these joins, picked by the chooser.
+    fn pick_join(&self, joins: &[Span]) -> Result<Span, AllocError>
+        requires some { 0 < length joins.now }
+        requires few { length joins.now < 2 ^ 32 }
+        requires above { StandAbove joins.now }
+        ensures picked { IfOk result (λ pair.
+            IsPicked (C.answers self.now.chooser.now) (join_offer (next_after self.now.ahead.now.uses.items self.now.column)) joins.now pair) }
+    {
+        let offers = join_offers(self.alloc, self.ahead, self.column, joins)?;
+        Ok(joins[self.chooser.choose(&offers)])
+    }
+
+    // The next join, where one is possible.
+    fn next_join(&self, pairs: &[Span], spans: &[Span]) -> Result<Option<Span>, AllocError>
+        requires few { length pairs.now < 2 ^ 32 }
+        requires above { StandAbove pairs.now }
+        ensures { IfOk result (λ join.
+            IsNextJoin (C.answers self.now.chooser.now) (next_after self.now.ahead.now.uses.items self.now.column) (possible_joins spans.now pairs.now) join) }
+    {
+        let joins = possible_joins(self.alloc, spans, pairs)?;
+        if joins.is_empty() {
+            return Ok(None);
+        }
+        let pair = self.pick_join(&joins)?;
+        Ok(Some(pair))
+    }
+
+    // The joins of a column, in their order: while one is possible, one is picked, and becomes a vertical.
+    pub fn join_all(&self, pairs: &[Span], spans: &mut Vec<Span>) -> Result<Vec<Span>, AllocError>
+        requires few { length pairs.now < 2 ^ 32 }
+        requires above { StandAbove pairs.now }
+        ensures joins { IfOk result (λ joined.
+            JoinsFollow (C.answers self.now.chooser.now) (next_after self.now.ahead.now.uses.items self.now.column) pairs.now spans.old.items joined.items) }
+        ensures spans { IfOk result (λ joined. spans.new.items ≡ spans.old.items ++ joined.items) }
+    {
+        let mut joined = Vec::new(self.alloc);
+        loop {
+            let Some(pair) = self.next_join(pairs, spans)? else {
+                return Ok(joined);
+            };
+            spans.push(pair)?;
+            joined.push(pair)?;
+        }
+    }
 }
 
 // Some joins as they are offered.
@@ -123,53 +153,6 @@ fn join_offers(
         rest = later;
     }
     Ok(offers)
-}
-
-// The next join, where one is possible.
-fn next_join<C: Chooses>(
-    alloc: Global,
-    chooser: &C,
-    ahead: &Ahead,
-    column: u32,
-    pairs: &[Span],
-    spans: &[Span],
-) -> Result<Option<Span>, AllocError>
-    requires few { length pairs.now < 2 ^ 32 }
-    requires above { StandAbove pairs.now }
-    ensures { IfOk result (λ join.
-        IsNextJoin (C.answers chooser.now) (next_after ahead.now.uses.items column) (possible_joins spans.now pairs.now) join) }
-{
-    let joins = possible_joins(alloc, spans, pairs)?;
-    if joins.is_empty() {
-        return Ok(None);
-    }
-    let pair = pick_join(alloc, chooser, ahead, column, &joins)?;
-    Ok(Some(pair))
-}
-
-// The joins of a column, in their order: while one is possible, one is picked, and becomes a vertical.
-pub fn join_all<C: Chooses>(
-    alloc: Global,
-    chooser: &C,
-    ahead: &Ahead,
-    column: u32,
-    pairs: &[Span],
-    spans: &mut Vec<Span>,
-) -> Result<Vec<Span>, AllocError>
-    requires few { length pairs.now < 2 ^ 32 }
-    requires above { StandAbove pairs.now }
-    ensures joins { IfOk result (λ joined.
-        JoinsFollow (C.answers chooser.now) (next_after ahead.now.uses.items column) pairs.now spans.old.items joined.items) }
-    ensures spans { IfOk result (λ joined. spans.new.items ≡ spans.old.items ++ joined.items) }
-{
-    let mut joined = Vec::new(alloc);
-    loop {
-        let Some(pair) = next_join(alloc, chooser, ahead, column, pairs, spans)? else {
-            return Ok(joined);
-        };
-        spans.push(pair)?;
-        joined.push(pair)?;
-    }
 }
 
 // The ids of the joins' lower and upper tracks.

@@ -10,6 +10,7 @@ mod going_on;
 mod grouping;
 mod joining;
 mod lines;
+mod moment;
 mod move_order;
 mod moving;
 mod pairing;

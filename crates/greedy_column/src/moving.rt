@@ -9,7 +9,8 @@ ghost use Rattle.std.specs.Prelude.{◌≡◌, ◌<◌, ◌+◌, ◌++◌, ◌�
 use crate::ahead::Ahead;
 use crate::column::Track;
 use crate::lines::{hold, holds_alone, id_on, net_on, own_lines};
-use crate::question::{Question, pick_line};
+use crate::moment::Moment;
+use crate::question::Question;
 use crate::span::Span;
 use choose_core::{Ask, Chooses, Next};
 use std::alloc::{AllocError, Global};
@@ -52,26 +53,77 @@ fn move_options(
         .collect(alloc)
 }
 
-// Where a kept track of a net goes on, by an answer where it has options.
-fn target_of<C: Chooses>(
-    alloc: Global,
-    chooser: &C,
-    next: Next,
-    net: u32,
-    kept: &[Track],
-    line: u32,
-    options: &[u32],
-) -> Result<u32, AllocError>
-    requires few { length kept.now + 1 < 2 ^ 32 }
-    requires options { length options.now + 1 < 2 ^ 32 }
-    ensures { IfOk result (λ target. GoesTo (C.answers chooser.now) next (without line (own_lines net kept.now)) line options.now target) }
-{
-    if options.is_empty() {
-        return Ok(line);
+impl<C: Chooses> Moment<'_, C> {
+    // Where a kept track of a net goes on, by an answer where it has options.
+    fn target_of(
+        &self,
+        next: Next,
+        net: u32,
+        kept: &[Track],
+        line: u32,
+        options: &[u32],
+    ) -> Result<u32, AllocError>
+        requires few { length kept.now + 1 < 2 ^ 32 }
+        requires options { length options.now + 1 < 2 ^ 32 }
+        ensures { IfOk result (λ target. GoesTo (C.answers self.now.chooser.now) next (without line (own_lines net kept.now)) line options.now target) }
+    {
+        if options.is_empty() {
+            return Ok(line);
+        }
+        let others = other_lines(self.alloc, kept, net, line)?;
+        let lines = with_own(self.alloc, line, options)?;
+        self.pick_line(move_question(line, next), &others, &lines)
     }
-    let others = other_lines(alloc, kept, net, line)?;
-    let lines = with_own(alloc, line, options)?;
-    pick_line(alloc, chooser, move_question(line, next), &others, &lines)
+
+    // The line on which the kept track of a line goes on.
+    fn line_after(
+        &self,
+        tracks: &[Track],
+        kept: &[Track],
+        spans: &[Span],
+        free: &[u32],
+        line: u32,
+    ) -> Result<u32, AllocError>
+        requires few { length kept.now + 1 < 2 ^ 32 }
+        requires free { length free.now + 1 < 2 ^ 32 }
+        ensures { IfOk result (λ target. GoesTo (C.answers self.now.chooser.now) (next_after self.now.ahead.now.uses.items self.now.column (net_on tracks.now line))
+            (others_of_net tracks.now kept.now line) line (move_options spans.now (net_on tracks.now line) line free.now) target) }
+    {
+        let net = net_on(tracks, line);
+        let next = self.ahead.next(net, self.column);
+        let options = move_options(self.alloc, spans, net, line, free)?;
+        self.target_of(next, net, kept, line, &options)
+    }
+
+    // The moves of a column, as lines, in their order, by which the kept tracks are carried along.
+    pub fn move_all(
+        &self,
+        tracks: &[Track],
+        lines: &[u32],
+        spans: &mut Vec<Span>,
+        mut free: Vec<u32>,
+        kept: &mut [Track],
+    ) -> Result<Vec<(u32, u32)>, AllocError>
+        requires few { length kept.old + 1 < 2 ^ 32 }
+        requires free { length free.items + 1 < 2 ^ 32 }
+        ensures moves { IfOk result (λ moves.
+            MovesFollow (C.answers self.now.chooser.now) (next_after self.now.ahead.now.uses.items self.now.column) tracks.now kept.old lines.now spans.old.items free.items
+            moves.items) }
+        ensures kept { IfOk result (λ moves. kept.new ≡ moved (map (move_ids tracks.now) moves.items) kept.old) }
+    {
+        let mut moves = Vec::new(self.alloc);
+        let mut rest = lines;
+        while let Some((line, later)) = rest.split_first() {
+            rest = later;
+            let target = self.line_after(tracks, kept, spans, &free, *line)?;
+            if target == *line {
+                continue;
+            }
+            go_to(self.alloc, tracks, *line, target, spans, &mut free, kept)?;
+            moves.push((*line, target))?;
+        }
+        Ok(moves)
+    }
 }
 
 // A line, and then others.
@@ -105,64 +157,6 @@ fn without(alloc: Global, line: u32, lines: &[u32]) -> Result<Vec<u32>, AllocErr
         .copied()
         .filter(|other| *other != line)
         .collect(alloc)
-}
-
-// The line on which the kept track of a line goes on.
-fn line_after<C: Chooses>(
-    alloc: Global,
-    chooser: &C,
-    ahead: &Ahead,
-    column: u32,
-    tracks: &[Track],
-    kept: &[Track],
-    spans: &[Span],
-    free: &[u32],
-    line: u32,
-) -> Result<u32, AllocError>
-    requires few { length kept.now + 1 < 2 ^ 32 }
-    requires free { length free.now + 1 < 2 ^ 32 }
-    ensures { IfOk result (λ target. GoesTo (C.answers chooser.now) (next_after ahead.now.uses.items column (net_on tracks.now line))
-        (others_of_net tracks.now kept.now line) line (move_options spans.now (net_on tracks.now line) line free.now) target) }
-{
-    let net = net_on(tracks, line);
-    let next = ahead.next(net, column);
-    let options = move_options(alloc, spans, net, line, free)?;
-    target_of(alloc, chooser, next, net, kept, line, &options)
-}
-
-// The moves of a column, as lines, in their order, by which the kept tracks are carried along.
-pub fn move_all<C: Chooses>(
-    alloc: Global,
-    chooser: &C,
-    ahead: &Ahead,
-    column: u32,
-    tracks: &[Track],
-    lines: &[u32],
-    spans: &mut Vec<Span>,
-    mut free: Vec<u32>,
-    kept: &mut [Track],
-) -> Result<Vec<(u32, u32)>, AllocError>
-    requires few { length kept.old + 1 < 2 ^ 32 }
-    requires free { length free.items + 1 < 2 ^ 32 }
-    ensures moves { IfOk result (λ moves.
-        MovesFollow (C.answers chooser.now) (next_after ahead.now.uses.items column) tracks.now kept.old lines.now spans.old.items free.items
-        moves.items) }
-    ensures kept { IfOk result (λ moves. kept.new ≡ moved (map (move_ids tracks.now) moves.items) kept.old) }
-{
-    let mut moves = Vec::new(alloc);
-    let mut rest = lines;
-    while let Some((line, later)) = rest.split_first() {
-        rest = later;
-        let target = line_after(
-            alloc, chooser, ahead, column, tracks, kept, spans, &free, *line,
-        )?;
-        if target == *line {
-            continue;
-        }
-        go_to(alloc, tracks, *line, target, spans, &mut free, kept)?;
-        moves.push((*line, target))?;
-    }
-    Ok(moves)
 }
 
 // One move between lines: it becomes a vertical, its line is free no more, and the kept tracks are carried along.

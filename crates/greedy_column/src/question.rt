@@ -4,6 +4,7 @@ ghost use Rattle.std.specs.Prelude.{◌≡◌, ◌<◌, ◌≤◌, ◌+◌, ◌^
 
 use crate::column::Track;
 use crate::lines::own_lines;
+use crate::moment::Moment;
 use choose_core::{Ask, Candidate, Chooses, Next};
 use std::alloc::{AllocError, Global};
 
@@ -67,41 +68,41 @@ fn least_distance(line: u32, first: u32, others: &[u32]) -> u32
     least
 }
 
-// One of these lines of a net that holds other tracks too, picked by the chooser.
-pub fn pick_line<C: Chooses>(
-    alloc: Global,
-    chooser: &C,
-    question: Question,
-    others: &[u32],
-    lines: &[u32],
-) -> Result<u32, AllocError>
-    requires others { AreLines others.now }
-    requires some { 0 < length lines.now }
-    requires few { length lines.now < 2 ^ 32 }
-    ensures picked { IfOk result (λ line. IsPicked (C.answers chooser.now) (offer question others.now) lines.now line) }
-    ensures member { IfOk result (λ line. Contains lines.now line) }
-{
-    let offers = offers(alloc, question, others, lines)?;
-    Ok(lines[chooser.choose(&offers)])
-}
+impl<C: Chooses> Moment<'_, C> {
+    // One of these lines of a net that holds other tracks too, picked by the chooser.
+    pub fn pick_line(
+        &self,
+        question: Question,
+        others: &[u32],
+        lines: &[u32],
+    ) -> Result<u32, AllocError>
+        requires others { AreLines others.now }
+        requires some { 0 < length lines.now }
+        requires few { length lines.now < 2 ^ 32 }
+        ensures picked { IfOk result (λ line. IsPicked (C.answers self.now.chooser.now) (offer question others.now) lines.now line) }
+        ensures member { IfOk result (λ line. Contains lines.now line) }
+    {
+        let offers = offers(self.alloc, question, others, lines)?;
+        Ok(lines[self.chooser.choose(&offers)])
+    }
 
-// One of these lines of a net, beside the tracks that it holds, picked by the chooser.
-pub fn pick_own<C: Chooses>(
-    alloc: Global,
-    chooser: &C,
-    question: Question,
-    tracks: &[Track],
-    net: u32,
-    lines: &[u32],
-) -> Result<u32, AllocError>
-    requires tracks { length tracks.now + 1 < 2 ^ 32 }
-    requires some { 0 < length lines.now }
-    requires few { length lines.now < 2 ^ 32 }
-    ensures picked { IfOk result (λ line. IsPicked (C.answers chooser.now) (offer question (own_lines net tracks.now)) lines.now line) }
-    ensures member { IfOk result (λ line. Contains lines.now line) }
-{
-    let own = own_lines(alloc, tracks, net)?;
-    pick_line(alloc, chooser, question, &own, lines)
+    // One of these lines of a net, beside the tracks that it holds, picked by the chooser.
+    pub fn pick_own(
+        &self,
+        question: Question,
+        tracks: &[Track],
+        net: u32,
+        lines: &[u32],
+    ) -> Result<u32, AllocError>
+        requires tracks { length tracks.now + 1 < 2 ^ 32 }
+        requires some { 0 < length lines.now }
+        requires few { length lines.now < 2 ^ 32 }
+        ensures picked { IfOk result (λ line. IsPicked (C.answers self.now.chooser.now) (offer question (own_lines net tracks.now)) lines.now line) }
+        ensures member { IfOk result (λ line. Contains lines.now line) }
+    {
+        let own = own_lines(self.alloc, tracks, net)?;
+        self.pick_line(question, &own, lines)
+    }
 }
 
 // Some tracks as they are offered.
