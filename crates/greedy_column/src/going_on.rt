@@ -7,13 +7,14 @@ ghost use Rattle.std.specs.Prelude.{◌≡◌, ◌<◌, ◌+◌, ◌^◌, IfOk, 
 
 use crate::ahead::Ahead;
 use crate::column::Track;
-use crate::freeing::{ended_ids, freed};
-use crate::joining::{join_ids, neighbours};
-use crate::lines::open_lines;
+use crate::freeing::ended_ids;
+use crate::joining::join_ids;
 use crate::moment::Moment;
 use crate::move_order::order_of_moves;
 use crate::moving::move_ids;
+use crate::pairs::Pairs;
 use crate::span::Span;
+use crate::tracks::Tracks;
 use choose_core::{Chooses, Manner};
 use geom_core::Items;
 use std::alloc::{AllocError, Global};
@@ -39,13 +40,12 @@ struct Drawn {
 #[derive(Drop)]
 struct Carried {
     moves: Vec<(u32, u32)>,
-    tracks: Vec<Track>,
+    tracks: Tracks,
 }
 
 impl<C: Chooses> Moment<'_, C> {
     // Steps 2 to 4, over the tracks that the pins have entered and the verticals of these.
-    pub fn go_on(&self, now: &[Track], spans: Vec<Span>) -> Result<Outcome, AllocError>
-        requires { length now.now + 1 < 2 ^ 32 }
+    pub fn go_on(&self, now: &Tracks, spans: Vec<Span>) -> Result<Outcome, AllocError>
         ensures follows { IfOk result (λ outcome. FollowsOn self.now.manner (C.answers self.now.chooser.now) (next_after self.now.ahead.now.uses.items self.now.column) now.now spans.items
             outcome.joins outcome.ended outcome.moves) }
         ensures tracks { IfOk result (λ outcome. outcome.tracks ≡ moved outcome.moves (freed outcome.ended now.now)) }
@@ -62,31 +62,29 @@ impl<C: Chooses> Moment<'_, C> {
             joins: Items::new(joins),
             ended: Items::new(ended),
             moves: Items::new(moves),
-            tracks: Items::new(tracks),
+            tracks: Items::new(tracks.into_list()),
         })
     }
 
     // Steps 2 and 3.
-    fn join_and_end(&self, now: &[Track], spans: Vec<Span>) -> Result<Drawn, AllocError>
-        requires { length now.now + 1 < 2 ^ 32 }
+    fn join_and_end(&self, now: &Tracks, spans: Vec<Span>) -> Result<Drawn, AllocError>
         ensures joins { IfOk result (λ drawn. AreJoinsTold (C.answers self.now.chooser.now) (next_after self.now.ahead.now.uses.items self.now.column) now.now spans.items
             drawn.spans.items drawn.joins.items) }
         ensures ends { IfOk result (λ drawn. AreEndsTold (C.answers self.now.chooser.now) (next_after self.now.ahead.now.uses.items self.now.column) now.now drawn.spans.items
             drawn.ended.items) }
     {
-        let pairs = neighbours(self.alloc, now)?;
+        let pairs = now.neighbours(self.alloc)?;
         self.join_pairs(now, &pairs, spans)
     }
 
     // The same, from the neighbouring tracks.
     fn join_pairs(
         &self,
-        now: &[Track],
-        pairs: &[Span],
+        now: &Tracks,
+        pairs: &Pairs,
         mut spans: Vec<Span>,
     ) -> Result<Drawn, AllocError>
-        requires few { length now.now + 1 < 2 ^ 32 }
-        requires pairs { pairs.now ≡ neighbours now.now }
+        requires { pairs.now ≡ neighbours now.now }
         ensures joins { IfOk result (λ drawn. AreJoinsTold (C.answers self.now.chooser.now) (next_after self.now.ahead.now.uses.items self.now.column) now.now spans.items
             drawn.spans.items drawn.joins.items) }
         ensures ends { IfOk result (λ drawn. AreEndsTold (C.answers self.now.chooser.now) (next_after self.now.ahead.now.uses.items self.now.column) now.now drawn.spans.items
@@ -104,12 +102,11 @@ impl<C: Chooses> Moment<'_, C> {
     // Step 2: the joins, which become verticals.
     fn joins_of(
         &self,
-        now: &[Track],
-        pairs: &[Span],
+        now: &Tracks,
+        pairs: &Pairs,
         spans: &mut Vec<Span>,
     ) -> Result<Vec<(u32, u32)>, AllocError>
-        requires few { length now.now + 1 < 2 ^ 32 }
-        requires pairs { pairs.now ≡ neighbours now.now }
+        requires { pairs.now ≡ neighbours now.now }
         ensures { IfOk result (λ joins. AreJoinsTold (C.answers self.now.chooser.now) (next_after self.now.ahead.now.uses.items self.now.column) now.now spans.old.items
             spans.new.items joins.items) }
     {
@@ -120,12 +117,11 @@ impl<C: Chooses> Moment<'_, C> {
     // Step 3: the tracks that end.
     fn ends_of_lines(
         &self,
-        now: &[Track],
-        pairs: &[Span],
+        now: &Tracks,
+        pairs: &Pairs,
         spans: &[Span],
     ) -> Result<Vec<u32>, AllocError>
-        requires few { length now.now + 1 < 2 ^ 32 }
-        requires pairs { pairs.now ≡ neighbours now.now }
+        requires { pairs.now ≡ neighbours now.now }
         ensures { IfOk result (λ ended. AreEndsTold (C.answers self.now.chooser.now) (next_after self.now.ahead.now.uses.items self.now.column) now.now spans.now ended.items) }
     {
         let ending = self.ending_lines(now, pairs, spans)?;
@@ -135,17 +131,16 @@ impl<C: Chooses> Moment<'_, C> {
     // Step 4, over the tracks of which those of these ids are freed.
     fn move_on(
         &self,
-        now: &[Track],
+        now: &Tracks,
         ended: &[u32],
         mut spans: Vec<Span>,
     ) -> Result<Carried, AllocError>
-        requires few { length now.now + 1 < 2 ^ 32 }
-        requires ended { IsNonDecreasing ended.now }
+        requires { IsNonDecreasing ended.now }
         ensures moves { IfOk result (λ carried. AreMovesTold self.now.manner (C.answers self.now.chooser.now) (next_after self.now.ahead.now.uses.items self.now.column) now.now
             (freed ended.now now.now) spans.items carried.moves.items) }
-        ensures tracks { IfOk result (λ carried. carried.tracks.items ≡ moved carried.moves.items (freed ended.now now.now)) }
+        ensures tracks { IfOk result (λ carried. carried.tracks ≡ moved carried.moves.items (freed ended.now now.now)) }
     {
-        let mut tracks = freed(self.alloc, now, ended)?;
+        let mut tracks = now.freed(self.alloc, ended)?;
         let moves = self.moves_of(now, &mut spans, &mut tracks)?;
         Ok(Carried { moves, tracks })
     }
@@ -153,18 +148,16 @@ impl<C: Chooses> Moment<'_, C> {
     // The moves of the kept tracks, which become verticals, and by which these are carried along.
     fn moves_of(
         &self,
-        now: &[Track],
+        now: &Tracks,
         spans: &mut Vec<Span>,
-        kept: &mut [Track],
+        kept: &mut Tracks,
     ) -> Result<Vec<(u32, u32)>, AllocError>
-        requires few { length now.now + 1 < 2 ^ 32 }
-        requires kept { length kept.old + 1 < 2 ^ 32 }
         ensures moves { IfOk result (λ moves. AreMovesTold self.now.manner (C.answers self.now.chooser.now) (next_after self.now.ahead.now.uses.items self.now.column) now.now kept.old
             spans.old.items moves.items) }
         ensures tracks { IfOk result (λ moves. kept.new ≡ moved moves.items kept.old) }
     {
         let order = order_of_moves(self.alloc, self.manner, self.ahead, self.column, kept)?;
-        let free = open_lines(self.alloc, now, 0)?;
+        let free = now.open_lines(self.alloc, 0)?;
         let moving = self.move_all(now, &order, spans, free, kept)?;
         move_ids(self.alloc, now, &moving)
     }

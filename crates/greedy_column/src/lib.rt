@@ -14,12 +14,14 @@ mod moment;
 mod move_order;
 mod moving;
 mod pairing;
+mod pairs;
 mod places;
 mod question;
 mod replays;
 mod sorted;
 mod span;
 mod stepping;
+mod tracks;
 mod uses;
 
 pub use ahead::Ahead;

@@ -6,8 +6,8 @@ use Rattle.greedy_column.specs.Follows.{AreEndsTold, AreJoinsTold, AreMovesTold}
 use Rattle.greedy_column.proofs.FollowLaws.{not_falling, FollowsOn-from_told}
 use Rattle.greedy_column.proofs.moment.Moment.go_on.Goals as goal
 
-pub move_on-requires-clause-ended : goal.move_on-requires-clause-ended
-move_on-requires-clause-ended g c =
+pub move_on-requires : goal.move_on-requires
+move_on-requires g c =
     subst (λ (l : List ℕ). IsNonDecreasing l) (sym c.deref.ensures.value)
     (not_falling c.in_ok-drawn.drawn.ended.items c.in_ok-drawn.ensures.ends.told.ascending)
 

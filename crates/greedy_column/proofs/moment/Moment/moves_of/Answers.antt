@@ -17,7 +17,7 @@ returns-clause-moves g c =
       moving = c.in_ok-moving.moving.items;
       ordered = c.in_ok-order.ensures;
       follow = subst (λ (l : List ℕ). MovesFollow may next now kept l c.args.spans.now.items (free_lines now) c.in_ok-moving.moving.items) c.deref.ensures.value
-          (subst (λ (l : List ℕ). MovesFollow may next now kept order c.args.spans.now.items l c.in_ok-moving.moving.items) c.in_ok-free.ensures.lines
+          (subst (λ (l : List ℕ). MovesFollow may next now kept order c.args.spans.now.items l c.in_ok-moving.moving.items) c.in_ok-free.ensures
           c.in_ok-moving.ensures.moves);
       told = is ∙ ap (λ (l : List (ℕ × ℕ)). map (move_ids now) l) c.deref-2.ensures.value;
     }) c.move_ids.ensures

@@ -1,14 +1,11 @@
-use Rattle.std.proofs.Common.{◌∙◌, subst, sym, List, ℕ}
+use Rattle.std.proofs.Common.{subst, List, ℕ, Contains}
 use Rattle.std.proofs.lemmas.Result.{IfOk-weaker}
-use Rattle.greedy_column.specs.Lines.{AreLines}
-use Rattle.greedy_column.specs.Offers.{IsPicked, offer}
 use Rattle.greedy_column.proofs.moment.Moment.pick_own.Goals as goal
 
-pub pick_line-requires-clause-others : goal.pick_line-requires-clause-others
-pick_line-requires-clause-others g c = subst (λ (l : List ℕ). AreLines l) (sym c.deref.ensures.value) c.in_ok-own.ensures.lines
-
 pub returns-clause-picked : goal.returns-clause-picked
-returns-clause-picked g c =
-    IfOk-weaker c.pick_line.result _ _ (λ line picked.
-    subst (λ (l : List ℕ). IsPicked (g.C.Chooses.answers c.args.self.now.chooser.now) (offer c.args.question l) c.args.lines.now line)
-    (c.deref.ensures.value ∙ c.in_ok-own.ensures.own) picked) c.pick_line.ensures.picked
+returns-clause-picked g c = rw (← c.in_ok-own.ensures, ← c.list.ensures.list) c.pick_line.ensures.picked
+
+pub returns-clause-above : goal.returns-clause-above
+returns-clause-above g c =
+    IfOk-weaker c.pick_line.result _ _ (λ line member.
+    (c.list.ensures.are.each line (subst (λ (l : List ℕ). Contains l line) c.list.ensures.list member)).0) c.pick_line.ensures.member
