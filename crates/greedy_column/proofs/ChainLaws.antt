@@ -6,11 +6,11 @@ use Rattle.greedy_column.specs.Tracks.{ids}
 use Rattle.greedy_column.specs.Verticals.{Vertical}
 use Rattle.greedy_column.specs.Neighbours.{Holds, Grouped, alone}
 use Rattle.greedy_column.specs.Lines.{id_on, net_on, is_held, held_lines}
-use Rattle.greedy_column.specs.Joining.{AreAscending, neighbours, span_in, is_joined}
+use Rattle.greedy_column.specs.Joining.{neighbours, span_in, is_joined}
 use Rattle.greedy_column.specs.Ending.{chain_from, is_joined_below, joined_pairs}
 use Rattle.greedy_column.proofs.Members.{in_none, in_one, in_first, in_later, in_cases, in_filter, in_filter_back, any_at, any_from}
 use Rattle.greedy_column.proofs.IdLaws.{Apart}
-use Rattle.greedy_column.proofs.PairLaws.{neighbours-ascending, AreAscending-filter}
+use Rattle.greedy_column.proofs.PairLaws.{AreAscending, neighbours-ascending, AreAscending-filter}
 use Rattle.greedy_column.proofs.TableLaws.{line_of-line}
 use Rattle.greedy_column.proofs.PartLaws.{Apart-lines_from}
 use Rattle.greedy_column.proofs.DrawnLaws.{IsPiece-neighbour}

@@ -8,7 +8,7 @@ use Rattle.choose_core.specs.declared.candidate.Next.{Next}
 use Rattle.greedy_column.specs.declared.span.Span.{Span}
 use Rattle.greedy_column.specs.Offers.{IsPicked, join_offer}
 use Rattle.greedy_column.specs.Joining.{JoinsFollow, covers, passes, is_joined, is_clear, possible_joins}
-use Rattle.greedy_column.proofs.Members.{in_cases, in_filter_back, filter-few}
+use Rattle.greedy_column.proofs.Members.{in_cases, in_filter_back}
 
 -- a stricter test keeps fewer, and less where it refuses a member that the other one keeps
 filter-fewer : {X : Type 0} (p q : X → Bool) (xs : List X) → ((x : X) → q x ≡ true → p x ≡ true) → length (filter q xs) ≤ length (filter p xs)
@@ -85,6 +85,3 @@ module _ (may : List Candidate → ℕ → Type 0) (next : ℕ → Next) (pairs 
       → (rest : List Span) → JoinsFollow may next pairs (spans ++ pair ∷ []) rest → JoinsFollow may next pairs first ((joined ++ pair ∷ []) ++ rest)
   joins_go_on first spans joined joins pair is picked so_far rest follow =
       rw append_assoc (so_far (pair ∷ rest) (rw is at picked, follow))
-
-pub possible_joins-few : (spans pairs : List Span) → length (possible_joins spans pairs) ≤ length pairs
-possible_joins-few spans pairs = filter-few (λ s. not (is_joined spans s) && is_clear spans s) pairs

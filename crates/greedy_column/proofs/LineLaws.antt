@@ -2,7 +2,7 @@ use Rattle.std.proofs.Common.{◌≡◌, inl, inr, ◌<◌, ◌≤◌, ◌+◌, 
 use Rattle.std.proofs.lemmas.List.{append-nil}
 use Rattle.std.proofs.lemmas.List.Elements.{Contains-append_cases}
 use Rattle.greedy_column.specs.declared.column.Track.{Track}
-use Rattle.greedy_column.specs.Lines.{lines_from, LieWithin, above_lowest, below_line, AreLines}
+use Rattle.greedy_column.specs.Lines.{lines_from, above_lowest, below_line, AreLines}
 use Rattle.greedy_column.proofs.Members.{in_none, in_first, in_later, in_one, in_filter_back, filter-few}
 
 -- a track that passes a test stands on a line
@@ -48,6 +48,11 @@ lines_from-few passes first (t ∷ tracks) =
       lines_from-few passes (suc first) tracks,
     )
 
+-- lines of so many tracks, not more than there are
+pub record LieWithin (tracks : ℕ) (lines : List ℕ) : Type 0 where
+  pub each : (line : ℕ) → Contains lines line → (0 < line) × (line ≤ tracks)
+  pub few : length lines ≤ tracks
+
 pub LieWithin-lines : (passes : Track → Bool) (tracks : List Track) → LieWithin (length tracks) (lines_from passes 1 tracks)
 LieWithin-lines passes tracks = record {
   each = λ line member. let found = lines_from-each passes 1 line tracks member in (omega (arith, found.above), omega (arith, found.below));
@@ -59,10 +64,6 @@ LieWithin-filter tracks p lines within = record {
   each = λ line member. within.each line (in_filter_back p line lines member).0;
   few = omega (arith, filter-few p lines, within.few);
 }
-
-pub LieWithin-above : (tracks : ℕ) (others lines : List ℕ) → LieWithin tracks lines → LieWithin tracks (above_lowest others lines)
-LieWithin-above tracks [] lines within = record { each = λ line member. absurd (in_none line member); few = omega arith }
-LieWithin-above tracks (lowest ∷ others) lines within = LieWithin-filter tracks _ lines within
 
 -- lines that a loop has found, once no track is left
 pub LieWithin-found : (passes : Track → Bool) (line : ℕ) (tracks rest : List Track) (lines : List ℕ) → length rest ≡ 0
@@ -80,7 +81,16 @@ below_line-some (lowest ∷ others) lines line member =
 
 -- lines within tracks that are few
 pub AreLines-within : (tracks : ℕ) (lines : List ℕ) → tracks + 1 < 2 ^ 32 → LieWithin tracks lines → AreLines lines
-AreLines-within tracks lines few within = λ line member. let each = within.each line member in (each.0, omega (arith, each.1, few))
+AreLines-within tracks lines few within = record {
+  each = λ line member. let each = within.each line member in (each.0, omega (arith, each.1, few));
+  few = omega (arith, within.few, few);
+}
 
 pub AreLines-filter : (p : ℕ → Bool) (lines : List ℕ) → AreLines lines → AreLines (filter p lines)
-AreLines-filter p lines are = λ line member. are line (in_filter_back p line lines member).0
+AreLines-filter p lines are = record {
+  each = λ line member. are.each line (in_filter_back p line lines member).0;
+  few = omega (arith, filter-few p lines, are.few);
+}
+
+pub AreLines-none : AreLines []
+AreLines-none = record { each = λ line member. absurd (in_none line member); few = omega arith }

@@ -12,14 +12,14 @@ use Rattle.greedy_column.specs.declared.entering.PinKind.{PinKind}
 use Rattle.greedy_column.specs.declared.entering.PinKind.TheVariants.{NoPins, BottomAlone, TopAlone, EqualPins, TwoPins}
 use Rattle.greedy_column.specs.declared.entering.Newcomer.{Newcomer}
 use Rattle.greedy_column.specs.declared.entering.Newcomer.TheVariants.{TopPin, BottomPin, BothPins}
-use Rattle.greedy_column.specs.Lines.{LieWithin, is_open, open_lines, own_lines, above_lowest, holds_track}
+use Rattle.greedy_column.specs.Lines.{is_open, open_lines, own_lines, above_lowest, holds_track}
 use Rattle.greedy_column.specs.Places.{place_of_new}
 use Rattle.greedy_column.specs.Offers.{offer}
 use Rattle.greedy_column.specs.Lawful.{AreMadeFrom}
 use Rattle.greedy_column.specs.Entering.{Enters, EntersBy, EntersAlone, EntersEqual, EntersPair, EntersNew, newcomer_of, entry_at, new_track, any_place, place_for, pin_kind, is_ending, straight_question, top_question, bottom_question}
 use Rattle.greedy_column.proofs.Members.{in_none, in_one, in_cases}
 use Rattle.greedy_column.proofs.PickLaws.{picked_is_option}
-use Rattle.greedy_column.proofs.LineLaws.{LieWithin-lines}
+use Rattle.greedy_column.proofs.LineLaws.{LieWithin, LieWithin-lines}
 use Rattle.greedy_column.proofs.PlaceLaws.{place_bounds}
 
 -- the tracks that a column makes: of ids from the first new one upwards, each at a place, and each for a pin that enters it

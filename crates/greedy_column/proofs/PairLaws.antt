@@ -1,10 +1,10 @@
-use Rattle.std.proofs.Common.{◌≡◌, inl, inr, subst, ◌<◌, ◌≤◌, ◌+◌, ◌++◌, ◌||◌, eqb, ℕ, suc, List, [], ◌∷◌, Bool, true, false, cond, Option, Some, None, length, filter, get_or, refl, arith, eqb-true, length-append}
+use Rattle.std.proofs.Common.{◌≡◌, inl, inr, subst, ◌<◌, ◌≤◌, ◌+◌, ◌^◌, ◌++◌, ◌||◌, eqb, ℕ, suc, List, [], ◌∷◌, Bool, true, false, cond, Contains, Option, Some, None, length, filter, get_or, refl, arith, length-append}
 use Rattle.std.specs.List.{list_any}
 use Rattle.greedy_column.specs.declared.column.Track.{Track}
 use Rattle.greedy_column.specs.declared.span.Span.{Span}
-use Rattle.greedy_column.specs.Joining.{AreAscending, StandAbove, next_line, pair_of, neighbours_from, neighbours}
+use Rattle.greedy_column.specs.Joining.{ArePairs, next_line, pair_of, neighbours_from, neighbours}
 use Rattle.greedy_column.specs.Ending.{chain_from}
-use Rattle.greedy_column.proofs.Members.{in_none, in_cases}
+use Rattle.greedy_column.proofs.Members.{in_none, in_cases, in_filter_back, filter-few}
 
 -- where the next track of a net stands
 pub next_line-within : (net line above : ℕ) (tracks : List Track) → next_line net line tracks ≡ Some above → (line ≤ above) × (above < line + length tracks)
@@ -14,6 +14,12 @@ next_line-within net line above (t ∷ tracks) found = step (eqb t.net net) foun
       → (next_line net (suc line) tracks ≡ Some above → (suc line ≤ above) × (above < suc line + length tracks)) → (line ≤ above) × (above < line + suc (length tracks))
   step true found later = let same : line ≡ above = cc found in (omega (arith, same), omega (arith, same))
   step false found later = let within = later found in (omega (arith, within.0), omega (arith, within.1))
+
+-- pieces within so many tracks, by ascending lower line, the first of which is at least this one
+abbrev pub AreAscending : ℕ → ℕ → List Span → Type 0
+AreAscending tracks first [] = Unit {0}
+AreAscending tracks first (pair ∷ pairs) =
+    (first ≤ pair.low) × (pair.low < pair.high) × (pair.high ≤ tracks) × AreAscending tracks (suc pair.low) pairs
 
 ascending_lower : (tracks first lower : ℕ) (pairs : List Span) → lower ≤ first → AreAscending tracks first pairs → AreAscending tracks lower pairs
 ascending_lower tracks first lower [] order ascending = tt
@@ -61,27 +67,24 @@ AreAscending-filter tracks first p (pair ∷ pairs) (begins, upward, within, lat
       step true rest = (begins, upward, within, rest)
       step false rest = ascending_lower tracks (suc pair.low) first (filter p pairs) (omega (arith, begins)) rest
 
-above_first : (tracks first : ℕ) (pairs : List Span) → 0 < first → AreAscending tracks first pairs → StandAbove pairs
+above_first : (tracks first : ℕ) (pairs : List Span) → 0 < first → AreAscending tracks first pairs → (pair : Span) → Contains pairs pair → 0 < pair.low
 above_first tracks first [] some ascending = λ pair member. absurd (in_none pair member)
 above_first tracks first (one ∷ pairs) some (begins, upward, inside, later) = λ pair member. elim (in_cases one pair pairs member) [
   | inl same ↦ subst (λ (p : Span). 0 < p.low) same (omega (arith, begins, some))
   | inr behind ↦ above_first tracks (suc one.low) pairs (omega arith) later pair behind
 ]
 
-pub neighbours-above : (tracks : List Track) → StandAbove (neighbours tracks)
-neighbours-above tracks = above_first (length tracks) 1 (neighbours tracks) (omega arith) (neighbours-ascending tracks)
+pub ArePairs-neighbours : (tracks : List Track) → length tracks + 2 < 2 ^ 32 → ArePairs (neighbours tracks)
+ArePairs-neighbours tracks few = record {
+  few = omega (arith, neighbours_from-few 1 tracks, few);
+  above = above_first (length tracks) 1 (neighbours tracks) (omega arith) (neighbours-ascending tracks);
+}
 
--- a chain has no more lines than lie from its first one on
-pub chain_from-few : (tracks first line : ℕ) (joined : List Span) → AreAscending tracks first joined → line ≤ tracks
-    → length (chain_from joined line) + line ≤ tracks + 1
-chain_from-few tracks first line [] ascending within = omega arith
-chain_from-few tracks first line (pair ∷ joined) (begins, upward, inside, later) within =
-    step (eqb pair.low line) refl (chain_from-few tracks (suc pair.low) pair.high joined later inside)
-    (chain_from-few tracks (suc pair.low) line joined later within) where
-      step : (b : Bool) → eqb pair.low line ≡ b → length (chain_from joined pair.high) + pair.high ≤ tracks + 1 → length (chain_from joined line) + line ≤ tracks + 1
-          → length (cond b (line ∷ chain_from joined pair.high) (chain_from joined line)) + line ≤ tracks + 1
-      step true is here there = let same : pair.low ≡ line = eqb-true pair.low line is in omega (arith, same, here, upward)
-      step false is here there = there
+pub ArePairs-filter : (p : Span → Bool) (pairs : List Span) → ArePairs pairs → ArePairs (filter p pairs)
+ArePairs-filter p pairs are = record {
+  few = omega (arith, filter-few p pairs, are.few);
+  above = λ pair member. are.above pair (in_filter_back p pair pairs member).0;
+}
 
 -- a line to which none is joined above
 pub chain_from-alone : (joined : List Span) (line : ℕ) → list_any (λ (pair : Span). eqb pair.low line) joined ≡ false → chain_from joined line ≡ line ∷ []

@@ -1,4 +1,4 @@
-use Rattle.std.specs.Prelude.{◌≡◌, ◌<◌, ◌≤◌, ◌==◌, ◌&&◌, ◌||◌, ◌++◌, not, nat_le, nat_lt, if◌then◌else◌, ℕ, suc, List, [], ◌∷◌, Bool, Contains, filter, Option, Some, None}
+use Rattle.std.specs.Prelude.{◌≡◌, ◌<◌, ◌==◌, ◌&&◌, ◌||◌, ◌+◌, ◌^◌, ◌++◌, length, not, nat_le, nat_lt, if◌then◌else◌, ℕ, suc, List, [], ◌∷◌, Bool, Contains, filter, Option, Some, None}
 use Rattle.std.specs.List.{list_any, list_all}
 use Rattle.choose_core.specs.declared.candidate.Candidate.{Candidate}
 use Rattle.choose_core.specs.declared.candidate.Next.{Next}
@@ -30,15 +30,10 @@ neighbours_from line (t ∷ tracks) = pair_of t.net line (next_line t.net (suc l
 abbrev pub neighbours : List Track → List Span
 neighbours tracks = neighbours_from 1 tracks
 
--- pieces within so many tracks, by ascending lower line, the first of which is at least this one
-abbrev pub AreAscending : ℕ → ℕ → List Span → Type 0
-AreAscending tracks first [] = Unit {0}
-AreAscending tracks first (pair ∷ pairs) =
-    (first ≤ pair.low) × (pair.low < pair.high) × (pair.high ≤ tracks) × AreAscending tracks (suc pair.low) pairs
-
--- pieces whose lower lines lie above the lower edge
-abbrev pub StandAbove : List Span → Type 0
-StandAbove pairs = (pair : Span) → Contains pairs pair → 0 < pair.low
+-- few pieces, whose lower lines lie above the lower edge
+pub record ArePairs (pairs : List Span) : Type 0 where
+  pub few : length pairs + 2 < 2 ^ 32
+  pub above : (pair : Span) → Contains pairs pair → 0 < pair.low
 
 -- a vertical of the net joins the ends of a piece, and no vertical of another net shares a point with it
 abbrev pub covers : Span → Span → Bool

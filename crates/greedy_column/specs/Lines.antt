@@ -1,6 +1,8 @@
-use Rattle.std.specs.Prelude.{◌==◌, ◌<◌, ◌≤◌, ◌||◌, ◌+◌, ◌-◌, ◌^◌, ◌++◌, not, if◌then◌else◌, nat_lt, ℕ, suc, List, [], ◌∷◌, Bool, Contains, filter, map, slice_index, length}
+use Rattle.std.specs.Prelude.{◌==◌, ◌<◌, ◌||◌, ◌+◌, ◌-◌, ◌^◌, ◌++◌, not, if◌then◌else◌, nat_lt, ℕ, suc, List, [], ◌∷◌, Bool, Contains, filter, map, slice_index, length}
 use Rattle.std.specs.List.{list_any}
 use Rattle.greedy_column.specs.declared.column.Track.{Track}
+use Rattle.greedy_column.specs.declared.lines.Sought.{Sought}
+use Rattle.greedy_column.specs.declared.lines.Sought.TheVariants.{Open, Held, Own}
 use Rattle.greedy_column.specs.Tracks.{ids}
 
 -- the lines of the tracks that pass a test, the first of which stands on this line
@@ -24,14 +26,16 @@ is_held t = not (t.net == 0)
 abbrev pub net_on : List Track → ℕ → ℕ
 net_on tracks line = slice_index (map (λ (t : Track). t.net) tracks) (line - 1)
 
--- lines of so many tracks, not more than there are
-pub record LieWithin (tracks : ℕ) (lines : List ℕ) : Type 0 where
-  pub each : (line : ℕ) → Contains lines line → (0 < line) × (line ≤ tracks)
-  pub few : length lines ≤ tracks
+-- the tracks that are sought
+abbrev pub is_sought : Sought → Track → Bool
+is_sought (Open net) = is_open net
+is_sought Held = is_held
+is_sought (Own net) = λ t. t.net == net
 
--- lines on which tracks stand, where these are fewer than 2^32 - 1
-abbrev pub AreLines : List ℕ → Type 0
-AreLines lines = (line : ℕ) → Contains lines line → (0 < line) × (line + 1 < 2 ^ 32)
+-- lines on which tracks stand, where these are fewer than 2^32 - 2, and not more lines than tracks
+pub record AreLines (lines : List ℕ) : Type 0 where
+  pub each : (line : ℕ) → Contains lines line → (0 < line) × (line + 1 < 2 ^ 32)
+  pub few : length lines + 1 < 2 ^ 32
 
 -- the lines that are free or a net's own, those that are free, and those that nets hold
 abbrev pub open_lines : ℕ → List Track → List ℕ

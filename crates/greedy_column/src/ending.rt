@@ -1,31 +1,30 @@
 ghost use Rattle.greedy_column.specs.Ending.{EndsButOne, EndsFollow, EndsOf, chain_from, groups, is_given_up, is_split, joined_pairs, others_of, outside};
 ghost use Rattle.greedy_column.specs.Joining.{neighbours};
-ghost use Rattle.greedy_column.specs.Lines.{AreLines, held_lines, net_on, own_lines};
+ghost use Rattle.greedy_column.specs.Lines.{held_lines, net_on, own_lines};
 ghost use Rattle.greedy_column.specs.Offers.{keep_question};
 ghost use Rattle.greedy_column.specs.Uses.{next_after};
 ghost use Rattle.greedy_column.specs.declared.span.Span.{Span};
-ghost use Rattle.std.specs.List.Sorted.{IsNonDecreasing};
 ghost use Rattle.std.specs.List.{list_any};
 ghost use Rattle.std.specs.Prelude.{◌≡◌, ◌==◌, ◌<◌, ◌≤◌, ◌+◌, ◌^◌, ℕ, List, Contains, IfOk, length, map};
 
 use crate::ahead::Ahead;
-use crate::column::Track;
 use crate::entering::is_ending;
-use crate::grouping::{Grouping, group_at, grouping_of, lowest_lines};
-use crate::lines::{net_on, own_lines};
-use crate::question::{Question, pick_line};
-use crate::sorted::is_among;
+use crate::grouping::{Grouping, lowest_lines};
+use crate::lines::Lines;
+use crate::moment::Moment;
+use crate::pairs::Pairs;
+use crate::question::Question;
 use crate::span::Span;
+use crate::tracks::Tracks;
 use choose_core::{Ask, Chooses, Next};
 use std::alloc::{AllocError, Global};
 
 // The question which track of a group is kept.
-fn keep_question(tracks: usize, next: Next) -> Question
-    requires { tracks + 1 < 2 ^ 32 }
-    ensures { result ≡ keep_question tracks next }
+fn keep_question(tracks: &Tracks, next: Next) -> Question
+    ensures { result ≡ keep_question (length tracks.now) next }
 {
     let aim = match next {
-        Next::Top => Some(tracks as u32 + 1),
+        Next::Top => Some(tracks.upper_edge()),
         Next::Bottom => Some(0),
         Next::Ends | Next::Both => None,
     };
@@ -43,62 +42,117 @@ fn is_given_up(next: Next, split: bool) -> bool
     is_ending(next) && !split
 }
 
-// The lines of a group that end.
-fn ends_of<C: Chooses>(
-    alloc: Global,
-    chooser: &C,
-    tracks: &[Track],
-    net: u32,
-    next: Next,
-    given_up: bool,
-    group: Vec<u32>,
-) -> Result<Vec<u32>, AllocError>
-    requires few { length tracks.now + 1 < 2 ^ 32 }
-    requires within { length group.items ≤ length tracks.now }
-    ensures { IfOk result (λ ending. EndsOf (C.answers chooser.now) (length tracks.now) next (own_lines net tracks.now) given_up group.items ending.items) }
-{
-    if given_up {
-        return Ok(group);
+impl<C: Chooses> Moment<'_, C> {
+    // The lines of a group that end.
+    fn ends_of(
+        &self,
+        tracks: &Tracks,
+        net: u32,
+        next: Next,
+        given_up: bool,
+        group: Vec<u32>,
+    ) -> Result<Vec<u32>, AllocError>
+        requires { length group.items < 2 ^ 32 }
+        ensures { IfOk result (λ ending. EndsOf (C.answers self.now.chooser.now) (length tracks.now) next (own_lines net tracks.now) given_up group.items ending.items) }
+    {
+        if given_up {
+            return Ok(group);
+        }
+        if group.len() < 2 {
+            return Ok(Vec::new(self.alloc));
+        }
+        self.ends_but_one(tracks, net, next, &group)
     }
-    if group.len() < 2 {
-        return Ok(Vec::new(alloc));
-    }
-    ends_but_one(alloc, chooser, tracks, net, next, &group)
-}
 
-// The lines of a group that end where its net has more to do: all but one.
-fn ends_but_one<C: Chooses>(
-    alloc: Global,
-    chooser: &C,
-    tracks: &[Track],
-    net: u32,
-    next: Next,
-    group: &[u32],
-) -> Result<Vec<u32>, AllocError>
-    requires few { length tracks.now + 1 < 2 ^ 32 }
-    requires some { 2 ≤ length group.now }
-    requires within { length group.now ≤ length tracks.now }
-    ensures { IfOk result (λ ending. EndsButOne (C.answers chooser.now) (length tracks.now) next (own_lines net tracks.now) group.now ending.items) }
-{
-    let others = other_groups(alloc, tracks, net, group)?;
-    let question = keep_question(tracks.len(), next);
-    let kept = pick_line(alloc, chooser, question, &others, group)?;
-    others_of(alloc, group, kept)
+    // The lines of a group that end where its net has more to do: all but one.
+    fn ends_but_one(
+        &self,
+        tracks: &Tracks,
+        net: u32,
+        next: Next,
+        group: &[u32],
+    ) -> Result<Vec<u32>, AllocError>
+        requires some { 2 ≤ length group.now }
+        requires few { length group.now < 2 ^ 32 }
+        ensures { IfOk result (λ ending. EndsButOne (C.answers self.now.chooser.now) (length tracks.now) next (own_lines net tracks.now) group.now ending.items) }
+    {
+        let others = other_groups(self.alloc, tracks, net, group)?;
+        let question = keep_question(tracks, next);
+        let kept = self.pick_line(question, &others, group)?;
+        others_of(self.alloc, group, kept)
+    }
+
+    // The lines that end of the group whose lowest line is this one.
+    fn ends_from(
+        &self,
+        tracks: &Tracks,
+        grouping: &Grouping,
+        line: u32,
+    ) -> Result<Vec<u32>, AllocError>
+        ensures { IfOk result (λ ending.
+            let net = net_on tracks.now line in
+            let next = next_after self.now.ahead.now.uses.items self.now.column net in
+            EndsOf (C.answers self.now.chooser.now) (length tracks.now) next (own_lines net tracks.now)
+            (is_given_up next (list_any (λ n. n == net) grouping.now.split)) (chain_from grouping.now.joined line) ending.items) }
+    {
+        let net = tracks.net_on(line);
+        let next = self.ahead.next(net, self.column);
+        let given_up = is_given_up(next, grouping.split.has(net));
+        let group = grouping.group_at(self.alloc, line)?;
+        self.ends_of(tracks, net, next, given_up, group)
+    }
+
+    // The lines that end of the groups whose lowest lines are these.
+    fn ends_among(
+        &self,
+        tracks: &Tracks,
+        grouping: &Grouping,
+        lines: &[u32],
+    ) -> Result<Vec<u32>, AllocError>
+        ensures { IfOk result (λ ending. (spans : List Span)
+            → ((net : ℕ) → list_any (λ n. n == net) grouping.now.split ≡ is_split spans (neighbours tracks.now) net)
+            → EndsFollow (C.answers self.now.chooser.now) (next_after self.now.ahead.now.uses.items self.now.column) tracks.now spans
+            (map (chain_from grouping.now.joined) lines.now) ending.items) }
+    {
+        let mut ending = Vec::new(self.alloc);
+        let mut rest = lines;
+        while let Some((line, later)) = rest.split_first() {
+            let ends = self.ends_from(tracks, grouping, *line)?;
+            ending.extend_from_slice(&ends)?;
+            rest = later;
+        }
+        Ok(ending)
+    }
+
+    // The lines that end, group by group.
+    pub fn ending_lines(
+        &self,
+        tracks: &Tracks,
+        pairs: &Pairs,
+        spans: &[Span],
+    ) -> Result<Vec<u32>, AllocError>
+        requires { pairs.now ≡ neighbours tracks.now }
+        ensures { IfOk result (λ ending.
+            EndsFollow (C.answers self.now.chooser.now) (next_after self.now.ahead.now.uses.items self.now.column) tracks.now spans.now
+            (groups (joined_pairs spans.now (neighbours tracks.now)) (held_lines tracks.now)) ending.items) }
+    {
+        let grouping = Grouping::new(self.alloc, spans, pairs)?;
+        let lowest = lowest_lines(self.alloc, tracks, &grouping.joined)?;
+        self.ends_among(tracks, &grouping, &lowest)
+    }
 }
 
 // The lines of a group's net outside the group.
 fn other_groups(
     alloc: Global,
-    tracks: &[Track],
+    tracks: &Tracks,
     net: u32,
     group: &[u32],
-) -> Result<Vec<u32>, AllocError>
-    requires { length tracks.now + 1 < 2 ^ 32 }
-    ensures others { IfOk result (λ others. others.items ≡ outside group.now (own_lines net tracks.now)) }
-    ensures lines { IfOk result (λ others. AreLines others.items) }
+) -> Result<Lines, AllocError>
+    ensures { IfOk result (λ others. others ≡ outside group.now (own_lines net tracks.now)) }
 {
-    let own = own_lines(alloc, tracks, net)?;
-    outside(alloc, group, &own)
+    let own = tracks.own_lines(alloc, net)?;
+    own.outside(alloc, group)
 }
 
 // The lines of a group but one.
@@ -110,102 +164,4 @@ fn others_of(alloc: Global, group: &[u32], kept: u32) -> Result<Vec<u32>, AllocE
         .copied()
         .filter(|line| *line != kept)
         .collect(alloc)
-}
-
-// The lines of a net outside a group.
-fn outside(alloc: Global, group: &[u32], own: &[u32]) -> Result<Vec<u32>, AllocError>
-    ensures { IfOk result (λ others. others.items ≡ outside group.now own.now) }
-{
-    own.iter()
-        .copied()
-        .filter(|line| !is_member(group, *line))
-        .collect(alloc)
-}
-
-// Whether a line is of a group.
-fn is_member(group: &[u32], line: u32) -> bool
-    ensures { result ≡ list_any (λ member. member == line) group.now }
-{
-    group.iter().any(|member| *member == line)
-}
-
-// The lines that end of the group whose lowest line is this one.
-fn ends_from<C: Chooses>(
-    alloc: Global,
-    chooser: &C,
-    ahead: &Ahead,
-    column: u32,
-    tracks: &[Track],
-    grouping: &Grouping,
-    line: u32,
-) -> Result<Vec<u32>, AllocError>
-    requires few { length tracks.now + 1 < 2 ^ 32 }
-    requires lower_sorted { IsNonDecreasing grouping.now.lower.items }
-    requires lower { (line : ℕ)
-        → list_any (λ n. n == line) grouping.now.lower.items ≡ list_any (λ pair. pair.low == line) grouping.now.joined.items }
-    requires split_sorted { IsNonDecreasing grouping.now.split.items }
-    requires within { length (chain_from grouping.now.joined.items line) ≤ length tracks.now }
-    ensures { IfOk result (λ ending.
-        let net = net_on tracks.now line in
-        let next = next_after ahead.now.uses.items column net in
-        EndsOf (C.answers chooser.now) (length tracks.now) next (own_lines net tracks.now)
-        (is_given_up next (list_any (λ n. n == net) grouping.now.split.items)) (chain_from grouping.now.joined.items line) ending.items) }
-{
-    let net = net_on(tracks, line);
-    let next = ahead.next(net, column);
-    let given_up = is_given_up(next, is_among(&grouping.split, net));
-    let group = group_at(alloc, &grouping.joined, &grouping.lower, line)?;
-    ends_of(alloc, chooser, tracks, net, next, given_up, group)
-}
-
-// The lines that end of the groups whose lowest lines are these.
-fn ends_among<C: Chooses>(
-    alloc: Global,
-    chooser: &C,
-    ahead: &Ahead,
-    column: u32,
-    tracks: &[Track],
-    grouping: &Grouping,
-    lines: &[u32],
-) -> Result<Vec<u32>, AllocError>
-    requires few { length tracks.now + 1 < 2 ^ 32 }
-    requires lower_sorted { IsNonDecreasing grouping.now.lower.items }
-    requires lower { (line : ℕ)
-        → list_any (λ n. n == line) grouping.now.lower.items ≡ list_any (λ pair. pair.low == line) grouping.now.joined.items }
-    requires split_sorted { IsNonDecreasing grouping.now.split.items }
-    requires within { (line : ℕ) → Contains lines.now line → length (chain_from grouping.now.joined.items line) ≤ length tracks.now }
-    ensures { IfOk result (λ ending. (spans : List Span)
-        → ((net : ℕ) → list_any (λ n. n == net) grouping.now.split.items ≡ is_split spans (neighbours tracks.now) net)
-        → EndsFollow (C.answers chooser.now) (next_after ahead.now.uses.items column) tracks.now spans
-        (map (chain_from grouping.now.joined.items) lines.now) ending.items) }
-{
-    let mut ending = Vec::new(alloc);
-    let mut rest = lines;
-    while let Some((line, later)) = rest.split_first() {
-        let ends = ends_from(alloc, chooser, ahead, column, tracks, grouping, *line)?;
-        ending.extend_from_slice(&ends)?;
-        rest = later;
-    }
-    Ok(ending)
-}
-
-// The lines that end, group by group.
-pub fn ending_lines<C: Chooses>(
-    alloc: Global,
-    chooser: &C,
-    ahead: &Ahead,
-    column: u32,
-    tracks: &[Track],
-    pairs: &[Span],
-    spans: &[Span],
-) -> Result<Vec<u32>, AllocError>
-    requires few { length tracks.now + 1 < 2 ^ 32 }
-    requires pairs { pairs.now ≡ neighbours tracks.now }
-    ensures { IfOk result (λ ending.
-        EndsFollow (C.answers chooser.now) (next_after ahead.now.uses.items column) tracks.now spans.now
-        (groups (joined_pairs spans.now (neighbours tracks.now)) (held_lines tracks.now)) ending.items) }
-{
-    let grouping = grouping_of(alloc, spans, pairs)?;
-    let lowest = lowest_lines(alloc, tracks, &grouping.joined)?;
-    ends_among(alloc, chooser, ahead, column, tracks, &grouping, &lowest)
 }

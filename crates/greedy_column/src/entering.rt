@@ -2,11 +2,11 @@ ghost use Rattle.greedy_column.specs.Entering.{Enters, EntersAlone, EntersEqual,
 ghost use Rattle.greedy_column.specs.Lines.{holds_track, open_lines, own_lines};
 ghost use Rattle.std.specs.Prelude.{◌≡◌, ◌<◌, ◌+◌, ◌^◌, ◌||◌, IfOk, length};
 
-use crate::column::{Made, Track};
-use crate::lines::{holds_track, id_on, open_lines};
-use crate::pairing::enter_pair;
+use crate::column::Made;
+use crate::moment::Moment;
 use crate::places::any_place;
-use crate::question::{Question, pick_own};
+use crate::question::Question;
+use crate::tracks::Tracks;
 use choose_core::{Ask, Chooses, Manner, Next};
 use geom_core::Items;
 use std::alloc::{AllocError, Global};
@@ -64,13 +64,12 @@ impl Pin {
     }
 
     // What is asked of this pin at the top, above some tracks.
-    pub fn top_question(self, tracks: usize) -> Question
-        requires { tracks + 1 < 2 ^ 32 }
-        ensures { result ≡ top_question self tracks }
+    pub fn top_question(self, tracks: &Tracks) -> Question
+        ensures { result ≡ top_question self (length tracks.now) }
     {
         Question {
             ask: Ask::Enter,
-            aim: Some(tracks as u32 + 1),
+            aim: Some(tracks.upper_edge()),
             next: self.next,
         }
     }
@@ -135,108 +134,80 @@ pub fn is_ending(next: Next) -> bool
     }
 }
 
-// The entries of a column's pins.
-pub fn enter<C: Chooses>(
-    alloc: Global,
-    chooser: &C,
-    manner: Manner,
-    before: &[Track],
-    fresh: u32,
-    top: Pin,
-    bottom: Pin,
-) -> Result<Entries, AllocError>
-    requires few { length before.now + 2 < 2 ^ 32 }
-    requires fresh { fresh + 2 < 2 ^ 32 }
-    ensures { IfOk result (λ entries. Enters manner (C.answers chooser.now) top bottom before.now fresh entries) }
-{
-    match pin_kind(top.net, bottom.net) {
-        PinKind::NoPins => Ok(Entries {
-            made: Items::new(Vec::new(alloc)),
-            top: 0,
-            bottom: 0,
-        }),
-        PinKind::BottomAlone => {
-            let question = bottom.bottom_question();
-            let lower = Edge::Lower;
-            enter_alone(
-                alloc, chooser, manner, lower, lower, bottom, question, before, fresh,
-            )
-        }
-        PinKind::TopAlone => {
-            let question = top.top_question(before.len());
-            let upper = Edge::Upper;
-            enter_alone(
-                alloc, chooser, manner, upper, upper, top, question, before, fresh,
-            )
-        }
-        PinKind::EqualPins => enter_equal(alloc, chooser, manner, before, fresh, top),
-        PinKind::TwoPins => {
-            let uppers = open_lines(alloc, before, top.net)?;
-            let lowers = open_lines(alloc, before, bottom.net)?;
-            enter_pair(
-                alloc, chooser, manner, before, fresh, top, bottom, &uppers, &lowers,
-            )
+impl<C: Chooses> Moment<'_, C> {
+    // The entries of a column's pins.
+    pub fn enter(
+        &self,
+        before: &Tracks,
+        fresh: u32,
+        top: Pin,
+        bottom: Pin,
+    ) -> Result<Entries, AllocError>
+        requires { fresh + 2 < 2 ^ 32 }
+        ensures { IfOk result (λ entries. Enters self.now.manner (C.answers self.now.chooser.now) top bottom before.now fresh entries) }
+    {
+        match pin_kind(top.net, bottom.net) {
+            PinKind::NoPins => Ok(Entries {
+                made: Items::new(Vec::new(self.alloc)),
+                top: 0,
+                bottom: 0,
+            }),
+            PinKind::BottomAlone => {
+                let question = bottom.bottom_question();
+                let lower = Edge::Lower;
+                self.enter_alone(lower, lower, bottom, question, before, fresh)
+            }
+            PinKind::TopAlone => {
+                let question = top.top_question(before);
+                let upper = Edge::Upper;
+                self.enter_alone(upper, upper, top, question, before, fresh)
+            }
+            PinKind::EqualPins => self.enter_equal(before, fresh, top),
+            PinKind::TwoPins => {
+                let uppers = before.open_lines(self.alloc, top.net)?;
+                let lowers = before.open_lines(self.alloc, bottom.net)?;
+                self.enter_pair(before, fresh, top, bottom, &uppers, &lowers)
+            }
         }
     }
-}
 
-// The entry at an edge of a pin alone, or of two equal ones, onto a line that is open to it, or onto a new track that is placed for an
-// edge.
-fn enter_alone<C: Chooses>(
-    alloc: Global,
-    chooser: &C,
-    manner: Manner,
-    edge: Edge,
-    placed: Edge,
-    pin: Pin,
-    question: Question,
-    before: &[Track],
-    fresh: u32,
-) -> Result<Entries, AllocError>
-    requires few { length before.now + 2 < 2 ^ 32 }
-    ensures { IfOk result (λ entries. EntersAlone (C.answers chooser.now) edge question (own_lines pin.net before.now)
-        (any_place manner pin placed before.now) before.now fresh (open_lines pin.net before.now) entries) }
-{
-    let lines = open_lines(alloc, before, pin.net)?;
-    if lines.is_empty() {
-        let below = any_place(manner, pin, placed, before);
-        let made = vec![in alloc; Made { id: fresh, below }]?;
-        return Ok(entry_at(edge, made, fresh));
+    // The entry at an edge of a pin alone, or of two equal ones, onto a line that is open to it, or onto a new track that is placed for an
+    // edge.
+    fn enter_alone(
+        &self,
+        edge: Edge,
+        placed: Edge,
+        pin: Pin,
+        question: Question,
+        before: &Tracks,
+        fresh: u32,
+    ) -> Result<Entries, AllocError>
+        ensures { IfOk result (λ entries. EntersAlone (C.answers self.now.chooser.now) edge question (own_lines pin.net before.now)
+            (any_place self.now.manner pin placed before.now) before.now fresh (open_lines pin.net before.now) entries) }
+    {
+        let lines = before.open_lines(self.alloc, pin.net)?;
+        if lines.list().is_empty() {
+            let below = any_place(self.manner, pin, placed, before);
+            let made = vec![in self.alloc; Made { id: fresh, below }]?;
+            return Ok(entry_at(edge, made, fresh));
+        }
+        let line = self.pick_own(question, before, pin.net, &lines)?;
+        Ok(entry_at(edge, Vec::new(self.alloc), before.id_on(line)))
     }
-    let line = pick_own(alloc, chooser, question, before, pin.net, &lines)?;
-    Ok(entry_at(edge, Vec::new(alloc), id_on(before, line)))
-}
 
-// The entry of two equal pins.
-fn enter_equal<C: Chooses>(
-    alloc: Global,
-    chooser: &C,
-    manner: Manner,
-    before: &[Track],
-    fresh: u32,
-    pin: Pin,
-) -> Result<Entries, AllocError>
-    requires few { length before.now + 2 < 2 ^ 32 }
-    ensures { IfOk result (λ entries.
-        EntersEqual manner (C.answers chooser.now) pin before.now fresh (holds_track before.now pin.net || is_ending pin.next) entries) }
-{
-    if holds_track(before, pin.net) || is_ending(pin.next) {
-        return Ok(Entries {
-            made: Items::new(Vec::new(alloc)),
-            top: 0,
-            bottom: 0,
-        });
+    // The entry of two equal pins.
+    fn enter_equal(&self, before: &Tracks, fresh: u32, pin: Pin) -> Result<Entries, AllocError>
+        ensures { IfOk result (λ entries.
+            EntersEqual self.now.manner (C.answers self.now.chooser.now) pin before.now fresh (holds_track before.now pin.net || is_ending pin.next) entries) }
+    {
+        if before.holds(pin.net) || is_ending(pin.next) {
+            return Ok(Entries {
+                made: Items::new(Vec::new(self.alloc)),
+                top: 0,
+                bottom: 0,
+            });
+        }
+        let question = pin.straight_question();
+        self.enter_alone(Edge::Upper, Edge::Lower, pin, question, before, fresh)
     }
-    let question = pin.straight_question();
-    enter_alone(
-        alloc,
-        chooser,
-        manner,
-        Edge::Upper,
-        Edge::Lower,
-        pin,
-        question,
-        before,
-        fresh,
-    )
 }

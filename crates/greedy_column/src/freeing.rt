@@ -4,17 +4,17 @@ ghost use Rattle.std.specs.List.Sorted.{IsNonDecreasing};
 ghost use Rattle.std.specs.Prelude.{◌≡◌, IfOk};
 
 use crate::column::Track;
-use crate::lines::id_on;
 use crate::sorted::is_among;
+use crate::tracks::Tracks;
 use std::alloc::{AllocError, Global};
 
 // The ids of these lines, each once, in ascending order.
-pub fn ended_ids(alloc: Global, tracks: &[Track], ending: &[u32]) -> Result<Vec<u32>, AllocError>
+pub fn ended_ids(alloc: Global, tracks: &Tracks, ending: &[u32]) -> Result<Vec<u32>, AllocError>
     ensures { IfOk result (λ ended. AreEnded tracks.now ending.now ended.items) }
 {
     let mut ended: Vec<u32> = ending
         .iter()
-        .map(|line| id_on(tracks, *line))
+        .map(|line| tracks.id_on(*line))
         .collect(alloc)?;
     ended.sort_unstable();
     ended.dedup();

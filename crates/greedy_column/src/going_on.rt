@@ -7,13 +7,14 @@ ghost use Rattle.std.specs.Prelude.{◌≡◌, ◌<◌, ◌+◌, ◌^◌, IfOk, 
 
 use crate::ahead::Ahead;
 use crate::column::Track;
-use crate::ending::ending_lines;
-use crate::freeing::{ended_ids, freed};
-use crate::joining::{join_all, join_ids, neighbours};
-use crate::lines::open_lines;
+use crate::freeing::ended_ids;
+use crate::joining::join_ids;
+use crate::moment::Moment;
 use crate::move_order::order_of_moves;
-use crate::moving::{move_all, move_ids};
+use crate::moving::move_ids;
+use crate::pairs::Pairs;
 use crate::span::Span;
+use crate::tracks::Tracks;
 use choose_core::{Chooses, Manner};
 use geom_core::Items;
 use std::alloc::{AllocError, Global};
@@ -39,174 +40,125 @@ struct Drawn {
 #[derive(Drop)]
 struct Carried {
     moves: Vec<(u32, u32)>,
-    tracks: Vec<Track>,
+    tracks: Tracks,
 }
 
-// Steps 2 to 4, over the tracks that the pins have entered and the verticals of these.
-pub fn go_on<C: Chooses>(
-    alloc: Global,
-    chooser: &C,
-    ahead: &Ahead,
-    column: u32,
-    manner: Manner,
-    now: &[Track],
-    spans: Vec<Span>,
-) -> Result<Outcome, AllocError>
-    requires { length now.now + 1 < 2 ^ 32 }
-    ensures follows { IfOk result (λ outcome. FollowsOn manner (C.answers chooser.now) (next_after ahead.now.uses.items column) now.now spans.items
-        outcome.joins outcome.ended outcome.moves) }
-    ensures tracks { IfOk result (λ outcome. outcome.tracks ≡ moved outcome.moves (freed outcome.ended now.now)) }
-{
-    let drawn = join_and_end(alloc, chooser, ahead, column, now, spans)?;
-    let Drawn {
-        joins,
-        ended,
-        spans,
-    } = drawn;
-    let carried = move_on(alloc, chooser, ahead, column, manner, now, &ended, spans)?;
-    let Carried { moves, tracks } = carried;
-    Ok(Outcome {
-        joins: Items::new(joins),
-        ended: Items::new(ended),
-        moves: Items::new(moves),
-        tracks: Items::new(tracks),
-    })
-}
+impl<C: Chooses> Moment<'_, C> {
+    // Steps 2 to 4, over the tracks that the pins have entered and the verticals of these.
+    pub fn go_on(&self, now: &Tracks, spans: Vec<Span>) -> Result<Outcome, AllocError>
+        ensures follows { IfOk result (λ outcome. FollowsOn self.now.manner (C.answers self.now.chooser.now) (next_after self.now.ahead.now.uses.items self.now.column) now.now spans.items
+            outcome.joins outcome.ended outcome.moves) }
+        ensures tracks { IfOk result (λ outcome. outcome.tracks ≡ moved outcome.moves (freed outcome.ended now.now)) }
+    {
+        let drawn = self.join_and_end(now, spans)?;
+        let Drawn {
+            joins,
+            ended,
+            spans,
+        } = drawn;
+        let carried = self.move_on(now, &ended, spans)?;
+        let Carried { moves, tracks } = carried;
+        Ok(Outcome {
+            joins: Items::new(joins),
+            ended: Items::new(ended),
+            moves: Items::new(moves),
+            tracks: Items::new(tracks.into_list()),
+        })
+    }
 
-// Steps 2 and 3.
-fn join_and_end<C: Chooses>(
-    alloc: Global,
-    chooser: &C,
-    ahead: &Ahead,
-    column: u32,
-    now: &[Track],
-    spans: Vec<Span>,
-) -> Result<Drawn, AllocError>
-    requires { length now.now + 1 < 2 ^ 32 }
-    ensures joins { IfOk result (λ drawn. AreJoinsTold (C.answers chooser.now) (next_after ahead.now.uses.items column) now.now spans.items
-        drawn.spans.items drawn.joins.items) }
-    ensures ends { IfOk result (λ drawn. AreEndsTold (C.answers chooser.now) (next_after ahead.now.uses.items column) now.now drawn.spans.items
-        drawn.ended.items) }
-{
-    let pairs = neighbours(alloc, now)?;
-    join_pairs(alloc, chooser, ahead, column, now, &pairs, spans)
-}
+    // Steps 2 and 3.
+    fn join_and_end(&self, now: &Tracks, spans: Vec<Span>) -> Result<Drawn, AllocError>
+        ensures joins { IfOk result (λ drawn. AreJoinsTold (C.answers self.now.chooser.now) (next_after self.now.ahead.now.uses.items self.now.column) now.now spans.items
+            drawn.spans.items drawn.joins.items) }
+        ensures ends { IfOk result (λ drawn. AreEndsTold (C.answers self.now.chooser.now) (next_after self.now.ahead.now.uses.items self.now.column) now.now drawn.spans.items
+            drawn.ended.items) }
+    {
+        let pairs = now.neighbours(self.alloc)?;
+        self.join_pairs(now, &pairs, spans)
+    }
 
-// The same, from the neighbouring tracks.
-fn join_pairs<C: Chooses>(
-    alloc: Global,
-    chooser: &C,
-    ahead: &Ahead,
-    column: u32,
-    now: &[Track],
-    pairs: &[Span],
-    mut spans: Vec<Span>,
-) -> Result<Drawn, AllocError>
-    requires few { length now.now + 1 < 2 ^ 32 }
-    requires pairs { pairs.now ≡ neighbours now.now }
-    ensures joins { IfOk result (λ drawn. AreJoinsTold (C.answers chooser.now) (next_after ahead.now.uses.items column) now.now spans.items
-        drawn.spans.items drawn.joins.items) }
-    ensures ends { IfOk result (λ drawn. AreEndsTold (C.answers chooser.now) (next_after ahead.now.uses.items column) now.now drawn.spans.items
-        drawn.ended.items) }
-{
-    let joins = joins_of(alloc, chooser, ahead, column, now, pairs, &mut spans)?;
-    let ended = ends_of_lines(alloc, chooser, ahead, column, now, pairs, &spans)?;
-    Ok(Drawn {
-        joins,
-        ended,
-        spans,
-    })
-}
+    // The same, from the neighbouring tracks.
+    fn join_pairs(
+        &self,
+        now: &Tracks,
+        pairs: &Pairs,
+        mut spans: Vec<Span>,
+    ) -> Result<Drawn, AllocError>
+        requires { pairs.now ≡ neighbours now.now }
+        ensures joins { IfOk result (λ drawn. AreJoinsTold (C.answers self.now.chooser.now) (next_after self.now.ahead.now.uses.items self.now.column) now.now spans.items
+            drawn.spans.items drawn.joins.items) }
+        ensures ends { IfOk result (λ drawn. AreEndsTold (C.answers self.now.chooser.now) (next_after self.now.ahead.now.uses.items self.now.column) now.now drawn.spans.items
+            drawn.ended.items) }
+    {
+        let joins = self.joins_of(now, pairs, &mut spans)?;
+        let ended = self.ends_of_lines(now, pairs, &spans)?;
+        Ok(Drawn {
+            joins,
+            ended,
+            spans,
+        })
+    }
 
-// Step 2: the joins, which become verticals.
-fn joins_of<C: Chooses>(
-    alloc: Global,
-    chooser: &C,
-    ahead: &Ahead,
-    column: u32,
-    now: &[Track],
-    pairs: &[Span],
-    spans: &mut Vec<Span>,
-) -> Result<Vec<(u32, u32)>, AllocError>
-    requires few { length now.now + 1 < 2 ^ 32 }
-    requires pairs { pairs.now ≡ neighbours now.now }
-    ensures { IfOk result (λ joins. AreJoinsTold (C.answers chooser.now) (next_after ahead.now.uses.items column) now.now spans.old.items
-        spans.new.items joins.items) }
-{
-    let joined = join_all(alloc, chooser, ahead, column, pairs, spans)?;
-    join_ids(alloc, now, &joined)
-}
+    // Step 2: the joins, which become verticals.
+    fn joins_of(
+        &self,
+        now: &Tracks,
+        pairs: &Pairs,
+        spans: &mut Vec<Span>,
+    ) -> Result<Vec<(u32, u32)>, AllocError>
+        requires { pairs.now ≡ neighbours now.now }
+        ensures { IfOk result (λ joins. AreJoinsTold (C.answers self.now.chooser.now) (next_after self.now.ahead.now.uses.items self.now.column) now.now spans.old.items
+            spans.new.items joins.items) }
+    {
+        let joined = self.join_all(pairs, spans)?;
+        join_ids(self.alloc, now, &joined)
+    }
 
-// Step 3: the tracks that end.
-fn ends_of_lines<C: Chooses>(
-    alloc: Global,
-    chooser: &C,
-    ahead: &Ahead,
-    column: u32,
-    now: &[Track],
-    pairs: &[Span],
-    spans: &[Span],
-) -> Result<Vec<u32>, AllocError>
-    requires few { length now.now + 1 < 2 ^ 32 }
-    requires pairs { pairs.now ≡ neighbours now.now }
-    ensures { IfOk result (λ ended. AreEndsTold (C.answers chooser.now) (next_after ahead.now.uses.items column) now.now spans.now ended.items) }
-{
-    let ending = ending_lines(alloc, chooser, ahead, column, now, pairs, spans)?;
-    ended_ids(alloc, now, &ending)
-}
+    // Step 3: the tracks that end.
+    fn ends_of_lines(
+        &self,
+        now: &Tracks,
+        pairs: &Pairs,
+        spans: &[Span],
+    ) -> Result<Vec<u32>, AllocError>
+        requires { pairs.now ≡ neighbours now.now }
+        ensures { IfOk result (λ ended. AreEndsTold (C.answers self.now.chooser.now) (next_after self.now.ahead.now.uses.items self.now.column) now.now spans.now ended.items) }
+    {
+        let ending = self.ending_lines(now, pairs, spans)?;
+        ended_ids(self.alloc, now, &ending)
+    }
 
-// Step 4, over the tracks of which those of these ids are freed.
-fn move_on<C: Chooses>(
-    alloc: Global,
-    chooser: &C,
-    ahead: &Ahead,
-    column: u32,
-    manner: Manner,
-    now: &[Track],
-    ended: &[u32],
-    mut spans: Vec<Span>,
-) -> Result<Carried, AllocError>
-    requires few { length now.now + 1 < 2 ^ 32 }
-    requires ended { IsNonDecreasing ended.now }
-    ensures moves { IfOk result (λ carried. AreMovesTold manner (C.answers chooser.now) (next_after ahead.now.uses.items column) now.now
-        (freed ended.now now.now) spans.items carried.moves.items) }
-    ensures tracks { IfOk result (λ carried. carried.tracks.items ≡ moved carried.moves.items (freed ended.now now.now)) }
-{
-    let mut tracks = freed(alloc, now, ended)?;
-    let moves = moves_of(
-        alloc,
-        chooser,
-        ahead,
-        column,
-        manner,
-        now,
-        &mut spans,
-        &mut tracks,
-    )?;
-    Ok(Carried { moves, tracks })
-}
+    // Step 4, over the tracks of which those of these ids are freed.
+    fn move_on(
+        &self,
+        now: &Tracks,
+        ended: &[u32],
+        mut spans: Vec<Span>,
+    ) -> Result<Carried, AllocError>
+        requires { IsNonDecreasing ended.now }
+        ensures moves { IfOk result (λ carried. AreMovesTold self.now.manner (C.answers self.now.chooser.now) (next_after self.now.ahead.now.uses.items self.now.column) now.now
+            (freed ended.now now.now) spans.items carried.moves.items) }
+        ensures tracks { IfOk result (λ carried. carried.tracks ≡ moved carried.moves.items (freed ended.now now.now)) }
+    {
+        let mut tracks = now.freed(self.alloc, ended)?;
+        let moves = self.moves_of(now, &mut spans, &mut tracks)?;
+        Ok(Carried { moves, tracks })
+    }
 
-// The moves of the kept tracks, which become verticals, and by which these are carried along.
-fn moves_of<C: Chooses>(
-    alloc: Global,
-    chooser: &C,
-    ahead: &Ahead,
-    column: u32,
-    manner: Manner,
-    now: &[Track],
-    spans: &mut Vec<Span>,
-    kept: &mut [Track],
-) -> Result<Vec<(u32, u32)>, AllocError>
-    requires few { length now.now + 1 < 2 ^ 32 }
-    requires kept { length kept.old + 1 < 2 ^ 32 }
-    ensures moves { IfOk result (λ moves. AreMovesTold manner (C.answers chooser.now) (next_after ahead.now.uses.items column) now.now kept.old
-        spans.old.items moves.items) }
-    ensures tracks { IfOk result (λ moves. kept.new ≡ moved moves.items kept.old) }
-{
-    let order = order_of_moves(alloc, manner, ahead, column, kept)?;
-    let free = open_lines(alloc, now, 0)?;
-    let moving = move_all(
-        alloc, chooser, ahead, column, now, &order, spans, free, kept,
-    )?;
-    move_ids(alloc, now, &moving)
+    // The moves of the kept tracks, which become verticals, and by which these are carried along.
+    fn moves_of(
+        &self,
+        now: &Tracks,
+        spans: &mut Vec<Span>,
+        kept: &mut Tracks,
+    ) -> Result<Vec<(u32, u32)>, AllocError>
+        ensures moves { IfOk result (λ moves. AreMovesTold self.now.manner (C.answers self.now.chooser.now) (next_after self.now.ahead.now.uses.items self.now.column) now.now kept.old
+            spans.old.items moves.items) }
+        ensures tracks { IfOk result (λ moves. kept.new ≡ moved moves.items kept.old) }
+    {
+        let order = order_of_moves(self.alloc, self.manner, self.ahead, self.column, kept)?;
+        let free = now.open_lines(self.alloc, 0)?;
+        let moving = self.move_all(now, &order, spans, free, kept)?;
+        move_ids(self.alloc, now, &moving)
+    }
 }

@@ -10,15 +10,18 @@ mod going_on;
 mod grouping;
 mod joining;
 mod lines;
+mod moment;
 mod move_order;
 mod moving;
 mod pairing;
+mod pairs;
 mod places;
 mod question;
 mod replays;
 mod sorted;
 mod span;
 mod stepping;
+mod tracks;
 mod uses;
 
 pub use ahead::Ahead;

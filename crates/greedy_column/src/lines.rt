@@ -1,61 +1,193 @@
-ghost use Rattle.greedy_column.specs.Lines.{AreLines, LieWithin, above_lowest, below_line, held_lines, holds_track, id_on, net_on, open_lines, own_lines};
-ghost use Rattle.greedy_column.specs.Moving.{without};
-ghost use Rattle.greedy_column.specs.Tracks.{given, hold, ids, line_of};
-ghost use Rattle.std.specs.List.{count_by};
-ghost use Rattle.std.specs.Prelude.{◌≡◌, ◌==◌, ◌<◌, ◌≤◌, ◌+◌, ◌++◌, ◌∷◌, [], true, ◌^◌, if◌then◌else◌, IfOk, OnOk, filter, length, nat_lt};
+ghost use Rattle.greedy_column.specs.Ending.{outside};
+ghost use Rattle.greedy_column.specs.Lines.{AreLines, above_lowest, below_line, held_lines, is_sought, lines_from, open_lines, own_lines};
+ghost use Rattle.greedy_column.specs.Moving.{move_options, without};
+ghost use Rattle.greedy_column.specs.Tracks.{ids, line_of};
+ghost use Rattle.std.specs.List.{list_any};
+ghost use Rattle.std.specs.Prelude.{◌≡◌, ◌==◌, ◌<◌, ◌≤◌, ◌+◌, ◌++◌, ◌∷◌, [], ◌^◌, if◌then◌else◌, IfOk, OnOk, filter, length, nat_lt};
 
 use crate::column::Track;
+use crate::moving::piece_between;
+use crate::span::Span;
+use crate::tracks::Tracks;
 use std::alloc::{AllocError, Global};
+use std::marker::Model;
 
-// The lines of the tracks that are free or a net's own; of those that are free, for net 0.
-pub fn open_lines(alloc: Global, tracks: &[Track], net: u32) -> Result<Vec<u32>, AllocError>
-    requires few { length tracks.now + 1 < 2 ^ 32 }
-    ensures lines { IfOk result (λ lines. lines.items ≡ open_lines net tracks.now) }
-    ensures within { IfOk result (λ lines. LieWithin (length tracks.now) lines.items) }
-{
-    let mut lines = Vec::new(alloc);
-    let mut line = 1u32;
-    let mut rest = tracks;
-    while let Some((track, above)) = rest.split_first() {
-        push_where(&mut lines, track.net == 0 || track.net == net, line)?;
-        line += 1;
-        rest = above;
-    }
-    Ok(lines)
+// Lines on which tracks stand.
+#[derive(Drop)]
+pub struct Lines {
+    list: Vec<u32>,
 }
 
-// The lines of the tracks that nets hold.
-pub fn held_lines(alloc: Global, tracks: &[Track]) -> Result<Vec<u32>, AllocError>
-    requires few { length tracks.now + 1 < 2 ^ 32 }
-    ensures lines { IfOk result (λ lines. lines.items ≡ held_lines tracks.now) }
-    ensures within { IfOk result (λ lines. LieWithin (length tracks.now) lines.items) }
-{
-    let mut lines = Vec::new(alloc);
-    let mut line = 1u32;
-    let mut rest = tracks;
-    while let Some((track, above)) = rest.split_first() {
-        push_where(&mut lines, track.net != 0, line)?;
-        line += 1;
-        rest = above;
-    }
-    Ok(lines)
+impl Model for Lines {
+    ghost use Rattle.greedy_column.specs.Lines.{AreLines};
+    ghost use Rattle.std.specs.Prelude.{List, ℕ};
+
+    ghost Value = { List ℕ };
+
+    ghost view = { λ lines. lines.list.items };
+
+    ghost invariant = { λ lines. AreLines lines.list.items };
 }
 
-// The lines of the tracks that a net holds.
-pub fn own_lines(alloc: Global, tracks: &[Track], net: u32) -> Result<Vec<u32>, AllocError>
-    requires few { length tracks.now + 1 < 2 ^ 32 }
-    ensures own { IfOk result (λ lines. lines.items ≡ own_lines net tracks.now) }
-    ensures lines { IfOk result (λ lines. AreLines lines.items) }
-{
-    let mut lines = Vec::new(alloc);
-    let mut line = 1u32;
-    let mut rest = tracks;
-    while let Some((track, above)) = rest.split_first() {
-        push_where(&mut lines, track.net == net, line)?;
-        line += 1;
-        rest = above;
+// Which tracks are sought: those that are free or a net's own, those that nets hold, or those that one net holds.
+#[derive(Clone, Copy, Debug)]
+pub enum Sought {
+    Open(u32),
+    Held,
+    Own(u32),
+}
+
+impl Sought {
+    // Whether a track is among these.
+    fn takes(self, track: Track) -> bool
+        ensures { result ≡ is_sought self track }
+    {
+        match self {
+            Sought::Open(net) => track.net == 0 || track.net == net,
+            Sought::Held => track.net != 0,
+            Sought::Own(net) => track.net == net,
+        }
     }
-    Ok(lines)
+}
+
+impl Tracks {
+    // The lines of the tracks that are free or a net's own; of those that are free, for net 0.
+    pub fn open_lines(&self, alloc: Global, net: u32) -> Result<Lines, AllocError>
+        ensures { IfOk result (λ lines. lines ≡ open_lines net self.now) }
+    {
+        let list = self.lines_where(alloc, Sought::Open(net))?;
+        Ok(Lines { list })
+    }
+
+    // The lines of the tracks that a net holds.
+    pub fn own_lines(&self, alloc: Global, net: u32) -> Result<Lines, AllocError>
+        ensures { IfOk result (λ lines. lines ≡ own_lines net self.now) }
+    {
+        let list = self.lines_where(alloc, Sought::Own(net))?;
+        Ok(Lines { list })
+    }
+
+    // The lines of the tracks that nets hold.
+    pub fn held_lines(&self, alloc: Global) -> Result<Vec<u32>, AllocError>
+        ensures { IfOk result (λ lines. lines.items ≡ held_lines self.now) }
+    {
+        self.lines_where(alloc, Sought::Held)
+    }
+
+    // The lines of the tracks that are sought.
+    fn lines_where(&self, alloc: Global, sought: Sought) -> Result<Vec<u32>, AllocError>
+        ensures lines { IfOk result (λ lines. lines.items ≡ lines_from (is_sought sought) 1 self.now) }
+        ensures are { IfOk result (λ lines. AreLines lines.items) }
+    {
+        let mut lines = Vec::new(alloc);
+        let mut line = 1u32;
+        let mut rest = self.list();
+        while let Some((track, above)) = rest.split_first() {
+            push_where(&mut lines, sought.takes(*track), line)?;
+            line += 1;
+            rest = above;
+        }
+        Ok(lines)
+    }
+}
+
+impl Lines {
+    // No lines.
+    pub fn none(alloc: Global) -> Lines
+        ensures { result ≡ [] }
+    {
+        Lines {
+            list: Vec::new(alloc),
+        }
+    }
+
+    // Lends the lines.
+    pub fn list(&self) -> &[u32]
+        ensures list { result.now ≡ self.now }
+        ensures are { AreLines self.now }
+    {
+        self.list.as_slice()
+    }
+
+    // Of these lines those above the lowest of others.
+    pub fn above_lowest(&self, alloc: Global, others: &Lines) -> Result<Lines, AllocError>
+        ensures { IfOk result (λ above. above ≡ above_lowest others.now self.now) }
+    {
+        match others.list().first() {
+            Some(&lowest) => self.above(alloc, lowest),
+            None => Ok(Lines::none(alloc)),
+        }
+    }
+
+    // Of these lines those above a line.
+    fn above(&self, alloc: Global, lower: u32) -> Result<Lines, AllocError>
+        ensures { IfOk result (λ above. above ≡ filter (λ line. nat_lt lower line) self.now) }
+    {
+        let lines = self.list.iter().copied();
+        let list = lines.filter(|line| lower < *line).collect(alloc)?;
+        Ok(Lines { list })
+    }
+
+    // Of these lines those below a line.
+    pub fn below(&self, alloc: Global, upper: u32) -> Result<Lines, AllocError>
+        ensures { IfOk result (λ below. below ≡ below_line upper self.now) }
+    {
+        let lines = self.list.iter().copied();
+        let list = lines.filter(|line| *line < upper).collect(alloc)?;
+        Ok(Lines { list })
+    }
+
+    // What is left of these lines once one is taken.
+    pub fn without(&self, alloc: Global, line: u32) -> Result<Lines, AllocError>
+        ensures { IfOk result (λ left. left ≡ without line self.now) }
+    {
+        let lines = self.list.iter().copied();
+        let list = lines.filter(|other| *other != line).collect(alloc)?;
+        Ok(Lines { list })
+    }
+
+    // Of these free lines those to which a track of a net on this line may move past the verticals of other nets.
+    pub fn move_options(
+        &self,
+        alloc: Global,
+        spans: &[Span],
+        net: u32,
+        line: u32,
+    ) -> Result<Lines, AllocError>
+        ensures { IfOk result (λ options. options ≡ move_options spans.now net line self.now) }
+    {
+        let lines = self.list.iter().copied();
+        let list = lines
+            .filter(|other| piece_between(net, line, *other).is_clear(spans))
+            .collect(alloc)?;
+        Ok(Lines { list })
+    }
+
+    // The lines outside a group.
+    pub fn outside(&self, alloc: Global, group: &[u32]) -> Result<Lines, AllocError>
+        ensures { IfOk result (λ others. others ≡ outside group.now self.now) }
+    {
+        let list = outside(alloc, group, &self.list)?;
+        Ok(Lines { list })
+    }
+}
+
+// Of some lines those outside a group.
+fn outside(alloc: Global, group: &[u32], lines: &[u32]) -> Result<Vec<u32>, AllocError>
+    ensures { IfOk result (λ others. others.items ≡ outside group.now lines.now) }
+{
+    lines
+        .iter()
+        .copied()
+        .filter(|line| !is_member(group, *line))
+        .collect(alloc)
+}
+
+// Whether a line is of a group.
+fn is_member(group: &[u32], line: u32) -> bool
+    ensures { result ≡ list_any (λ member. member == line) group.now }
+{
+    group.iter().any(|member| *member == line)
 }
 
 // Adds a line, where it is wanted.
@@ -66,62 +198,6 @@ pub fn push_where(lines: &mut Vec<u32>, wanted: bool, line: u32) -> Result<(), A
         lines.push(line)?;
     }
     Ok(())
-}
-
-// Whether a net holds a track.
-pub fn holds_track(tracks: &[Track], net: u32) -> bool
-    ensures { result ≡ holds_track tracks.now net }
-{
-    tracks.iter().any(|track| track.net == net)
-}
-
-// How many tracks a net holds.
-fn tracks_held(tracks: &[Track], net: u32) -> usize
-    ensures { result ≡ count_by (λ t. t.net == net) tracks.now }
-{
-    let mut count = 0;
-    let mut rest = tracks;
-    while let Some((track, above)) = rest.split_first() {
-        count += usize::from(track.net == net);
-        rest = above;
-    }
-    count
-}
-
-// Whether the one track that a net holds is seen to be that on this line.
-pub fn holds_alone(tracks: &[Track], net: u32, line: u32) -> bool
-    ensures { result ≡ true → without line (own_lines net tracks.now) ≡ [] }
-{
-    if line == 0 {
-        return false;
-    }
-    if net == 0 {
-        return false;
-    }
-    if net_on(tracks, line) != net {
-        return false;
-    }
-    tracks_held(tracks, net) == 1
-}
-
-// The id on a line, 0 where there is no track.
-pub fn id_on(tracks: &[Track], line: u32) -> u32
-    ensures { result ≡ id_on tracks.now line }
-{
-    match tracks.get((line as usize).saturating_sub(1)) {
-        Some(track) => track.id,
-        None => 0,
-    }
-}
-
-// The net on a line, 0 where there is no track.
-pub fn net_on(tracks: &[Track], line: u32) -> u32
-    ensures { result ≡ net_on tracks.now line }
-{
-    match tracks.get((line as usize).saturating_sub(1)) {
-        Some(track) => track.net,
-        None => 0,
-    }
 }
 
 /// The line of an id, one above all tracks where it has none. Takes no memory.
@@ -140,56 +216,4 @@ pub fn line_of(tracks: &[Track], id: u32) -> u32
         rest = above;
     }
     line
-}
-
-// Of some lines those above the lowest of others.
-pub fn above_lowest(alloc: Global, others: &[u32], lines: &[u32]) -> Result<Vec<u32>, AllocError>
-    ensures { IfOk result (λ above. above.items ≡ above_lowest others.now lines.now) }
-{
-    match others.first() {
-        Some(&lowest) => above_line(alloc, lowest, lines),
-        None => Ok(Vec::new(alloc)),
-    }
-}
-
-// Of some lines those above a line.
-fn above_line(alloc: Global, lower: u32, lines: &[u32]) -> Result<Vec<u32>, AllocError>
-    ensures { IfOk result (λ above. above.items ≡ filter (λ line. nat_lt lower line) lines.now) }
-{
-    lines
-        .iter()
-        .copied()
-        .filter(|line| lower < *line)
-        .collect(alloc)
-}
-
-// Of some lines those below a line.
-pub fn below_line(alloc: Global, upper: u32, lines: &[u32]) -> Result<Vec<u32>, AllocError>
-    ensures { IfOk result (λ below. below.items ≡ below_line upper lines.now) }
-{
-    lines
-        .iter()
-        .copied()
-        .filter(|line| *line < upper)
-        .collect(alloc)
-}
-
-// Gives the track of an id to a net.
-pub fn hold(tracks: &mut [Track], id: u32, net: u32)
-    ensures { tracks.new ≡ hold id net tracks.old }
-{
-    for track in tracks.iter_mut() {
-        *track = given(id, net, *track);
-    }
-}
-
-// The same for one track.
-fn given(id: u32, net: u32, track: Track) -> Track
-    ensures { result ≡ given id net track }
-{
-    if track.id == id {
-        Track { id, net }
-    } else {
-        track
-    }
 }

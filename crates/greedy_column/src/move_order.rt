@@ -1,17 +1,16 @@
 ghost use Rattle.greedy_column.specs.Lines.{held_lines, net_on};
 ghost use Rattle.greedy_column.specs.Moving.{AreOrdered, IsOrderAhead, IsOrderOfMoves, behind, behind_on, is_split};
 ghost use Rattle.greedy_column.specs.Uses.{next_after};
-ghost use Rattle.std.specs.List.Sorted.{IsNonDecreasing, IsNonDecreasingBy, IsPermutation, IsStableByKey};
+ghost use Rattle.std.specs.List.Sorted.{IsNonDecreasingBy, IsPermutation, IsStableByKey};
 ghost use Rattle.std.specs.List.{list_any};
 ghost use Rattle.std.specs.Ordering.{nat_cmp};
 ghost use Rattle.std.specs.Prelude.{◌≡◌, ◌==◌, ◌<◌, ◌+◌, ◌^◌, ℕ, Contains, IfOk, OnOk, filter, length, map, not};
 
 use crate::ahead::Ahead;
-use crate::column::Track;
-use crate::joining::neighbours;
-use crate::lines::{held_lines, net_on, push_where};
-use crate::sorted::{is_among, sorted};
-use crate::span::Span;
+use crate::lines::push_where;
+use crate::pairs::Pairs;
+use crate::sorted::Sorted;
+use crate::tracks::Tracks;
 use choose_core::{Manner, Next};
 use std::alloc::{AllocError, Global};
 
@@ -35,13 +34,12 @@ pub fn order_of_moves(
     manner: Manner,
     ahead: &Ahead,
     column: u32,
-    kept: &[Track],
+    kept: &Tracks,
 ) -> Result<Vec<u32>, AllocError>
-    requires few { length kept.now + 1 < 2 ^ 32 }
     ensures { IfOk result (λ lines. IsOrderOfMoves manner (next_after ahead.now.uses.items column) kept.now lines.items) }
 {
     match manner {
-        Manner::Published => held_lines(alloc, kept),
+        Manner::Published => kept.held_lines(alloc),
         Manner::LookingAhead => order_ahead(alloc, ahead, column, kept),
     }
 }
@@ -51,9 +49,8 @@ fn order_ahead(
     alloc: Global,
     ahead: &Ahead,
     column: u32,
-    kept: &[Track],
+    kept: &Tracks,
 ) -> Result<Vec<u32>, AllocError>
-    requires few { length kept.now + 1 < 2 ^ 32 }
     ensures { IfOk result (λ lines. IsOrderAhead (next_after ahead.now.uses.items column) kept.now lines.items) }
 {
     let parted = parted_lines(alloc, kept)?;
@@ -64,37 +61,33 @@ fn order_ahead(
 }
 
 // The lines that nets hold, parted by whether these are split.
-fn parted_lines(alloc: Global, kept: &[Track]) -> Result<Parted, AllocError>
-    requires { length kept.now + 1 < 2 ^ 32 }
+fn parted_lines(alloc: Global, kept: &Tracks) -> Result<Parted, AllocError>
     ensures split { IfOk result (λ parted. parted.split.items ≡ filter (is_split kept.now) (held_lines kept.now)) }
     ensures others { IfOk result (λ parted. parted.others.items ≡ filter (λ line. not (is_split kept.now line)) (held_lines kept.now)) }
 {
     let nets = split_nets(alloc, kept)?;
-    let held = held_lines(alloc, kept)?;
+    let held = kept.held_lines(alloc)?;
     part(alloc, kept, &nets, &held)
 }
 
 // The nets that hold more than one track, in ascending order.
-fn split_nets(alloc: Global, kept: &[Track]) -> Result<Vec<u32>, AllocError>
-    requires few { length kept.now + 1 < 2 ^ 32 }
-    ensures sorted { IfOk result (λ nets. IsNonDecreasing nets.items) }
-    ensures nets { IfOk result (λ nets. (line : ℕ) → Contains (held_lines kept.now) line
-        → list_any (λ n. n == net_on kept.now line) nets.items ≡ is_split kept.now line) }
+fn split_nets(alloc: Global, kept: &Tracks) -> Result<Sorted, AllocError>
+    ensures { IfOk result (λ nets. (line : ℕ) → Contains (held_lines kept.now) line
+        → list_any (λ n. n == net_on kept.now line) nets ≡ is_split kept.now line) }
 {
-    let pairs = neighbours(alloc, kept)?;
-    Ok(sorted(nets_of(alloc, &pairs)?))
+    let pairs = kept.neighbours(alloc)?;
+    Ok(Sorted::new(nets_of(alloc, &pairs)?))
 }
 
 // The nets of some pairs of tracks.
-fn nets_of(alloc: Global, pairs: &[Span]) -> Result<Vec<u32>, AllocError>
+fn nets_of(alloc: Global, pairs: &Pairs) -> Result<Vec<u32>, AllocError>
     ensures { IfOk result (λ nets. nets.items ≡ map (λ pair. pair.net) pairs.now) }
 {
-    pairs.iter().map(|pair| pair.net).collect(alloc)
+    pairs.list().iter().map(|pair| pair.net).collect(alloc)
 }
 
 // Some lines, parted by whether their nets are among these.
-fn part(alloc: Global, kept: &[Track], nets: &[u32], lines: &[u32]) -> Result<Parted, AllocError>
-    requires { IsNonDecreasing nets.now }
+fn part(alloc: Global, kept: &Tracks, nets: &Sorted, lines: &[u32]) -> Result<Parted, AllocError>
     ensures split { IfOk result (λ parted.
         parted.split.items ≡ filter (λ line. list_any (λ n. n == net_on kept.now line) nets.now) lines.now) }
     ensures others { IfOk result (λ parted.
@@ -105,7 +98,7 @@ fn part(alloc: Global, kept: &[Track], nets: &[u32], lines: &[u32]) -> Result<Pa
     let mut rest = lines;
     while let Some((line, later)) = rest.split_first() {
         rest = later;
-        let among = is_among(nets, net_on(kept, *line));
+        let among = nets.has(kept.net_on(*line));
         push_where(&mut split, among, *line)?;
         push_where(&mut others, !among, *line)?;
     }
@@ -117,10 +110,9 @@ fn farthest_first(
     alloc: Global,
     ahead: &Ahead,
     column: u32,
-    kept: &[Track],
+    kept: &Tracks,
     lines: &[u32],
 ) -> Result<Vec<u32>, AllocError>
-    requires few { length kept.now + 1 < 2 ^ 32 }
     ensures { IfOk result (λ ordered. AreOrdered (behind_on (next_after ahead.now.uses.items column) kept.now) lines.now ordered.items) }
 {
     let mut waiting = waiting_on(alloc, ahead, column, kept, lines)?;
@@ -140,20 +132,19 @@ fn waiting_on(
     alloc: Global,
     ahead: &Ahead,
     column: u32,
-    kept: &[Track],
+    kept: &Tracks,
     lines: &[u32],
 ) -> Result<Vec<Waiting>, AllocError>
-    requires few { length kept.now + 1 < 2 ^ 32 }
     ensures { IfOk result (λ waiting. waiting.items
         ≡ map (λ line. record { line = line; behind = behind_on (next_after ahead.now.uses.items column) kept.now line }) lines.now) }
 {
     let mut waiting = Vec::new(alloc);
     let mut rest = lines;
     while let Some((line, later)) = rest.split_first() {
-        let next = ahead.next(net_on(kept, *line), column);
+        let next = ahead.next(kept.net_on(*line), column);
         waiting.push(Waiting {
             line: *line,
-            behind: behind(kept.len(), next, *line),
+            behind: behind(kept, next, *line),
         })?;
         rest = later;
     }
@@ -161,11 +152,10 @@ fn waiting_on(
 }
 
 // How much of a channel of so many tracks lies behind a line on the way to the next pins, and all of it where these lie at no one edge.
-fn behind(tracks: usize, next: Next, line: u32) -> u32
-    requires { tracks + 1 < 2 ^ 32 }
-    ensures { result ≡ behind tracks next line }
+fn behind(tracks: &Tracks, next: Next, line: u32) -> u32
+    ensures { result ≡ behind (length tracks.now) next line }
 {
-    let upper_edge = tracks as u32 + 1;
+    let upper_edge = tracks.upper_edge();
     match next {
         Next::Top => line,
         Next::Bottom => upper_edge.saturating_sub(line),

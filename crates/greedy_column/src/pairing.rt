@@ -1,12 +1,13 @@
 ghost use Rattle.greedy_column.specs.Entering.{EntersAbove, EntersBelow, EntersPair, EntersPartners, both_new, newcomer_by, newcomer_of};
-ghost use Rattle.greedy_column.specs.Lines.{LieWithin, above_lowest, below_line, holds_track};
+ghost use Rattle.greedy_column.specs.Lines.{above_lowest, below_line, holds_track};
 ghost use Rattle.std.specs.Prelude.{◌≡◌, ◌<◌, ◌+◌, ◌^◌, ℕ, Contains, IfOk, length};
 
-use crate::column::{Made, Track};
+use crate::column::Made;
 use crate::entering::{Edge, Entries, Newcomer, Pin};
-use crate::lines::{above_lowest, below_line, holds_track, id_on};
+use crate::lines::Lines;
+use crate::moment::Moment;
 use crate::places::{any_place, place_for, place_of_new};
-use crate::question::pick_own;
+use crate::tracks::Tracks;
 use choose_core::{Chooses, Manner};
 use geom_core::Items;
 use std::alloc::{AllocError, Global};
@@ -26,12 +27,12 @@ fn newcomer_of(
     manner: Manner,
     top_holds: bool,
     bottom_holds: bool,
-    uppers: &[u32],
-    lowers: &[u32],
+    uppers: &Lines,
+    lowers: &Lines,
 ) -> Newcomer
     ensures { result ≡ newcomer_of manner top_holds bottom_holds uppers.now lowers.now }
 {
-    match (uppers, lowers) {
+    match (uppers.list(), lowers.list()) {
         ([], [_, ..]) => Newcomer::TopPin,
         ([_, ..], [_, ..]) => newcomer_by(manner, top_holds, bottom_holds),
         ([_, ..], []) => Newcomer::BottomPin,
@@ -39,140 +40,129 @@ fn newcomer_of(
     }
 }
 
-// The entries of two pins of different nets, from the lines that are open to them.
-pub fn enter_pair<C: Chooses>(
-    alloc: Global,
-    chooser: &C,
-    manner: Manner,
-    before: &[Track],
-    fresh: u32,
-    top: Pin,
-    bottom: Pin,
-    uppers: &[u32],
-    lowers: &[u32],
-) -> Result<Entries, AllocError>
-    requires few { length before.now + 2 < 2 ^ 32 }
-    requires fresh { fresh + 2 < 2 ^ 32 }
-    requires uppers { LieWithin (length before.now) uppers.now }
-    requires lowers { LieWithin (length before.now) lowers.now }
-    ensures { IfOk result (λ entries. EntersPair manner (C.answers chooser.now) top bottom before.now fresh
-        uppers.now lowers.now (above_lowest lowers.now uppers.now) entries) }
-{
-    let partnered = above_lowest(alloc, lowers, uppers)?;
-    if !partnered.is_empty() {
-        return enter_partners(alloc, chooser, before, top, bottom, lowers, &partnered);
+impl<C: Chooses> Moment<'_, C> {
+    // The entries of two pins of different nets, from the lines that are open to them.
+    pub fn enter_pair(
+        &self,
+        before: &Tracks,
+        fresh: u32,
+        top: Pin,
+        bottom: Pin,
+        uppers: &Lines,
+        lowers: &Lines,
+    ) -> Result<Entries, AllocError>
+        requires { fresh + 2 < 2 ^ 32 }
+        ensures { IfOk result (λ entries. EntersPair self.now.manner (C.answers self.now.chooser.now) top bottom before.now fresh
+            uppers.now lowers.now (above_lowest lowers.now uppers.now) entries) }
+    {
+        let partnered = uppers.above_lowest(self.alloc, lowers)?;
+        if !partnered.list().is_empty() {
+            return self.enter_partners(before, top, bottom, lowers, &partnered);
+        }
+        let top_holds = before.holds(top.net);
+        let bottom_holds = before.holds(bottom.net);
+        match newcomer_of(self.manner, top_holds, bottom_holds, uppers, lowers) {
+            Newcomer::TopPin => self.enter_above(before, fresh, top, bottom, lowers),
+            Newcomer::BottomPin => self.enter_below(before, fresh, top, bottom, uppers),
+            Newcomer::BothPins => enter_both_new(
+                self.alloc,
+                self.manner,
+                before,
+                fresh,
+                top,
+                bottom,
+            ),
+        }
     }
-    let top_holds = holds_track(before, top.net);
-    let bottom_holds = holds_track(before, bottom.net);
-    match newcomer_of(manner, top_holds, bottom_holds, uppers, lowers) {
-        Newcomer::TopPin => enter_above(alloc, chooser, manner, before, fresh, top, bottom, lowers),
-        Newcomer::BottomPin => enter_below(
-            alloc, chooser, manner, before, fresh, top, bottom, uppers,
-        ),
-        Newcomer::BothPins => enter_both_new(alloc, manner, before, fresh, top, bottom),
+
+    // Those of two pins with a pair of lines, from the lines of the top pin that have a partner.
+    fn enter_partners(
+        &self,
+        before: &Tracks,
+        top: Pin,
+        bottom: Pin,
+        lowers: &Lines,
+        partnered: &Lines,
+    ) -> Result<Entries, AllocError>
+        requires some { 0 < length partnered.now }
+        requires partners { (line : ℕ) → Contains partnered.now line → 0 < length (below_line line lowers.now) }
+        ensures { IfOk result (λ entries. EntersPartners (C.answers self.now.chooser.now) top bottom before.now lowers.now partnered.now entries) }
+    {
+        let question = top.top_question(before);
+        let line = self.pick_own(question, before, top.net, partnered)?;
+        let partners = lowers.below(self.alloc, line)?;
+        let question = bottom.bottom_question();
+        let below = self.pick_own(question, before, bottom.net, &partners)?;
+        Ok(Entries {
+            made: Items::new(Vec::new(self.alloc)),
+            top: before.id_on(line),
+            bottom: before.id_on(below),
+        })
     }
-}
 
-// Those of two pins with a pair of lines, from the lines of the top pin that have a partner.
-fn enter_partners<C: Chooses>(
-    alloc: Global,
-    chooser: &C,
-    before: &[Track],
-    top: Pin,
-    bottom: Pin,
-    lowers: &[u32],
-    partnered: &[u32],
-) -> Result<Entries, AllocError>
-    requires few { length before.now + 2 < 2 ^ 32 }
-    requires some { 0 < length partnered.now }
-    requires within { LieWithin (length before.now) partnered.now }
-    requires lowers { LieWithin (length before.now) lowers.now }
-    requires partners { (line : ℕ) → Contains partnered.now line → 0 < length (below_line line lowers.now) }
-    ensures { IfOk result (λ entries. EntersPartners (C.answers chooser.now) top bottom before.now lowers.now partnered.now entries) }
-{
-    let question = top.top_question(before.len());
-    let line = pick_own(alloc, chooser, question, before, top.net, partnered)?;
-    let partners = below_line(alloc, line, lowers)?;
-    let question = bottom.bottom_question();
-    let below = pick_own(alloc, chooser, question, before, bottom.net, &partners)?;
-    Ok(Entries {
-        made: Items::new(Vec::new(alloc)),
-        top: id_on(before, line),
-        bottom: id_on(before, below),
-    })
-}
+    // Those of two pins of which the bottom pin enters one of its lines, and the top pin a new track above it.
+    fn enter_above(
+        &self,
+        before: &Tracks,
+        fresh: u32,
+        top: Pin,
+        bottom: Pin,
+        lowers: &Lines,
+    ) -> Result<Entries, AllocError>
+        requires { 0 < length lowers.now }
+        ensures { IfOk result (λ entries. EntersAbove self.now.manner (C.answers self.now.chooser.now) top bottom before.now fresh lowers.now entries) }
+    {
+        let question = bottom.bottom_question();
+        let line = self.pick_own(question, before, bottom.net, lowers)?;
+        let most = before.count();
+        let below = place_for(self.manner, top, Edge::Upper, before, line, most);
+        let made = vec![in self.alloc; Made { id: fresh, below }]?;
+        Ok(Entries {
+            made: Items::new(made),
+            top: fresh,
+            bottom: before.id_on(line),
+        })
+    }
 
-// Those of two pins of which the bottom pin enters one of its lines, and the top pin a new track above it.
-fn enter_above<C: Chooses>(
-    alloc: Global,
-    chooser: &C,
-    manner: Manner,
-    before: &[Track],
-    fresh: u32,
-    top: Pin,
-    bottom: Pin,
-    lowers: &[u32],
-) -> Result<Entries, AllocError>
-    requires few { length before.now + 2 < 2 ^ 32 }
-    requires some { 0 < length lowers.now }
-    requires within { LieWithin (length before.now) lowers.now }
-    ensures { IfOk result (λ entries. EntersAbove manner (C.answers chooser.now) top bottom before.now fresh lowers.now entries) }
-{
-    let question = bottom.bottom_question();
-    let line = pick_own(alloc, chooser, question, before, bottom.net, lowers)?;
-    let most = before.len() as u32;
-    let below = place_for(manner, top, Edge::Upper, before, line, most);
-    let made = vec![in alloc; Made { id: fresh, below }]?;
-    Ok(Entries {
-        made: Items::new(made),
-        top: fresh,
-        bottom: id_on(before, line),
-    })
-}
-
-// Those of two pins of which the top pin enters one of its lines, and the bottom pin a new track below it.
-fn enter_below<C: Chooses>(
-    alloc: Global,
-    chooser: &C,
-    manner: Manner,
-    before: &[Track],
-    fresh: u32,
-    top: Pin,
-    bottom: Pin,
-    uppers: &[u32],
-) -> Result<Entries, AllocError>
-    requires few { length before.now + 2 < 2 ^ 32 }
-    requires some { 0 < length uppers.now }
-    requires within { LieWithin (length before.now) uppers.now }
-    ensures { IfOk result (λ entries. EntersBelow manner (C.answers chooser.now) top bottom before.now fresh uppers.now entries) }
-{
-    let question = top.top_question(before.len());
-    let line = pick_own(alloc, chooser, question, before, top.net, uppers)?;
-    let below = place_for(manner, bottom, Edge::Lower, before, 0, line - 1);
-    let made = vec![in alloc; Made { id: fresh, below }]?;
-    Ok(Entries {
-        made: Items::new(made),
-        top: id_on(before, line),
-        bottom: fresh,
-    })
+    // Those of two pins of which the top pin enters one of its lines, and the bottom pin a new track below it.
+    fn enter_below(
+        &self,
+        before: &Tracks,
+        fresh: u32,
+        top: Pin,
+        bottom: Pin,
+        uppers: &Lines,
+    ) -> Result<Entries, AllocError>
+        requires { 0 < length uppers.now }
+        ensures { IfOk result (λ entries. EntersBelow self.now.manner (C.answers self.now.chooser.now) top bottom before.now fresh uppers.now entries) }
+    {
+        let question = top.top_question(before);
+        let line = self.pick_own(question, before, top.net, uppers)?;
+        let below = place_for(self.manner, bottom, Edge::Lower, before, 0, line - 1);
+        let made = vec![in self.alloc; Made { id: fresh, below }]?;
+        Ok(Entries {
+            made: Items::new(made),
+            top: before.id_on(line),
+            bottom: fresh,
+        })
+    }
 }
 
 // Those of two pins that both enter new tracks.
 fn enter_both_new(
     alloc: Global,
     manner: Manner,
-    before: &[Track],
+    before: &Tracks,
     fresh: u32,
     top: Pin,
     bottom: Pin,
 ) -> Result<Entries, AllocError>
-    requires few { length before.now + 2 < 2 ^ 32 }
-    requires fresh { fresh + 2 < 2 ^ 32 }
+    requires { fresh + 2 < 2 ^ 32 }
     ensures { IfOk result (λ entries. entries ≡ both_new manner top bottom before.now fresh) }
 {
     let lower = any_place(manner, bottom, Edge::Lower, before);
-    let holds = holds_track(before, top.net);
-    let most = before.len() as u32 + 1;
+    let holds = before.holds(top.net);
+    let most = before.count() + 1;
     let upper = place_of_new(manner, holds, top.next, Edge::Upper, most, lower + 1, most);
     let made = vec![in alloc;
         Made {

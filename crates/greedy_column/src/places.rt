@@ -2,9 +2,8 @@ ghost use Rattle.greedy_column.specs.Entering.{any_place, place_for};
 ghost use Rattle.greedy_column.specs.Places.{place_ahead, place_by_edge, place_by_next, place_of_new};
 ghost use Rattle.std.specs.Prelude.{◌≡◌, ◌<◌, ◌≤◌, ◌+◌, ◌^◌, length};
 
-use crate::column::Track;
 use crate::entering::{Edge, Pin};
-use crate::lines::holds_track;
+use crate::tracks::Tracks;
 use choose_core::{Manner, Next};
 
 // Of the places from `least` to `most` the one nearest to an edge.
@@ -62,23 +61,21 @@ pub fn place_for(
     manner: Manner,
     pin: Pin,
     edge: Edge,
-    before: &[Track],
+    before: &Tracks,
     least: u32,
     most: u32,
 ) -> u32
-    requires { length before.now + 2 < 2 ^ 32 }
     ensures { result ≡ place_for manner pin edge before.now least most }
 {
-    let holds = holds_track(before, pin.net);
-    let tracks = before.len() as u32;
+    let holds = before.holds(pin.net);
+    let tracks = before.count();
     place_of_new(manner, holds, pin.next, edge, tracks, least, most)
 }
 
 // The same among all places.
-pub fn any_place(manner: Manner, pin: Pin, edge: Edge, before: &[Track]) -> u32
-    requires { length before.now + 2 < 2 ^ 32 }
+pub fn any_place(manner: Manner, pin: Pin, edge: Edge, before: &Tracks) -> u32
     ensures place { result ≡ any_place manner pin edge before.now }
     ensures within { result ≤ length before.now }
 {
-    place_for(manner, pin, edge, before, 0, before.len() as u32)
+    place_for(manner, pin, edge, before, 0, before.count())
 }

@@ -1,9 +1,10 @@
-ghost use Rattle.greedy_column.specs.Lines.{AreLines, own_lines};
+ghost use Rattle.greedy_column.specs.Lines.{own_lines};
 ghost use Rattle.greedy_column.specs.Offers.{IsPicked, distance, gap_to, least_distance, offer, pull_to};
 ghost use Rattle.std.specs.Prelude.{◌≡◌, ◌<◌, ◌≤◌, ◌+◌, ◌^◌, Contains, IfOk, length, map};
 
-use crate::column::Track;
-use crate::lines::own_lines;
+use crate::lines::Lines;
+use crate::moment::Moment;
+use crate::tracks::Tracks;
 use choose_core::{Ask, Candidate, Chooses, Next};
 use std::alloc::{AllocError, Global};
 
@@ -18,8 +19,7 @@ pub struct Question {
 
 impl Question {
     // A track as it is offered, beside the others of its net.
-    fn offer(self, others: &[u32], line: u32) -> Candidate
-        requires { AreLines others.now }
+    fn offer(self, others: &Lines, line: u32) -> Candidate
         ensures { result ≡ offer self others.now line }
     {
         Candidate {
@@ -43,11 +43,10 @@ fn gap_to(aim: Option<u32>, line: u32) -> u32
 }
 
 // How near the others of a net's lines are to a line: 0 where there is none, else 1 more than the least distance.
-fn pull_to(others: &[u32], line: u32) -> u32
-    requires { AreLines others.now }
+fn pull_to(others: &Lines, line: u32) -> u32
     ensures { result ≡ pull_to others.now line }
 {
-    match others.split_first() {
+    match others.list().split_first() {
         Some((other, more)) => least_distance(line, line.abs_diff(*other), more) + 1,
         None => 0,
     }
@@ -67,51 +66,47 @@ fn least_distance(line: u32, first: u32, others: &[u32]) -> u32
     least
 }
 
-// One of these lines of a net that holds other tracks too, picked by the chooser.
-pub fn pick_line<C: Chooses>(
-    alloc: Global,
-    chooser: &C,
-    question: Question,
-    others: &[u32],
-    lines: &[u32],
-) -> Result<u32, AllocError>
-    requires others { AreLines others.now }
-    requires some { 0 < length lines.now }
-    requires few { length lines.now < 2 ^ 32 }
-    ensures picked { IfOk result (λ line. IsPicked (C.answers chooser.now) (offer question others.now) lines.now line) }
-    ensures member { IfOk result (λ line. Contains lines.now line) }
-{
-    let offers = offers(alloc, question, others, lines)?;
-    Ok(lines[chooser.choose(&offers)])
-}
+impl<C: Chooses> Moment<'_, C> {
+    // One of these lines of a net that holds other tracks too, picked by the chooser.
+    pub fn pick_line(
+        &self,
+        question: Question,
+        others: &Lines,
+        lines: &[u32],
+    ) -> Result<u32, AllocError>
+        requires some { 0 < length lines.now }
+        requires few { length lines.now < 2 ^ 32 }
+        ensures picked { IfOk result (λ line. IsPicked (C.answers self.now.chooser.now) (offer question others.now) lines.now line) }
+        ensures member { IfOk result (λ line. Contains lines.now line) }
+    {
+        let offers = offers(self.alloc, question, others, lines)?;
+        Ok(lines[self.chooser.choose(&offers)])
+    }
 
-// One of these lines of a net, beside the tracks that it holds, picked by the chooser.
-pub fn pick_own<C: Chooses>(
-    alloc: Global,
-    chooser: &C,
-    question: Question,
-    tracks: &[Track],
-    net: u32,
-    lines: &[u32],
-) -> Result<u32, AllocError>
-    requires tracks { length tracks.now + 1 < 2 ^ 32 }
-    requires some { 0 < length lines.now }
-    requires few { length lines.now < 2 ^ 32 }
-    ensures picked { IfOk result (λ line. IsPicked (C.answers chooser.now) (offer question (own_lines net tracks.now)) lines.now line) }
-    ensures member { IfOk result (λ line. Contains lines.now line) }
-{
-    let own = own_lines(alloc, tracks, net)?;
-    pick_line(alloc, chooser, question, &own, lines)
+    // One of these lines of a net, beside the tracks that it holds, picked by the chooser.
+    pub fn pick_own(
+        &self,
+        question: Question,
+        tracks: &Tracks,
+        net: u32,
+        lines: &Lines,
+    ) -> Result<u32, AllocError>
+        requires { 0 < length lines.now }
+        ensures picked { IfOk result (λ line. IsPicked (C.answers self.now.chooser.now) (offer question (own_lines net tracks.now)) lines.now line) }
+        ensures above { IfOk result (λ line. 0 < line) }
+    {
+        let own = tracks.own_lines(self.alloc, net)?;
+        self.pick_line(question, &own, lines.list())
+    }
 }
 
 // Some tracks as they are offered.
 fn offers(
     alloc: Global,
     question: Question,
-    others: &[u32],
+    others: &Lines,
     lines: &[u32],
 ) -> Result<Vec<Candidate>, AllocError>
-    requires { AreLines others.now }
     ensures { IfOk result (λ offers. offers.items ≡ map (offer question others.now) lines.now) }
 {
     let mut offers = Vec::new(alloc);

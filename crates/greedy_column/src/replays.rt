@@ -5,8 +5,7 @@ ghost use Rattle.std.specs.Prelude.{◌≡◌, ℕ, IfOk, length};
 
 use crate::column::{Column, Track};
 use crate::freeing::freed;
-use crate::lines::hold;
-use crate::moving::carry;
+use crate::moving::{carry, hold};
 use crate::stepping::{pin_in, with_made};
 use channel_model::Channel;
 use std::alloc::{AllocError, Global};
@@ -23,7 +22,7 @@ pub fn entered(
     requires { (fresh : ℕ) × AreMadeFrom fresh (length before.now) done.now.made }
     ensures { IfOk result (λ tracks. tracks.items ≡ entered channel.now column done.now before.now) }
 {
-    let mut tracks = with_made(alloc, before, done.made.items())?;
+    let mut tracks = with_made(before.to_vec(alloc)?, done.made.items())?;
     hold(
         &mut tracks,
         done.bottom,

@@ -2,19 +2,46 @@ ghost use Rattle.std.specs.List.Sorted.{IsNonDecreasing};
 ghost use Rattle.std.specs.List.{list_any};
 ghost use Rattle.std.specs.Prelude.{◌≡◌, ◌==◌, ℕ};
 
+use std::marker::Model;
+
+// Numbers in ascending order.
+#[derive(Drop)]
+pub struct Sorted {
+    numbers: Vec<u32>,
+}
+
+impl Model for Sorted {
+    ghost use Rattle.std.specs.List.Sorted.{IsNonDecreasing};
+    ghost use Rattle.std.specs.Prelude.{List, ℕ};
+
+    ghost Value = { List ℕ };
+
+    ghost view = { λ sorted. sorted.numbers.items };
+
+    ghost invariant = { λ sorted. IsNonDecreasing sorted.numbers.items };
+}
+
+impl Sorted {
+    // These numbers, sorted.
+    pub fn new(mut numbers: Vec<u32>) -> Sorted
+        ensures { (number : ℕ) → list_any (λ n. n == number) result ≡ list_any (λ n. n == number) numbers.items }
+    {
+        numbers.sort_unstable();
+        Sorted { numbers }
+    }
+
+    // Whether a number is among them.
+    pub fn has(&self, number: u32) -> bool
+        ensures { result ≡ list_any (λ n. n == number) self.now }
+    {
+        is_among(&self.numbers, number)
+    }
+}
+
 // Whether a number is among sorted ones.
 pub fn is_among(sorted: &[u32], number: u32) -> bool
     requires { IsNonDecreasing sorted.now }
     ensures { result ≡ list_any (λ n. n == number) sorted.now }
 {
     sorted.binary_search(&number).is_ok()
-}
-
-// Sorts numbers.
-pub fn sorted(mut numbers: Vec<u32>) -> Vec<u32>
-    ensures sorted { IsNonDecreasing result.items }
-    ensures same { (number : ℕ) → list_any (λ n. n == number) result.items ≡ list_any (λ n. n == number) numbers.items }
-{
-    numbers.sort_unstable();
-    numbers
 }

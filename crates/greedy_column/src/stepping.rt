@@ -13,10 +13,12 @@ ghost use Rattle.std.specs.Prelude.{◌≡◌, ◌==◌, ◌&&◌, ◌<◌, ◌�
 
 use crate::ahead::Ahead;
 use crate::column::{Column, ColumnState, Made, Track};
-use crate::entering::{Entries, Pin, enter};
-use crate::going_on::{Outcome, go_on};
-use crate::lines::hold;
+use crate::entering::{Entries, Pin};
+use crate::going_on::Outcome;
+use crate::moment::Moment;
+use crate::moving::hold;
 use crate::span::pin_spans;
+use crate::tracks::Tracks;
 use channel_model::Channel;
 use choose_core::{Chooser, Chooses, Manner};
 use geom_core::Items;
@@ -43,12 +45,11 @@ fn pin_of(ahead: &Ahead, column: u32, net: u32) -> Pin
 }
 
 // The tracks with those that are made.
-pub fn with_made(alloc: Global, before: &[Track], made: &[Made]) -> Result<Vec<Track>, AllocError>
-    requires { (fresh : ℕ) × AreMadeFrom fresh (length before.now) made.now }
-    ensures tracks { IfOk result (λ tracks. tracks.items ≡ with_made before.now made.now) }
-    ensures long { IfOk result (λ tracks. length tracks.items ≡ length before.now + length made.now) }
+pub fn with_made(mut tracks: Vec<Track>, made: &[Made]) -> Result<Vec<Track>, AllocError>
+    requires { (fresh : ℕ) × AreMadeFrom fresh (length tracks.items) made.now }
+    ensures made { IfOk result (λ all. all.items ≡ with_made tracks.items made.now) }
+    ensures long { IfOk result (λ all. length all.items ≡ length tracks.items + length made.now) }
 {
-    let mut tracks = before.to_vec(alloc)?;
     let mut rest = made;
     while let Some((one, later)) = rest.split_first() {
         tracks.insert(one.below as usize, Track { id: one.id, net: 0 })?;
@@ -59,18 +60,17 @@ pub fn with_made(alloc: Global, before: &[Track], made: &[Made]) -> Result<Vec<T
 
 // The tracks that the pins of these nets have entered.
 fn entered(
-    alloc: Global,
-    before: &[Track],
+    before: Tracks,
     entries: &Entries,
     top: u32,
     bottom: u32,
 ) -> Result<Vec<Track>, AllocError>
-    requires { (fresh : ℕ) × AreMadeFrom fresh (length before.now) entries.now.made }
+    requires { (fresh : ℕ) × AreMadeFrom fresh (length before) entries.now.made }
     ensures tracks { IfOk result (λ tracks.
-        tracks.items ≡ with_nets top entries.now.top bottom entries.now.bottom (with_made before.now entries.now.made)) }
-    ensures long { IfOk result (λ tracks. length tracks.items ≡ length before.now + length entries.now.made) }
+        tracks.items ≡ with_nets top entries.now.top bottom entries.now.bottom (with_made before entries.now.made)) }
+    ensures long { IfOk result (λ tracks. length tracks.items ≡ length before + length entries.now.made) }
 {
-    let mut tracks = with_made(alloc, before, entries.made.items())?;
+    let mut tracks = with_made(before.into_list(), entries.made.items())?;
     hold(&mut tracks, entries.bottom, bottom);
     hold(&mut tracks, entries.top, top);
     Ok(tracks)
@@ -90,76 +90,68 @@ struct Taken {
     tracks: Items<Track>,
 }
 
-// One column, from the nets of its pins.
-fn column_of<C: Chooses>(
-    alloc: Global,
-    chooser: &C,
-    ahead: &Ahead,
-    column: u32,
-    manner: Manner,
-    before: &[Track],
-    fresh: u32,
-    top: u32,
-    bottom: u32,
-) -> Result<Taken, AllocError>
-    requires few { length before.now + 4 < 2 ^ 32 }
-    requires fresh { fresh + 2 < 2 ^ 32 }
-    ensures straight { IfOk result (λ taken. taken.done.straight ≡ (top == bottom && not (top == 0))) }
-    ensures enters { IfOk result (λ taken. Enters manner (C.answers chooser.now) (pin_with (next_after ahead.now.uses.items column) top)
-        (pin_with (next_after ahead.now.uses.items column) bottom) before.now fresh (entries_of taken.done)) }
-    ensures follows { IfOk result (λ taken.
-        let now = with_nets top taken.done.top bottom taken.done.bottom (with_made before.now taken.done.made) in
-        FollowsOn manner (C.answers chooser.now) (next_after ahead.now.uses.items column) now
-        (map (span_in (ids now)) (verticals_of_pins taken.done.straight top bottom taken.done.top taken.done.bottom))
-        taken.done.joins taken.done.ended taken.done.moves) }
-    ensures tracks { IfOk result (λ taken. taken.tracks ≡ moved taken.done.moves (freed taken.done.ended
-        (with_nets top taken.done.top bottom taken.done.bottom (with_made before.now taken.done.made)))) }
-{
-    let straight = has_equal_pins(top, bottom);
-    let top_pin = pin_of(ahead, column, top);
-    let bottom_pin = pin_of(ahead, column, bottom);
-    let entries = enter(alloc, chooser, manner, before, fresh, top_pin, bottom_pin)?;
-    let outcome = outcome_of(
-        alloc, chooser, ahead, column, manner, before, &entries, straight, top, bottom,
-    )?;
-    Ok(taken_from(entries, straight, outcome))
-}
+impl<C: Chooses> Moment<'_, C> {
+    // One column, from the nets of its pins.
+    fn column_of(
+        &self,
+        before: Tracks,
+        fresh: u32,
+        top: u32,
+        bottom: u32,
+    ) -> Result<Taken, AllocError>
+        requires few { length before + 4 < 2 ^ 32 }
+        requires fresh { fresh + 2 < 2 ^ 32 }
+        ensures straight { IfOk result (λ taken. taken.done.straight ≡ (top == bottom && not (top == 0))) }
+        ensures enters { IfOk result (λ taken. Enters self.now.manner (C.answers self.now.chooser.now) (pin_with (next_after self.now.ahead.now.uses.items self.now.column) top)
+            (pin_with (next_after self.now.ahead.now.uses.items self.now.column) bottom) before fresh (entries_of taken.done)) }
+        ensures follows { IfOk result (λ taken.
+            let now = with_nets top taken.done.top bottom taken.done.bottom (with_made before taken.done.made) in
+            FollowsOn self.now.manner (C.answers self.now.chooser.now) (next_after self.now.ahead.now.uses.items self.now.column) now
+            (map (span_in (ids now)) (verticals_of_pins taken.done.straight top bottom taken.done.top taken.done.bottom))
+            taken.done.joins taken.done.ended taken.done.moves) }
+        ensures tracks { IfOk result (λ taken. taken.tracks ≡ moved taken.done.moves (freed taken.done.ended
+            (with_nets top taken.done.top bottom taken.done.bottom (with_made before taken.done.made)))) }
+    {
+        let straight = has_equal_pins(top, bottom);
+        let top_pin = pin_of(self.ahead, self.column, top);
+        let bottom_pin = pin_of(self.ahead, self.column, bottom);
+        let entries = self.enter(&before, fresh, top_pin, bottom_pin)?;
+        let outcome = self.outcome_of(before, &entries, straight, top, bottom)?;
+        Ok(taken_from(entries, straight, outcome))
+    }
 
-// What steps 2 to 4 do, over the tracks that the pins of these nets have entered.
-fn outcome_of<C: Chooses>(
-    alloc: Global,
-    chooser: &C,
-    ahead: &Ahead,
-    column: u32,
-    manner: Manner,
-    before: &[Track],
-    entries: &Entries,
-    straight: bool,
-    top: u32,
-    bottom: u32,
-) -> Result<Outcome, AllocError>
-    requires few { length before.now + 4 < 2 ^ 32 }
-    requires placed { (fresh : ℕ) × AreMadeFrom fresh (length before.now) entries.now.made }
-    requires made { length entries.now.made ≤ 2 }
-    ensures follows { IfOk result (λ outcome.
-        let now = with_nets top entries.now.top bottom entries.now.bottom (with_made before.now entries.now.made) in
-        FollowsOn manner (C.answers chooser.now) (next_after ahead.now.uses.items column) now
-        (map (span_in (ids now)) (verticals_of_pins straight top bottom entries.now.top entries.now.bottom))
-        outcome.joins outcome.ended outcome.moves) }
-    ensures tracks { IfOk result (λ outcome. outcome.tracks ≡ moved outcome.moves (freed outcome.ended
-        (with_nets top entries.now.top bottom entries.now.bottom (with_made before.now entries.now.made)))) }
-{
-    let now = entered(alloc, before, entries, top, bottom)?;
-    let spans = pin_spans(
-        alloc,
-        &now,
-        straight,
-        top,
-        bottom,
-        entries.top,
-        entries.bottom,
-    )?;
-    go_on(alloc, chooser, ahead, column, manner, &now, spans)
+    // What steps 2 to 4 do, over the tracks that the pins of these nets have entered.
+    fn outcome_of(
+        &self,
+        before: Tracks,
+        entries: &Entries,
+        straight: bool,
+        top: u32,
+        bottom: u32,
+    ) -> Result<Outcome, AllocError>
+        requires few { length before + 4 < 2 ^ 32 }
+        requires placed { (fresh : ℕ) × AreMadeFrom fresh (length before) entries.now.made }
+        requires made { length entries.now.made ≤ 2 }
+        ensures follows { IfOk result (λ outcome.
+            let now = with_nets top entries.now.top bottom entries.now.bottom (with_made before entries.now.made) in
+            FollowsOn self.now.manner (C.answers self.now.chooser.now) (next_after self.now.ahead.now.uses.items self.now.column) now
+            (map (span_in (ids now)) (verticals_of_pins straight top bottom entries.now.top entries.now.bottom))
+            outcome.joins outcome.ended outcome.moves) }
+        ensures tracks { IfOk result (λ outcome. outcome.tracks ≡ moved outcome.moves (freed outcome.ended
+            (with_nets top entries.now.top bottom entries.now.bottom (with_made before entries.now.made)))) }
+    {
+        let now = entered(before, entries, top, bottom)?;
+        let spans = pin_spans(
+            self.alloc,
+            &now,
+            straight,
+            top,
+            bottom,
+            entries.top,
+            entries.bottom,
+        )?;
+        self.go_on(&Tracks::new(now), spans)
+    }
 }
 
 // A column's record and the tracks after it, from what its steps do.
@@ -244,17 +236,15 @@ pub fn step_with<C: Chooses>(
 {
     let top = pin_in(channel.top.items(), column);
     let bottom = pin_in(channel.bottom.items(), column);
-    let taken = column_of(
+    let moment = Moment {
         alloc,
         chooser,
         ahead,
         column,
         manner,
-        state.order.items(),
-        state.fresh,
-        top,
-        bottom,
-    )?;
+    };
+    let before = Tracks::new(state.order.items().to_vec(alloc)?);
+    let taken = moment.column_of(before, state.fresh, top, bottom)?;
     let Taken { done, tracks } = taken;
     let fresh = state.fresh + done.made.items().len() as u32;
     state.order = tracks;

@@ -4,7 +4,7 @@ use Rattle.greedy_column.specs.declared.span.Span.{Span}
 use Rattle.greedy_column.proofs.SortedLaws.{any_map}
 use Rattle.greedy_column.proofs.grouping.lower_lines.Goals as goal
 
-pub returns-clause-lines : goal.returns-clause-lines
-returns-clause-lines c = λ line.
+pub returns : goal.returns
+returns c = λ line.
     let is : c.in_ok-lines.lines.items ≡ map (λ (pair : Span). pair.low) c.args.joined.now = search rules in
-    c.sorted.ensures.same line ∙ ap (λ (l : List ℕ). list_any (λ n. eqb n line) l) is ∙ any_map (λ (pair : Span). pair.low) (λ n. eqb n line) c.args.joined.now
+    c.new.ensures line ∙ ap (λ (l : List ℕ). list_any (λ n. eqb n line) l) is ∙ any_map (λ (pair : Span). pair.low) (λ n. eqb n line) c.args.joined.now

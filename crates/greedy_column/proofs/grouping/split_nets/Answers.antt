@@ -5,9 +5,9 @@ use Rattle.greedy_column.specs.Joining.{is_joined}
 use Rattle.greedy_column.proofs.SortedLaws.{any_map, any_filter}
 use Rattle.greedy_column.proofs.grouping.split_nets.Goals as goal
 
-pub returns-clause-nets : goal.returns-clause-nets
-returns-clause-nets c = λ net.
+pub returns : goal.returns
+returns c = λ net.
     let parted : List Span = filter (λ pair. not (is_joined c.args.spans.now pair)) c.args.pairs.now in
-    c.sorted.ensures.same net ∙ ap (λ (l : List ℕ). list_any (λ n. eqb n net) l) c.in_ok-parted_nets.ensures
+    c.new.ensures net ∙ ap (λ (l : List ℕ). list_any (λ n. eqb n net) l) c.in_ok-parted_nets.ensures
     ∙ any_map (λ (pair : Span). pair.net) (λ n. eqb n net) parted
     ∙ any_filter (λ (pair : Span). eqb pair.net net) (λ pair. not (is_joined c.args.spans.now pair)) c.args.pairs.now

@@ -6,6 +6,12 @@ use Rattle.greedy_column.specs.Offers.{join_offer}
 use Rattle.greedy_column.proofs.Members.{in_first, in_later}
 use Rattle.greedy_column.proofs.joining.join_offers.Goals as goal
 
+pub loop-pair-init : goal.loop-pair-init
+loop-pair-init c = record {
+  above = λ pair member. c.list-rest.ensures.are.above pair (subst (λ (l : List Span). Contains l pair) c.list-rest.ensures.list member);
+  so_far = search rules;
+}
+
 pub join_offer-requires : goal.join_offer-requires
 join_offer-requires c =
     let pair = c.in-Some.pair.now in

@@ -10,8 +10,8 @@ loop-line-preserved c =
     let later = c.in-Some.later.now in
     let among : ℕ → Bool = λ l. list_any (λ n. eqb n (net_on c.args.kept.now l)) c.args.nets.now in
     let cut : c.loop-line.rest.now ≡ line ∷ later = search rules in
-    let is : c.is_among-among.result ≡ among line =
-    c.is_among-among.ensures ∙ ap (λ net. list_any (λ n. eqb n net) c.args.nets.now) c.net_on.ensures in
+    let is : c.has-among.result ≡ among line =
+    c.has-among.ensures ∙ ap (λ net. list_any (λ n. eqb n net) c.args.nets.now) c.net_on.ensures in
     let kept = rw cut at c.loop-line.invariant in
     record {
       split = part_more among line later c.loop-line.split.items c.push_where.new.lines.items _ _ is (c.in_ok-push_where.ensures) kept.split;

@@ -8,17 +8,17 @@ use Rattle.greedy_column.proofs.move_order.parted_lines.Goals as goal
 pub returns-clause-split : goal.returns-clause-split
 returns-clause-split c =
     let kept = c.args.kept.now in
-    let nets = c.in_ok-nets.nets.items in
+    let nets = c.in_ok-nets.nets in
     IfOk-weaker c.part.result _ _ (λ parted is.
-    is ∙ (λ i. filter (λ line. list_any (λ n. eqb n (net_on kept line)) (c.deref.ensures.value i)) (c.deref-2.ensures.value i))
-    ∙ ap (λ (l : List ℕ). filter (λ line. list_any (λ n. eqb n (net_on kept line)) nets) l) c.in_ok-held.ensures.lines
-    ∙ split_found kept nets c.in_ok-nets.ensures.nets) c.part.ensures.split
+    is ∙ (λ i. filter (λ line. list_any (λ n. eqb n (net_on kept line)) nets) (c.deref.ensures.value i))
+    ∙ ap (λ (l : List ℕ). filter (λ line. list_any (λ n. eqb n (net_on kept line)) nets) l) c.in_ok-held.ensures
+    ∙ split_found kept nets c.in_ok-nets.ensures) c.part.ensures.split
 
 pub returns-clause-others : goal.returns-clause-others
 returns-clause-others c =
     let kept = c.args.kept.now in
-    let nets = c.in_ok-nets.nets.items in
+    let nets = c.in_ok-nets.nets in
     IfOk-weaker c.part.result _ _ (λ parted is.
-    is ∙ (λ i. filter (λ line. not (list_any (λ n. eqb n (net_on kept line)) (c.deref.ensures.value i))) (c.deref-2.ensures.value i))
-    ∙ ap (λ (l : List ℕ). filter (λ line. not (list_any (λ n. eqb n (net_on kept line)) nets)) l) c.in_ok-held.ensures.lines
-    ∙ others_found kept nets c.in_ok-nets.ensures.nets) c.part.ensures.others
+    is ∙ (λ i. filter (λ line. not (list_any (λ n. eqb n (net_on kept line)) nets)) (c.deref.ensures.value i))
+    ∙ ap (λ (l : List ℕ). filter (λ line. not (list_any (λ n. eqb n (net_on kept line)) nets)) l) c.in_ok-held.ensures
+    ∙ others_found kept nets c.in_ok-nets.ensures) c.part.ensures.others

@@ -7,5 +7,5 @@ overflow_add-result c =
     let other = c.in-Some.other.now in
     let more = c.in-Some.more.now in
     let cut : c.args.others.now ≡ other ∷ more = search rules in
-    let inside = c.requires other (subst (λ (l : List ℕ). Contains l other) (sym cut) (in_first other more)) in
+    let inside = c.list.ensures.are.each other (subst (λ (l : List ℕ). Contains l other) (sym cut) (in_first other more)) in
     omega (arith, c.least_distance.ensures.within, c.abs_diff.ensures, c.ranges.line.fits, inside.0, inside.1)

@@ -1,14 +1,18 @@
-use Rattle.std.proofs.Common.{rules, ◌∙◌, ◌+◌, ap, arith, get_or, ℕ, List, length}
+use Rattle.std.proofs.Common.{rules, ◌≡◌, ◌∙◌, ◌+◌, ap, arith, get_or, ℕ, List, length}
 use Rattle.channel_model.specs.Pins.{IsChannel}
 use Rattle.greedy_column.specs.declared.column.Made.{Made}
 use Rattle.greedy_column.specs.declared.column.Track.{Track}
+use Rattle.greedy_column.specs.declared.entering.Pin.{Pin}
+use Rattle.greedy_column.specs.Follows.{entries_of, pin_with}
 use Rattle.greedy_column.specs.Uses.{next_after}
 use Rattle.greedy_column.proofs.FairLaws.{Fair-from}
+use Rattle.greedy_column.proofs.MadeLaws.{AreMadeForPins-from}
 use Rattle.greedy_column.proofs.StateLaws.{AreNumbered-few, Follows-from_copy, IsState-from_copy}
 use Rattle.greedy_column.proofs.stepping.step_with.Goals as goal
 
-pub column_of-requires-clause-few : goal.column_of-requires-clause-few
-column_of-requires-clause-few g c =
+pub new-before-requires : goal.new-before-requires
+new-before-requires g c =
+    let same : length c.in_ok-to_vec.field-0.items ≡ length c.items-3.result.now = search rules in
     omega (
       arith,
       ap (λ (l : List Track). length l) c.items-3.ensures,
@@ -16,10 +20,28 @@ column_of-requires-clause-few g c =
       c.requires.few,
     )
 
+pub overflow_add-fresh : goal.overflow_add-fresh
+overflow_add-fresh g c =
+    let pin : ℕ → Pin = pin_with (next_after c.args.ahead.now.uses.items c.args.column) in
+    let made = AreMadeForPins-from c.args.manner (g.C.Chooses.answers c.args.chooser.now) c.new-before.result c.args.state.now.fresh (pin c.pin_in-top.result)
+    (pin c.pin_in-bottom.result) (entries_of c.in_ok-taken.taken.done) c.in_ok-taken.ensures.enters in
+    omega (arith, ap (λ (l : List Made). length l) c.items-4.ensures, made.few, c.requires.few)
+
+pub column_of-requires-clause-few : goal.column_of-requires-clause-few
+column_of-requires-clause-few g c =
+    let copied : c.new-before.result ≡ c.args.state.now.order = search rules in
+    omega (
+      arith,
+      ap (λ (l : List Track). length l) copied,
+      AreNumbered-few c.args.state.now.fresh c.args.state.now.order c.requires.state.numbered,
+      c.requires.few,
+    )
+
 pub returns-clause-follows : goal.returns-clause-follows
 returns-clause-follows g c =
+    let copied : c.new-before.result ≡ c.args.state.now.order = search rules in
     Follows-from_copy c.args.manner _ (next_after c.args.ahead.now.uses.items c.args.column) c.args.channel.now c.args.column c.args.state.now.fresh c.args.state.now.order
-    c.items-3.result.now _ c.pin_in-top.result c.pin_in-bottom.result c.items-3.ensures
+    c.new-before.result _ c.pin_in-top.result c.pin_in-bottom.result copied
     (c.pin_in-top.ensures ∙ ap (λ (l : List ℕ). get_or l c.args.column 0) (cc)) (c.pin_in-bottom.ensures ∙ ap (λ (l : List ℕ). get_or l c.args.column 0) (cc))
     (λ net. c.requires.ahead c.args.column net) c.in_ok-taken.ensures.straight c.in_ok-taken.ensures.enters c.in_ok-taken.ensures.follows
 
@@ -30,8 +52,9 @@ returns-clause-fair g c =
 
 pub returns-clause-state : goal.returns-clause-state
 returns-clause-state g c =
-    IsState-from_copy c.args.channel.now c.args.column c.args.state.now.fresh c.args.state.now.order c.items-3.result.now c.in_ok-taken.taken.done
-    c.pin_in-top.result c.pin_in-bottom.result c.items-3.ensures
+    let copied : c.new-before.result ≡ c.args.state.now.order = search rules in
+    IsState-from_copy c.args.channel.now c.args.column c.args.state.now.fresh c.args.state.now.order c.new-before.result c.in_ok-taken.taken.done
+    c.pin_in-top.result c.pin_in-bottom.result copied
     (c.pin_in-top.ensures ∙ ap (λ (l : List ℕ). get_or l c.args.column 0) (cc)) (c.pin_in-bottom.ensures ∙ ap (λ (l : List ℕ). get_or l c.args.column 0) (cc))
     c.requires.state.numbered c.requires.state.standing (returns-clause-fair g c).lawful.made c.in_ok-taken.taken.tracks _ c.in_ok-taken.ensures.tracks
     (ap (λ (l : List Made). c.args.state.now.fresh + length l) c.items-4.ensures)

@@ -1,8 +1,0 @@
-use Rattle.std.proofs.Common.{arith, eqb-true, sym, ◌∙◌}
-use Rattle.greedy_column.proofs.AloneLaws.{none_beside}
-use Rattle.greedy_column.proofs.lines.holds_alone.Goals as goal
-
-pub returns : goal.returns
-returns c = λ one.
-    none_beside c.args.net c.args.line c.args.tracks.now (omega (arith, c.if-line-eq0.false)) (omega (arith, c.if-net-eq0.false))
-    (sym c.net_on.ensures ∙ c.if-net_on-net.false) (sym c.tracks_held.ensures ∙ eqb-true c.tracks_held.result 1 one)

@@ -1,0 +1,9 @@
+use Rattle.std.proofs.Common.{◌≡◌, ◌&&◌, not, filter, sym, subst, rules}
+use Rattle.greedy_column.specs.Joining.{ArePairs, is_joined, is_clear}
+use Rattle.greedy_column.proofs.PairLaws.{ArePairs-filter}
+use Rattle.greedy_column.proofs.pairs.Pairs.possible_joins.Goals as goal
+
+pub invariant_of-result : goal.invariant_of-result
+invariant_of-result c =
+    let is : c.in_ok-list.list.items ≡ filter (λ pair. not (is_joined c.args.spans.now pair) && is_clear c.args.spans.now pair) c.self.inside.list.items = search rules in
+    subst ArePairs (sym is) (ArePairs-filter _ c.self.inside.list.items c.self.invariant)

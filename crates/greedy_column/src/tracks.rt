@@ -1,0 +1,135 @@
+ghost use Rattle.greedy_column.specs.Lines.{holds_track, id_on, net_on, own_lines};
+ghost use Rattle.greedy_column.specs.Moving.{without};
+ghost use Rattle.greedy_column.specs.Replay.{freed, moved};
+ghost use Rattle.std.specs.List.Sorted.{IsNonDecreasing};
+ghost use Rattle.std.specs.List.{count_by};
+ghost use Rattle.std.specs.Prelude.{◌≡◌, ◌==◌, ◌<◌, ◌≤◌, ◌+◌, ◌∷◌, [], true, ◌^◌, IfOk, length};
+
+use crate::column::Track;
+use crate::freeing::freed;
+use crate::moving::carry;
+use std::alloc::{AllocError, Global};
+use std::marker::Model;
+
+// The tracks of a column from bottom to top, so few of them that each line and the upper edge have a number.
+#[derive(Drop)]
+pub struct Tracks {
+    list: Vec<Track>,
+}
+
+impl Model for Tracks {
+    ghost use Rattle.greedy_column.specs.declared.column.Track.{Track};
+    ghost use Rattle.std.specs.Prelude.{◌<◌, ◌+◌, ◌^◌, List, length};
+
+    ghost Value = { List Track };
+
+    ghost view = { λ tracks. tracks.list.items };
+
+    ghost invariant = { λ tracks. length tracks.list.items + 2 < 2 ^ 32 };
+}
+
+impl Tracks {
+    // These tracks.
+    pub fn new(list: Vec<Track>) -> Tracks
+        requires { length list.items + 2 < 2 ^ 32 }
+        ensures { result ≡ list.items }
+    {
+        Tracks { list }
+    }
+
+    // Lends the tracks, from bottom to top.
+    pub fn list(&self) -> &[Track]
+        ensures list { result.now ≡ self.now }
+        ensures few { length self.now + 2 < 2 ^ 32 }
+    {
+        self.list.as_slice()
+    }
+
+    // The tracks without their type.
+    pub fn into_list(self) -> Vec<Track>
+        ensures { result.items ≡ self }
+    {
+        self.list
+    }
+
+    // How many there are.
+    pub fn count(&self) -> u32
+        ensures count { result ≡ length self.now }
+        ensures few { result + 2 < 2 ^ 32 }
+    {
+        self.list.len() as u32
+    }
+
+    // The line of the upper edge.
+    pub fn upper_edge(&self) -> u32
+        ensures { result ≡ length self.now + 1 }
+    {
+        self.count() + 1
+    }
+
+    // Whether a net holds a track.
+    pub fn holds(&self, net: u32) -> bool
+        ensures { result ≡ holds_track self.now net }
+    {
+        self.list().iter().any(|track| track.net == net)
+    }
+
+    // How many tracks a net holds.
+    fn held(&self, net: u32) -> usize
+        ensures { result ≡ count_by (λ t. t.net == net) self.now }
+    {
+        self.list().iter().filter(|track| track.net == net).count()
+    }
+
+    // Whether the one track that a net holds is seen to be that on this line.
+    pub fn holds_alone(&self, net: u32, line: u32) -> bool
+        ensures { result ≡ true → without line (own_lines net self.now) ≡ [] }
+    {
+        if line == 0 {
+            return false;
+        }
+        if net == 0 {
+            return false;
+        }
+        if self.net_on(line) != net {
+            return false;
+        }
+        self.held(net) == 1
+    }
+
+    // The id on a line, 0 where there is no track.
+    pub fn id_on(&self, line: u32) -> u32
+        ensures { result ≡ id_on self.now line }
+    {
+        match self.list().get((line as usize).saturating_sub(1)) {
+            Some(track) => track.id,
+            None => 0,
+        }
+    }
+
+    // The net on a line, 0 where there is no track.
+    pub fn net_on(&self, line: u32) -> u32
+        ensures { result ≡ net_on self.now line }
+    {
+        match self.list().get((line as usize).saturating_sub(1)) {
+            Some(track) => track.net,
+            None => 0,
+        }
+    }
+
+    // The tracks, of which those of these ids are freed.
+    pub fn freed(&self, alloc: Global, ended: &[u32]) -> Result<Tracks, AllocError>
+        requires { IsNonDecreasing ended.now }
+        ensures { IfOk result (λ kept. kept ≡ freed ended.now self.now) }
+    {
+        let list = freed(alloc, &self.list, ended)?;
+        Ok(Tracks { list })
+    }
+
+    // Carries the net of one track to another.
+    pub fn carry(&mut self, from: u32, to: u32)
+        ensures { self.new ≡ moved ((from, to) ∷ []) self.old }
+    {
+        carry(&mut self.list, &[(from, to)]);
+    }
+}
