@@ -1,4 +1,4 @@
-use Rattle.std.proofs.Common.{◌≡◌, ℕ, Bool, List, [], ◌∷◌, false, true, refl, sym, subst, inl, inr}
+use Rattle.std.proofs.Common.{◌≡◌, ℕ, List, [], ◌∷◌, false, refl, sym, subst, inl, inr}
 use Rattle.std.specs.Prelude.{Contains}
 use Rattle.std.specs.List.{IsDistinct, remove}
 use Rattle.std.specs.List.Sorted.{IsPermutation}
@@ -8,7 +8,7 @@ use Rattle.std.proofs.lemmas.List.Sorted.{Contains-permutation, IsPermutation-co
 use Rattle.std.proofs.lemmas.Map.Keys.{IsDistinct-head, IsDistinct-IsPermutation, IsDistinct-tail}
 use Rattle.list_facts.proofs.Every.{every-get}
 use Rattle.list_facts.proofs.Members.{contains-get, member-cases, member-head, member-tail}
-use Rattle.list_facts.proofs.Mentioned.{bytes_one, bytes_same, names-flip}
+use Rattle.list_facts.proofs.Mentioned.{bytes_same, names-flip}
 use Rattle.rule_check.proofs.FailingLaws.{empty-none, none-empty}
 
 -- the first of different names is none of the others

@@ -3,9 +3,9 @@ use Rattle.std.specs.Prelude.{All, slice_index, slice_index_or, unwrap_or}
 use Rattle.std.specs.List.{position_from, position_or_len, slice_get, zip}
 use Rattle.std.proofs.Math.Seq.{take-append_seam}
 use Rattle.std.proofs.lemmas.Bool.{cases_eq, eq-eqb, ne_eqb}
-use Rattle.std.proofs.lemmas.List.{length-map, length-set, length-take-le, take-append-drop, take_more, take_all}
+use Rattle.std.proofs.lemmas.List.{length-map, length-set, length-take-le, take-append-drop, take_all}
 use Rattle.std.proofs.lemmas.List.Elements.{All-map}
-use Rattle.std.proofs.lemmas.Option.{get_or_from_slice_get, slice_get-get_or, slice_get_within}
+use Rattle.std.proofs.lemmas.Option.{slice_get-get_or, slice_get_within}
 use Rattle.list_facts.proofs.Places.{drop-here, take-here}
 use Rattle.list_facts.specs.Lists.{list_there, with_item}
 use Rattle.rule_check.specs.Failing.{failing, failing_from}

@@ -4,6 +4,7 @@ ghost use Rattle.layout_check.specs.Findings.{cell_findings, Findings};
 ghost use Rattle.layout_check.specs.Measured.{IsMeasured};
 ghost use Rattle.std.specs.Prelude.{◌≡◌, ◌≢◌, ◌↔◌, [], IfOk};
 
+use crate::case::Case;
 use crate::cells::cell_findings;
 use crate::finding::Finding;
 use crate::nets::tell_nets;
@@ -31,11 +32,16 @@ pub fn check(
 {
     let _ = &design.height;
     read_sides(layout.shapes.items());
-    let found = cell_findings(alloc, layout, design, rules)?;
+    let case = Case {
+        layout,
+        design,
+        rules,
+    };
+    let found = cell_findings(alloc, &case)?;
     if found.is_empty() {
-        with_nets(alloc, layout, design, rules)
+        with_nets(alloc, &case)
     } else {
-        without_nets(alloc, found, layout, design, rules)
+        without_nets(alloc, found, &case)
     }
 }
 
@@ -43,45 +49,31 @@ pub fn check(
 fn without_nets(
     alloc: Global,
     mut findings: Vec<Finding>,
-    layout: &Layout,
-    design: &Design,
-    rules: &Rules,
+    case: &Case,
 ) -> Result<Vec<Finding>, AllocError>
-    requires measured { IsMeasured layout.now }
-    requires cells { findings.items ≡ cell_findings rules.now design.now layout.now }
-    requires some { cell_findings rules.now design.now layout.now ≢ [] }
-    ensures { IfOk result (λ v. Findings rules.now design.now layout.now v.items) }
+    requires cells { findings.items ≡ cell_findings case.now.rules.now case.now.design.now case.now.layout.now }
+    requires some { cell_findings case.now.rules.now case.now.design.now case.now.layout.now ≢ [] }
+    ensures { IfOk result (λ v. Findings case.now.rules.now case.now.design.now case.now.layout.now v.items) }
 {
-    tell_rows(alloc, &mut findings, layout, rules)?;
-    tell_narrow(alloc, &mut findings, layout, rules)?;
-    tell_bare(alloc, &mut findings, layout, rules)?;
+    tell_rows(alloc, &mut findings, case)?;
+    tell_narrow(alloc, &mut findings, case)?;
+    tell_bare(alloc, &mut findings, case)?;
     Ok(findings)
 }
 
 // What is wrong with a layout whose cells are those of the design.
-fn with_nets(
-    alloc: Global,
-    layout: &Layout,
-    design: &Design,
-    rules: &Rules,
-) -> Result<Vec<Finding>, AllocError>
-    requires measured { IsMeasured layout.now }
-    requires none { cell_findings rules.now design.now layout.now ≡ [] }
-    ensures { IfOk result (λ v. Findings rules.now design.now layout.now v.items) }
+fn with_nets(alloc: Global, case: &Case) -> Result<Vec<Finding>, AllocError>
+    requires { cell_findings case.now.rules.now case.now.design.now case.now.layout.now ≡ [] }
+    ensures { IfOk result (λ v. Findings case.now.rules.now case.now.design.now case.now.layout.now v.items) }
 {
+    let design = case.design;
     let _ = &design.height;
-    let extract = classes(alloc, layout, design, rules)?;
+    let extract = classes(alloc, case.layout, design, case.rules)?;
     let mut findings = Vec::new(alloc);
-    tell_rows(alloc, &mut findings, layout, rules)?;
-    tell_narrow(alloc, &mut findings, layout, rules)?;
-    tell_close(
-        alloc,
-        &mut findings,
-        layout,
-        rules,
-        extract.shapes.as_slice(),
-    )?;
-    tell_bare(alloc, &mut findings, layout, rules)?;
+    tell_rows(alloc, &mut findings, case)?;
+    tell_narrow(alloc, &mut findings, case)?;
+    tell_close(alloc, &mut findings, case, extract.shapes.as_slice())?;
+    tell_bare(alloc, &mut findings, case)?;
     tell_nets(alloc, &mut findings, design, extract.pins.as_slice())?;
     Ok(findings)
 }

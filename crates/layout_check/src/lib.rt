@@ -1,6 +1,7 @@
 //! What is wrong with a layout of a design under rules.
 #![tactic(auto)]
 
+mod case;
 mod cells;
 mod checking;
 mod drawings;

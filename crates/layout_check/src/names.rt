@@ -17,6 +17,15 @@ use indexmap::IndexSet;
 use list_facts::{is_among, number, place_of};
 use std::alloc::{AllocError, Global};
 
+/// Fewer than 2^32 names, with the different ones of them in the order of their first mention.
+#[derive(Clone, Copy)]
+pub struct Names<'l, 's, 't> {
+    pub list: &'l [&'t [u8]],
+    pub set: &'s IndexSet<&'t [u8]>,
+    ghost few: { length list.now < 2 ^ 32 },
+    ghost mentioned: { texts set.now.keys ≡ mentions (texts list.now) },
+}
+
 /// The names of the cells of a layout, in their order. The one error is want of memory.
 pub fn cell_names<'a>(alloc: Global, layout: &'a Layout) -> Result<Vec<&'a [u8]>, AllocError>
     ensures { IfOk result (λ v. texts v.items ≡ cell_names layout.now) }
@@ -51,17 +60,12 @@ pub fn different<'a>(alloc: Global, names: &[&'a [u8]]) -> Result<IndexSet<&'a [
 }
 
 // The numbers of the names of a list that are not among others. The one error is want of memory.
-fn not_among(
-    alloc: Global,
-    names: &[&[u8]],
-    others: &IndexSet<&[u8]>,
-) -> Result<Vec<u32>, AllocError>
-    requires { length names.now < 2 ^ 32 }
-    ensures { IfOk result (λ v. v.items ≡ failing (λ name. not (list_any (bytes_eq name) (texts others.now.keys))) (texts names.now)) }
+fn not_among(alloc: Global, names: &Names, others: &Names) -> Result<Vec<u32>, AllocError>
+    ensures { IfOk result (λ v. v.items ≡ failing (λ name. not (list_any (bytes_eq name) (texts others.now.set.now.keys))) (texts names.now.list.now)) }
 {
     let mut numbers = Vec::new(alloc);
-    for (k, name) in names.iter().enumerate() {
-        if is_among(others, *name) {
+    for (k, name) in names.list.iter().enumerate() {
+        if is_among(others.set, *name) {
             continue;
         }
         numbers.push(k as u32)?;
@@ -69,78 +73,62 @@ fn not_among(
     Ok(numbers)
 }
 
-/// Tells which of these names of instances no cell has; the names of cells are given. The one error is want of memory.
+/// Tells which of these names of instances no cell has. The one error is want of memory.
 pub fn tell_missing(
     alloc: Global,
     findings: &mut Vec<Finding>,
-    instances: &[&[u8]],
-    cells: &IndexSet<&[u8]>,
+    instances: &Names,
+    cells: &Names,
 ) -> Result<(), AllocError>
-    requires { length instances.now < 2 ^ 32 }
-    ensures { OnOk result (findings.new.items ≡ findings.old.items ++ map Missing (failing (λ name. not (list_any (bytes_eq name) (texts cells.now.keys))) (texts instances.now))) }
+    ensures { OnOk result (findings.new.items ≡ findings.old.items ++ map Missing (failing (λ name. not (list_any (bytes_eq name) (texts cells.now.set.now.keys))) (texts instances.now.list.now))) }
 {
     let missing = not_among(alloc, instances, cells)?;
     put_missing(findings, missing.as_slice())
 }
 
-/// Tells which of these names of cells no instance has; the names of instances are given. The one error is want of memory.
+/// Tells which of these names of cells no instance has. The one error is want of memory.
 pub fn tell_strange(
     alloc: Global,
     findings: &mut Vec<Finding>,
-    cells: &[&[u8]],
-    instances: &IndexSet<&[u8]>,
+    cells: &Names,
+    instances: &Names,
 ) -> Result<(), AllocError>
-    requires { length cells.now < 2 ^ 32 }
-    ensures { OnOk result (findings.new.items ≡ findings.old.items ++ map Strange (failing (λ name. not (list_any (bytes_eq name) (texts instances.now.keys))) (texts cells.now))) }
+    ensures { OnOk result (findings.new.items ≡ findings.old.items ++ map Strange (failing (λ name. not (list_any (bytes_eq name) (texts instances.now.set.now.keys))) (texts cells.now.list.now))) }
 {
     let strange = not_among(alloc, cells, instances)?;
     put_strange(findings, strange.as_slice())
 }
 
-/// Tells which of these names of cells repeat an earlier one; the different ones are given. The one error is want of memory.
+/// Tells which of these names of cells repeat an earlier one. The one error is want of memory.
 pub fn tell_doubled(
     alloc: Global,
     findings: &mut Vec<Finding>,
-    cells: &[&[u8]],
-    set: &IndexSet<&[u8]>,
+    cells: &Names,
 ) -> Result<(), AllocError>
-    requires few { length cells.now < 2 ^ 32 }
-    requires set { texts set.now.keys ≡ mentions (texts cells.now) }
-    ensures { OnOk result (findings.new.items ≡ findings.old.items ++ map (λ (p : ℕ × ℕ). Doubled p.0 p.1) (pairs_of_firsts bytes_eq (λ name other. true) (texts cells.now))) }
+    ensures { OnOk result (findings.new.items ≡ findings.old.items ++ map (λ (p : ℕ × ℕ). Doubled p.0 p.1) (pairs_of_firsts bytes_eq (λ name other. true) (texts cells.now.list.now))) }
 {
-    let doubled = repeated(alloc, cells, set)?;
+    let doubled = repeated(alloc, cells)?;
     put_doubled(findings, doubled.as_slice())
 }
 
-/// The place of each name of a list among others, of which there are fewer than 2^32. The one error is want of memory.
-pub fn places(
-    alloc: Global,
-    names: &[&[u8]],
-    others: &IndexSet<&[u8]>,
-) -> Result<Vec<u32>, AllocError>
-    requires { length (texts others.now.keys) < 2 ^ 32 }
-    ensures { IfOk result (λ v. v.items ≡ map (place_among (texts others.now.keys)) (texts names.now)) }
+// The place of each name of a list among the different ones. The one error is want of memory.
+fn places(alloc: Global, names: &Names) -> Result<Vec<u32>, AllocError>
+    ensures { IfOk result (λ v. v.items ≡ map (place_among (texts names.now.set.now.keys)) (texts names.now.list.now)) }
 {
-    let mut numbers = Vec::with_capacity(alloc, names.len())?;
-    for name in names {
-        numbers.push(place_of(others, *name) as u32)?;
+    let mut numbers = Vec::with_capacity(alloc, names.list.len())?;
+    for name in names.list {
+        numbers.push(place_of(names.set, *name) as u32)?;
     }
     Ok(numbers)
 }
 
-// The first of each name of a list with each later one of that name; the different names of the list are given. The one error is want of
+// The first of each name of a list with each later one of that name. The one error is want of
 // memory.
-fn repeated(
-    alloc: Global,
-    names: &[&[u8]],
-    set: &IndexSet<&[u8]>,
-) -> Result<Vec<(u32, u32)>, AllocError>
-    requires few { length names.now < 2 ^ 32 }
-    requires set { texts set.now.keys ≡ mentions (texts names.now) }
-    ensures { IfOk result (λ v. v.items ≡ pairs_of_firsts bytes_eq (λ name other. true) (texts names.now)) }
+fn repeated(alloc: Global, names: &Names) -> Result<Vec<(u32, u32)>, AllocError>
+    ensures { IfOk result (λ v. v.items ≡ pairs_of_firsts bytes_eq (λ name other. true) (texts names.now.list.now)) }
 {
-    let groups = places(alloc, names, set)?;
-    let own = numbers_below(alloc, names.len() as u32)?;
+    let groups = places(alloc, names)?;
+    let own = numbers_below(alloc, names.list.len() as u32)?;
     differing_pairs(alloc, groups.as_slice(), own.as_slice())
 }
 

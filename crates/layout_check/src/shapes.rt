@@ -1,28 +1,21 @@
 ghost use Rattle.close_rects.specs.Items.{HasInside};
 ghost use Rattle.layout_check.specs.Findings.{bare_findings, close_findings, narrow_findings, row_findings};
-ghost use Rattle.layout_check.specs.Measured.{IsMeasured};
 ghost use Rattle.std.specs.Prelude.{◌≡◌, ◌++◌, length, All, OnOk};
 
+use crate::case::Case;
 use crate::finding::Finding;
 use crate::telling::{put_bare_cut, put_close, put_narrow, put_out_of_row, put_overlap};
-use geom_core::{Layout, Rect, Shape};
+use geom_core::{Rect, Shape};
 use rule_check::{bare_cuts, close_pairs, narrow, out_of_row, overlaps};
 use std::alloc::{AllocError, Global};
-use tech_rules::Rules;
 
 /// Tells which outlines overlap, and which are out of row. The one error is want of memory.
-pub fn tell_rows(
-    alloc: Global,
-    findings: &mut Vec<Finding>,
-    layout: &Layout,
-    rules: &Rules,
-) -> Result<(), AllocError>
-    requires { IsMeasured layout.now }
-    ensures { OnOk result (findings.new.items ≡ findings.old.items ++ row_findings rules.now layout.now) }
+pub fn tell_rows(alloc: Global, findings: &mut Vec<Finding>, case: &Case) -> Result<(), AllocError>
+    ensures { OnOk result (findings.new.items ≡ findings.old.items ++ row_findings case.now.rules.now case.now.layout.now) }
 {
-    let shapes = layout.shapes.items();
-    let overlapping = overlaps(alloc, shapes, rules)?;
-    let uneven = out_of_row(alloc, shapes, rules)?;
+    let shapes = case.layout.shapes.items();
+    let overlapping = overlaps(alloc, shapes, case.rules)?;
+    let uneven = out_of_row(alloc, shapes, case.rules)?;
     put_overlap(findings, overlapping.list.as_slice())?;
     put_out_of_row(findings, uneven.list.as_slice())
 }
@@ -31,13 +24,11 @@ pub fn tell_rows(
 pub fn tell_narrow(
     alloc: Global,
     findings: &mut Vec<Finding>,
-    layout: &Layout,
-    rules: &Rules,
+    case: &Case,
 ) -> Result<(), AllocError>
-    requires { IsMeasured layout.now }
-    ensures { OnOk result (findings.new.items ≡ findings.old.items ++ narrow_findings rules.now layout.now) }
+    ensures { OnOk result (findings.new.items ≡ findings.old.items ++ narrow_findings case.now.rules.now case.now.layout.now) }
 {
-    let numbers = narrow(alloc, layout.shapes.items(), rules)?;
+    let numbers = narrow(alloc, case.layout.shapes.items(), case.rules)?;
     put_narrow(findings, numbers.as_slice())
 }
 
@@ -45,29 +36,21 @@ pub fn tell_narrow(
 pub fn tell_close(
     alloc: Global,
     findings: &mut Vec<Finding>,
-    layout: &Layout,
-    rules: &Rules,
+    case: &Case,
     classes: &[u32],
 ) -> Result<(), AllocError>
-    requires measured { IsMeasured layout.now }
-    requires each { length classes.now ≡ length layout.now.shapes }
-    ensures { OnOk result (findings.new.items ≡ findings.old.items ++ close_findings rules.now layout.now classes.now) }
+    requires { length classes.now ≡ length case.now.layout.now.shapes }
+    ensures { OnOk result (findings.new.items ≡ findings.old.items ++ close_findings case.now.rules.now case.now.layout.now classes.now) }
 {
-    let pairs = close_pairs(alloc, layout.shapes.items(), rules, classes)?;
+    let pairs = close_pairs(alloc, case.layout.shapes.items(), case.rules, classes)?;
     put_close(findings, pairs.list.as_slice())
 }
 
 /// Tells which cuts are bare. The one error is want of memory.
-pub fn tell_bare(
-    alloc: Global,
-    findings: &mut Vec<Finding>,
-    layout: &Layout,
-    rules: &Rules,
-) -> Result<(), AllocError>
-    requires { IsMeasured layout.now }
-    ensures { OnOk result (findings.new.items ≡ findings.old.items ++ bare_findings rules.now layout.now) }
+pub fn tell_bare(alloc: Global, findings: &mut Vec<Finding>, case: &Case) -> Result<(), AllocError>
+    ensures { OnOk result (findings.new.items ≡ findings.old.items ++ bare_findings case.now.rules.now case.now.layout.now) }
 {
-    let numbers = bare_cuts(alloc, layout.shapes.items(), rules)?;
+    let numbers = bare_cuts(alloc, case.layout.shapes.items(), case.rules)?;
     put_bare_cut(findings, numbers.as_slice())
 }
 

@@ -10,5 +10,5 @@ use Rattle.layout_check.specs.Drawings.{drawings_of}
 use Rattle.layout_check.proofs.cells.misdrawn.Given as goal
 
 abbrev pub invariant-loop-k : goal.invariant-loop-k
-invariant-loop-k l = (r : RuleValues) → l.drawings ≡ drawings_of r l.design
-    → l.numbers.items ≡ failing (λ (c : Cell). not (is_copy_for r l.design l.layout (find (λ (i : Inst). bytes_eq i.name c.name) l.design.instances) c)) (take l.k l.layout.cells)
+invariant-loop-k l = (r : RuleValues) → l.drawings ≡ drawings_of r l.case.design.now
+    → l.numbers.items ≡ failing (λ (c : Cell). not (is_copy_for r l.case.design.now l.case.layout.now (find (λ (i : Inst). bytes_eq i.name c.name) l.case.design.now.instances) c)) (take l.k l.case.layout.now.cells)

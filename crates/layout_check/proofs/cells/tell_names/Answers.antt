@@ -1,4 +1,4 @@
-use Rattle.std.proofs.Common.{◌≡◌, ◌++◌, ◌∙◌, ℕ, List, true, not, map, ap, ap₂}
+use Rattle.std.proofs.Common.{◌++◌, ◌∙◌, ℕ, List, true, not, map, ap, ap₂}
 use Rattle.std.specs.List.{list_any}
 use Rattle.std.specs.Str.{bytes_eq}
 use Rattle.list_facts.specs.Texts.{texts}
@@ -11,10 +11,10 @@ use Rattle.layout_check.proofs.cells.tell_names.Goals as goal
 
 pub returns : goal.returns
 returns c =
-    let instances = texts c.args.instances.now in
-    let cells = texts c.args.cells.now in
-    let missing = ap (λ (l : List (List ℕ)). failing (λ (name : List ℕ). not (list_any (bytes_eq name) l)) instances) c.requires.cell_set ∙ sought-mentions instances cells in
-    let strange = ap (λ (l : List (List ℕ)). failing (λ (name : List ℕ). not (list_any (bytes_eq name) l)) cells) c.requires.set ∙ sought-mentions cells instances in
+    let instances = texts c.args.instances.now.list.now in
+    let cells = texts c.args.cells.now.list.now in
+    let missing = ap (λ (l : List (List ℕ)). failing (λ (name : List ℕ). not (list_any (bytes_eq name) l)) instances) c.args.cells.now.mentioned ∙ sought-mentions instances cells in
+    let strange = ap (λ (l : List (List ℕ)). failing (λ (name : List ℕ). not (list_any (bytes_eq name) l)) cells) c.args.instances.now.mentioned ∙ sought-mentions cells instances in
     c.in_ok-tell_strange.ensures
     ∙ ap₂ (λ (fs : List Finding) (ns : List ℕ). fs ++ map Strange ns)
     (c.in_ok-tell_doubled.ensures

@@ -7,7 +7,7 @@ use Rattle.layout_check.proofs.checking.without_nets.Goals as goal
 pub returns : goal.returns
 returns c =
     let list = c.in_ok-tell_bare.ensures
-    ∙ ap (λ (fs : List Finding). fs ++ bare_findings c.args.rules.now c.args.layout.now) (c.in_ok-tell_narrow.ensures
-    ∙ ap (λ (fs : List Finding). fs ++ narrow_findings c.args.rules.now c.args.layout.now) (c.in_ok-tell_rows.ensures
-    ∙ ap (λ (fs : List Finding). fs ++ row_findings c.args.rules.now c.args.layout.now) c.requires.cells)) in
-    subst (Findings c.args.rules.now c.args.design.now c.args.layout.now) (sym list) (of_cells c.requires.some)
+    ∙ ap (λ (fs : List Finding). fs ++ bare_findings c.args.case.now.rules.now c.args.case.now.layout.now) (c.in_ok-tell_narrow.ensures
+    ∙ ap (λ (fs : List Finding). fs ++ narrow_findings c.args.case.now.rules.now c.args.case.now.layout.now) (c.in_ok-tell_rows.ensures
+    ∙ ap (λ (fs : List Finding). fs ++ row_findings c.args.case.now.rules.now c.args.case.now.layout.now) c.requires.cells)) in
+    subst (Findings c.args.case.now.rules.now c.args.case.now.design.now c.args.case.now.layout.now) (sym list) (of_cells c.requires.some)

@@ -6,4 +6,4 @@ use Rattle.rule_check.specs.Failing.{failing}
 use Rattle.layout_check.proofs.names.not_among.Given as goal
 
 abbrev pub invariant-loop-k : goal.invariant-loop-k
-invariant-loop-k l = l.numbers.items ≡ failing (λ (name : List ℕ). not (list_any (bytes_eq name) (texts l.others.keys))) (texts (take l.k l.names))
+invariant-loop-k l = l.numbers.items ≡ failing (λ (name : List ℕ). not (list_any (bytes_eq name) (texts l.others.set.now.keys))) (texts (take l.k l.names.list.now))
