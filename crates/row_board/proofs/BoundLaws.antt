@@ -20,7 +20,7 @@ use Rattle.row_model.specs.Stands.{column_at, column_in, column_of, first_column
 use Rattle.row_board.specs.Weights.{AreFew, Weighing}
 use Rattle.row_model.specs.Widths.{all_columns, columns_of, kind_of, row_width}
 use Rattle.row_model.specs.declared.rows.Seat.{Seat}
-use Rattle.row_model.specs.declared.stands.Stand.{Stand}
+use Rattle.row_model.specs.Stand.{Stand}
 use Rattle.row_board.proofs.CostLaws.{net-pins-within}
 use Rattle.row_model.proofs.PlacedLaws.{placed-distinct, placed-length}
 use Rattle.row_board.proofs.PlaceLaws.{row-short, width-few}

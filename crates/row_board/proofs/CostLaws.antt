@@ -23,7 +23,7 @@ use Rattle.row_model.specs.Rows.{ArePlaced}
 use Rattle.row_model.specs.Stands.{column_at, column_of, first_column, row_in, row_of}
 use Rattle.row_model.specs.Widths.{columns_of}
 use Rattle.row_model.specs.declared.rows.Seat.{Seat}
-use Rattle.row_model.specs.declared.stands.Stand.{Stand}
+use Rattle.row_model.specs.Stand.{Stand}
 use Rattle.row_board.proofs.PlaceLaws.{told, IsTold}
 use Rattle.row_board.proofs.StandingLaws.{get-set-other}
 

@@ -16,7 +16,7 @@ use Rattle.row_model.specs.Stands.{stand_of}
 use Rattle.row_model.specs.Widths.{row_width}
 use Rattle.row_model.specs.declared.rows.Seat.{Seat}
 use Rattle.row_board.specs.Spot.{Spot}
-use Rattle.row_model.specs.declared.stands.Stand.{Stand}
+use Rattle.row_model.specs.Stand.{Stand}
 use Rattle.row_model.proofs.PlacedLaws.{placed-distinct, rows-within}
 use Rattle.row_model.proofs.SeatLaws.{seat-stands}
 use Rattle.row_model.proofs.StandLaws.{stand-is, stand-there}

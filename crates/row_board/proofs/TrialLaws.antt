@@ -22,7 +22,7 @@ use Rattle.row_board.specs.Weights.{Weighing}
 use Rattle.row_model.specs.Widths.{columns_of}
 use Rattle.row_model.specs.declared.rows.Seat.{Seat}
 use Rattle.row_board.specs.Spot.{Spot}
-use Rattle.row_model.specs.declared.stands.Stand.{Stand}
+use Rattle.row_model.specs.Stand.{Stand}
 use Rattle.row_board.proofs.CostLaws.{net-pins-within}
 use Rattle.row_board.proofs.NearLaws.{bound, close, IsClose, IsTrial}
 use Rattle.row_model.proofs.PlacedLaws.{rows-within}

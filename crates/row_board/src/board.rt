@@ -3,7 +3,7 @@ ghost use Rattle.row_board.specs.NetCosts.{Tabled};
 ghost use Rattle.row_model.specs.Changes.{mirrored, swapped};
 ghost use Rattle.std.specs.Prelude.{◌≡◌, ◌≢◌, ◌<◌, length};
 
-use crate::moving::{exchange_cells, turn_cell};
+use crate::moving::{enter_reach, exchange_cells, turn_seat};
 use crate::net_costs::NetCosts;
 use crate::row_lengths::RowLengths;
 use geom_core::Items;
@@ -43,5 +43,6 @@ pub fn mirror_on_board(rows: &mut [Items<Seat>], costs: &mut NetCosts, lengths: 
     ensures rest { costs.new ≡ record costs.old { standings = costs.new.standings } }
     ensures board { IsBoard costs.old.design rows.new costs.new.standings lengths.now }
 {
-    turn_cell(rows, costs, a);
+    let reach = turn_seat(rows, costs, a);
+    enter_reach(costs, rows, reach);
 }

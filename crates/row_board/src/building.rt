@@ -1,12 +1,11 @@
-ghost use Rattle.row_board.specs.Standings.{AreApart, AreEntered, HasEntered, KeepsOthers};
-ghost use Rattle.row_model.specs.Rows.{ArePlaced};
+ghost use Rattle.row_board.specs.Board.{AreSeated};
+ghost use Rattle.row_board.specs.Standings.{AreApart, HasEntered, KeepsOthers};
 ghost use Rattle.std.specs.Prelude.{◌≡◌, ◌≤◌, ◌<◌, length, IfOk};
 
 use crate::seats::row_at;
 use crate::standings::Standing;
 use design_model::Design;
-use geom_core::Items;
-use row_model::{Seat, columns_of};
+use row_model::{PlacedRows, Seat, columns_of};
 use std::alloc::{AllocError, Global};
 
 // Enters where the instances of a row's seats stand.
@@ -30,18 +29,12 @@ fn enter_row(design: &Design, row: u16, seats: &[Seat], standings: &mut [Standin
     }
 }
 
-/// Where each instance of placed rows stands. The one error is want of memory.
-pub fn standings_of(
-    alloc: Global,
-    design: &Design,
-    rows: &[Items<Seat>],
-) -> Result<Vec<Standing>, AllocError>
-    requires { ArePlaced design.now rows.now }
-    ensures count { IfOk result (λ v. length v.items ≡ length design.now.instances) }
-    ensures entered { IfOk result (λ v. AreEntered design.now rows.now v.items) }
+/// Where each instance stands in rows. The one error is want of memory.
+pub fn standings_of(alloc: Global, placed: &PlacedRows) -> Result<Vec<Standing>, AllocError>
+    ensures { IfOk result (λ v. AreSeated placed.now.design placed.now.rows v.items) }
 {
-    // The bounds of the design's type are known once a field is read.
-    let _pins = &design.pins;
+    let design = placed.design();
+    let rows = placed.rows();
     let mut standings = vec![in alloc; Standing::lower_left(); design.instances.items().len()]?;
     for row in 0..rows.len() as u16 {
         let seats = row_at(rows, row);

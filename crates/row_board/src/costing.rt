@@ -8,7 +8,7 @@ use crate::row_lengths::RowLengths;
 use crate::trial::total_of;
 use crate::weights::Weights;
 use design_model::Design;
-use row_model::Rows;
+use row_model::{PlacedRows, Rows};
 use std::alloc::{AllocError, Global};
 
 /// What rows of a design cost, in columns: the sum, over its nets, of the columns between the net's pins and, for each row between them, the
@@ -22,10 +22,9 @@ pub fn cost(
     requires { ArePlaced design.now rows.now }
     ensures { IfOk result (λ c. c ≡ cost_of design.now rows.now weights) }
 {
-    // The bounds of the design's type are known once a field is read.
-    let _pins = &design.pins;
-    let standings = standings_of(alloc, design, rows.rows.items())?;
-    let lengths = RowLengths::of(alloc, design, rows.rows.items())?;
+    let placed = PlacedRows::new(design, rows);
+    let standings = standings_of(alloc, &placed)?;
+    let lengths = RowLengths::of(alloc, &placed)?;
     let costs = NetCosts::new(alloc, design, weights, standings)?;
     Ok(total_of(&costs, &lengths))
 }

@@ -128,7 +128,7 @@ fn in_order(one: Reach, other: Reach) -> (Reach, Reach)
     }
 }
 
-// Two instances exchange their places, and a table still tells where those before stood: which seats moved.
+// Two instances exchange their places, and a table still tells where those before stood: which seats moved, those that begin at the lower place first.
 fn exchange_seats(rows: &mut [Items<Seat>], costs: &NetCosts, a: u32, b: u32) -> (Reach, Reach)
     requires seated { AreSeated costs.now.design rows.old costs.now.standings }
     requires apart { a ≢ b }
@@ -164,8 +164,8 @@ pub fn exchange_cells(rows: &mut [Items<Seat>], costs: &mut NetCosts, a: u32, b:
     enter_reach(costs, rows, second);
 }
 
-// An instance is turned over, and a table still tells how it stood before: which seat changed.
-fn turn_seat(rows: &mut [Items<Seat>], costs: &NetCosts, a: u32) -> Reach
+/// An instance is turned over, and a table still tells how it stood before: which seat changed.
+pub fn turn_seat(rows: &mut [Items<Seat>], costs: &NetCosts, a: u32) -> Reach
     requires seated { AreSeated costs.now.design rows.old costs.now.standings }
     requires a { a < length costs.now.design.instances }
     ensures mirrored { rows.new ≡ mirrored a rows.old }
@@ -177,16 +177,4 @@ fn turn_seat(rows: &mut [Items<Seat>], costs: &NetCosts, a: u32) -> Reach
     let mirror = !seat.mirror;
     put(rows, one, Seat { mirror, ..seat });
     reach_of(rows, one, one, true)
-}
-
-/// An instance is turned over in rows and in a table of where instances stand.
-pub fn turn_cell(rows: &mut [Items<Seat>], costs: &mut NetCosts, a: u32)
-    requires seated { AreSeated costs.old.design rows.old costs.old.standings }
-    requires a { a < length costs.old.design.instances }
-    ensures mirrored { rows.new ≡ mirrored a rows.old }
-    ensures rest { costs.new ≡ record costs.old { standings = costs.new.standings } }
-    ensures seated { AreSeated costs.old.design rows.new costs.new.standings }
-{
-    let reach = turn_seat(rows, costs, a);
-    enter_reach(costs, rows, reach);
 }

@@ -9,15 +9,13 @@ ghost use Rattle.row_board.specs.NetPins.{
   pin_row,
 };
 ghost use Rattle.row_board.specs.Standings.{standing_of};
-ghost use Rattle.row_model.specs.PinColumns.{kind_columns};
-ghost use Rattle.std.specs.Prelude.{◌≡◌, ◌<◌, ◌≤◌, map, IfOk};
+ghost use Rattle.std.specs.Prelude.{◌≡◌, ◌<◌, ◌≤◌, IfOk};
 
 use crate::standings::Standing;
 use crate::weights::Weights;
 use design_model::{Design, Pin};
-use geom_core::Items;
 use list_facts::Lists;
-use row_model::{PinColumns, columns_of, kind_tables, tabled_columns, turned_column};
+use row_model::{ColumnTables, columns_of, turned_column};
 use std::alloc::{AllocError, Global};
 
 /// A pin of a net: its instance, and how far its first position is from the left side of the cell, upright and mirrored.
@@ -38,13 +36,12 @@ fn offset_of(mirror: bool, columns: u32, column: Option<u32>) -> u32
     }
 }
 
-// A pin as its net has it, by the tables of the kinds.
-fn net_pin(design: &Design, tables: &[Items<PinColumns>], pin: Pin) -> NetPin
-    requires { tables.now ≡ map kind_columns design.now.kinds }
-    ensures { result ≡ net_pin design.now pin }
+// A pin as its net has it.
+fn net_pin(tables: &ColumnTables, pin: Pin) -> NetPin
+    ensures { result ≡ net_pin tables.now pin }
 {
-    let columns = columns_of(design, pin.instance);
-    let first = tabled_columns(design, tables, pin).first;
+    let columns = columns_of(tables.design(), pin.instance);
+    let first = tables.of(pin).first;
     NetPin {
         instance: pin.instance,
         upright: offset_of(false, columns, first),
@@ -56,11 +53,11 @@ fn net_pin(design: &Design, tables: &[Items<PinColumns>], pin: Pin) -> NetPin
 pub fn net_pins(alloc: Global, design: &Design) -> Result<Lists<NetPin>, AllocError>
     ensures { IfOk result (λ pins. ArePins design.now pins) }
 {
-    let tables = kind_tables(alloc, design.kinds.items())?;
+    let tables = ColumnTables::new(alloc, design)?;
     let mut lists = Lists::new(alloc, design.nets.items().len() + 1)?;
     let mut rest = design.pins.items();
     while let Some((pin, after)) = rest.split_first() {
-        lists.push(pin.net as usize, net_pin(design, tables.as_slice(), *pin))?;
+        lists.push(pin.net as usize, net_pin(&tables, *pin))?;
         rest = after;
     }
     Ok(lists)

@@ -4,8 +4,7 @@ ghost use Rattle.std.specs.Prelude.{◌≡◌, ◌≤◌, length};
 
 use crate::summed::Summed;
 use design_model::Design;
-use geom_core::Items;
-use row_model::{Seat, all_columns, columns_of};
+use row_model::{PlacedRows, Seat, all_columns, columns_of};
 use std::alloc::{AllocError, Global};
 use std::marker::Model;
 
@@ -55,21 +54,15 @@ impl RowLengths {
     ghost use Rattle.row_board.specs.Board.{lengths_of};
     ghost use Rattle.row_board.specs.RowLengths.{Lengths};
     ghost use Rattle.row_board.specs.RowLengthsView.{misses_of};
-    ghost use Rattle.row_model.specs.Rows.{ArePlaced};
     ghost use Rattle.std.specs.Option.{option_map};
     ghost use Rattle.std.specs.Prelude.{◌≡◌, ◌==◌, ◌+◌, ◌-◌, ◌*◌, ◌≤◌, ◌<◌, ℕ, Some, length, slice_get, sum, if◌then◌else◌, IfOk};
 
-    /// The widths of placed rows, and the target: the width of all instances divided by the number of rows, rounded up. The one error is want of memory.
-    pub fn of(
-        alloc: Global,
-        design: &Design,
-        rows: &[Items<Seat>],
-    ) -> Result<RowLengths, AllocError>
-        requires { ArePlaced design.now rows.now }
-        ensures { IfOk result (λ lengths. lengths ≡ lengths_of design.now rows.now) }
+    /// The widths of rows, and the target: the width of all instances divided by the number of rows, rounded up. The one error is want of memory.
+    pub fn of(alloc: Global, placed: &PlacedRows) -> Result<RowLengths, AllocError>
+        ensures { IfOk result (λ lengths. lengths ≡ lengths_of placed.now.design placed.now.rows) }
     {
-        // The bounds of the design's type are known once a field is read.
-        let _pins = &design.pins;
+        let design = placed.design();
+        let rows = placed.rows();
         let count = rows.len() as u64;
         let target = (all_columns(design) + (count - 1)) / count;
         let mut widths = Vec::new(alloc);

@@ -5,7 +5,7 @@ use crate::row_lengths::RowLengths;
 use crate::trial::{is_too_dear, total_of};
 use crate::weights::Weights;
 use design_model::Design;
-use row_model::{Rows, columns_of};
+use row_model::{PlacedRows, Rows, columns_of};
 use std::alloc::{AllocError, Global};
 use std::marker::Model;
 
@@ -48,10 +48,9 @@ impl<'d> Spans<'d> {
         requires { ArePlaced design.now rows }
         ensures { IfOk result (λ s. s ≡ record { design = design.entry.now; rows = rows; weights = weights }) }
     {
-        // The bounds of the design's type are known once a field is read.
-        let _pins = &design.pins;
-        let standings = standings_of(alloc, design, rows.rows.items())?;
-        let lengths = RowLengths::of(alloc, design, rows.rows.items())?;
+        let placed = PlacedRows::new(design, &rows);
+        let standings = standings_of(alloc, &placed)?;
+        let lengths = RowLengths::of(alloc, &placed)?;
         let costs = NetCosts::new(alloc, design, weights, standings)?;
         Ok(Spans {
             rows,

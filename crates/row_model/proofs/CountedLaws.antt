@@ -1,4 +1,4 @@
-use Rattle.std.proofs.Common.{◌≡◌, ◌<◌, ◌≤◌, ℕ, zero, suc, ◌+◌, ◌-◌, ◌*◌, ◌/◌, List, ◌++◌, length, map, refl, ap, ap₂, sym, ◌∙◌, subst, arith}
+use Rattle.std.proofs.Common.{◌≡◌, ◌<◌, ◌≤◌, ℕ, zero, suc, ◌+◌, ◌-◌, ◌*◌, ◌/◌, List, ◌++◌, length, map, ap, ap₂, sym, ◌∙◌, subst, arith}
 use Rattle.std.proofs.Math.Nat.{div-le_of_le-mul, div-mul-le_self, mul_comm, mul-div_cancel, mul-le-mul_left, zero-div}
 use Rattle.std.proofs.lemmas.List.FromFn.{length-map-range_with_len}
 use Rattle.std.proofs.lemmas.List.Sorted.{IsPermutation-refl}
@@ -10,7 +10,7 @@ use Rattle.design_model.specs.Netlist.{Netlist}
 use Rattle.row_model.specs.Rows.{all_instances, ArePlaced}
 use Rattle.tech_rules.specs.declared.sections.StartBy.{StartBy}
 use Rattle.tech_rules.specs.declared.sections.StartBy.TheVariants.{Width, Count}
-use Rattle.row_model.specs.Start.{counted_row, counted_rows, rounded_up, seats_from, start_rows, upright}
+use Rattle.row_model.specs.Start.{counted_row, counted_rows, rounded_up, seats_from, start_rows}
 use Rattle.row_model.specs.Widths.{all_columns}
 use Rattle.row_model.proofs.StartLaws.{upright-instances, width-placed}
 

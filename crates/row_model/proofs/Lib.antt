@@ -11,6 +11,8 @@ pub mod StandLaws
 pub mod SeatLaws
 -- the columns of pins in their cells
 pub mod CellColumns
+-- where pins stand by tables
+pub mod PinLaws
 -- rows after a change
 pub mod ChangeLaws
 pub mod SwapLaws

@@ -3,7 +3,7 @@ use Rattle.std.proofs.lemmas.Bool.Decides.{nat_tests}
 use Rattle.std.proofs.lemmas.Option.{none-some, same_Some}
 use Rattle.std.specs.List.{AllByRecursion, IsDistinct, slice_get}
 use Rattle.std.specs.Prelude.{nat_eq}
-use Rattle.row_model.specs.declared.stands.Stand.{Stand}
+use Rattle.row_model.specs.Stand.{Stand}
 use Rattle.list_facts.proofs.Distinct.{first-distinct, numbers-apart, second-distinct}
 use Rattle.list_facts.proofs.Every.{every-at, every-left, every-right, every-weaker}
 use Rattle.design_model.specs.Netlist.{Netlist}

@@ -6,7 +6,7 @@ use Rattle.std.proofs.lemmas.List.Sorted.{All-permutation, IsPermutation-sym}
 use Rattle.std.proofs.lemmas.Option.{same_Some, slice_get_within}
 use Rattle.std.specs.List.{AllByRecursion, range_with_len, slice_get}
 use Rattle.std.specs.Prelude.{nat_eq}
-use Rattle.row_model.specs.declared.stands.Stand.{Stand}
+use Rattle.row_model.specs.Stand.{Stand}
 use Rattle.list_facts.proofs.Every.{every-append}
 use Rattle.design_model.specs.Netlist.{Netlist}
 use Rattle.row_model.specs.Rows.{all_instances, ArePlaced, instances_in}

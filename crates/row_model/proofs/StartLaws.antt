@@ -8,8 +8,8 @@ use Rattle.std.specs.Prelude.{nat_le}
 use Rattle.list_facts.proofs.Ranges.{range-split}
 use Rattle.design_model.specs.Netlist.{Netlist}
 use Rattle.row_model.specs.Rows.{all_instances, ArePlaced, instances_in}
-use Rattle.row_model.specs.Start.{least_rows, rounded_up, rows_from, seats_from, start_rows, taken, upright}
-use Rattle.row_model.specs.Widths.{all_columns, columns_of}
+use Rattle.row_model.specs.Start.{least_rows, rows_from, seats_from, taken, upright}
+use Rattle.row_model.specs.Widths.{columns_of}
 
 -- the least number of rows is this one where its square has the area, and where no further one is left
 pub least-here : (area height left k : ℕ) → area ≤ k * k * height → least_rows area height left k ≡ k

@@ -1,9 +1,10 @@
 use Rattle.std.specs.Prelude.{ℕ, ◌+◌, List, Bool, true, false, ◌&&◌, if◌then◌else◌, Option, is_some}
-use Rattle.row_model.specs.declared.stands.Stand.{Stand}
+use Rattle.row_model.specs.Stand.{Stand}
 use Rattle.design_model.specs.Netlist.{Netlist}
 use Rattle.design_model.specs.declared.design.Pin.{Pin}
 use Rattle.row_model.specs.Stands.{column_at, edge_column, first_column, row_in, stand_of}
 use Rattle.row_model.specs.Widths.{columns_of}
+use Rattle.row_model.specs.declared.cell_columns.PinColumns.{PinColumns}
 use Rattle.row_model.specs.declared.places.PinPlace.{PinPlace}
 use Rattle.row_model.specs.declared.rows.Seat.{Seat}
 
@@ -19,6 +20,16 @@ pin_place_at d stand p = record {
   bottom = edge_column d false p;
   top = edge_column d true p;
   column = pin_column d stand p;
+}
+
+-- the same, where the pin has these columns in its cell
+abbrev pub with_columns : Netlist → Option Stand → Pin → PinColumns → PinPlace
+with_columns d stand p columns = record {
+  pin = p;
+  row = row_in stand;
+  bottom = columns.bottom;
+  top = columns.top;
+  column = column_at stand (columns_of d p.instance) columns.first;
 }
 
 -- where a pin of a design in rows stands

@@ -1,5 +1,5 @@
 use Rattle.std.specs.Prelude.{◌≡◌, ℕ, ◌<◌, List, length, Bool, true, false, Option, None, Some, slice_get}
-use Rattle.row_model.specs.declared.stands.Stand.{Stand}
+use Rattle.row_model.specs.Stand.{Stand}
 use Rattle.design_model.specs.Netlist.{Netlist}
 use Rattle.row_model.specs.Stands.{stand_of}
 use Rattle.row_model.specs.declared.rows.Seat.{Seat}

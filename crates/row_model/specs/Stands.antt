@@ -7,7 +7,7 @@ use Rattle.design_model.specs.declared.design.Pin.{Pin}
 use Rattle.design_model.specs.declared.design.Position.{Position}
 use Rattle.row_model.specs.Widths.{kind_of, columns_of}
 use Rattle.row_model.specs.declared.rows.Seat.{Seat}
-use Rattle.row_model.specs.declared.stands.Stand.{Stand}
+use Rattle.row_model.specs.Stand.{Stand}
 
 -- an instance among the seats of a row, the first of which begins in column `left`
 abbrev pub stand_in : Netlist → ℕ → ℕ → List Seat → ℕ → Option Stand

@@ -11,6 +11,7 @@ use design_model::{CellKind, Design, Pin, Position};
 use geom_core::Items;
 use list_facts::Lists;
 use std::alloc::{AllocError, Global};
+use std::marker::Model;
 
 /// The columns of a pin in its cell, counted from the left side of the cell as it is drawn: that of its first position, that of its first one on the
 /// lower edge, and that of its first one on the upper edge, where it has such positions.
@@ -73,20 +74,6 @@ fn is_on(top: bool, position: Position) -> bool
     if top { position.top } else { !position.top }
 }
 
-/// The columns of a pin by the tables of the kinds. Takes no memory.
-#[tactic(auto, using(crate::proofs::CellColumns::by_tables))]
-pub fn tabled_columns(design: &Design, tables: &[Items<PinColumns>], pin: Pin) -> PinColumns
-    requires { tables.now ≡ map kind_columns design.now.kinds }
-    ensures { result ≡ pin_columns design.now pin }
-{
-    // The bounds of the design's type are known once a field is read.
-    let _kinds = &design.kinds;
-    match kind_number(design, pin.instance) {
-        Some(kind) => columns_there(table_there(tables, kind), pin.terminal),
-        None => NOWHERE,
-    }
-}
-
 // The number of an instance's kind, if there is such an instance.
 fn kind_number(design: &Design, instance: u32) -> Option<u32>
     ensures { result ≡ option_map (λ (i : Inst). i.kind) (slice_get design.now.instances instance) }
@@ -114,8 +101,8 @@ fn columns_there(table: &[PinColumns], terminal: u32) -> PinColumns
     }
 }
 
-/// A table for each kind, of the columns of its terminals. The one error is want of memory; steps as the number of terminals and of positions.
-pub fn kind_tables(alloc: Global, kinds: &[CellKind]) -> Result<Vec<Items<PinColumns>>, AllocError>
+// A table for each kind, of the columns of its terminals.
+fn kind_tables(alloc: Global, kinds: &[CellKind]) -> Result<Vec<Items<PinColumns>>, AllocError>
     ensures { IfOk result (λ v. v.items ≡ map kind_columns kinds.now) }
 {
     let mut tables = Vec::new(alloc);
@@ -164,5 +151,57 @@ fn positions_of<'d>(design: &'d Design, instance: u32) -> &'d [Position]
     match kind_of(design, instance) {
         Some(kind) => kind.positions.items(),
         None => &[],
+    }
+}
+
+/// The columns of the terminals of each kind of a design, by which those of a pin are known in one step. Contracts see the design.
+#[derive(Drop)]
+pub struct ColumnTables<'d> {
+    design: &'d Design,
+    tables: Vec<Items<PinColumns>>,
+}
+
+impl<'d> Model for ColumnTables<'d> {
+    ghost use Rattle.design_model.specs.Netlist.{Netlist};
+
+    ghost Value = { Netlist };
+
+    ghost use Rattle.row_model.specs.ColumnTablesView.{design_in, AreTables};
+
+    ghost view = { design_in };
+
+    ghost invariant = { AreTables };
+}
+
+impl<'d> ColumnTables<'d> {
+    ghost use Rattle.design_model.specs.Netlist.{IsNetlist};
+    ghost use Rattle.row_model.specs.PinColumns.{pin_columns};
+    ghost use Rattle.std.specs.Prelude.{◌≡◌, IfOk};
+
+    /// The columns of the kinds of a design. The one error is want of memory; steps as the number of terminals and of positions.
+    pub fn new(alloc: Global, design: &'d Design) -> Result<ColumnTables<'d>, AllocError>
+        ensures { IfOk result (λ tables. tables ≡ design.entry.now) }
+    {
+        let tables = kind_tables(alloc, design.kinds.items())?;
+        Ok(ColumnTables { design, tables })
+    }
+
+    /// The design.
+    pub fn design(&self) -> &'d Design
+        ensures is { result.now ≡ self.now }
+        ensures good { IsNetlist self.now }
+    {
+        self.design
+    }
+
+    /// The columns of a pin. Takes no memory.
+    #[tactic(auto, using(crate::proofs::CellColumns::by_tables))]
+    pub fn of(&self, pin: Pin) -> PinColumns
+        ensures { result ≡ pin_columns self.now pin }
+    {
+        match kind_number(self.design, pin.instance) {
+            Some(kind) => columns_there(table_there(self.tables.as_slice(), kind), pin.terminal),
+            None => NOWHERE,
+        }
     }
 }

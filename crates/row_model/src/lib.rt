@@ -3,14 +3,16 @@
 
 mod cell_columns;
 mod changes;
+mod placed;
 mod places;
 mod rows;
 mod stands;
 mod starting;
 mod widths;
 
-pub use cell_columns::{PinColumns, kind_tables, tabled_columns};
+pub use cell_columns::{ColumnTables, PinColumns};
 pub use changes::{mirror, swap};
+pub use placed::PlacedRows;
 pub use places::{PinPlace, column_of, pin_place, pin_places, turned_column};
 pub use rows::{Rows, Seat};
 pub use starting::{default_rows, start};

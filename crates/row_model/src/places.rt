@@ -1,18 +1,17 @@
-ghost use Rattle.row_model.specs.NearStands.{AreNear, AreShort, IsNear};
-ghost use Rattle.row_model.specs.PinColumns.{kind_columns, pin_columns};
-ghost use Rattle.row_model.specs.PinPlaces.{edge_of, highest_of, passes_row, lowest_of, pin_column, pin_place, pin_place_at};
+ghost use Rattle.row_model.specs.PinPlaces.{edge_of, highest_of, lowest_of, passes_row, pin_place, with_columns};
 ghost use Rattle.row_model.specs.Rows.{ArePlaced};
 ghost use Rattle.row_model.specs.StandTables.{AreStands, tabled_stand};
-ghost use Rattle.row_model.specs.Stands.{column_of, first_column, turned_column};
+ghost use Rattle.row_model.specs.Stands.{column_at, column_of, turned_column};
+ghost use Rattle.row_model.specs.Widths.{columns_of};
 ghost use Rattle.std.specs.Option.{option_map};
-ghost use Rattle.std.specs.Prelude.{◌≡◌, ◌<◌, ◌≤◌, Some, length, map, slice_get, IfOk, IfSome};
+ghost use Rattle.std.specs.Prelude.{◌≡◌, ◌<◌, Some, length, map, slice_get, IfOk};
 
-use crate::cell_columns::{PinColumns, kind_tables, pin_columns, tabled_columns};
-use crate::rows::{Rows, Seat};
+use crate::cell_columns::{ColumnTables, PinColumns, pin_columns};
+use crate::placed::PlacedRows;
+use crate::rows::Rows;
 use crate::stands::{Stand, stand_of, stands_of};
 use crate::widths::columns_of;
 use design_model::{Design, Pin};
-use geom_core::Items;
 use std::alloc::{AllocError, Global};
 
 /// Where a pin stands in rows without feeds: the row of its cell, the columns in the cell, as it is drawn, of the pin's first positions on the lower and on the upper
@@ -70,15 +69,9 @@ pub fn turned_column(mirror: bool, columns: u32, column: u32) -> u32
 }
 
 // The column in its row of the first position of a pin whose cell stands there.
-#[tactic(auto, unfolding(crate::specs::PinPlaces::pin_column))]
-fn pin_column(design: &Design, stand: Option<Stand>, pin: Pin, first: Option<u32>) -> u64
-    requires near { IfSome stand IsNear }
-    requires first { first ≡ first_column design.now pin }
-    ensures { result ≡ pin_column design.now stand pin }
+fn column_at(design: &Design, stand: Stand, pin: Pin, first: Option<u32>) -> u64
+    ensures { result ≡ column_at (Some stand) (columns_of design.now pin.instance) first }
 {
-    let Some(stand) = stand else {
-        return 0;
-    };
     let Some(column) = first else {
         return stand.left;
     };
@@ -87,43 +80,31 @@ fn pin_column(design: &Design, stand: Option<Stand>, pin: Pin, first: Option<u32
 }
 
 // Where a pin with these columns in its cell stands, where its cell stands there.
-#[tactic(auto, unfolding(crate::specs::PinPlaces::pin_place_at))]
-fn pin_place_at(design: &Design, stand: Option<Stand>, pin: Pin, columns: PinColumns) -> PinPlace
-    requires near { IfSome stand IsNear }
-    requires columns { columns ≡ pin_columns design.now pin }
-    ensures { result ≡ pin_place_at design.now stand pin }
+fn with_columns(design: &Design, stand: Option<Stand>, pin: Pin, columns: PinColumns) -> PinPlace
+    ensures { result ≡ with_columns design.now stand pin columns }
 {
-    let row = match stand {
-        Some(stand) => stand.row,
-        None => 0,
+    let (row, column) = match stand {
+        Some(stand) => (stand.row, column_at(design, stand, pin, columns.first)),
+        None => (0, 0),
     };
     PinPlace {
         pin,
         row,
         bottom: columns.bottom,
         top: columns.top,
-        column: pin_column(design, stand, pin, columns.first),
+        column,
     }
 }
 
 /// Where a pin stands. Takes no memory, and steps as the number of cells and of the positions of its cell.
+#[tactic(auto, unfolding(crate::specs::PinPlaces::pin_place_at, crate::specs::PinPlaces::pin_column))]
 pub fn pin_place(design: &Design, rows: &Rows, pin: Pin) -> PinPlace
     requires { ArePlaced design.now rows.now }
     ensures { result ≡ pin_place design.now rows.now pin }
 {
-    // The bounds of the design's type are known once a field is read.
-    let _pins = &design.pins;
-    pin_place_in(design, rows.rows.items(), pin)
-}
-
-// The same in rows that are short.
-fn pin_place_in(design: &Design, rows: &[Items<Seat>], pin: Pin) -> PinPlace
-    requires few { length rows.now ≤ 514 }
-    requires short { AreShort rows.now }
-    ensures { result ≡ pin_place design.now rows.now pin }
-{
-    let stand = stand_of(design, rows, pin.instance);
-    pin_place_at(design, stand, pin, pin_columns(design, pin))
+    let placed = PlacedRows::new(design, rows);
+    let stand = stand_of(&placed, pin.instance);
+    with_columns(design, stand, pin, pin_columns(design, pin))
 }
 
 /// The column of a pin in its row: that of its terminal's first position, in its cell as it stands, mirrored or upright. Takes
@@ -143,35 +124,30 @@ pub fn pin_places(alloc: Global, design: &Design, rows: &Rows) -> Result<Vec<Pin
     requires { ArePlaced design.now rows.now }
     ensures { IfOk result (λ v. v.items ≡ map (pin_place design.now rows.now) design.now.pins) }
 {
-    // The bounds of the design's type are known once a field is read.
-    let _pins = &design.pins;
-    let rows = rows.rows.items();
-    let stands = stands_of(alloc, design, rows)?;
-    let tables = kind_tables(alloc, design.kinds.items())?;
-    tabled_places(alloc, design, rows, stands.as_slice(), tables.as_slice())
+    let placed = PlacedRows::new(design, rows);
+    let stands = stands_of(alloc, &placed)?;
+    let tables = ColumnTables::new(alloc, design)?;
+    tabled_places(alloc, &placed, stands.as_slice(), &tables)
 }
 
 // Where each pin stands, by the stands of the instances and the columns of the kinds' terminals.
+#[tactic(auto, unfolding(crate::specs::PinPlaces::pin_place_at, crate::specs::PinPlaces::pin_column))]
 fn tabled_places(
     alloc: Global,
-    design: &Design,
-    rows: &[Items<Seat>],
+    placed: &PlacedRows,
     stands: &[Option<Stand>],
-    tables: &[Items<PinColumns>],
+    tables: &ColumnTables,
 ) -> Result<Vec<PinPlace>, AllocError>
-    requires stands { AreStands design.now rows.now stands.now }
-    requires near { AreNear stands.now }
-    requires tables { tables.now ≡ map kind_columns design.now.kinds }
-    ensures { IfOk result (λ v. v.items ≡ map (pin_place design.now rows.now) design.now.pins) }
+    requires stands { AreStands placed.now.design placed.now.rows stands.now }
+    requires tables { tables.now ≡ placed.now.design }
+    ensures { IfOk result (λ v. v.items ≡ map (pin_place placed.now.design placed.now.rows) placed.now.design.pins) }
 {
-    // The bounds of the design's type are known once a field is read.
-    let _pins = &design.pins;
+    let design = placed.design();
     let mut places = Vec::new(alloc);
     let mut rest = design.pins.items();
     while let Some((pin, after)) = rest.split_first() {
         let stand = tabled_stand(stands, pin.instance);
-        let columns = tabled_columns(design, tables, *pin);
-        places.push(pin_place_at(design, stand, *pin, columns))?;
+        places.push(with_columns(design, stand, *pin, tables.of(*pin)))?;
         rest = after;
     }
     Ok(places)
@@ -179,9 +155,7 @@ fn tabled_places(
 
 // The stand of an instance in a table, if it has one there.
 fn tabled_stand(stands: &[Option<Stand>], instance: u32) -> Option<Stand>
-    requires near { AreNear stands.now }
-    ensures is { result ≡ tabled_stand stands.now instance }
-    ensures near { IfSome result IsNear }
+    ensures { result ≡ tabled_stand stands.now instance }
 {
     match stands.get(instance as usize) {
         Some(stand) => *stand,

@@ -1,17 +1,17 @@
-ghost use Rattle.row_model.specs.NearStands.{AreNear, AreShort, IsNear};
+ghost use Rattle.row_model.specs.Stand.{Stand as Placed};
 ghost use Rattle.row_model.specs.StandTables.{AreStands, stand_if};
 ghost use Rattle.row_model.specs.Stands.{or_else, stand_in, stand_of};
-ghost use Rattle.row_model.specs.declared.stands.Stand.{Stand as Placed};
 ghost use Rattle.std.specs.Option.{option_map};
-ghost use Rattle.std.specs.Prelude.{◌≡◌, ◌==◌, ◌≤◌, ◌<◌, ℕ, Option, length, slice_get, IfOk, IfSome};
+ghost use Rattle.std.specs.Prelude.{◌≡◌, ◌==◌, ◌≤◌, ℕ, Option, length, slice_get, IfOk};
 
+use crate::placed::PlacedRows;
 use crate::rows::Seat;
 use crate::widths::columns_of;
 use design_model::Design;
-use geom_core::Items;
 use std::alloc::{AllocError, Global};
+use std::marker::Model;
 
-/// Where an instance stands: its row, the first of its columns there, and whether it is mirrored.
+/// Where an instance stands: its row, the first of its columns there, which is at most 2,000,000,000,000, and whether it is mirrored.
 #[derive(Clone, Copy, Debug)]
 pub struct Stand {
     pub row: u16,
@@ -19,12 +19,24 @@ pub struct Stand {
     pub mirror: bool,
 }
 
+impl Model for Stand {
+    ghost use Rattle.row_model.specs.Stand.{Stand as Stood};
+
+    ghost Value = { Stood };
+
+    ghost use Rattle.row_model.specs.StandView.{stand_in, IsNear};
+
+    ghost view = { stand_in };
+
+    ghost invariant = { IsNear };
+
+    ghost inverse = { λ s. record { row = s.row; left = s.left; mirror = s.mirror } };
+}
+
 // Where an instance stands among the seats of the row with this number, if it is one of them.
 fn stand_in(design: &Design, row: u16, seats: &[Seat], instance: u32) -> Option<Stand>
-    requires low { row < 514 }
-    requires short { length seats.now ≤ 20000 }
-    ensures is { result ≡ stand_in design.now row 0 seats.now instance }
-    ensures near { IfSome result IsNear }
+    requires { length seats.now ≤ 20000 }
+    ensures { result ≡ stand_in design.now row 0 seats.now instance }
 {
     let mut left = 0;
     let mut rest = seats;
@@ -42,15 +54,13 @@ fn stand_in(design: &Design, row: u16, seats: &[Seat], instance: u32) -> Option<
     None
 }
 
-/// Where an instance stands among rows, if it stands in one of them. Takes no memory.
-pub fn stand_of(design: &Design, rows: &[Items<Seat>], instance: u32) -> Option<Stand>
-    requires few { length rows.now ≤ 514 }
-    requires short { AreShort rows.now }
-    ensures is { result ≡ stand_of design.now rows.now instance }
-    ensures near { IfSome result IsNear }
+/// Where an instance stands in rows, if it stands there. Takes no memory.
+pub fn stand_of(placed: &PlacedRows, instance: u32) -> Option<Stand>
+    ensures { result ≡ stand_of placed.now.design placed.now.rows instance }
 {
+    let design = placed.design();
     let mut row = 0;
-    let mut rest = rows;
+    let mut rest = placed.rows();
     while let Some((seats, after)) = rest.split_first() {
         let found = stand_in(design, row, seats.items(), instance);
         if found.is_some() {
@@ -63,19 +73,13 @@ pub fn stand_of(design: &Design, rows: &[Items<Seat>], instance: u32) -> Option<
 }
 
 /// Where each instance of a design stands, by the numbers of the instances. The one error is want of memory.
-pub fn stands_of(
-    alloc: Global,
-    design: &Design,
-    rows: &[Items<Seat>],
-) -> Result<Vec<Option<Stand>>, AllocError>
-    requires few { length rows.now ≤ 514 }
-    requires short { AreShort rows.now }
-    ensures each { IfOk result (λ v. AreStands design.now rows.now v.items) }
-    ensures near { IfOk result (λ v. AreNear v.items) }
+pub fn stands_of(alloc: Global, placed: &PlacedRows) -> Result<Vec<Option<Stand>>, AllocError>
+    ensures { IfOk result (λ v. AreStands placed.now.design placed.now.rows v.items) }
 {
+    let design = placed.design();
     let mut stands = vec![in alloc; None; design.instances.items().len()]?;
     let mut row = 0;
-    let mut rest = rows;
+    let mut rest = placed.rows();
     while let Some((seats, after)) = rest.split_first() {
         enter_row(design, row, seats.items(), stands.as_mut_slice());
         row += 1;
@@ -86,11 +90,8 @@ pub fn stands_of(
 
 // Enters where the instances of a row stand that have not been entered.
 fn enter_row(design: &Design, row: u16, seats: &[Seat], stands: &mut [Option<Stand>])
-    requires low { row < 514 }
-    requires short { length seats.now ≤ 20000 }
-    requires near { AreNear stands.old }
-    ensures near { AreNear stands.new }
-    ensures each { (i : ℕ) → slice_get stands.new i ≡ option_map (λ (s : Option Placed). or_else s (stand_in design.now row 0 seats.now i)) (slice_get stands.old i) }
+    requires { length seats.now ≤ 20000 }
+    ensures { (i : ℕ) → slice_get stands.new i ≡ option_map (λ (s : Option Placed). or_else s (stand_in design.now row 0 seats.now i)) (slice_get stands.old i) }
 {
     let mut left = 0;
     let mut rest = seats;
@@ -108,10 +109,7 @@ fn enter_row(design: &Design, row: u16, seats: &[Seat], stands: &mut [Option<Sta
 
 // Enters where an instance stands, unless it has been entered.
 fn enter(stands: &mut [Option<Stand>], instance: u32, stand: Stand)
-    requires stand { IsNear stand }
-    requires near { AreNear stands.old }
-    ensures near { AreNear stands.new }
-    ensures each { (i : ℕ) → slice_get stands.new i ≡ option_map (λ (s : Option Placed). or_else s (stand_if (instance == i) stand)) (slice_get stands.old i) }
+    ensures { (i : ℕ) → slice_get stands.new i ≡ option_map (λ (s : Option Placed). or_else s (stand_if (instance == i) stand)) (slice_get stands.old i) }
 {
     let n = instance as usize;
     if n < stands.len() && stands[n].is_none() {

@@ -4,6 +4,6 @@ use Rattle.row_board.proofs.building.standings_of.Given as goal
 
 abbrev pub invariant-loop-row : goal.invariant-loop-row
 invariant-loop-row l = record {
-  count : length l.standings.items ≡ length l.design.instances;
-  entered : (r k : ℕ) → r < l.row → IsEntered l.design l.rows l.standings.items r k;
+  count : length l.standings.items ≡ length l.placed.design.instances;
+  entered : (r k : ℕ) → r < l.row → IsEntered l.placed.design l.placed.rows l.standings.items r k;
 }

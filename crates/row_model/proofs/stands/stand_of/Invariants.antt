@@ -5,7 +5,7 @@ use Rattle.row_model.proofs.stands.stand_of.Given as goal
 
 abbrev pub invariant-loop-seats : goal.invariant-loop-seats
 invariant-loop-seats l = record {
-  same : stand_from l.design l.row l.rest l.instance ≡ stand_of l.design l.fn.rows l.instance;
+  same : stand_from l.design l.row l.rest l.instance ≡ stand_of l.placed.design l.placed.rows l.instance;
   few : l.row + length l.rest ≤ 514;
   short : AreShort l.rest;
 }

@@ -6,7 +6,7 @@ use Rattle.row_board.proofs.row_lengths.RowLengths.of.Given as goal
 
 abbrev pub invariant-loop-seats : goal.invariant-loop-seats
 invariant-loop-seats l = record {
-  widths : l.widths.items ++ map (row_width l.design) l.rest ≡ map (row_width l.design) l.fn.rows;
+  widths : l.widths.items ++ map (row_width l.design) l.rest ≡ map (row_width l.placed.design) l.placed.rows;
   misses : l.misses ≡ map (λ (width : ℕ). difference width l.target) l.widths.items;
   short : AreShort l.rest;
   few : length l.widths.items + length l.rest ≤ 514;
