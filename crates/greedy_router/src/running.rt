@@ -1,4 +1,4 @@
-ghost use Rattle.greedy_router.specs.Moments.{held_count};
+ghost use Rattle.greedy_column.specs.Held.{held_count};
 ghost use Rattle.greedy_router.specs.Running.{IsRun, is_going, is_held, is_past, is_wanted};
 ghost use Rattle.std.specs.Prelude.{◌≡◌, ◌≤◌, ◌+◌, IfOk, length, false};
 
