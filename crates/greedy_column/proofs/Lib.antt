@@ -56,5 +56,11 @@ pub mod GroupEndLaws
 pub mod KeepLaws
 -- a record is fair
 pub mod FairLaws
+-- who holds a track once a column's pins have entered, how many are held, and a column past the channel's end leaves fewer of them
+pub mod EnteredLaws
+pub mod VerticalLaws
+pub mod NoPinLaws
+pub mod HeldCountLaws
+pub mod EndsLaws
 -- the records of a worked channel: they follow the steps, and what is fair
 pub mod Worked

@@ -21,5 +21,7 @@ pub mod Joining
 pub mod Ending
 pub mod Moving
 pub mod Follows
+-- how many tracks are held
+pub mod Held
 -- the states that a column begins with
 pub mod State

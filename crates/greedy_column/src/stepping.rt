@@ -2,6 +2,7 @@ ghost use Rattle.greedy_column.specs.Ahead.{IsAhead};
 ghost use Rattle.greedy_column.specs.Fair.{Fair};
 ghost use Rattle.greedy_column.specs.Follows.{Follows, FollowsOn, entries_of, pin_with};
 ghost use Rattle.greedy_column.specs.Entering.{Enters};
+ghost use Rattle.greedy_column.specs.Held.{IsHeld, held_count};
 ghost use Rattle.greedy_column.specs.Joining.{span_in};
 ghost use Rattle.greedy_column.specs.Lawful.{AreMadeFrom};
 ghost use Rattle.greedy_column.specs.Replay.{after, freed, moved, with_made, with_nets};
@@ -187,7 +188,8 @@ fn taken_from(entries: Entries, straight: bool, outcome: Outcome) -> Taken
 /// that is joined is kept, and the kept tracks may move. The manner says where a new track goes,
 /// which of two pins gets one, and in what order tracks move: as published, or looking ahead to the nets' next pins. Each choice is
 /// an answer of the chooser, and the record is what these steps make of it; it is fair, whatever the chooser answers and in either
-/// manner. The one error is want of memory, and the state is then as before.
+/// manner. A column at or past the channel's end leaves fewer tracks held, where a net held one. The one error is want of memory, and
+/// the state is then as before.
 ///
 /// Source: Rivest and Fiduccia, A Greedy Channel Router (1982).
 pub fn step(
@@ -208,6 +210,8 @@ pub fn step(
     ensures replay { IfOk result (λ done. state.new.order ≡ after channel.now column done state.old.order) }
     ensures fresh { IfOk result (λ done. state.new.fresh ≡ state.old.fresh + length done.made) }
     ensures state { IfOk result (λ _. IsState channel.now state.new) }
+    ensures lessens { IfOk result (λ _.
+        length channel.now.top ≤ column → IsHeld state.old.order → held_count state.new.order < held_count state.old.order) }
     ensures err { OnErr result (state.new ≡ state.old) }
 {
     step_with(alloc, state, channel, ahead, column, manner, chooser)
@@ -232,6 +236,8 @@ pub fn step_with<C: Chooses>(
     ensures replay { IfOk result (λ done. state.new.order ≡ after channel.now column done state.old.order) }
     ensures fresh { IfOk result (λ done. state.new.fresh ≡ state.old.fresh + length done.made) }
     ensures state { IfOk result (λ _. IsState channel.now state.new) }
+    ensures lessens { IfOk result (λ _.
+        length channel.now.top ≤ column → IsHeld state.old.order → held_count state.new.order < held_count state.old.order) }
     ensures err { OnErr result (state.new ≡ state.old) }
 {
     let top = pin_in(channel.top.items(), column);

@@ -7,7 +7,8 @@ use Rattle.greedy_column.specs.declared.column.Column.{Column}
 use Rattle.greedy_column.specs.Replay.{after, free_tracks, replay}
 use Rattle.greedy_column.specs.Fair.{AllFair}
 use Rattle.greedy_column.proofs.StateLaws.{IsState-first, AreNumbered-few}
-use Rattle.greedy_router.specs.Moments.{tracks_after, held_count, IsHeld}
+use Rattle.greedy_column.specs.Held.{held_count, IsHeld}
+use Rattle.greedy_router.specs.Moments.{tracks_after}
 use Rattle.greedy_router.specs.Sweeps.{Lessens}
 use Rattle.greedy_router.proofs.CountLaws.{fresh_after, fresh_after-few, AreNumbered-replay_from}
 

@@ -11,16 +11,17 @@ use Rattle.greedy_column.specs.Fair.{AllFair}
 use Rattle.greedy_column.proofs.IdLaws.{Apart-from}
 use Rattle.greedy_column.proofs.GroupLaws.{Grouped-trans, Grouped-sym}
 use Rattle.greedy_router.specs.declared.sweep.Sweep.{Sweep}
-use Rattle.greedy_router.specs.Moments.{tracks_after, held_count, IsHeld}
+use Rattle.greedy_column.specs.Held.{held_count, IsHeld}
+use Rattle.greedy_router.specs.Moments.{tracks_after}
 use Rattle.greedy_router.specs.Sweeps.{Lessens}
-use Rattle.greedy_router.proofs.CountLaws.{no_pins}
-use Rattle.greedy_router.proofs.EnteredLaws.{now-apart}
+use Rattle.greedy_column.proofs.NoPinLaws.{no_pins}
+use Rattle.greedy_column.proofs.EnteredLaws.{now-apart}
 use Rattle.greedy_router.proofs.LeftLaws.{Goes, goes-on, goes-somewhere, goes-apart}
 use Rattle.greedy_router.proofs.CourseLaws.{Course, course_of}
 use Rattle.greedy_router.proofs.PartLaws.{now_at}
 use Rattle.greedy_router.proofs.RunLaws.{numbered, lawful, held-now, held-next, came, none-first}
-use Rattle.greedy_router.proofs.HeldCount.{Holds-some}
-use Rattle.greedy_router.proofs.EndsLaws.{fewer_held}
+use Rattle.greedy_column.proofs.HeldCountLaws.{Holds-some}
+use Rattle.greedy_column.proofs.EndsLaws.{fewer_held}
 
 -- two tracks that a net holds
 pub record HoldsTwo (tracks : List Track) (net : ℕ) : Type 0 where

@@ -14,7 +14,8 @@ use Rattle.greedy_column.specs.Fair.{Fair}
 use Rattle.greedy_column.specs.Follows.{Follows}
 use Rattle.greedy_column.specs.State.{AreNumbered}
 use Rattle.greedy_column.proofs.StateLaws.{IsState-first}
-use Rattle.greedy_router.specs.Moments.{tracks_after, IsHeld}
+use Rattle.greedy_column.specs.Held.{IsHeld}
+use Rattle.greedy_router.specs.Moments.{tracks_after}
 use Rattle.greedy_router.specs.Sweeps.{AllFollow, IsSweep, IsPast, IsDone}
 use Rattle.greedy_router.specs.Running.{is_past, is_going, IsRun}
 use Rattle.greedy_router.specs.declared.sweep.Sweep.{Sweep}

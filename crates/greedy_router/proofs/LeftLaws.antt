@@ -13,7 +13,7 @@ use Rattle.greedy_column.proofs.Members.{in_none, in_cases, in_map, in_map_back,
 use Rattle.greedy_column.proofs.IdLaws.{Apart, Apart-from, ids-freed}
 use Rattle.greedy_router.specs.SweepWiring.{leaves}
 use Rattle.greedy_router.proofs.OrderLaws.{ids-after}
-use Rattle.greedy_router.proofs.EnteredLaws.{target-free}
+use Rattle.greedy_column.proofs.EnteredLaws.{target-free}
 use Rattle.greedy_router.proofs.MovedLaws.{sources, targets, freed-kept, freed-gone, moved-other, moved-gone, moved-to}
 
 -- of what a map keeps apart, what is mapped to one is one

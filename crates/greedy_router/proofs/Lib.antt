@@ -2,8 +2,6 @@
 pub mod OrderLaws
 -- how many tracks are made
 pub mod CountLaws
--- who holds a track once a column's pins have entered
-pub mod EnteredLaws
 -- who holds a track after the column
 pub mod MovedLaws
 pub mod LeftLaws
@@ -11,7 +9,7 @@ pub mod LeftLaws
 pub mod CourseLaws
 -- the elements of a sweep's wiring, column by column
 pub mod PartLaws
--- the verticals of a column
+-- the verticals of a column stand upright
 pub mod VerticalLaws
 -- the vias of a column
 pub mod ViaLaws
@@ -25,12 +23,9 @@ pub mod TiedLaws
 pub mod PieceLaws
 -- elements are on the grid, keep the edges, and are apart where their nets are
 pub mod SoundLaws
--- how many tracks are held
-pub mod HeldCount
 -- the wiring of a sweep that has ended connects its channel
 pub mod WiredLaws
 -- past a channel's end each column leaves fewer tracks held
-pub mod EndsLaws
 pub mod FewerLaws
 -- tables tell what the wiring is made of
 pub mod TellLaws

@@ -11,7 +11,8 @@ use Rattle.greedy_column.specs.Neighbours.{Holds}
 use Rattle.greedy_router.specs.SweepWiring.{across}
 use Rattle.greedy_router.proofs.OrderLaws.{IsEarlier, earlier-in, over_before}
 use Rattle.greedy_router.proofs.LeftLaws.{Goes}
-use Rattle.greedy_router.proofs.VerticalLaws.{upright, vertical_kind}
+use Rattle.greedy_column.proofs.VerticalLaws.{vertical_kind}
+use Rattle.greedy_router.proofs.VerticalLaws.{upright}
 use Rattle.greedy_router.proofs.ViaLaws.{between_over, in_all, move_in, upward, has-source, has-target, has-joined}
 use Rattle.greedy_router.proofs.CourseLaws.{Course}
 use Rattle.greedy_router.proofs.PartLaws.{now_at, verticals_at, has_via_at, along_at, via_at, across_part, along_part, via_part, IsDrawnBy}

@@ -6,6 +6,7 @@ use Rattle.greedy_column.specs.Tracks.{ids, held_by, hold}
 use Rattle.greedy_column.specs.Replay.{freed_among, freed, moved}
 use Rattle.greedy_column.proofs.Members.{in_none, in_first, in_later, in_cases, in_map, any_at, any_from}
 use Rattle.greedy_column.proofs.IdLaws.{Apart, ids-hold}
+use Rattle.greedy_column.proofs.HeldCountLaws.{move_one}
 use Rattle.greedy_column.proofs.HeldLaws.{held_by-given, held_by-other}
 
 -- a track that ends is free, and any other keeps its net
@@ -45,10 +46,6 @@ sources moves = map (λ (m : ℕ × ℕ). m.0) moves
 
 abbrev pub targets : List (ℕ × ℕ) → List ℕ
 targets moves = map (λ (m : ℕ × ℕ). m.1) moves
-
--- the tracks after one move
-abbrev pub move_one : (ℕ × ℕ) → List Track → List Track
-move_one m tracks = hold m.1 (held_by tracks m.0) (hold m.0 0 tracks)
 
 ids_one : (m : ℕ × ℕ) (tracks : List Track) → ids (move_one m tracks) ≡ ids tracks
 ids_one m tracks = ids-hold m.1 (held_by tracks m.0) (hold m.0 0 tracks) ∙ ids-hold m.0 0 tracks

@@ -14,7 +14,7 @@ use Rattle.greedy_column.specs.Lawful.{HasEqualPins}
 use Rattle.greedy_column.specs.Keeping.{GivesUp, GoesOn}
 use Rattle.greedy_column.proofs.Members.{any_at, any_from}
 use Rattle.greedy_router.proofs.OrderLaws.{earlier-in}
-use Rattle.greedy_router.proofs.EnteredLaws.{from-before, top-holds}
+use Rattle.greedy_column.proofs.EnteredLaws.{from-before, top-holds}
 use Rattle.greedy_router.proofs.LeftLaws.{goes-on, goes-somewhere}
 use Rattle.greedy_router.proofs.CourseLaws.{Course}
 use Rattle.greedy_router.proofs.PartLaws.{now_at, Part, IsDrawnBy}

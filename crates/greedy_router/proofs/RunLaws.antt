@@ -8,7 +8,7 @@ use Rattle.greedy_column.specs.Neighbours.{Holds}
 use Rattle.greedy_column.specs.Lawful.{IsLawful}
 use Rattle.greedy_column.specs.State.{AreNumbered}
 use Rattle.greedy_router.specs.SweepWiring.{leaves, since_after, net_there}
-use Rattle.greedy_router.proofs.EnteredLaws.{keeps-now, from-before}
+use Rattle.greedy_column.proofs.EnteredLaws.{keeps-now, from-before}
 use Rattle.greedy_router.proofs.LeftLaws.{leaves-ended, CameFrom, goes-on, came-from, same-or-none}
 use Rattle.greedy_router.proofs.ViaLaws.{held-there, net_there-held, net_there-free}
 use Rattle.greedy_router.proofs.CourseLaws.{Course}

@@ -8,9 +8,10 @@ use Rattle.greedy_column.specs.Tracks.{ids, line_of}
 use Rattle.greedy_column.specs.Verticals.{Vertical, Port, floor, on, ceiling, line_at, IsOver}
 use Rattle.greedy_router.specs.SweepWiring.{across}
 use Rattle.greedy_router.proofs.OrderLaws.{earlier-in, line_of-positive, line_of-within, shared_before}
-use Rattle.greedy_router.proofs.EnteredLaws.{bottom-there, target-free}
+use Rattle.greedy_column.proofs.EnteredLaws.{bottom-there, target-free}
 use Rattle.greedy_router.proofs.LeftLaws.{left-held}
-use Rattle.greedy_router.proofs.VerticalLaws.{one_on_line, IsOfPin, of_both, of_bottom, of_top, IsOf, of_pin, of_join, of_rise, of_fall, upright, vertical_kind}
+use Rattle.greedy_column.proofs.VerticalLaws.{one_on_line, IsOfPin, of_both, of_bottom, of_top, IsOf, of_pin, of_join, of_rise, of_fall, vertical_kind}
+use Rattle.greedy_router.proofs.VerticalLaws.{upright}
 use Rattle.greedy_router.proofs.ViaLaws.{upward, via_is}
 use Rattle.greedy_router.proofs.CourseLaws.{Course}
 use Rattle.greedy_router.proofs.PartLaws.{now_at, verticals_at, Part, across_part, along_part, via_part}

@@ -10,7 +10,8 @@ use Rattle.greedy_column.specs.declared.column.Column.{Column}
 use Rattle.greedy_column.specs.Replay.{after, replay_from, replay}
 use Rattle.greedy_column.specs.Fair.{Fair, AllFair}
 use Rattle.greedy_column.specs.Follows.{Follows}
-use Rattle.greedy_router.specs.Moments.{tracks_after, held_count, IsHeld}
+use Rattle.greedy_column.specs.Held.{held_count, IsHeld}
+use Rattle.greedy_router.specs.Moments.{tracks_after}
 use Rattle.greedy_router.specs.Sweeps.{AllFollow}
 use Rattle.greedy_router.specs.Running.{is_held, is_past, is_wanted, is_going}
 use Rattle.greedy_router.proofs.CountLaws.{fresh_after}

@@ -15,9 +15,9 @@ use Rattle.greedy_column.proofs.Members.{in_map_back}
 use Rattle.greedy_column.proofs.GroupLaws.{one_holder}
 use Rattle.greedy_router.specs.SweepWiring.{across}
 use Rattle.greedy_router.proofs.OrderLaws.{line_of-within}
-use Rattle.greedy_router.proofs.EnteredLaws.{bottom-holds, top-holds}
+use Rattle.greedy_column.proofs.EnteredLaws.{bottom-holds, top-holds}
 use Rattle.greedy_router.proofs.LeftLaws.{left-held}
-use Rattle.greedy_router.proofs.VerticalLaws.{straight_of, IsOfPin, of_both, of_bottom, of_top, IsOf, of_pin, of_join, of_rise, of_fall, vertical_kind, joined_kind}
+use Rattle.greedy_column.proofs.VerticalLaws.{straight_of, IsOfPin, of_both, of_bottom, of_top, IsOf, of_pin, of_join, of_rise, of_fall, vertical_kind, joined_kind}
 use Rattle.greedy_router.proofs.ViaLaws.{between_net, via_is}
 use Rattle.greedy_router.proofs.CourseLaws.{Course}
 use Rattle.greedy_router.proofs.PartLaws.{now_at, Part, across_part, along_part, via_part, IsDrawnBy}

@@ -14,9 +14,10 @@ use Rattle.greedy_column.specs.State.{AreNumbered}
 use Rattle.greedy_column.proofs.Members.{in_first, in_later, in_map, in_map_back, any_at, any_from}
 use Rattle.greedy_router.specs.SweepWiring.{is_of, meets_track, has_via, net_there}
 use Rattle.greedy_router.proofs.OrderLaws.{IsEarlier, ports-order, over_before}
-use Rattle.greedy_router.proofs.EnteredLaws.{now-apart, target-free}
+use Rattle.greedy_column.proofs.EnteredLaws.{now-apart, target-free}
 use Rattle.greedy_router.proofs.LeftLaws.{goes-on}
-use Rattle.greedy_router.proofs.VerticalLaws.{join_is, one_on_line, piece_of, IsUpright, upright, vertical_kind}
+use Rattle.greedy_column.proofs.VerticalLaws.{join_is, one_on_line, piece_of, vertical_kind}
+use Rattle.greedy_router.proofs.VerticalLaws.{IsUpright, upright}
 
 -- a track that a net holds stands
 pub held-there : (tracks : List Track) (id : ℕ) → 0 < held_by tracks id → Contains (ids tracks) id

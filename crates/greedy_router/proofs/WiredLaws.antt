@@ -17,8 +17,8 @@ use Rattle.greedy_router.specs.declared.sweep.Sweep.{Sweep}
 use Rattle.greedy_router.specs.Moments.{tracks_after}
 use Rattle.greedy_router.specs.Sweeps.{IsDone}
 use Rattle.greedy_router.specs.SweepWiring.{across, wiring_of}
-use Rattle.greedy_router.proofs.HeldCount.{IsHeld-from}
-use Rattle.greedy_router.proofs.VerticalLaws.{bottom_met, top_met}
+use Rattle.greedy_column.proofs.HeldCountLaws.{IsHeld-from}
+use Rattle.greedy_column.proofs.VerticalLaws.{bottom_met, top_met}
 use Rattle.greedy_router.proofs.ViaLaws.{in_joined, in_all}
 use Rattle.greedy_router.proofs.CourseLaws.{Course, course_of}
 use Rattle.greedy_router.proofs.PartLaws.{IsDrawnBy, IsDrawnBy-sweep}

@@ -7,7 +7,8 @@ use Rattle.greedy_column.specs.declared.column.Column.{Column}
 use Rattle.greedy_column.specs.Replay.{free_tracks, replay}
 use Rattle.greedy_column.specs.Fair.{AllFair}
 use Rattle.greedy_column.specs.State.{AreNumbered}
-use Rattle.greedy_router.specs.Moments.{tracks_after, held_count, IsHeld}
+use Rattle.greedy_column.specs.Held.{held_count, IsHeld}
+use Rattle.greedy_router.specs.Moments.{tracks_after}
 use Rattle.greedy_router.specs.Sweeps.{AllFollow, IsPastAt}
 
 -- a net holds one of these tracks

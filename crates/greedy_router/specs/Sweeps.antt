@@ -9,7 +9,8 @@ use Rattle.greedy_column.specs.Replay.{after, free_tracks, replay}
 use Rattle.greedy_column.specs.Fair.{AllFair}
 use Rattle.greedy_column.specs.Follows.{Follows}
 use Rattle.greedy_router.specs.declared.sweep.Sweep.{Sweep}
-use Rattle.greedy_router.specs.Moments.{tracks_after, held_count, IsHeld}
+use Rattle.greedy_column.specs.Held.{held_count, IsHeld}
+use Rattle.greedy_router.specs.Moments.{tracks_after}
 
 -- records follow the steps of a manner, each choice being one that may be answered, the first of which is of this column
 abbrev pub AllFollow : Manner → (List Candidate → ℕ → Type 0) → Pins → ℕ → ℕ → List Track → List Column → Type 0

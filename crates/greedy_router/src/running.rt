@@ -1,6 +1,6 @@
+ghost use Rattle.greedy_column.specs.Held.{held_count};
 ghost use Rattle.greedy_router.specs.Answers.{IsChannelRouted};
 ghost use Rattle.greedy_router.specs.Begun.{begun_of};
-ghost use Rattle.greedy_router.specs.Moments.{held_count};
 ghost use Rattle.greedy_router.specs.Running.{is_going, is_held, is_past, is_wanted};
 ghost use Rattle.greedy_router.specs.Runs.{routed_of};
 ghost use Rattle.greedy_router.specs.Sweeps.{Lessens};

@@ -1,10 +1,13 @@
-use Rattle.std.proofs.Common.{rules, ◌≡◌, ◌∙◌, ◌+◌, ap, arith, get_or, ℕ, List, length}
+use Rattle.std.proofs.Common.{rules, ◌≡◌, ◌<◌, ◌∙◌, ◌+◌, subst, sym, ap, arith, get_or, ℕ, List, length}
 use Rattle.channel_model.specs.Pins.{IsChannel}
 use Rattle.greedy_column.specs.declared.column.Made.{Made}
 use Rattle.greedy_column.specs.declared.column.Track.{Track}
 use Rattle.greedy_column.specs.declared.entering.Pin.{Pin}
 use Rattle.greedy_column.specs.Follows.{entries_of, pin_with}
 use Rattle.greedy_column.specs.Uses.{next_after}
+use Rattle.greedy_column.specs.Held.{held_count}
+use Rattle.greedy_column.specs.Replay.{after}
+use Rattle.greedy_column.proofs.EndsLaws.{column-lessens}
 use Rattle.greedy_column.proofs.FairLaws.{Fair-from}
 use Rattle.greedy_column.proofs.MadeLaws.{AreMadeForPins-from}
 use Rattle.greedy_column.proofs.StateLaws.{AreNumbered-few, Follows-from_copy, IsState-from_copy}
@@ -58,3 +61,11 @@ returns-clause-state g c =
     (c.pin_in-top.ensures ∙ ap (λ (l : List ℕ). get_or l c.args.column 0) (cc)) (c.pin_in-bottom.ensures ∙ ap (λ (l : List ℕ). get_or l c.args.column 0) (cc))
     c.requires.state.numbered c.requires.state.standing (returns-clause-fair g c).lawful.made c.in_ok-taken.taken.tracks _ c.in_ok-taken.ensures.tracks
     (ap (λ (l : List Made). c.args.state.now.fresh + length l) c.items-4.ensures)
+
+pub returns-clause-lessens : goal.returns-clause-lessens
+returns-clause-lessens g c = λ past held.
+    let is : IsChannel c.args.channel.now = search rules in
+    let left : c.in_ok-taken.taken.tracks ≡ after c.args.channel.now c.args.column c.in_ok-taken.taken.done c.args.state.now.order = search rules in
+    subst (λ (l : List Track). held_count l < held_count c.args.state.now.order) (sym left)
+    (column-lessens c.args.channel.now c.args.column c.args.state.now.fresh c.args.state.now.order c.in_ok-taken.taken.done is.matched c.requires.state.numbered
+    (returns-clause-fair g c) past held)

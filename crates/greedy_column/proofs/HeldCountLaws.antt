@@ -8,8 +8,7 @@ use Rattle.greedy_column.specs.Replay.{with_nets, freed_among, freed, moved}
 use Rattle.greedy_column.specs.Neighbours.{Holds}
 use Rattle.greedy_column.proofs.Members.{in_first, in_later, any_from}
 use Rattle.greedy_column.proofs.IdLaws.{Apart, ids-hold}
-use Rattle.greedy_router.specs.Moments.{held_count, IsHeld}
-use Rattle.greedy_router.proofs.MovedLaws.{move_one}
+use Rattle.greedy_column.specs.Held.{held_count, IsHeld}
 
 -- how much a track counts: 1 where it is held
 abbrev pub held_one : ℕ → ℕ
@@ -86,6 +85,10 @@ freed-count (t ∷ tracks) id apart = step (eqb t.id id) refl (freed-count track
       let same = ap held_count (hold-absent tracks id 0 (λ member. apart.0 (subst (λ i. Contains (ids tracks) i) (sym (eqb-true t.id id is)) member))) in
       omega (arith, held_count-cons (record { id = t.id; net = 0 }) (hold id 0 tracks), held_count-cons t tracks, same)
   step false is rest = omega (arith, held_count-cons t (hold id 0 tracks), held_count-cons t tracks, rest)
+
+-- the tracks after one move
+abbrev pub move_one : (ℕ × ℕ) → List Track → List Track
+move_one m tracks = hold m.1 (held_by tracks m.0) (hold m.0 0 tracks)
 
 -- no more tracks are held after moves
 pub moved-count : (moves : List (ℕ × ℕ)) (tracks : List Track) → Apart (ids tracks) → held_count (moved moves tracks) ≤ held_count tracks

@@ -1,4 +1,4 @@
-use Rattle.std.proofs.Common.{◌≡◌, ◌≢◌, inl, inr, ◌<◌, ℕ, List, [], ◌∷◌, refl, sym, subst, ap, arith, Contains}
+use Rattle.std.proofs.Common.{◌≡◌, ◌≢◌, inl, inr, ◌<◌, ◌≤◌, ℕ, length, List, [], ◌∷◌, refl, sym, subst, ap, arith, Contains}
 use Rattle.std.proofs.lemmas.Bool.{cases_lt}
 use Rattle.channel_model.specs.Pins.{Pins}
 use Rattle.greedy_column.specs.declared.column.Track.{Track}
@@ -9,17 +9,18 @@ use Rattle.greedy_column.specs.Lines.{id_on}
 use Rattle.greedy_column.specs.Verticals.{Vertical, joined_verticals}
 use Rattle.greedy_column.specs.Neighbours.{Holds, AreNeighbours, Grouped, alone, along}
 use Rattle.greedy_column.specs.State.{AreNumbered}
+use Rattle.greedy_column.specs.Ahead.{HasLaterPin}
 use Rattle.greedy_column.specs.Fair.{Fair}
 use Rattle.greedy_column.proofs.Members.{in_none, in_first}
 use Rattle.greedy_column.proofs.IdLaws.{Apart, Apart-from, ids-freed}
 use Rattle.greedy_column.proofs.DrawnLaws.{IsPiece-neighbour}
 use Rattle.greedy_column.proofs.PartLaws.{AreNeighbours-from}
 use Rattle.greedy_column.proofs.GroupLaws.{HoldsLine-from, next_piece}
-use Rattle.greedy_router.specs.Moments.{held_count}
-use Rattle.greedy_router.proofs.CountLaws.{no_pins-made}
-use Rattle.greedy_router.proofs.EnteredLaws.{now-apart}
-use Rattle.greedy_router.proofs.VerticalLaws.{one_on_line, piece_of, IsOfPin, of_both, of_bottom, of_top, joined_kind}
-use Rattle.greedy_router.proofs.HeldCount.{entered-count, freed-fewer, moved-count}
+use Rattle.greedy_column.specs.Held.{held_count, IsHeld}
+use Rattle.greedy_column.proofs.NoPinLaws.{no_pins, no_pins-made}
+use Rattle.greedy_column.proofs.EnteredLaws.{now-apart, keeps-now}
+use Rattle.greedy_column.proofs.VerticalLaws.{one_on_line, piece_of, IsOfPin, of_both, of_bottom, of_top, joined_kind}
+use Rattle.greedy_column.proofs.HeldCountLaws.{Holds-some, entered-count, freed-fewer, moved-count}
 
 -- a column without pins
 module _ (pins : Pins) (column fresh : ℕ) (before : List Track) (done : Column) (numbered : AreNumbered fresh before) (fair : Fair pins column fresh before done)
@@ -87,16 +88,42 @@ module _ (pins : Pins) (column fresh : ℕ) (before : List Track) (done : Column
     step [] is = absurd (not_two (λ id member. in_none id (subst (λ l. Contains l id) is member)) net a b first second other)
     step (id ∷ ended) is = (id, in_first id ended)
 
-  -- and fewer are held
-  pub fewer_held : (net a b : ℕ) → Holds now net a → Holds now net b → a ≢ b → held_count (after pins column done before) < held_count before
-  fewer_held net a b first second other =
-      let ends = some_ends net a b first second other in
-      let own = fair.lawful.ended_held ends.0 ends.1 in
+  -- where a track ends, fewer are held
+  fewer_ended : (id : ℕ) → Contains done.ended id → held_count (after pins column done before) < held_count before
+  fewer_ended id ends =
+      let own = fair.lawful.ended_held id ends in
       let some = own.1.net_is in
-      let gone = freed-fewer done.ended now ends.0 ends.1 (omega (arith, some, own.1.held)) in
+      let gone = freed-fewer done.ended now id ends (omega (arith, some, own.1.held)) in
       let kept = moved-count done.moves (freed done.ended now) (subst (λ l. Apart l) (sym (ids-freed done.ended now)) apart_now) in
       let made = no_pins-made pins column fresh before done numbered.some fair.lawful none too in
       let entering = entered-count before done.top (top_pin pins column) done.bottom (bottom_pin pins column) (Apart-from (ids before) numbered.distinct) none too in
       let same : held_count now ≡ held_count (with_nets (top_pin pins column) done.top (bottom_pin pins column) done.bottom before) =
       ap (λ m. held_count (with_nets (top_pin pins column) done.top (bottom_pin pins column) done.bottom (with_made before m))) made in
       omega (arith, gone, kept, entering, same)
+
+  pub fewer_held : (net a b : ℕ) → Holds now net a → Holds now net b → a ≢ b → held_count (after pins column done before) < held_count before
+  fewer_held net a b first second other = let ends = some_ends net a b first second other in fewer_ended ends.0 ends.1
+
+  -- where a net that has no later pin holds a track, fewer are held
+  pub fewer_left : (net id : ℕ) → Holds before net id → (HasLaterPin pins column net → ⊥) → held_count (after pins column done before) < held_count before
+  fewer_left net id held later =
+      let own = keeps-now pins column fresh before done numbered fair.lawful net id held in
+      elim (fair.keeps net id own) [
+        | inl up ↦ fewer_ended id (up.all_end id own)
+        | inr on ↦ elim on.wanted [
+          | inl pin ↦ absurd (later pin)
+          | inr split ↦ fewer_held net split.one split.other split.one_held split.other_held
+              (λ same. split.apart (subst (λ i. Grouped now vs split.one i) same alone))
+        ]
+      ]
+
+-- A column past a channel's end, before which a net holds a track, leaves fewer tracks held.
+pub column-lessens : (pins : Pins) (column fresh : ℕ) (before : List Track) (done : Column) → length pins.top ≡ length pins.bottom → AreNumbered fresh before
+    → Fair pins column fresh before done → length pins.top ≤ column → IsHeld before → held_count (after pins column done before) < held_count before
+column-lessens pins column fresh before done matched numbered fair past held =
+    let (net, (id, own)) = Holds-some before (Apart-from (ids before) numbered.distinct) held in
+    let none = no_pins pins column matched past in
+    let some = own.net_is in
+    fewer_left pins column fresh before done numbered fair none.0 none.1 net id own (λ later.
+    let gone = no_pins pins later.0 matched (omega (arith, past, later.1)) in
+    elim later.2 [ inl top ↦ omega (arith, top, gone.0, some) | inr bottom ↦ omega (arith, bottom, gone.1, some) ])
