@@ -1,12 +1,13 @@
 //! Sweeps in the looking-ahead manner, whose orders, tracks and further columns a program of another origin has counted.
 
-use crate::choosers::{deft_chooser, near_chooser};
+use crate::choosers::chooser_of;
 use crate::worked_tests::channel_of;
 use channel_model::Channel;
 use choose_core::{Chooser, Manner};
 use greedy_router::{Limits, Start, Swept, run_sweep};
 use std::alloc::Global;
 use std::test::Fail;
+use stock_styles::Stock;
 
 /// No sweep of these channels is near its limits.
 const LIMITS: Limits = Limits {
@@ -74,7 +75,7 @@ const SPLIT: [u32; 3] = [2, 1, 3];
 // Each channel without free tracks at first and with as many as its cut density.
 #[test]
 fn a_cycle_by_deft(rt: HostRuntime) -> Result<(), Fail> {
-    let deft = deft_chooser(rt.alloc())?;
+    let deft = chooser_of(rt.alloc(), Stock::Deft)?;
     let channel = channel_of(rt.alloc(), &CYCLE.0, &CYCLE.1)?;
     assert!(rt; ends_with(rt.alloc(), &channel, ahead(0), &deft, 1, &UP[..3])?);
     assert!(rt; ends_with(rt.alloc(), &channel, ahead(100), &deft, 1, &UP[..3])?);
@@ -83,7 +84,7 @@ fn a_cycle_by_deft(rt: HostRuntime) -> Result<(), Fail> {
 
 #[test]
 fn ten_columns_by_deft(rt: HostRuntime) -> Result<(), Fail> {
-    let deft = deft_chooser(rt.alloc())?;
+    let deft = chooser_of(rt.alloc(), Stock::Deft)?;
     let channel = channel_of(rt.alloc(), &TEN.0, &TEN.1)?;
     assert!(rt; ends_with(rt.alloc(), &channel, ahead(0), &deft, 1, &TEN_FROM_NONE)?);
     assert!(rt; ends_with(rt.alloc(), &channel, ahead(100), &deft, 1, &UP)?);
@@ -92,7 +93,7 @@ fn ten_columns_by_deft(rt: HostRuntime) -> Result<(), Fail> {
 
 #[test]
 fn fourteen_columns_by_deft(rt: HostRuntime) -> Result<(), Fail> {
-    let deft = deft_chooser(rt.alloc())?;
+    let deft = chooser_of(rt.alloc(), Stock::Deft)?;
     let channel = channel_of(rt.alloc(), &FOURTEEN.0, &FOURTEEN.1)?;
     assert!(rt;
         ends_with(
@@ -110,7 +111,7 @@ fn fourteen_columns_by_deft(rt: HostRuntime) -> Result<(), Fail> {
 
 #[test]
 fn two_nets_side_by_side_by_deft(rt: HostRuntime) -> Result<(), Fail> {
-    let deft = deft_chooser(rt.alloc())?;
+    let deft = chooser_of(rt.alloc(), Stock::Deft)?;
     let channel = channel_of(rt.alloc(), &PAIRS.0, &PAIRS.1)?;
     assert!(rt; ends_with(rt.alloc(), &channel, ahead(0), &deft, 0, &UP[..1])?);
     assert!(rt; ends_with(rt.alloc(), &channel, ahead(100), &deft, 0, &UP[..1])?);
@@ -120,7 +121,7 @@ fn two_nets_side_by_side_by_deft(rt: HostRuntime) -> Result<(), Fail> {
 // A new track in the middle, below that of net 1, splits net 2; one above it does not.
 #[test]
 fn a_new_track_by_its_next_pin_is_never_split(rt: HostRuntime) -> Result<(), Fail> {
-    let near = near_chooser(rt.alloc())?;
+    let near = chooser_of(rt.alloc(), Stock::Near)?;
     let channel = channel_of(rt.alloc(), &CORNER.0, &CORNER.1)?;
     let published = Start {
         manner: Manner::Published,

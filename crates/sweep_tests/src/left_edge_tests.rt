@@ -1,12 +1,13 @@
 //! Channels that go to the left-edge router, and such as don't.
 
-use crate::choosers::{near_chooser, near_style};
+use crate::choosers::{chooser_of, near_style};
 use crate::worked_tests::channel_of;
 use channel_model::{Channel, Segment};
 use choose_core::{Manner, Style};
 use greedy_router::{By, Limits, Routed, Start, route_channels, route_edge};
 use std::alloc::Global;
 use std::test::Fail;
+use stock_styles::Stock;
 
 fn edge_routed(
     alloc: Global,
@@ -25,7 +26,7 @@ fn edge_routed_in(
     tracks: u32,
     extra: u32,
 ) -> Result<Routed, Fail> {
-    let chooser = near_chooser(alloc)?;
+    let chooser = chooser_of(alloc, Stock::Near)?;
     Ok(route_edge(
         alloc,
         channel,

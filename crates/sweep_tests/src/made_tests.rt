@@ -2,7 +2,7 @@
 
 ghost use Rattle.std.specs.Prelude.{◌≤◌, IfOk};
 
-use crate::choosers::{high_chooser, near_chooser};
+use crate::choosers::chooser_of;
 use crate::connected::is_connected;
 use crate::made::made_channel;
 use channel_model::{Channel, nets_of};
@@ -10,6 +10,7 @@ use choose_core::{Chooser, Manner};
 use greedy_router::{By, Limits, Start, route_channel};
 use std::alloc::Global;
 use std::test::Fail;
+use stock_styles::Stock;
 
 /// How many nets a channel has, but at most 1,000.
 pub fn count_of_nets(alloc: Global, channel: &Channel) -> Result<u32, Fail>
@@ -40,9 +41,9 @@ fn routed(alloc: Global, channel: &Channel, chooser: &Chooser) -> Result<(bool, 
 // By `near` or by `high`, by turns.
 fn routed_in_turn(alloc: Global, number: u32, channel: &Channel) -> Result<(bool, By), Fail> {
     let chooser = if number % 2 == 0 {
-        near_chooser(alloc)?
+        chooser_of(alloc, Stock::Near)?
     } else {
-        high_chooser(alloc)?
+        chooser_of(alloc, Stock::High)?
     };
     routed(alloc, channel, &chooser)
 }

@@ -1,6 +1,6 @@
 //! Sweeps and wirings of small channels, as worked out by hand.
 
-use crate::choosers::{near_chooser, near_style};
+use crate::choosers::{chooser_of, near_style};
 use channel_model::{Channel, Segment, Via, Wiring};
 use choose_core::{Chooser, Manner, Style};
 use greedy_router::{
@@ -8,6 +8,7 @@ use greedy_router::{
 };
 use std::alloc::Global;
 use std::test::Fail;
+use stock_styles::Stock;
 
 /// A channel with these pins.
 pub fn channel_of(alloc: Global, top: &[u32], bottom: &[u32]) -> Result<Channel, Fail> {
@@ -62,7 +63,7 @@ pub fn end_in(
     tracks: u32,
     extra: u32,
 ) -> Result<End, Fail> {
-    let chooser = near_chooser(alloc)?;
+    let chooser = chooser_of(alloc, Stock::Near)?;
     end_by(alloc, channel, share, &chooser, tracks, extra)
 }
 
@@ -140,7 +141,7 @@ fn routed_by_near(
     tracks: u32,
     extra: u32,
 ) -> Result<Routed, Fail> {
-    let chooser = near_chooser(alloc)?;
+    let chooser = chooser_of(alloc, Stock::Near)?;
     Ok(route_channel(
         alloc,
         channel,
