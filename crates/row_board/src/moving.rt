@@ -135,6 +135,7 @@ fn exchange_seats(rows: &mut [Items<Seat>], costs: &NetCosts, a: u32, b: u32) ->
     requires a { a < length costs.now.design.instances }
     requires b { b < length costs.now.design.instances }
     ensures swapped { rows.new ≡ swapped a b rows.old }
+    ensures placed { ArePlaced costs.now.design rows.new }
     ensures exchanged { AreExchanged costs.now.standings a b rows.old rows.new }
     ensures unmoved { AreUnmoved costs.now.design rows.new costs.now.standings result.0 result.1 }
 {
@@ -169,6 +170,7 @@ pub fn turn_seat(rows: &mut [Items<Seat>], costs: &NetCosts, a: u32) -> Reach
     requires seated { AreSeated costs.now.design rows.old costs.now.standings }
     requires a { a < length costs.now.design.instances }
     ensures mirrored { rows.new ≡ mirrored a rows.old }
+    ensures placed { ArePlaced costs.now.design rows.new }
     ensures unmoved { AreUnmoved costs.now.design rows.new costs.now.standings result result }
 {
     let _design = costs.design();
