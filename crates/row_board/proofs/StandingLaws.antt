@@ -26,12 +26,6 @@ get-set-other (y ∷ ys) zero (suc k) x other = refl
 get-set-other (y ∷ ys) (suc i) zero x other = refl
 get-set-other (y ∷ ys) (suc i) (suc k) x other = get-set-other ys i k x (λ h. other (ap suc h))
 
--- a write past the end writes nothing
-pub set-past : {X : Type 0} (xs : List X) (i : ℕ) (x : X) → length xs ≤ i → set xs i x ≡ xs
-set-past [] i x past = refl
-set-past (y ∷ ys) zero x past = absurd (omega arith)
-set-past {X} (y ∷ ys) (suc i) x past = ap (λ (l : List X). y ∷ l) (set-past ys i x (omega arith))
-
 -- the width of one more seat
 pub width-more : (d : Netlist) (seats : List Seat) (k : ℕ) (s : Seat) → slice_get seats k ≡ Some s → row_width d (take (k + 1) seats) ≡ row_width d (take k seats) + columns_of d s.instance
 width-more d [] k s at = absurd (none-some s at)
