@@ -1,5 +1,6 @@
-use Rattle.std.proofs.Common.{◌≡◌, ◌<◌, ◌≤◌, ◌⊎◌, inl, inr, ℕ, zero, suc, ◌+◌, ◌-◌, ◌*◌, List, [], ◌∷◌, length, get_or, take, Bool, true, false, Option, Some, refl, ap, sym, ◌∙◌, subst, arith}
+use Rattle.std.proofs.Common.{◌≡◌, ◌<◌, ◌≤◌, ◌⊎◌, inl, inr, ℕ, ◌+◌, ◌-◌, ◌*◌, List, length, get_or, take, Bool, true, false, Option, Some, refl, ap, sym, ◌∙◌, subst, arith}
 use Rattle.std.proofs.lemmas.Bool.Decides.{nat_tests}
+use Rattle.std.proofs.lemmas.List.{length-take}
 use Rattle.std.proofs.lemmas.Option.{same_Some, slice_get-get_or, slice_get_within}
 use Rattle.std.specs.List.{slice_get}
 use Rattle.std.specs.Prelude.{nat_eq, nat_le, nat_lt}
@@ -22,14 +23,9 @@ left-step d row place k seats s st standings next at right told =
     let more = width-more d seats k s at in
     omega (arith, more, ap (λ (a : Spot). a.left) same, ap (λ (n : ℕ). row_width d (take n seats)) next)
 
-take-short : {X : Type 0} (k : ℕ) (xs : List X) → length (take k xs) ≤ k
-take-short zero xs = omega arith
-take-short (suc k) [] = omega arith
-take-short (suc k) (x ∷ xs) = let rest = take-short k xs in omega arith
-
 -- and it is not far
 pub left-near : (d : Netlist) → IsNetlist d → (place : ℕ) (seats : List Seat) → row_width d (take place seats) ≤ 100000000 * place
-left-near d good place seats = let few = width-few d good (take place seats) in let short = take-short place seats in omega (arith, few, short)
+left-near d good place seats = let few = width-few d good (take place seats) in let short = length-take place seats in omega (arith, few, short)
 
 pub left-told : (d : Netlist) (row place : ℕ) (seats : List Seat) (z : Seat) (st : Spot) (standings : List Spot) (left width : ℕ) → IsNetlist d → 0 < place → place ≤ length seats
     → ((k : ℕ) (s : Seat) → k + 1 ≡ place → slice_get seats k ≡ Some s → slice_get standings s.instance ≡ Some (standing_at d row k seats s))

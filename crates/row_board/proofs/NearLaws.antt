@@ -262,7 +262,7 @@ setting d rows standings a b end_a end_b h =
       apart = h.apart;
       cell_a = cell_a;
       cell_b = cell_b;
-      puts = swap-puts d rows one.row one.place other.row other.place (record { instance = a; mirror = one.mirror }) (record { instance = b; mirror = other.mirror }) (placed-distinct d rows h.placed) cell_a.at cell_b.at;
+      puts = swap-puts rows one.row one.place other.row other.place (record { instance = a; mirror = one.mirror }) (record { instance = b; mirror = other.mirror }) (placed-distinct d rows h.placed) cell_a.at cell_b.at;
       distinct = placed-distinct d (swapped a b rows) (swap-placed d rows a b h.placed);
       to = h.to;
       to' = h.to';

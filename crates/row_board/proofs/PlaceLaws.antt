@@ -115,11 +115,6 @@ pub width-few : (d : Netlist) → IsNetlist d → (seats : List Seat) → row_wi
 width-few d good [] = omega arith
 width-few d good (s ∷ seats) = let rest = width-few d good seats in omega (arith, rest, columns-few d good s.instance, width-cons d s seats)
 
-pub take-few : {X : Type 0} (k : ℕ) (xs : List X) → length (take k xs) ≤ length xs
-take-few zero xs = omega arith
-take-few (suc k) [] = omega arith
-take-few (suc k) (x ∷ xs) = let rest = take-few k xs in omega arith
-
 -- so it is of a row that may not be there
 pub there-apart : (d : Netlist) (rows : List (List Seat)) → IsNetlist d → ArePlaced d rows → (row : ℕ) → AreApart (length d.instances) (row_there (slice_get rows row))
 there-apart d rows good placed row = by (slice_get rows row) refl

@@ -194,12 +194,16 @@ seat-there rows row place s different is =
     let found = seat-found rows s.instance some.0 some.1 in
     some.1 ∙ ap (λ (x : Seat). Some x) (unique-seat rows some.0 s different found.1 has found.0)
 
-pub puts-swap : (d : Netlist) (rows rows1 rows2 : List (List Seat)) (ra pa rb pb : ℕ) (a b : Seat) → AreRows rows → IsAt rows ra pa a → IsAt rows rb pb b
+-- some design, since no width counts where seats exchange places
+none : Netlist
+none = record { kinds = []; height = 0; instances = []; pins = []; nets = [] }
+
+pub puts-swap : (rows rows1 rows2 : List (List Seat)) (ra pa rb pb : ℕ) (a b : Seat) → AreRows rows → IsAt rows ra pa a → IsAt rows rb pb b
     → ((r : ℕ) → slice_get rows1 r ≡ option_map (put_in ra pa b r) (slice_get rows r)) → ((r : ℕ) → slice_get rows2 r ≡ option_map (put_in rb pb a r) (slice_get rows1 r))
     → rows2 ≡ swapped a.instance b.instance rows
 unfolding swapped
-puts-swap d rows rows1 rows2 ra pa rb pb a b different at_a at_b first second =
-    puts-exchange d rows rows1 rows2 ra pa rb pb a b different at_a at_b first second
+puts-swap rows rows1 rows2 ra pa rb pb a b different at_a at_b first second =
+    puts-exchange none rows rows1 rows2 ra pa rb pb a b different at_a at_b first second
     ∙ sym (ap₂ (λ (o p : Option Seat). with_exchanged o p rows) (seat-there rows ra pa a different at_a) (seat-there rows rb pb b different at_b))
 
 -- a list with each item changed by its number
@@ -223,11 +227,11 @@ puts-are rows rows1 rows2 ra pa rb pb a b first second = record {
 }
 
 -- where two instances stand in rows, the rows after their swap have each other's seats there
-pub swap-puts : (d : Netlist) (rows : List (List Seat)) (ra pa rb pb : ℕ) (a b : Seat) → AreRows rows → IsAt rows ra pa a → IsAt rows rb pb b
+pub swap-puts : (rows : List (List Seat)) (ra pa rb pb : ℕ) (a b : Seat) → AreRows rows → IsAt rows ra pa a → IsAt rows rb pb b
     → ArePut ra pa b rb pb a rows (swapped a.instance b.instance rows)
-swap-puts d rows ra pa rb pb a b different at_a at_b =
+swap-puts rows ra pa rb pb a b different at_a at_b =
     subst (ArePut ra pa b rb pb a rows)
-    (puts-swap d rows (numbered (put_in ra pa b) rows) (numbered (put_in rb pb a) (numbered (put_in ra pa b) rows)) ra pa rb pb a b different at_a at_b
+    (puts-swap rows (numbered (put_in ra pa b) rows) (numbered (put_in rb pb a) (numbered (put_in ra pa b) rows)) ra pa rb pb a b different at_a at_b
     (λ r. numbered-at (put_in ra pa b) rows r) (λ r. numbered-at (put_in rb pb a) (numbered (put_in ra pa b) rows) r))
     (puts-are rows (numbered (put_in ra pa b) rows) (numbered (put_in rb pb a) (numbered (put_in ra pa b) rows)) ra pa rb pb a b (λ r. numbered-at (put_in ra pa b) rows r)
     (λ r. numbered-at (put_in rb pb a) (numbered (put_in ra pa b) rows) r))

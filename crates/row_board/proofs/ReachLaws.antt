@@ -41,6 +41,10 @@ pub record AreReaches (d : Netlist) (rows new : List (List Seat)) (standings : L
   pub swap : new ≡ swapped a b rows
   pub puts : ArePut one.row one.place (record { instance = b; mirror = other.mirror }) other.row other.place (record { instance = a; mirror = one.mirror }) rows new
 
+-- cells whose widths are found equal are of one width
+pub alike : (m n x y : ℕ) → m ≡ x → n ≡ y → nat_eq m n ≡ true → x ≡ y
+alike m n x y one two test = grind (arith, nat_tests)
+
 -- a row is as long after the puts as before
 long-put : (rows new : List (List Seat)) (ra pa rb pb : ℕ) (a b : Seat) → ArePut ra pa b rb pb a rows new → (r : ℕ) → row_length (slice_get new r) ≡ row_length (slice_get rows r)
 long-put rows new ra pa rb pb a b puts r = ap row_length (puts.each r) ∙ by (slice_get rows r)

@@ -1,11 +1,12 @@
 use Rattle.std.proofs.Common.{◌≡◌, ◌≢◌, ◌<◌, ◌≤◌, ℕ, zero, suc, List, [], ◌∷◌, length, set, Bool, true, false, cond, ◌||◌, Option, None, Some, refl, ap, sym, ◌∙◌, arith}
 use Rattle.std.proofs.lemmas.Bool.Decides.{nat_tests}
+use Rattle.std.proofs.lemmas.List.{set_past}
 use Rattle.std.proofs.lemmas.Option.{slice_get_within}
 use Rattle.std.specs.List.{slice_get}
 use Rattle.std.specs.Option.{option_map}
 use Rattle.std.specs.Prelude.{nat_eq}
 use Rattle.row_board.specs.NetPins.{has_net}
-use Rattle.row_board.proofs.StandingLaws.{get-set-other, get-set-same, set-past}
+use Rattle.row_board.proofs.StandingLaws.{get-set-other, get-set-same}
 
 pub none-past : {X : Type 0} (xs : List X) (k : ℕ) → slice_get xs k ≡ None → length xs ≤ k
 none-past [] k none = omega arith
@@ -33,7 +34,7 @@ net-more right costs new rest after k cost net front written is =
     by true test None at =
         let same : k ≡ net = grind (arith, nat_tests) in
         let past : length costs ≤ k = none-past costs k (ap (slice_get costs) same ∙ at) in
-        ap (λ (l : List ℕ). option_map (λ (old : ℕ). cond (has_net after net) (right net) old) (slice_get l net)) (set-past costs k cost past)
+        ap (λ (l : List ℕ). option_map (λ (old : ℕ). cond (has_net after net) (right net) old) (slice_get l net)) (set_past costs k cost past)
         ∙ ap (option_map (λ (old : ℕ). cond (has_net after net) (right net) old)) at ∙ sym (ap (option_map (λ (old : ℕ). right net)) at)
     by true test (Some x) at =
         let same : k ≡ net = grind (arith, nat_tests) in

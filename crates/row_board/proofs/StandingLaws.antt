@@ -1,6 +1,7 @@
-use Rattle.std.proofs.Common.{◌≡◌, ◌≢◌, ◌<◌, ◌≤◌, ◌⊎◌, ℕ, zero, suc, ◌+◌, List, [], ◌∷◌, length, take, set, Bool, true, false, cond, Option, None, Some, refl, ap, ap₂, sym, ◌∙◌, inl, inr, arith}
+use Rattle.std.proofs.Common.{◌≡◌, ◌≢◌, ◌<◌, ◌≤◌, ◌⊎◌, ℕ, zero, suc, ◌+◌, ◌*◌, List, [], ◌∷◌, length, get_or, take, set, Bool, true, false, cond, Option, None, Some, refl, ap, ap₂, sym, ◌∙◌, inl, inr, arith, subst}
 use Rattle.std.proofs.lemmas.Bool.Decides.{nat_tests}
-use Rattle.std.proofs.lemmas.Option.{none-some, same_Some, slice_get_within}
+use Rattle.std.proofs.lemmas.List.{length-set}
+use Rattle.std.proofs.lemmas.Option.{none-some, same_Some, slice_get-get_or, slice_get_within}
 use Rattle.std.specs.List.{slice_get}
 use Rattle.std.specs.Option.{option_map}
 use Rattle.std.specs.Prelude.{nat_eq, slice_set}
@@ -24,12 +25,6 @@ get-set-other (y ∷ ys) zero zero x other = absurd (other refl)
 get-set-other (y ∷ ys) zero (suc k) x other = refl
 get-set-other (y ∷ ys) (suc i) zero x other = refl
 get-set-other (y ∷ ys) (suc i) (suc k) x other = get-set-other ys i k x (λ h. other (ap suc h))
-
--- a write past the end writes nothing
-pub set-past : {X : Type 0} (xs : List X) (i : ℕ) (x : X) → length xs ≤ i → set xs i x ≡ xs
-set-past [] i x past = refl
-set-past (y ∷ ys) zero x past = absurd (omega arith)
-set-past {X} (y ∷ ys) (suc i) x past = ap (λ (l : List X). y ∷ l) (set-past ys i x (omega arith))
 
 -- the width of one more seat
 pub width-more : (d : Netlist) (seats : List Seat) (k : ℕ) (s : Seat) → slice_get seats k ≡ Some s → row_width d (take (k + 1) seats) ≡ row_width d (take k seats) + columns_of d s.instance
@@ -70,6 +65,33 @@ others-more from place seats s old now new so_far low at = record {
       get-set-other now s.instance j new (λ h. none place s low (omega arith) at (sym h))
       ∙ so_far.each j (λ k t from_k to_k here. none k t from_k (omega arith) here);
 }
+
+-- the seats of a row are entered from one place up to another, where the next one begins in column `left`
+pub record AreEnteredTo (d : Netlist) (row from place : ℕ) (seats : List Seat) (left : ℕ) (old now : List Spot) : Type 0 where
+  pub count : length now ≡ length old
+  pub begins : left ≡ row_width d (take place seats)
+  pub near : left ≤ 100000000 * place
+  pub entered : HasEntered d row from place seats now
+  pub others : KeepsOthers from place seats old now
+
+pub entered-step : (d : Netlist) (row from place : ℕ) (seats : List Seat) (left width : ℕ) (old now new : List Spot) (z : Seat) → AreEnteredTo d row from place seats left old now → AreApart (length old) seats
+    → from ≤ place → place < length seats → width ≡ columns_of d (get_or seats place z).instance → width ≤ 100000000
+    → new ≡ set now (get_or seats place z).instance (record { row = row; mirror = (get_or seats place z).mirror; place = place; left = left })
+    → AreEnteredTo d row from (place + 1) seats (left + width) old new
+entered-step d row from place seats left width old now new z so_far apart low within is_width few put =
+    let s = get_or seats place z in
+    let at = slice_get-get_or seats place z within in
+    let inside = apart.within place (get_or seats place z) at in
+    let wide = width-more d seats place (get_or seats place z) at in
+    record {
+      count = ap length put ∙ length-set now s.instance _ ∙ so_far.count;
+      begins = omega (arith, wide, is_width, so_far.begins);
+      near = omega (arith, few, so_far.near);
+      entered = subst (HasEntered d row from (place + 1) seats) (sym put)
+          (subst (λ (n : ℕ). HasEntered d row from (place + 1) seats (set now (get_or seats place z).instance (record { row = row; mirror = (get_or seats place z).mirror; place = place; left = n })))
+          (sym so_far.begins) (entered-more d row from place (length old) seats s now so_far.entered apart at (omega (arith, inside, so_far.count))));
+      others = subst (KeepsOthers from (place + 1) seats old) (sym put) (others-more from place seats s old now _ so_far.others low at);
+    }
 
 -- a row of rows is written
 pub row-put : (rows : List (List Seat)) (row place : ℕ) (seat : Seat) (item new : List Seat) → row < length rows → slice_get rows row ≡ Some item → new ≡ set item place seat

@@ -3,7 +3,7 @@ use Rattle.std.proofs.Math.Nat.{mul-le-mul_left}
 use Rattle.std.proofs.lemmas.Bool.Decides.{nat_tests}
 use Rattle.std.proofs.lemmas.List.{length-set}
 use Rattle.std.specs.List.{slice_get}
-use Rattle.std.specs.Prelude.{nat_eq}
+use Rattle.std.specs.Prelude.{nat_eq, nat_lt}
 use Rattle.list_facts.proofs.Ranges.{map-map}
 use Rattle.design_model.specs.Netlist.{IsNetlist, Netlist}
 use Rattle.row_board.specs.Board.{IsBoard}
@@ -30,6 +30,9 @@ use Rattle.row_board.proofs.UnevenLaws.{uneven-near}
 
 equal : (m n : ℕ) → nat_eq m n ≡ true → m ≡ n
 equal m n test = grind (arith, nat_tests)
+
+pub above : (m n : ℕ) → nat_lt m n ≡ true → m < n
+above m n test = grind (arith, nat_tests)
 
 differ : (m n : ℕ) → nat_eq m n ≡ false → m ≢ n
 differ m n test = grind (arith, nat_tests)
@@ -91,7 +94,7 @@ trial-total d rows w standings lengths a b good board apart in_a in_b =
     let other = standing_of standings b in
     let cell_a = cell-told d rows standings a one good board.seated.placed board.seated.entered in_a refl in
     let cell_b = cell-told d rows standings b other good board.seated.placed board.seated.entered in_b refl in
-    let puts = swap-puts d rows one.row one.place other.row other.place (record { instance = a; mirror = one.mirror }) (record { instance = b; mirror = other.mirror }) (placed-distinct d rows board.seated.placed) cell_a.at cell_b.at in
+    let puts = swap-puts rows one.row one.place other.row other.place (record { instance = a; mirror = one.mirror }) (record { instance = b; mirror = other.mirror }) (placed-distinct d rows board.seated.placed) cell_a.at cell_b.at in
     let nets = trial-costs d rows w standings a b (shift_end rows one other) (shift_end rows other one)
     (record { good = good; placed = board.seated.placed; entered = board.seated.entered; count = board.seated.count; in_a = in_a; in_b = in_b; apart = apart; to = refl; to' = refl }) in
     let uneven = uneven-near d rows (swapped a b rows) one.row one.place other.row other.place (target_of d (length rows)) (record { instance = a; mirror = one.mirror }) (record { instance = b; mirror = other.mirror })

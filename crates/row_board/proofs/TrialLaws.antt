@@ -1,7 +1,7 @@
 use Rattle.std.proofs.Common.{◌≡◌, ◌<◌, ◌≤◌, ℕ, zero, suc, ◌+◌, ◌-◌, ◌*◌, List, [], ◌∷◌, length, map, take, drop, sum, Bool, true, false, cond, Option, None, Some, refl, ap, ap₂, sym, ◌∙◌, arith}
 use Rattle.std.proofs.Math.Nat.{mul-le-mul_left}
 use Rattle.std.proofs.lemmas.List.Sums.{sum_by-cons}
-use Rattle.std.proofs.lemmas.List.{length-drop, length-map}
+use Rattle.std.proofs.lemmas.List.{length-drop, length-map, length-take}
 use Rattle.std.specs.List.{filter, range_with_len, slice_get, AllByRecursion}
 use Rattle.std.specs.Prelude.{nat_eq}
 use Rattle.list_facts.proofs.Every.{every-get}
@@ -26,7 +26,7 @@ use Rattle.row_model.specs.Stand.{Stand}
 use Rattle.row_board.proofs.CostLaws.{net-pins-within}
 use Rattle.row_board.proofs.NearLaws.{bound, close, IsClose, IsTrial}
 use Rattle.row_model.proofs.PlacedLaws.{rows-within}
-use Rattle.row_board.proofs.PlaceLaws.{row-short, take-few}
+use Rattle.row_board.proofs.PlaceLaws.{row-short}
 use Rattle.row_board.proofs.ShareLaws.{hits, pins-of-seats, shares-by, sum-both, sum-scaled, sum-under}
 use Rattle.row_board.proofs.ShiftLaws.{spread-near}
 
@@ -142,7 +142,7 @@ pins-few d (s ∷ seats) good =
 pub reach-few : (d : Netlist) (rows : List (List Seat)) (one : Spot) (to : ℕ) → IsNetlist d → ArePlaced d rows → pins_in d (seats_to rows one to) < 4294967296
 reach-few d rows one to good placed =
     let few = pins-few d (seats_to rows one to) good in
-    let short = take-few (to - one.place) (drop one.place (row_there (slice_get rows one.row))) in
+    let short = length-take (to - one.place) (drop one.place (row_there (slice_get rows one.row))) in
     omega (arith, few, short, length-drop one.place (row_there (slice_get rows one.row)), by (slice_get rows one.row) refl)
   where
     by : (o : Option (List Seat)) → slice_get rows one.row ≡ o → length (row_there o) ≤ 20000

@@ -1,4 +1,4 @@
-ghost use Rattle.row_board.specs.Board.{IsBoard};
+ghost use Rattle.row_board.specs.Board.{AreSeated, IsBoard, lengths_of};
 ghost use Rattle.row_board.specs.NetCosts.{Tabled};
 ghost use Rattle.row_model.specs.Changes.{mirrored, swapped};
 ghost use Rattle.std.specs.Prelude.{◌≡◌, ◌≢◌, ◌<◌, length};
@@ -35,13 +35,14 @@ pub fn swap_on_board(
     lengths.change(other, width, other_width);
 }
 
-/// An instance is turned over in rows and in all their tables. No row becomes longer or shorter.
-pub fn mirror_on_board(rows: &mut [Items<Seat>], costs: &mut NetCosts, lengths: &RowLengths, a: u32)
-    requires board { IsBoard costs.old.design rows.old costs.old.standings lengths.now }
+/// An instance is turned over in rows and in the table of where instances stand. No row becomes longer or shorter.
+pub fn mirror_on_board(rows: &mut [Items<Seat>], costs: &mut NetCosts, a: u32)
+    requires seated { AreSeated costs.old.design rows.old costs.old.standings }
     requires a { a < length costs.old.design.instances }
     ensures mirrored { rows.new ≡ mirrored a rows.old }
     ensures rest { costs.new ≡ record costs.old { standings = costs.new.standings } }
-    ensures board { IsBoard costs.old.design rows.new costs.new.standings lengths.now }
+    ensures seated { AreSeated costs.old.design rows.new costs.new.standings }
+    ensures lengths { lengths_of costs.old.design rows.old ≡ lengths_of costs.old.design rows.new }
 {
     let reach = turn_seat(rows, costs, a);
     enter_reach(costs, rows, reach);

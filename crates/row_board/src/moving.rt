@@ -98,6 +98,7 @@ pub fn enter_reach(costs: &mut NetCosts, rows: &[Items<Seat>], reach: Reach)
     ensures entered { (k : ℕ) → reach.from ≤ k → k < reach.to → IsEntered costs.old.design rows.now costs.new.standings reach.row k }
     ensures kept { (row k : ℕ) → IsEntered costs.old.design rows.now costs.old.standings row k → IsEntered costs.old.design rows.now costs.new.standings row k }
 {
+    // What every design keeps is known by this call.
     let _design = costs.design();
     let seats = row_at(rows, reach.row);
     let left = left_of(costs, reach.row, seats, reach.from);
@@ -135,6 +136,7 @@ fn exchange_seats(rows: &mut [Items<Seat>], costs: &NetCosts, a: u32, b: u32) ->
     requires a { a < length costs.now.design.instances }
     requires b { b < length costs.now.design.instances }
     ensures swapped { rows.new ≡ swapped a b rows.old }
+    ensures placed { ArePlaced costs.now.design rows.new }
     ensures exchanged { AreExchanged costs.now.standings a b rows.old rows.new }
     ensures unmoved { AreUnmoved costs.now.design rows.new costs.now.standings result.0 result.1 }
 {
@@ -169,8 +171,10 @@ pub fn turn_seat(rows: &mut [Items<Seat>], costs: &NetCosts, a: u32) -> Reach
     requires seated { AreSeated costs.now.design rows.old costs.now.standings }
     requires a { a < length costs.now.design.instances }
     ensures mirrored { rows.new ≡ mirrored a rows.old }
+    ensures placed { ArePlaced costs.now.design rows.new }
     ensures unmoved { AreUnmoved costs.now.design rows.new costs.now.standings result result }
 {
+    // What every design keeps is known by this call.
     let _design = costs.design();
     let one = costs.standing(a);
     let seat = one.seat(a);

@@ -97,12 +97,7 @@ impl<'d> Spans<'d> {
         requires { a < length self.old.design.instances }
         ensures { self.new ≡ record self.old { rows = mirrored a self.old.rows } }
     {
-        mirror_on_board(
-            self.rows.rows.items_mut(),
-            &mut self.costs,
-            &self.lengths,
-            a,
-        );
+        mirror_on_board(self.rows.rows.items_mut(), &mut self.costs, a);
     }
 
     // Whether the rows surely cost more than so much more than before after a swap of two instances, of which one is wider. All stays as it is.

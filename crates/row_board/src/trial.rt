@@ -51,6 +51,7 @@ fn shifted_pins(costs: &NetCosts, rows: &[Items<Seat>], a: u32, b: u32) -> u64
     ensures is { result ≡ shifted_pins costs.now.design rows.now (standing_of costs.now.standings a) (standing_of costs.now.standings b) }
     ensures few { result < 2 ^ 32 }
 {
+    // What every design keeps is known by this call.
     let _design = costs.design();
     let one = costs.standing(a);
     let other = costs.standing(b);
@@ -89,6 +90,7 @@ pub fn is_too_dear(
     ensures dear { OnTrue result (cost_of costs.old.design rows.now costs.old.weights + most < cost_of costs.old.design (swapped a b rows.now) costs.old.weights) }
     ensures same { costs.new ≡ costs.old }
 {
+    // What every design keeps is known by this call.
     let _design = costs.design();
     let before = total_of(costs, lengths);
     let slack = slack_of(costs, rows, a, b);

@@ -1,5 +1,5 @@
 use Rattle.std.proofs.Common.{◌≡◌, ◌<◌, ◌≤◌, ℕ, zero, suc, ◌+◌, ◌-◌, ◌*◌, ◌/◌, List, ◌++◌, length, map, ap, ap₂, sym, ◌∙◌, subst, arith}
-use Rattle.std.proofs.Math.Nat.{div-le_of_le-mul, div-mul-le_self, mul_comm, mul-div_cancel, mul-le-mul_left, zero-div}
+use Rattle.std.proofs.Math.Nat.{div-mul-le_self, mul-div_cancel, zero-div}
 use Rattle.std.proofs.lemmas.List.FromFn.{length-map-range_with_len}
 use Rattle.std.proofs.lemmas.List.Sorted.{IsPermutation-refl}
 use Rattle.std.proofs.lemmas.Nat.{le-div}
@@ -19,12 +19,6 @@ pub part-grows : (n rows r : ℕ) → 0 < rows → n * r / rows ≤ n * (r + 1) 
 part-grows n rows r some =
     let more : n * r ≤ n * (r + 1) = omega arith in
     le-div (n * r / rows) (n * (r + 1)) rows some (omega (arith, div-mul-le_self (n * r) rows, more))
-
-pub part-within : (n rows r : ℕ) → r ≤ rows → n * r / rows ≤ n
-part-within n rows r within =
-    let more : n * r ≤ n * rows = mul-le-mul_left n within in
-    let turned : n * rows ≡ rows * n = mul_comm n rows in
-    div-le_of_le-mul rows (omega arith)
 
 grows-on : (f : ℕ → ℕ) → ((r : ℕ) → f r ≤ f (r + 1)) → (r m : ℕ) → f r ≤ f (r + m)
 grows-on f grows r zero = let same : r + 0 ≡ r = omega arith in rw same (omega arith)

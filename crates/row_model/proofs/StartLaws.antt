@@ -1,4 +1,4 @@
-use Rattle.std.proofs.Common.{◌≡◌, ◌<◌, ◌≤◌, ℕ, zero, suc, ◌+◌, ◌-◌, ◌*◌, List, [], ◌∷◌, ◌++◌, length, map, true, false, refl, ap, ap₂, sym, ◌∙◌, subst, arith}
+use Rattle.std.proofs.Common.{◌≡◌, ◌<◌, ◌≤◌, ℕ, zero, suc, ◌+◌, ◌-◌, ◌*◌, List, [], ◌∷◌, ◌++◌, length, map, false, refl, ap, ap₂, sym, ◌∙◌, subst, arith}
 use Rattle.std.proofs.lemmas.Bool.Decides.{nat_tests}
 use Rattle.std.proofs.lemmas.List.{append-nil}
 use Rattle.std.proofs.lemmas.List.Sorted.{IsPermutation-refl}
@@ -11,16 +11,7 @@ use Rattle.row_model.specs.Rows.{all_instances, ArePlaced, instances_in}
 use Rattle.row_model.specs.Start.{least_rows, rows_from, seats_from, taken, upright}
 use Rattle.row_model.specs.Widths.{columns_of}
 
--- the least number of rows is this one where its square has the area, and where no further one is left
-pub least-here : (area height left k : ℕ) → area ≤ k * k * height → least_rows area height left k ≡ k
-least-here area height zero k enough = refl
-least-here area height (suc left) k enough = let test : nat_le area (k * k * height) ≡ true = grind (arith, nat_tests) in rw test
-
-pub least-last : (area height left k : ℕ) → left ≤ 0 → least_rows area height left k ≡ k
-least-last area height zero k none = refl
-least-last area height (suc left) k none = absurd (omega arith)
-
--- and else it is among the next
+-- where so many rows are too few, the least number of them is among the next
 pub least-next : (area height left k : ℕ) → 0 < left → k * k * height < area → least_rows area height left k ≡ least_rows area height (left - 1) (k + 1)
 least-next area height zero k some small = absurd (omega arith)
 least-next area height (suc left) k some small =
@@ -39,6 +30,16 @@ pub taken-next : (d : Netlist) (wanted first n : ℕ) → 0 < wanted → 0 < n �
 taken-next d zero first n some more = absurd (omega arith)
 taken-next d (suc wanted) first zero some more = absurd (omega arith)
 taken-next d (suc wanted) first (suc n) some more = let less : n ≡ suc n - 1 = omega arith in ap (λ (m : ℕ). suc (taken d (suc wanted - columns_of d first) (first + 1) m)) less
+
+-- and so does one instance after others
+pub taken-more : (d : Netlist) (wanted less first n count all : ℕ) → 0 < wanted → n < count → less ≡ wanted - columns_of d (first + n)
+    → n + taken d wanted (first + n) (count - n) ≡ all → n + 1 + taken d less (first + (n + 1)) (count - (n + 1)) ≡ all
+taken-more d wanted less first n count all some within is so_far =
+    let next = taken-next d wanted (first + n) (count - n) some (omega arith) in
+    let at : first + n + 1 ≡ first + (n + 1) = omega arith in
+    let left : count - n - 1 ≡ count - (n + 1) = omega arith in
+    let same : taken d less (first + (n + 1)) (count - (n + 1)) ≡ taken d (wanted - columns_of d (first + n)) (first + n + 1) (count - n - 1) = cc in
+    omega arith
 
 -- a row, and the others
 pub rows-next : (d : Netlist) (target left first n row : ℕ) → 1 < left → row ≡ taken d target first n

@@ -7,6 +7,7 @@ use crate::widths::{all_columns, columns_of};
 use design_model::Design;
 use geom_core::Items;
 use std::alloc::{AllocError, Global};
+use std::marker::Model;
 use tech_rules::{Rules, StartBy};
 
 /// As many rows as make the layout about square: the least number from 1 on whose square times the cells' height is at least
@@ -51,7 +52,38 @@ pub fn start(alloc: Global, design: &Design, rows: u32, by: StartBy) -> Result<R
     ensures is { IfOk result (λ made. made ≡ start_rows by design.now rows) }
     ensures placed { IfOk result (λ made. ArePlaced design.now made) }
 {
-    Ok(Rows::new(Items::new(start_seats(alloc, design, rows, by)?)))
+    let count = RowCount { rows };
+    Ok(Rows::new(Items::new(start_seats(alloc, design, count, by)?)))
+}
+
+// How many rows there are, from 1 to 512, which every value keeps.
+#[derive(Clone, Copy)]
+struct RowCount {
+    rows: u32,
+}
+
+impl Model for RowCount {
+    ghost use Rattle.std.specs.Prelude.{ℕ, ◌<◌, ◌≤◌};
+
+    ghost Value = { ℕ };
+
+    ghost view = { λ c. c.rows };
+
+    ghost invariant = { λ c. (0 < c.rows) × (c.rows ≤ 512) };
+
+    ghost inverse = { λ n. record { rows = n } };
+}
+
+impl RowCount {
+    ghost use Rattle.std.specs.Prelude.{◌≡◌, ◌<◌, ◌≤◌};
+
+    fn get(self) -> u32
+        ensures is { result ≡ self }
+        ensures some { 0 < result }
+        ensures few { result ≤ 512 }
+    {
+        self.rows
+    }
 }
 
 // The seats of these rows.
@@ -59,43 +91,49 @@ pub fn start(alloc: Global, design: &Design, rows: u32, by: StartBy) -> Result<R
 fn start_seats(
     alloc: Global,
     design: &Design,
-    rows: u32,
+    rows: RowCount,
     by: StartBy,
 ) -> Result<Vec<Items<Seat>>, AllocError>
-    requires some { 0 < rows }
-    requires few { rows ≤ 512 }
     ensures { IfOk result (λ v. v.items ≡ start_rows by design.now rows) }
 {
     match by {
         StartBy::Width => {
-            let target = (all_columns(design) + u64::from(rows - 1)) / u64::from(rows);
+            let count = rows.get();
+            let target = (all_columns(design) + u64::from(count - 1)) / u64::from(count);
             rows_from(alloc, design, target, rows)
         }
-        StartBy::Count => counted_rows(alloc, design.instances.items().len() as u32, rows),
+        StartBy::Count => counted_rows(alloc, design, rows),
     }
 }
 
-// So many instances in so many rows, of which each takes the same number.
-fn counted_rows(alloc: Global, count: u32, rows: u32) -> Result<Vec<Items<Seat>>, AllocError>
-    requires few { count ≤ 20000 }
-    requires some { 0 < rows }
-    requires low { rows ≤ 512 }
-    ensures { IfOk result (λ v. v.items ≡ counted_rows count rows) }
+// All instances in so many rows, of which each takes the same number.
+fn counted_rows(
+    alloc: Global,
+    design: &Design,
+    rows: RowCount,
+) -> Result<Vec<Items<Seat>>, AllocError>
+    ensures { IfOk result (λ v. v.items ≡ counted_rows (length design.now.instances) rows) }
 {
+    let count = design.instances.items().len() as u32;
     let mut made = Vec::new(alloc);
-    for row in 0..rows {
+    for row in 0..rows.get() {
         made.push(counted_row(alloc, count, rows, row)?)?;
     }
     Ok(made)
 }
 
 // One of these rows.
-fn counted_row(alloc: Global, count: u32, rows: u32, row: u32) -> Result<Items<Seat>, AllocError>
+fn counted_row(
+    alloc: Global,
+    count: u32,
+    rows: RowCount,
+    row: u32,
+) -> Result<Items<Seat>, AllocError>
     requires few { count ≤ 20000 }
     requires within { row < rows }
-    requires low { rows ≤ 512 }
     ensures { IfOk result (λ seats. seats ≡ counted_row count rows row) }
 {
+    let rows = rows.get();
     let first = count * row / rows;
     let next = count * (row + 1) / rows;
     Ok(Items::new(seats(alloc, first, next - first)?))
@@ -106,15 +144,14 @@ fn rows_from(
     alloc: Global,
     design: &Design,
     target: u64,
-    rows: u32,
+    rows: RowCount,
 ) -> Result<Vec<Items<Seat>>, AllocError>
-    requires { 0 < rows }
     ensures { IfOk result (λ v. v.items ≡ rows_from design.now target rows 0 (length design.now.instances)) }
 {
     let mut made = Vec::new(alloc);
     let mut first = 0;
     let mut count = design.instances.items().len() as u32;
-    let mut left = rows;
+    let mut left = rows.get();
     while left > 1 {
         let row = taken(design, target, first, count);
         made.push(Items::new(seats(alloc, first, row)?))?;

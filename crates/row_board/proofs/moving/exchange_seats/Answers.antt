@@ -1,14 +1,15 @@
-use Rattle.std.proofs.Common.{◌≡◌, ℕ, true, ap, ap₂, sym, ◌∙◌, arith, subst}
-use Rattle.std.proofs.lemmas.Bool.Decides.{nat_tests}
+use Rattle.std.proofs.Common.{◌≡◌, ℕ, ap, ap₂, sym, ◌∙◌, subst}
 use Rattle.std.specs.Prelude.{nat_eq}
 use Rattle.design_model.specs.Netlist.{Netlist}
 use Rattle.row_board.specs.Moving.{ArePut, AreUnmoved}
 use Rattle.row_board.specs.Spot.{Spot}
 use Rattle.row_board.specs.declared.moving.Reach.{Reach}
+use Rattle.row_model.specs.Rows.{ArePlaced}
 use Rattle.row_model.specs.Widths.{columns_of}
 use Rattle.row_board.proofs.MoveLaws.{cell-told}
-use Rattle.row_board.proofs.ReachLaws.{unmoved, unmoved-ordered, AreReaches}
+use Rattle.row_board.proofs.ReachLaws.{alike, unmoved, unmoved-ordered, AreReaches}
 use Rattle.row_model.proofs.PlacedLaws.{placed-distinct}
+use Rattle.row_model.proofs.SwapLaws.{swap-placed}
 use Rattle.row_board.proofs.moving.exchange_seats.Goals as goal
 
 pub swap_seats-requires-clause-apart : goal.swap_seats-requires-clause-apart
@@ -23,9 +24,6 @@ pub swap_seats-requires-clause-other : goal.swap_seats-requires-clause-other
 swap_seats-requires-clause-other c =
     (cell-told c.args.costs.now.design c.args.rows.now c.args.costs.now.standings c.args.b c.standing-other.result c.design-design.ensures.good c.requires.seated.placed c.requires.seated.entered c.requires.b
     c.standing-other.ensures).at
-
-alike : (m n x y : ℕ) → m ≡ x → n ≡ y → nat_eq m n ≡ true → x ≡ y
-alike m n x y one two test = grind (arith, nat_tests)
 
 pub returns : goal.returns
 returns c =
@@ -54,6 +52,7 @@ returns c =
     } in
     record {
       swapped = c.swap_seats.ensures.swapped;
+      placed = subst (ArePlaced c.args.costs.now.design) (sym c.swap_seats.ensures.swapped) (swap-placed c.args.costs.now.design c.args.rows.now c.args.a c.args.b c.requires.seated.placed);
       exchanged = subst (λ (st : Spot × Spot). ArePut st.0.row st.0.place (record { instance = c.args.b; mirror = st.1.mirror }) st.1.row st.1.place (record { instance = c.args.a; mirror = st.0.mirror }) c.args.rows.now c.swap_seats.new.rows)
           (ap₂ (λ (x y : Spot). (x, y)) c.standing-one.ensures c.standing-other.ensures) c.swap_seats.ensures.puts;
       unmoved = subst (λ (r : Reach × Reach). AreUnmoved d c.swap_seats.new.rows c.args.costs.now.standings r.0 r.1) (sym c.in_order.ensures)

@@ -1,15 +1,10 @@
-use Rattle.std.proofs.Common.{[], ◌≡◌, ℕ, ap, ◌∙◌}
+use Rattle.std.proofs.Common.{◌≡◌, ℕ, ap, ◌∙◌}
 use Rattle.std.specs.List.{slice_get}
 use Rattle.std.specs.Option.{option_map}
-use Rattle.design_model.specs.Netlist.{Netlist}
 use Rattle.row_board.specs.Standings.{put_in}
 use Rattle.row_model.specs.declared.rows.Seat.{Seat}
 use Rattle.row_board.proofs.PutLaws.{puts-are, puts-swap}
 use Rattle.row_board.proofs.moving.swap_seats.Goals as goal
-
--- some design, since no width counts here
-none : Netlist
-none = record { kinds = []; height = 0; instances = []; pins = []; nets = [] }
 
 pub returns : goal.returns
 returns c =
@@ -20,6 +15,6 @@ returns c =
     let second : (r : ℕ) → slice_get c.put-2.new.rows r ≡ option_map (put_in c.args.other.row c.args.other.place a r) (slice_get c.put.new.rows r) = λ r.
     c.put-2.ensures r ∙ ap (λ (s : Seat). option_map (put_in c.args.other.row c.args.other.place s r) (slice_get c.put.new.rows r)) c.seat-2.ensures in
     record {
-      swapped = puts-swap none c.args.rows.now c.put.new.rows c.put-2.new.rows c.args.one.row c.args.one.place c.args.other.row c.args.other.place a b c.requires.apart c.requires.one c.requires.other first second;
+      swapped = puts-swap c.args.rows.now c.put.new.rows c.put-2.new.rows c.args.one.row c.args.one.place c.args.other.row c.args.other.place a b c.requires.apart c.requires.one c.requires.other first second;
       puts = puts-are c.args.rows.now c.put.new.rows c.put-2.new.rows c.args.one.row c.args.one.place c.args.other.row c.args.other.place a b first second;
     }

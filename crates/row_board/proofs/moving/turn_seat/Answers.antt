@@ -16,6 +16,7 @@ returns c =
     ∙ ap (λ (s : Seat). option_map (put_in c.standing-one.result.row c.standing-one.result.place (record { instance = s.instance; mirror = not s.mirror }) r) (slice_get c.args.rows.now r)) c.seat-seat.ensures) in
     record {
       mirrored = facts.mirrored;
+      placed = facts.placed;
       unmoved = turned-unmoved c.args.costs.now.design c.put.new.rows c.args.costs.now.standings (mirrored c.args.a c.args.rows.now) c.standing-one.result c.reach_of.result facts c.reach_of.ensures.row
           c.reach_of.ensures.from c.reach_of.ensures.to;
     }

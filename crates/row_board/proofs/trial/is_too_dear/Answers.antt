@@ -1,15 +1,11 @@
-use Rattle.std.proofs.Common.{◌≡◌, ◌<◌, ◌+◌, ℕ, true, ◌∙◌, arith}
+use Rattle.std.proofs.Common.{◌<◌, ◌+◌, ◌∙◌, arith}
 use Rattle.std.proofs.lemmas.Bool.{OnTrue_from}
-use Rattle.std.proofs.lemmas.Bool.Decides.{nat_tests}
 use Rattle.std.specs.Prelude.{nat_lt}
 use Rattle.row_board.specs.Cost.{cost_of}
 use Rattle.row_model.specs.Changes.{swapped}
 use Rattle.row_board.proofs.TotalLaws.{cost-told}
-use Rattle.row_board.proofs.TradeLaws.{trial-total}
+use Rattle.row_board.proofs.TradeLaws.{above, trial-total}
 use Rattle.row_board.proofs.trial.is_too_dear.Goals as goal
-
-above : (m n : ℕ) → nat_lt m n ≡ true → m < n
-above m n test = grind (arith, nat_tests)
 
 pub returns-clause-dear : goal.returns-clause-dear
 returns-clause-dear c =

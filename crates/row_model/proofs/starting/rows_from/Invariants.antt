@@ -6,7 +6,7 @@ abbrev pub invariant-loop-left : goal.invariant-loop-left
 invariant-loop-left l = record {
   some : 0 < l.left;
   total : l.first + l.count ≡ length l.design.instances;
-  made : l.made.items ++ rows_from l.design l.target l.left l.first l.count ≡ rows_from l.design l.target l.rows 0 (length l.design.instances);
+  made : l.made.items ++ rows_from l.design l.target l.left l.first l.count ≡ rows_from l.design l.target l.fn.rows 0 (length l.design.instances);
 }
 
 abbrev pub decreases-loop-left : goal.decreases-loop-left

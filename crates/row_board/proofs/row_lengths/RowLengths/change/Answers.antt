@@ -1,5 +1,4 @@
-use Rattle.std.proofs.Common.{◌≡◌, ◌≢◌, ◌+◌, ◌-◌, ◌≤◌, ℕ, List, Bool, true, false, cond, length, map, set, refl, ap, sym, ◌∙◌, arith}
-use Rattle.std.proofs.lemmas.Bool.Decides.{nat_tests}
+use Rattle.std.proofs.Common.{◌≡◌, ◌+◌, ◌-◌, ◌≤◌, ℕ, List, cond, length, map, set, ap, sym, ◌∙◌, arith}
 use Rattle.std.proofs.lemmas.Grind.{common_steps}
 use Rattle.std.proofs.lemmas.List.{length-set, map-set}
 use Rattle.std.proofs.lemmas.Option.{get_or_from_slice_get}
@@ -9,6 +8,7 @@ use Rattle.std.specs.Prelude.{nat_eq}
 use Rattle.list_facts.proofs.Places.{changed-at, unchanged-past}
 use Rattle.row_board.specs.Cost.{difference}
 use Rattle.row_board.specs.RowLengths.{Lengths}
+use Rattle.row_board.proofs.SumLaws.{here-changed, there-same}
 use Rattle.row_board.proofs.row_lengths.RowLengths.change.Goals as goal
 
 pub invariant_of-self : goal.invariant_of-self
@@ -20,19 +20,6 @@ invariant_of-self c = record {
   low = c.self.invariant.low;
   few = omega (arith, c.self.invariant.few, length-set c.self.inside.widths.items c.args.row c.saturating_sub-width.result);
 }
-
-here-changed : (row more fewer x new got m f : ℕ) → got ≡ x → m ≡ more → f ≡ fewer → new ≡ got + m - f → new ≡ cond (nat_eq row row) (x + more - fewer) x
-here-changed row more fewer x new got m f is is_more is_fewer made = grind (arith, nat_tests)
-
-there-same : (row more fewer i x : ℕ) → i ≢ row → x ≡ cond (nat_eq i row) (x + more - fewer) x
-there-same row more fewer i x other = by (nat_eq i row) refl
-  where
-    equal : (m n : ℕ) → nat_eq m n ≡ true → m ≡ n
-    equal m n test = grind (arith, nat_tests)
-
-    by : (b : Bool) → nat_eq i row ≡ b → x ≡ cond b (x + more - fewer) x
-    by true test = absurd (other (equal i row test))
-    by false test = refl
 
 pub returns-then-n-len-clause-widths : goal.returns-then-n-len-clause-widths
 returns-then-n-len-clause-widths c = λ r.
