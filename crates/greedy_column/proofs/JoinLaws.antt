@@ -1,4 +1,4 @@
-use Rattle.std.proofs.Common.{◌≡◌, ◌<◌, ◌≤◌, ◌++◌, ◌&&◌, ◌||◌, not, eqb, leb, ℕ, List, [], ◌∷◌, Bool, true, false, cond, length, filter, refl, sym, ap, ◌∙◌, arith, Contains, append_assoc, inl, inr}
+use Rattle.std.proofs.Common.{◌≡◌, ◌<◌, ◌≤◌, ◌++◌, ◌&&◌, ◌||◌, not, eqb, leb, ℕ, List, [], ◌∷◌, Bool, true, false, cond, length, filter, refl, sym, ap, ◌∙◌, arith, Contains, inl, inr}
 use Rattle.std.proofs.lemmas.List.{append-nil}
 use Rattle.std.proofs.lemmas.Bool.{and_parts, and_from}
 use Rattle.std.proofs.lemmas.Bool.Decides.{nat_tests}
@@ -6,7 +6,6 @@ use Rattle.std.proofs.lemmas.List.Folds.{list_any-append, list_all-append}
 use Rattle.choose_core.specs.declared.candidate.Candidate.{Candidate}
 use Rattle.choose_core.specs.declared.candidate.Next.{Next}
 use Rattle.greedy_column.specs.declared.span.Span.{Span}
-use Rattle.greedy_column.specs.Offers.{IsPicked, join_offer}
 use Rattle.greedy_column.specs.Joining.{JoinsFollow, covers, passes, is_joined, is_clear, possible_joins}
 use Rattle.greedy_column.proofs.Members.{in_cases, in_filter_back}
 
@@ -79,9 +78,3 @@ module _ (may : List Candidate → ℕ → Type 0) (next : ℕ → Next) (pairs 
       → ((rest : List Span) → JoinsFollow may next pairs spans rest → JoinsFollow may next pairs first (joined ++ rest))
       → JoinsFollow may next pairs first joined
   joins_end first spans joined none so_far = rw append-nil at (so_far [] none)
-
-  pub joins_go_on : (first spans joined joins : List Span) (pair : Span) → joins ≡ possible_joins spans pairs → IsPicked may (join_offer next) joins pair
-      → ((rest : List Span) → JoinsFollow may next pairs spans rest → JoinsFollow may next pairs first (joined ++ rest))
-      → (rest : List Span) → JoinsFollow may next pairs (spans ++ pair ∷ []) rest → JoinsFollow may next pairs first ((joined ++ pair ∷ []) ++ rest)
-  joins_go_on first spans joined joins pair is picked so_far rest follow =
-      rw append_assoc (so_far (pair ∷ rest) (rw is at picked, follow))

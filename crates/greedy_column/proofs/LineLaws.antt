@@ -59,12 +59,6 @@ LieWithin-lines passes tracks = record {
   few = lines_from-few passes 1 tracks;
 }
 
-pub LieWithin-filter : (tracks : ℕ) (p : ℕ → Bool) (lines : List ℕ) → LieWithin tracks lines → LieWithin tracks (filter p lines)
-LieWithin-filter tracks p lines within = record {
-  each = λ line member. within.each line (in_filter_back p line lines member).0;
-  few = omega (arith, filter-few p lines, within.few);
-}
-
 -- lines that a loop has found, once no track is left
 pub LieWithin-found : (passes : Track → Bool) (line : ℕ) (tracks rest : List Track) (lines : List ℕ) → length rest ≡ 0
     → lines ++ lines_from passes line rest ≡ lines_from passes 1 tracks → LieWithin (length tracks) lines
@@ -91,6 +85,3 @@ AreLines-filter p lines are = record {
   each = λ line member. are.each line (in_filter_back p line lines member).0;
   few = omega (arith, filter-few p lines, are.few);
 }
-
-pub AreLines-none : AreLines []
-AreLines-none = record { each = λ line member. absurd (in_none line member); few = omega arith }

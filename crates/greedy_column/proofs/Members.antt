@@ -1,6 +1,6 @@
 use Rattle.std.proofs.Common.{◌≡◌, ◌⊎◌, inl, inr, ◌≤◌, ℕ, zero, suc, List, [], ◌∷◌, ◌&&◌, ◌||◌, Bool, true, false, cond, Some, length, filter, map, slice_get, refl, sym, subst, ap, ◌∙◌, arith, Contains}
 use Rattle.std.specs.List.{list_any, list_all}
-use Rattle.std.proofs.lemmas.Bool.{and_parts, and_from}
+use Rattle.std.proofs.lemmas.Bool.{and_parts}
 
 module _ {X : Type 0} where
   pub in_none : (y : X) → Contains [] y → ⊥
@@ -47,11 +47,6 @@ module _ {X : Type 0} where
   all_at p x (y ∷ ys) all member =
       let parts = and_parts (p y) (list_all p ys) all in
       elim (in_cases y x ys member) [ inl same ↦ ap p (sym same) ∙ parts.0 | inr later ↦ all_at p x ys parts.1 later ]
-
-  pub all_from : (p : X → Bool) (xs : List X) → ((x : X) → Contains xs x → p x ≡ true) → list_all p xs ≡ true
-  all_from p [] each = refl
-  all_from p (y ∷ ys) each =
-      and_from (p y) (list_all p ys) (each y (in_first y ys)) (all_from p ys (λ x member. each x (in_later y x ys member)))
 
   pub not_all : (p : X → Bool) (xs : List X) → list_all p xs ≡ false → (x : X) × Contains xs x × (p x ≡ false)
   not_all p [] none = absurd (cc none)

@@ -1,11 +1,11 @@
-use Rattle.std.proofs.Common.{◌≡◌, ◌≢◌, ◌++◌, ◌∙◌, inl, inr, ℕ, List, [], ◌∷◌, length, map, refl, sym, ap, subst, arith, append_assoc}
-use Rattle.std.proofs.lemmas.List.{append-nil, length-map, map-append}
+use Rattle.std.proofs.Common.{◌≡◌, ◌≢◌, ◌++◌, ◌∙◌, inr, ℕ, List, [], ◌∷◌, length, map, refl, sym, ap, subst, arith, append_assoc}
+use Rattle.std.proofs.lemmas.List.{append-nil, map-append}
 use Rattle.choose_core.specs.declared.candidate.Candidate.{Candidate}
 use Rattle.choose_core.specs.declared.candidate.Next.{Next}
 use Rattle.greedy_column.specs.declared.column.Track.{Track}
 use Rattle.greedy_column.specs.declared.span.Span.{Span}
 use Rattle.greedy_column.specs.Lines.{net_on, own_lines}
-use Rattle.greedy_column.specs.Tracks.{given, held_by, hold}
+use Rattle.greedy_column.specs.Tracks.{held_by, hold}
 use Rattle.greedy_column.specs.Replay.{moved}
 use Rattle.greedy_column.specs.Moving.{MovesFollow, GoesTo, carried, move_ids, move_options, others_of_net, piece_between, without}
 
@@ -13,12 +13,6 @@ use Rattle.greedy_column.specs.Moving.{MovesFollow, GoesTo, carried, move_ids, m
 pub moved-append : (moves more : List (ℕ × ℕ)) (tracks : List Track) → moved (moves ++ more) tracks ≡ moved more (moved moves tracks)
 moved-append [] more tracks = refl
 moved-append (m ∷ moves) more tracks = moved-append moves more (hold m.1 (held_by tracks m.0) (hold m.0 0 tracks))
-
-pub length-moved : (moves : List (ℕ × ℕ)) (tracks : List Track) → length (moved moves tracks) ≡ length tracks
-length-moved [] tracks = refl
-length-moved (m ∷ moves) tracks =
-    length-moved moves (hold m.1 (held_by tracks m.0) (hold m.0 0 tracks))
-    ∙ length-map (hold m.0 0 tracks) (given m.1 (held_by tracks m.0)) ∙ length-map tracks (given m.0 0)
 
 -- the tracks are carried along by one more move
 pub carried_on : (tracks start kept : List Track) (moves : List (ℕ × ℕ)) (line target : ℕ) → kept ≡ moved (map (move_ids tracks) moves) start
@@ -45,16 +39,6 @@ module _ (may : List Candidate → ℕ → Type 0) (next : ℕ → Next) (tracks
       → MovesFollow may next tracks start lines first all moves
   moves_done kept lines [] first spans all free moves none so_far = rw append-nil at (so_far [] refl)
   moves_done kept lines (line ∷ rest) first spans all free moves none so_far = absurd (omega arith)
-
-  pub moves_stay : (kept : List Track) (lines rest : List ℕ) (first spans : List Span) (all free : List ℕ) (moves : List (ℕ × ℕ)) (line target : ℕ)
-      → GoesTo may (next (net_on tracks line)) (others_of_net tracks kept line) line (move_options spans (net_on tracks line) line free) target → target ≡ line
-      → ((later : List (ℕ × ℕ)) → MovesFollow may next tracks kept (line ∷ rest) spans free later → MovesFollow may next tracks start lines first all (moves ++ later))
-      → (later : List (ℕ × ℕ)) → MovesFollow may next tracks kept rest spans free later → MovesFollow may next tracks start lines first all (moves ++ later)
-  moves_stay kept lines rest first spans all free moves line target goes same so_far later follow =
-      so_far later (inl (
-        subst (λ t. GoesTo may (next (net_on tracks line)) (others_of_net tracks kept line) line (move_options spans (net_on tracks line) line free) t) same goes,
-        follow,
-      ))
 
   pub moves_go : (kept : List Track) (lines rest : List ℕ) (first spans : List Span) (all free : List ℕ) (moves : List (ℕ × ℕ)) (line target : ℕ)
       → GoesTo may (next (net_on tracks line)) (others_of_net tracks kept line) line (move_options spans (net_on tracks line) line free) target → target ≢ line

@@ -21,7 +21,7 @@ impl Ahead {
     pub fn new(alloc: Global, channel: &Channel) -> Result<Ahead, AllocError>
         ensures { IfOk result (λ ahead. IsAhead channel.now ahead) }
     {
-        let mut uses = uses_of(alloc, channel.top.items(), channel.bottom.items())?;
+        let mut uses = uses_of(alloc, channel)?;
         sort_by_net(&mut uses)?;
         Ok(Ahead { uses })
     }

@@ -26,13 +26,10 @@ pub fn freed(alloc: Global, tracks: &[Track], ended: &[u32]) -> Result<Vec<Track
     requires { IsNonDecreasing ended.now }
     ensures { IfOk result (λ kept. kept.items ≡ freed ended.now tracks.now) }
 {
-    let mut kept = Vec::new(alloc);
-    let mut rest = tracks;
-    while let Some((track, above)) = rest.split_first() {
-        kept.push(freed_among(ended, *track))?;
-        rest = above;
-    }
-    Ok(kept)
+    tracks
+        .iter()
+        .map(|track| freed_among(ended, *track))
+        .collect(alloc)
 }
 
 // The same for one track.

@@ -4,7 +4,6 @@ ghost use Rattle.greedy_column.specs.Lines.{held_lines};
 ghost use Rattle.std.specs.List.{list_any};
 ghost use Rattle.std.specs.Prelude.{◌≡◌, ◌==◌, ◌<◌, ◌+◌, ◌^◌, ℕ, IfOk, filter, length, map, not};
 
-use crate::lines::push_where;
 use crate::pairs::Pairs;
 use crate::sorted::Sorted;
 use crate::span::Span;
@@ -118,11 +117,9 @@ pub fn lowest_lines(alloc: Global, tracks: &Tracks, joined: &Pairs) -> Result<Ve
 fn outside_sorted(alloc: Global, sorted: &Sorted, lines: &[u32]) -> Result<Vec<u32>, AllocError>
     ensures { IfOk result (λ left. left.items ≡ outside sorted.now lines.now) }
 {
-    let mut left = Vec::new(alloc);
-    let mut rest = lines;
-    while let Some((line, later)) = rest.split_first() {
-        push_where(&mut left, !sorted.has(*line), *line)?;
-        rest = later;
-    }
-    Ok(left)
+    lines
+        .iter()
+        .copied()
+        .filter(|line| !sorted.has(*line))
+        .collect(alloc)
 }

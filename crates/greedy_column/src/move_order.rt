@@ -138,17 +138,13 @@ fn waiting_on(
     ensures { IfOk result (λ waiting. waiting.items
         ≡ map (λ line. record { line = line; behind = behind_on (next_after ahead.now.uses.items column) kept.now line }) lines.now) }
 {
-    let mut waiting = Vec::new(alloc);
-    let mut rest = lines;
-    while let Some((line, later)) = rest.split_first() {
-        let next = ahead.next(kept.net_on(*line), column);
-        waiting.push(Waiting {
+    lines
+        .iter()
+        .map(|line| Waiting {
             line: *line,
-            behind: behind(kept, next, *line),
-        })?;
-        rest = later;
-    }
-    Ok(waiting)
+            behind: behind(kept, ahead.next(kept.net_on(*line), column), *line),
+        })
+        .collect(alloc)
 }
 
 // How much of a channel of so many tracks lies behind a line on the way to the next pins, and all of it where these lie at no one edge.

@@ -109,11 +109,8 @@ fn offers(
 ) -> Result<Vec<Candidate>, AllocError>
     ensures { IfOk result (λ offers. offers.items ≡ map (offer question others.now) lines.now) }
 {
-    let mut offers = Vec::new(alloc);
-    let mut rest = lines;
-    while let Some((line, later)) = rest.split_first() {
-        offers.push(question.offer(others, *line))?;
-        rest = later;
-    }
-    Ok(offers)
+    lines
+        .iter()
+        .map(|line| question.offer(others, *line))
+        .collect(alloc)
 }

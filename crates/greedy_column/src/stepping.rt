@@ -102,6 +102,7 @@ impl<C: Chooses> Moment<'_, C> {
     ) -> Result<Taken, AllocError>
         requires few { length before + 4 < 2 ^ 32 }
         requires fresh { fresh + 2 < 2 ^ 32 }
+        ensures made { IfOk result (λ taken. length taken.done.made ≤ 2) }
         ensures straight { IfOk result (λ taken. taken.done.straight ≡ (top == bottom && not (top == 0))) }
         ensures enters { IfOk result (λ taken. Enters self.now.manner (C.answers self.now.chooser.now) (pin_with (next_after self.now.ahead.now.uses.items self.now.column) top)
             (pin_with (next_after self.now.ahead.now.uses.items self.now.column) bottom) before fresh (entries_of taken.done)) }

@@ -1,9 +1,10 @@
 ghost use Rattle.greedy_column.specs.Uses.{AreSorted, is_past, next_after, next_at, use_at, uses_at, uses_from};
-ghost use Rattle.std.specs.List.Sorted.{IsNonDecreasingBy, IsStableByKey};
 ghost use Rattle.std.specs.List.{AllWithin};
+ghost use Rattle.std.specs.List.Sorted.{IsNonDecreasingBy, IsStableByKey};
 ghost use Rattle.std.specs.Ordering.{nat_cmp};
 ghost use Rattle.std.specs.Prelude.{◌≡◌, ◌<◌, ◌≤◌, ◌++◌, IfOk, OnOk, false, length, true};
 
+use channel_model::Channel;
 use choose_core::Next;
 use std::alloc::{AllocError, Global};
 
@@ -48,15 +49,13 @@ pub fn next_at(used: Option<Use>, net: u32) -> Next
 }
 
 // The uses by the pins of all columns, by column.
-pub fn uses_of(alloc: Global, top: &[u32], bottom: &[u32]) -> Result<Vec<Use>, AllocError>
-    requires short { length top.now ≤ 4000000 }
-    requires matched { length top.now ≡ length bottom.now }
-    ensures { IfOk result (λ uses. uses.items ≡ uses_from top.now bottom.now 0) }
+pub fn uses_of(alloc: Global, channel: &Channel) -> Result<Vec<Use>, AllocError>
+    ensures { IfOk result (λ uses. uses.items ≡ uses_from channel.now.top channel.now.bottom 0) }
 {
     let mut uses = Vec::new(alloc);
     let mut column = 0u32;
-    let mut tops = top;
-    let mut bottoms = bottom;
+    let mut tops = channel.top.items();
+    let mut bottoms = channel.bottom.items();
     while let (Some((a, later_tops)), Some((b, later_bottoms))) = (
         tops.split_first(),
         bottoms.split_first(),

@@ -2,14 +2,11 @@ use Rattle.std.proofs.Common.{rules, ◌≡◌, ◌<◌, ◌∙◌, ◌+◌, sub
 use Rattle.channel_model.specs.Pins.{IsChannel}
 use Rattle.greedy_column.specs.declared.column.Made.{Made}
 use Rattle.greedy_column.specs.declared.column.Track.{Track}
-use Rattle.greedy_column.specs.declared.entering.Pin.{Pin}
-use Rattle.greedy_column.specs.Follows.{entries_of, pin_with}
 use Rattle.greedy_column.specs.Uses.{next_after}
 use Rattle.greedy_column.specs.Held.{held_count}
 use Rattle.greedy_column.specs.Replay.{after}
 use Rattle.greedy_column.proofs.EndsLaws.{column-lessens}
 use Rattle.greedy_column.proofs.FairLaws.{Fair-from}
-use Rattle.greedy_column.proofs.MadeLaws.{AreMadeForPins-from}
 use Rattle.greedy_column.proofs.StateLaws.{AreNumbered-few, Follows-from_copy, IsState-from_copy}
 use Rattle.greedy_column.proofs.stepping.step_with.Goals as goal
 
@@ -22,13 +19,6 @@ new-before-requires g c =
       AreNumbered-few c.args.state.now.fresh c.args.state.now.order c.requires.state.numbered,
       c.requires.few,
     )
-
-pub overflow_add-fresh : goal.overflow_add-fresh
-overflow_add-fresh g c =
-    let pin : ℕ → Pin = pin_with (next_after c.args.ahead.now.uses.items c.args.column) in
-    let made = AreMadeForPins-from c.args.manner (g.C.Chooses.answers c.args.chooser.now) c.new-before.result c.args.state.now.fresh (pin c.pin_in-top.result)
-    (pin c.pin_in-bottom.result) (entries_of c.in_ok-taken.taken.done) c.in_ok-taken.ensures.enters in
-    omega (arith, ap (λ (l : List Made). length l) c.items-4.ensures, made.few, c.requires.few)
 
 pub column_of-requires-clause-few : goal.column_of-requires-clause-few
 column_of-requires-clause-few g c =
