@@ -12,7 +12,7 @@ use crate::entering::is_ending;
 use crate::grouping::{Grouping, lowest_lines};
 use crate::lines::Lines;
 use crate::moment::Moment;
-use crate::pairs::Pairs;
+use crate::pairs::Paired;
 use crate::question::Question;
 use crate::span::Span;
 use crate::tracks::Tracks;
@@ -125,20 +125,14 @@ impl<C: Chooses> Moment<'_, C> {
     }
 
     // The lines that end, group by group.
-    pub fn ending_lines(
-        &self,
-        tracks: &Tracks,
-        pairs: &Pairs,
-        spans: &[Span],
-    ) -> Result<Vec<u32>, AllocError>
-        requires { pairs.now ≡ neighbours tracks.now }
+    pub fn ending_lines(&self, paired: &Paired, spans: &[Span]) -> Result<Vec<u32>, AllocError>
         ensures { IfOk result (λ ending.
-            EndsFollow (C.answers self.now.chooser.now) (next_after self.now.ahead.now.uses.items self.now.column) tracks.now spans.now
-            (groups (joined_pairs spans.now (neighbours tracks.now)) (held_lines tracks.now)) ending.items) }
+            EndsFollow (C.answers self.now.chooser.now) (next_after self.now.ahead.now.uses.items self.now.column) paired.now.tracks.now spans.now
+            (groups (joined_pairs spans.now (neighbours paired.now.tracks.now)) (held_lines paired.now.tracks.now)) ending.items) }
     {
-        let grouping = Grouping::new(self.alloc, spans, pairs)?;
-        let lowest = lowest_lines(self.alloc, tracks, &grouping.joined)?;
-        self.ends_among(tracks, &grouping, &lowest)
+        let grouping = Grouping::new(self.alloc, spans, &paired.pairs)?;
+        let lowest = lowest_lines(self.alloc, paired.tracks, &grouping.joined)?;
+        self.ends_among(paired.tracks, &grouping, &lowest)
     }
 }
 

@@ -1,5 +1,4 @@
 ghost use Rattle.greedy_column.specs.Follows.{AreEndsTold, AreJoinsTold, AreMovesTold, FollowsOn};
-ghost use Rattle.greedy_column.specs.Joining.{neighbours};
 ghost use Rattle.greedy_column.specs.Replay.{freed, moved};
 ghost use Rattle.greedy_column.specs.Uses.{next_after};
 ghost use Rattle.std.specs.List.Sorted.{IsNonDecreasing};
@@ -12,7 +11,7 @@ use crate::joining::join_ids;
 use crate::moment::Moment;
 use crate::move_order::order_of_moves;
 use crate::moving::move_ids;
-use crate::pairs::Pairs;
+use crate::pairs::Paired;
 use crate::span::Span;
 use crate::tracks::Tracks;
 use choose_core::{Chooses, Manner};
@@ -73,25 +72,19 @@ impl<C: Chooses> Moment<'_, C> {
         ensures ends { IfOk result (λ drawn. AreEndsTold (C.answers self.now.chooser.now) (next_after self.now.ahead.now.uses.items self.now.column) now.now drawn.spans.items
             drawn.ended.items) }
     {
-        let pairs = now.neighbours(self.alloc)?;
-        self.join_pairs(now, &pairs, spans)
+        let paired = now.paired(self.alloc)?;
+        self.join_pairs(&paired, spans)
     }
 
     // The same, from the neighbouring tracks.
-    fn join_pairs(
-        &self,
-        now: &Tracks,
-        pairs: &Pairs,
-        mut spans: Vec<Span>,
-    ) -> Result<Drawn, AllocError>
-        requires { pairs.now ≡ neighbours now.now }
-        ensures joins { IfOk result (λ drawn. AreJoinsTold (C.answers self.now.chooser.now) (next_after self.now.ahead.now.uses.items self.now.column) now.now spans.items
+    fn join_pairs(&self, paired: &Paired, mut spans: Vec<Span>) -> Result<Drawn, AllocError>
+        ensures joins { IfOk result (λ drawn. AreJoinsTold (C.answers self.now.chooser.now) (next_after self.now.ahead.now.uses.items self.now.column) paired.now.tracks.now spans.items
             drawn.spans.items drawn.joins.items) }
-        ensures ends { IfOk result (λ drawn. AreEndsTold (C.answers self.now.chooser.now) (next_after self.now.ahead.now.uses.items self.now.column) now.now drawn.spans.items
+        ensures ends { IfOk result (λ drawn. AreEndsTold (C.answers self.now.chooser.now) (next_after self.now.ahead.now.uses.items self.now.column) paired.now.tracks.now drawn.spans.items
             drawn.ended.items) }
     {
-        let joins = self.joins_of(now, pairs, &mut spans)?;
-        let ended = self.ends_of_lines(now, pairs, &spans)?;
+        let joins = self.joins_of(paired, &mut spans)?;
+        let ended = self.ends_of_lines(paired, &spans)?;
         Ok(Drawn {
             joins,
             ended,
@@ -102,30 +95,22 @@ impl<C: Chooses> Moment<'_, C> {
     // Step 2: the joins, which become verticals.
     fn joins_of(
         &self,
-        now: &Tracks,
-        pairs: &Pairs,
+        paired: &Paired,
         spans: &mut Vec<Span>,
     ) -> Result<Vec<(u32, u32)>, AllocError>
-        requires { pairs.now ≡ neighbours now.now }
-        ensures { IfOk result (λ joins. AreJoinsTold (C.answers self.now.chooser.now) (next_after self.now.ahead.now.uses.items self.now.column) now.now spans.old.items
+        ensures { IfOk result (λ joins. AreJoinsTold (C.answers self.now.chooser.now) (next_after self.now.ahead.now.uses.items self.now.column) paired.now.tracks.now spans.old.items
             spans.new.items joins.items) }
     {
-        let joined = self.join_all(pairs, spans)?;
-        join_ids(self.alloc, now, &joined)
+        let joined = self.join_all(&paired.pairs, spans)?;
+        join_ids(self.alloc, paired.tracks, &joined)
     }
 
     // Step 3: the tracks that end.
-    fn ends_of_lines(
-        &self,
-        now: &Tracks,
-        pairs: &Pairs,
-        spans: &[Span],
-    ) -> Result<Vec<u32>, AllocError>
-        requires { pairs.now ≡ neighbours now.now }
-        ensures { IfOk result (λ ended. AreEndsTold (C.answers self.now.chooser.now) (next_after self.now.ahead.now.uses.items self.now.column) now.now spans.now ended.items) }
+    fn ends_of_lines(&self, paired: &Paired, spans: &[Span]) -> Result<Vec<u32>, AllocError>
+        ensures { IfOk result (λ ended. AreEndsTold (C.answers self.now.chooser.now) (next_after self.now.ahead.now.uses.items self.now.column) paired.now.tracks.now spans.now ended.items) }
     {
-        let ending = self.ending_lines(now, pairs, spans)?;
-        ended_ids(self.alloc, now, &ending)
+        let ending = self.ending_lines(paired, spans)?;
+        ended_ids(self.alloc, paired.tracks, &ending)
     }
 
     // Step 4, over the tracks of which those of these ids are freed.

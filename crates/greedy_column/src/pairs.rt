@@ -28,7 +28,26 @@ impl Model for Pairs {
     ghost invariant = { λ pairs. ArePairs pairs.list.items };
 }
 
+// Tracks with all two neighbouring ones of a net.
+#[derive(Drop)]
+pub struct Paired<'a> {
+    pub tracks: &'a Tracks,
+    pub pairs: Pairs,
+    ghost neighbours: { pairs ≡ neighbours tracks.now },
+}
+
 impl Tracks {
+    // These tracks with their neighbours.
+    pub fn paired(&self, alloc: Global) -> Result<Paired<'_>, AllocError>
+        ensures { IfOk result (λ paired. paired.tracks.now ≡ self.now) }
+    {
+        let pairs = self.neighbours(alloc)?;
+        Ok(Paired {
+            tracks: self,
+            pairs,
+        })
+    }
+
     // All two neighbouring tracks of a net, by ascending lower track.
     pub fn neighbours(&self, alloc: Global) -> Result<Pairs, AllocError>
         ensures { IfOk result (λ pairs. pairs ≡ neighbours self.now) }

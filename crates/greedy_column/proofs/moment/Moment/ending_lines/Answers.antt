@@ -11,11 +11,11 @@ pub returns : goal.returns
 returns g c =
     let may = g.C.Chooses.answers c.args.self.now.chooser.now in
     let next = next_after c.args.self.now.ahead.now.uses.items c.args.self.now.column in
-    let tracks = c.args.tracks.now in
+    let tracks = c.args.paired.now.tracks.now in
     let spans = c.args.spans.now in
     let joined = c.in_ok-grouping.grouping.joined in
-    let joined_are : joined ≡ joined_pairs spans (neighbours tracks) = c.in_ok-grouping.ensures.joined ∙ ap (joined_pairs spans) c.requires in
+    let joined_are : joined ≡ joined_pairs spans (neighbours tracks) = c.in_ok-grouping.ensures.joined ∙ ap (joined_pairs spans) c.args.paired.now.neighbours in
     IfOk-weaker c.ends_among.result _ _ (λ ending follow.
     subst (λ (l : List Span). EndsFollow may next tracks spans (groups l (held_lines tracks)) ending.items) joined_are
     (subst (λ (l : List ℕ). EndsFollow may next tracks spans (map (chain_from joined) l) ending.items) (c.deref.ensures.value ∙ c.in_ok-lowest.ensures)
-    (follow spans (λ net. c.in_ok-grouping.ensures.split net ∙ ap (λ (l : List Span). is_split spans l net) c.requires)))) c.ends_among.ensures
+    (follow spans (λ net. c.in_ok-grouping.ensures.split net ∙ ap (λ (l : List Span). is_split spans l net) c.args.paired.now.neighbours)))) c.ends_among.ensures

@@ -8,5 +8,5 @@ returns g c =
     IfOk-weaker c.ended_ids.result _ _ (λ ended is. record {
       ending = c.in_ok-ending.ending.items;
       follow = c.in_ok-ending.ensures;
-      told = subst (λ (l : List ℕ). AreEnded c.args.now.now l ended.items) c.deref.ensures.value is;
+      told = subst (λ (l : List ℕ). AreEnded c.args.paired.now.tracks.now l ended.items) c.deref.ensures.value is;
     }) c.ended_ids.ensures

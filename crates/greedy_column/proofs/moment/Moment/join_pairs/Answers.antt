@@ -6,5 +6,5 @@ use Rattle.greedy_column.proofs.moment.Moment.join_pairs.Goals as goal
 
 pub returns-clause-ends : goal.returns-clause-ends
 returns-clause-ends g c =
-    subst (λ (l : List Span). AreEndsTold (g.C.Chooses.answers c.args.self.now.chooser.now) (next_after c.args.self.now.ahead.now.uses.items c.args.self.now.column) c.args.now.now l
+    subst (λ (l : List Span). AreEndsTold (g.C.Chooses.answers c.args.self.now.chooser.now) (next_after c.args.self.now.ahead.now.uses.items c.args.self.now.column) c.args.paired.now.tracks.now l
     c.in_ok-ended.ended.items) c.deref.ensures.value c.in_ok-ended.ensures

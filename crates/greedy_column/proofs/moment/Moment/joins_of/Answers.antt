@@ -12,7 +12,7 @@ returns g c =
     let joined = c.in_ok-joined.joined.items in
     IfOk-weaker c.join_ids.result _ _ (λ joins is. record {
       joined = joined;
-      follow = subst (λ (l : List Span). JoinsFollow may next l c.args.spans.now.items joined) c.requires c.in_ok-joined.ensures.joins;
+      follow = subst (λ (l : List Span). JoinsFollow may next l c.args.spans.now.items joined) c.args.paired.now.neighbours c.in_ok-joined.ensures.joins;
       grown = c.in_ok-joined.ensures.spans;
-      told = is ∙ ap (λ (l : List Span). map (ids_of c.args.now.now) l) c.deref.ensures.value;
+      told = is ∙ ap (λ (l : List Span). map (ids_of c.args.paired.now.tracks.now) l) c.deref.ensures.value;
     }) c.join_ids.ensures
