@@ -1,5 +1,6 @@
 use Rattle.std.specs.Prelude.{ℕ, ◌≤◌}
 use Rattle.row_board.specs.Weights.{Weighing}
+use Rattle.limits.specs.declared.TheConstants.{MOST_MOVES, MOST_STAGES}
 
 -- how rows are annealed: the temperature at first, the number of stages, the number of changes of a stage for each instance, and what the cost weighs
 pub record Annealing : Type 0 where
@@ -12,5 +13,5 @@ pub record Annealing : Type 0 where
 pub record IsSchedule (s : Annealing) : Type 0 where
   pub some : 1 ≤ s.temperature
   pub hot : s.temperature ≤ 1000000000
-  pub stages : s.stages ≤ 1000
-  pub moves : s.moves ≤ 1000
+  pub stages : s.stages ≤ MOST_STAGES
+  pub moves : s.moves ≤ MOST_MOVES

@@ -15,11 +15,10 @@ use crate::temperature::Temperature;
 use crate::thresholds::greatest_rise;
 use design_model::Design;
 use geom_core::Items;
+use limits::MOST_CHANGES;
 use row_board::Spans;
 use row_model::Rows;
 use std::alloc::{AllocError, Global};
-
-const MOST_CHANGES: u64 = 50_000_000;
 
 /// How many changes the annealing of a design has: for each stage and instance as many as the schedule has moves. Takes no memory.
 #[tactic(auto, unfolding(crate::specs::Annealed::all_changes))]
@@ -52,8 +51,8 @@ pub fn anneal(
     ensures annealed { IfOk result (λ rows. rows ≡ annealed design.now start schedule.now seed) }
     ensures placed { IfOk result (λ rows. ArePlaced design.now rows) }
     ensures no_dearer { IfOk result (λ rows. cost_of design.now rows schedule.now.weights ≤ cost_of design.now start schedule.now.weights) }
-    ensures much { 50000000 < all_changes design.now schedule.now → result ≡ Err (AnnealFault.TooMuch (all_changes design.now schedule.now)) }
-    ensures few { (n : ℕ) → result ≡ Err (AnnealFault.TooMuch n) → (50000000 < n) × (n ≡ all_changes design.now schedule.now) }
+    ensures much { MOST_CHANGES < all_changes design.now schedule.now → result ≡ Err (AnnealFault.TooMuch (all_changes design.now schedule.now)) }
+    ensures few { (n : ℕ) → result ≡ Err (AnnealFault.TooMuch n) → (MOST_CHANGES < n) × (n ≡ all_changes design.now schedule.now) }
 {
     let count = changes(design, schedule);
     if count > MOST_CHANGES {
@@ -72,7 +71,7 @@ fn annealed(
     seed: u64,
 ) -> Result<Rows, AllocError>
     requires placed { ArePlaced design.now start }
-    requires few { all_changes design.now schedule.now ≤ 50000000 }
+    requires few { all_changes design.now schedule.now ≤ MOST_CHANGES }
     ensures annealed { IfOk result (λ rows. rows ≡ annealed design.now start schedule.now seed) }
     ensures placed { IfOk result (λ rows. ArePlaced design.now rows) }
     ensures no_dearer { IfOk result (λ rows. cost_of design.now rows schedule.now.weights ≤ cost_of design.now start schedule.now.weights) }
@@ -103,7 +102,7 @@ fn copy(alloc: Global, rows: &Rows) -> Result<Rows, AllocError>
 fn run(spans: &mut Spans, design: &Design, schedule: &Schedule, seed: u64)
     requires design { spans.old.design ≡ design.now }
     requires weights { spans.old.weights ≡ schedule.now.weights }
-    requires few { all_changes design.now schedule.now ≤ 50000000 }
+    requires few { all_changes design.now schedule.now ≤ MOST_CHANGES }
     ensures { spans.new ≡ record spans.old { rows = end_of design.now spans.old.rows schedule.now seed } }
 {
     let instances = design.instances.items().len() as u32;
@@ -126,7 +125,7 @@ fn run_stage(
 )
     requires instances { instances ≡ length spans.old.design.instances }
     requires some { 0 < count → 0 < instances }
-    requires few { draws.old.number + count ≤ 50000000 }
+    requires few { draws.old.number + count ≤ MOST_CHANGES }
     ensures rows { spans.new ≡ record spans.old { rows = after_stage spans.old.design spans.old.weights draws.old.seed temperature spans.old.rows draws.old.number count } }
     ensures number { draws.new.number ≡ draws.old.number + count }
     ensures seed { draws.new.seed ≡ draws.old.seed }

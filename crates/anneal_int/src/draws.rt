@@ -4,6 +4,7 @@ ghost use Rattle.anneal_int.specs.Changes.{IsAmong, chance_number, change_number
 ghost use Rattle.anneal_int.specs.Words.{after_words};
 ghost use Rattle.std.specs.Prelude.{◌≡◌, ◌+◌, ◌*◌, ◌<◌};
 
+use limits::MOST_CHANGES;
 use rand_core::utils::NextWord;
 use rand_pcg::Lcg64Xsh32;
 
@@ -49,7 +50,7 @@ impl Draws {
     #[tactic(auto, using(crate::proofs::WordLaws::words), unfolding(crate::specs::Words::word, crate::specs::Changes::change_number))]
     pub fn next(&mut self, instances: u32) -> Drawn
         requires some { 0 < instances }
-        requires few { self.old.number < 50000000 }
+        requires few { self.old.number < MOST_CHANGES }
         ensures change { result.change ≡ change_number self.old.seed instances self.old.number }
         ensures among { IsAmong instances result.change }
         ensures chance { result.chance ≡ chance_number self.old.seed self.old.number }

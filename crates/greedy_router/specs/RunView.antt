@@ -1,5 +1,6 @@
-use Rattle.std.specs.Prelude.{◌≡◌, ◌<◌, ◌≤◌, ◌+◌, ◌^◌, ℕ, Contains, All, length}
+use Rattle.std.specs.Prelude.{◌≡◌, ◌<◌, ◌≤◌, ◌+◌, ◌*◌, ◌^◌, ℕ, Contains, All, length}
 use Rattle.std.specs.List.Sorted.{IsNonDecreasing}
+use Rattle.limits.specs.declared.TheConstants.{MOST_COLUMNS}
 use Rattle.greedy_column.specs.declared.column.Column.{Column}
 use Rattle.greedy_column.specs.Fair.{AllFair}
 use Rattle.greedy_column.specs.Replay.{free_tracks, replay}
@@ -16,7 +17,7 @@ ran_in a = record {
 
 -- the records are fair, lead to the state, and are few enough to be wired
 pub record IsRan (a : Inside) : Type 0 where
-  pub low : a.begun ≤ 16000000
+  pub low : a.begun ≤ 4 * MOST_COLUMNS
   pub fair : AllFair a.surveyed.now.channel.now 0 (a.begun + 1) (free_tracks a.begun) a.columns.items
   pub ascending : All (λ (done : Column). IsNonDecreasing done.ended) a.columns.items
   pub order : a.state.order ≡ replay a.begun a.surveyed.now.channel.now a.columns.items

@@ -8,8 +8,8 @@ ghost use Rattle.left_edge.specs.Columns.{IsConstrained, IsUnconstrained};
 ghost use Rattle.std.specs.Prelude.{◌≡◌, [], IfNone, IfOk, IfSome, ℕ, length, true};
 
 use crate::columns::Columns;
-use crate::limits::{Limits, Start};
 use crate::routing::route_with;
+use crate::run_limits::{Limits, Start};
 use crate::sweep::{By, Routed, Sweep};
 use channel_model::{Channel, Wiring};
 use choose_core::{Chooser, Chooses};

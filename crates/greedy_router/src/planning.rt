@@ -4,8 +4,8 @@ ghost use Rattle.greedy_router.specs.Planning.{better};
 ghost use Rattle.greedy_router.specs.Runs.{routed_of};
 ghost use Rattle.std.specs.Prelude.{◌≡◌, IfOk, false};
 
-use crate::limits::Start;
 use crate::run::Run;
+use crate::run_limits::Start;
 use crate::running::run_columns;
 use crate::surveyed::Surveyed;
 use crate::sweep::Routed;

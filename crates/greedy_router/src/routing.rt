@@ -5,7 +5,7 @@ ghost use Rattle.greedy_router.specs.Answers.{IsChannelRouted, IsWithinLimits};
 ghost use Rattle.greedy_router.specs.Begun.{begun_of};
 ghost use Rattle.std.specs.Prelude.{◌≡◌, IfOk, length};
 
-use crate::limits::{Limits, Start};
+use crate::run_limits::{Limits, Start};
 use crate::running::run_columns;
 use crate::surveyed::Surveyed;
 use crate::sweep::Routed;

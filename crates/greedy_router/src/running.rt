@@ -6,8 +6,8 @@ ghost use Rattle.greedy_router.specs.Runs.{routed_of};
 ghost use Rattle.greedy_router.specs.Sweeps.{Lessens};
 ghost use Rattle.std.specs.Prelude.{◌≡◌, IfOk};
 
-use crate::limits::{Limits, Start};
 use crate::run::Run;
+use crate::run_limits::{Limits, Start};
 use crate::surveyed::Surveyed;
 use choose_core::Chooses;
 use greedy_column::{ColumnState, Track, step_with};

@@ -3,9 +3,10 @@ ghost use Rattle.channel_model.specs.Limits.{most_extra, most_tracks};
 ghost use Rattle.channel_model.specs.Nets.{nets_of};
 ghost use Rattle.greedy_column.specs.Ahead.{IsAhead};
 ghost use Rattle.greedy_router.specs.Begun.{begun_of};
-ghost use Rattle.std.specs.Prelude.{◌≡◌, ◌≤◌, IfOk, length};
+ghost use Rattle.limits.specs.declared.TheConstants.{MOST_COLUMNS};
+ghost use Rattle.std.specs.Prelude.{◌≡◌, ◌+◌, ◌*◌, ◌≤◌, IfOk, length};
 
-use crate::limits::Limits;
+use crate::run_limits::Limits;
 use channel_model::{Channel, cut_density, nets_of};
 use greedy_column::Ahead;
 use std::alloc::{AllocError, Global};
@@ -18,7 +19,7 @@ pub struct Surveyed<'c> {
     pub cut_density: u32,
     pub ahead: Ahead,
     ghost counted: { nets ≡ length (nets_of channel.now) },
-    ghost few: { nets ≤ 8000000 },
+    ghost few: { nets ≤ 2 * MOST_COLUMNS },
     ghost dense: { cut_density ≡ cut_density_of channel.now },
     ghost told: { IsAhead channel.now ahead },
 }
@@ -26,7 +27,7 @@ pub struct Surveyed<'c> {
 // How many nets a channel has.
 fn net_count(alloc: Global, channel: &Channel) -> Result<u32, AllocError>
     ensures count { IfOk result (λ nets. nets ≡ length (nets_of channel.now)) }
-    ensures few { IfOk result (λ nets. nets ≤ 8000000) }
+    ensures few { IfOk result (λ nets. nets ≤ 2 * MOST_COLUMNS) }
 {
     // There are no more pins than 4,000,000 columns have.
     let _ = &channel.top;
@@ -52,7 +53,7 @@ impl<'c> Surveyed<'c> {
     // How many free tracks a sweep of this share begins with.
     pub fn begun(&self, share: u32) -> u32
         ensures begun { result ≡ begun_of share self.now.channel.now }
-        ensures few { result ≤ 16000000 }
+        ensures few { result ≤ 4 * MOST_COLUMNS }
     {
         let most = 2 * self.nets as u64;
         let wanted = self.cut_density as u64 * share as u64 / 100;

@@ -3,7 +3,7 @@ ghost use Rattle.greedy_router.specs.Begun.{begun_of};
 ghost use Rattle.greedy_router.specs.Sweeps.{Lessens};
 ghost use Rattle.std.specs.Prelude.{◌≡◌, IfOk};
 
-use crate::limits::{Limits, Start};
+use crate::run_limits::{Limits, Start};
 use crate::running::run_columns;
 use crate::surveyed::Surveyed;
 use crate::sweep::Swept;

@@ -1,4 +1,5 @@
 use Rattle.std.specs.Prelude.{ℕ, ◌<◌, ◌≤◌, Bool}
+use Rattle.limits.specs.declared.TheConstants.{MOST_PLACED_ROWS}
 
 -- where an instance stands: its row, whether it is mirrored, its place among the seats of the row, and the first of its columns there
 pub record Spot : Type 0 where
@@ -9,5 +10,5 @@ pub record Spot : Type 0 where
 
 -- in one of 514 rows of at most 20,000 cells, each of at most 100,000,000 columns
 pub record IsNear (s : Spot) : Type 0 where
-  pub row : s.row < 514
+  pub row : s.row < MOST_PLACED_ROWS
   pub left : s.left ≤ 2000000000000

@@ -1,6 +1,7 @@
-use Rattle.std.specs.Prelude.{◌≡◌, ℕ, ◌≤◌, List, length, sum}
+use Rattle.std.specs.Prelude.{◌+◌, ◌≡◌, ℕ, ◌≤◌, List, length, sum}
 use Rattle.std.specs.List.{AllByRecursion}
 use Rattle.row_board.specs.declared.summed.Summed.TheInside.{Inside}
+use Rattle.limits.specs.declared.TheConstants.{MOST_PINS}
 
 abbrev pub numbers_in : Inside → List ℕ
 numbers_in a = a.items.items
@@ -9,4 +10,4 @@ numbers_in a = a.items.items
 pub record IsSummed (a : Inside) : Type 0 where
   pub is : a.sum ≡ sum (numbers_in a)
   pub small : AllByRecursion (λ (n : ℕ). n ≤ 2199023255552) (numbers_in a)
-  pub few : length (numbers_in a) ≤ 200001
+  pub few : length (numbers_in a) ≤ MOST_PINS + 1

@@ -1,4 +1,5 @@
 use Rattle.std.specs.Prelude.{ℕ, ◌≤◌}
+use Rattle.limits.specs.declared.TheConstants.{MOST_WEIGHT}
 
 -- what a row of distance and a column of difference from the target cost, each against a column of wire
 pub record Weighing : Type 0 where
@@ -7,5 +8,5 @@ pub record Weighing : Type 0 where
 
 -- each is at most 1,000
 pub record AreFew (w : Weighing) : Type 0 where
-  pub row_cost : w.row_cost ≤ 1000
-  pub length_cost : w.length_cost ≤ 1000
+  pub row_cost : w.row_cost ≤ MOST_WEIGHT
+  pub length_cost : w.length_cost ≤ MOST_WEIGHT

@@ -5,14 +5,15 @@ ghost use Rattle.std.specs.Prelude.{◌≡◌, ◌≤◌, ◌<◌, length, IfOk}
 use crate::seats::row_at;
 use crate::standings::Standing;
 use design_model::Design;
+use limits::{MOST_INSTANCES, MOST_PLACED_ROWS};
 use row_model::{PlacedRows, Seat, columns_of};
 use std::alloc::{AllocError, Global};
 
 // Enters where the instances of a row's seats stand.
 fn enter_row(design: &Design, row: u16, seats: &[Seat], standings: &mut [Standing])
     requires apart { AreApart (length standings.old) seats.now }
-    requires short { length seats.now ≤ 20000 }
-    requires low { row < 514 }
+    requires short { length seats.now ≤ MOST_INSTANCES }
+    requires low { row < MOST_PLACED_ROWS }
     ensures entered { HasEntered design.now row 0 (length seats.now) seats.now standings.new }
     ensures others { KeepsOthers 0 (length seats.now) seats.now standings.old standings.new }
 {

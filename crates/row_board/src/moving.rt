@@ -12,6 +12,7 @@ use crate::net_costs::NetCosts;
 use crate::seats::{put, row_at};
 use crate::standings::Standing;
 use geom_core::Items;
+use limits::{MOST_INSTANCES, MOST_KIND_COLUMNS, MOST_PLACED_ROWS};
 use row_model::{Seat, columns_of};
 
 /// The seats of a row from a place up to another, which a change moves.
@@ -48,7 +49,7 @@ fn left_of(costs: &NetCosts, row: u16, seats: &[Seat], place: usize) -> u64
     requires within { place ≤ length seats.now }
     requires before { (k : ℕ) (s : Placed) → k + 1 ≡ place → slice_get seats.now k ≡ Some s → slice_get costs.now.standings s.instance ≡ Some (standing_at costs.now.design row k seats.now s) }
     ensures is { result ≡ row_width costs.now.design (take place seats.now) }
-    ensures near { result ≤ 100000000 * place }
+    ensures near { result ≤ MOST_KIND_COLUMNS * place }
 {
     if place == 0 {
         return 0;
@@ -61,12 +62,12 @@ fn left_of(costs: &NetCosts, row: u16, seats: &[Seat], place: usize) -> u64
 // Enters where the instances of the seats of a row stand that a change moved, the first of which begins in column `left`.
 fn enter_seats(costs: &mut NetCosts, seats: &[Seat], reach: Reach, left: u64)
     requires apart { AreApart (length costs.old.standings) seats.now }
-    requires short { length seats.now ≤ 20000 }
-    requires low { reach.row < 514 }
+    requires short { length seats.now ≤ MOST_INSTANCES }
+    requires low { reach.row < MOST_PLACED_ROWS }
     requires ordered { reach.from ≤ reach.to }
     requires within { reach.to ≤ length seats.now }
     requires left { left ≡ row_width costs.old.design (take reach.from seats.now) }
-    requires near { left ≤ 100000000 * reach.from }
+    requires near { left ≤ MOST_KIND_COLUMNS * reach.from }
     ensures rest { costs.new ≡ record costs.old { standings = costs.new.standings } }
     ensures count { length costs.new.standings ≡ length costs.old.standings }
     ensures entered { HasEntered costs.old.design reach.row reach.from reach.to seats.now costs.new.standings }

@@ -9,6 +9,7 @@ use crate::standings::Standing;
 use crate::summed::Summed;
 use crate::weights::Weights;
 use design_model::Design;
+use limits::MOST_PINS;
 use row_model::Seat;
 use std::alloc::{AllocError, Global};
 use std::marker::Model;
@@ -130,7 +131,7 @@ impl<'d> NetCosts<'d> {
     /// The sum of what the nets cost. Takes no memory.
     pub fn sum(&self) -> u64
         ensures is { result ≡ sum (table_costs self.now.design self.now.weights self.now.standings) }
-        ensures small { result ≤ 2199023255552 * 200001 }
+        ensures small { result ≤ 2199023255552 * (MOST_PINS + 1) }
     {
         self.costs.sum()
     }

@@ -14,6 +14,7 @@ ghost use Rattle.std.specs.Prelude.{◌≡◌, ◌<◌, ◌≤◌, IfOk};
 use crate::standings::Standing;
 use crate::weights::Weights;
 use design_model::{Design, Pin};
+use limits::MOST_PLACED_ROWS;
 use list_facts::Lists;
 use row_model::{ColumnTables, columns_of, turned_column};
 use std::alloc::{AllocError, Global};
@@ -98,7 +99,7 @@ fn place_of(standings: &[Standing], pin: NetPin) -> (u64, u64)
     ensures column { result.0 ≡ pin_column standings.now pin }
     ensures row { result.1 ≡ pin_row standings.now pin }
     ensures far { result.0 ≤ 2004294967295 }
-    ensures high { result.1 < 514 }
+    ensures high { result.1 < MOST_PLACED_ROWS }
 {
     let standing = standing_of(standings, pin.instance);
     let offset = offset_in(pin, standing.mirror);

@@ -4,6 +4,7 @@ ghost use Rattle.std.specs.Prelude.{◌≡◌, ◌≤◌, length};
 
 use crate::summed::Summed;
 use design_model::Design;
+use limits::{MOST_INSTANCES, MOST_KIND_COLUMNS, MOST_PLACED_ROWS};
 use row_model::{PlacedRows, Seat, all_columns, columns_of};
 use std::alloc::{AllocError, Global};
 use std::marker::Model;
@@ -37,7 +38,7 @@ pub fn difference(a: u64, b: u64) -> u64
 
 // The width of seats side by side.
 fn row_width(design: &Design, seats: &[Seat]) -> u64
-    requires { length seats.now ≤ 20000 }
+    requires { length seats.now ≤ MOST_INSTANCES }
     ensures is { result ≡ row_width design.now seats.now }
     ensures few { result ≤ 2000000000000 }
 {
@@ -84,7 +85,7 @@ impl RowLengths {
     /// A row gets so many columns more, and then so many fewer, where there is this row. Takes no memory.
     pub fn change(&mut self, row: u16, more: u32, fewer: u32)
         requires small { (width : ℕ) → slice_get self.old.widths row ≡ Some width → width ≤ 2000100000000 }
-        requires more { more ≤ 100000000 }
+        requires more { more ≤ MOST_KIND_COLUMNS }
         ensures widths { (r : ℕ) → slice_get self.new.widths r ≡ option_map (λ (width : ℕ). if r == row then width + more - fewer else width) (slice_get self.old.widths r) }
         ensures target { self.new.target ≡ self.old.target }
     {
@@ -99,7 +100,7 @@ impl RowLengths {
     /// By how many columns all rows miss the target. Takes no memory.
     pub fn unevenness(&self) -> u64
         ensures is { result ≡ sum (misses_of self.now) }
-        ensures small { result ≤ 2199023255552 * 514 }
+        ensures small { result ≤ 2199023255552 * MOST_PLACED_ROWS }
     {
         self.misses.sum()
     }

@@ -1,3 +1,4 @@
+use limits::MOST_PINS;
 use std::alloc::{AllocError, Global};
 use std::marker::Model;
 
@@ -21,7 +22,7 @@ impl Model for Summed {
 }
 
 impl Summed {
-    ghost use Rattle.std.specs.Prelude.{◌≡◌, ◌≤◌, ◌<◌, ◌*◌, ◌++◌, ◌∷◌, [], length, slice_set, sum, OnErr, OnOk};
+    ghost use Rattle.std.specs.Prelude.{◌≡◌, ◌≤◌, ◌<◌, ◌+◌, ◌*◌, ◌++◌, ◌∷◌, [], length, slice_set, sum, OnErr, OnOk};
 
     /// No numbers. Takes no memory.
     pub fn new(alloc: Global) -> Summed
@@ -36,7 +37,7 @@ impl Summed {
     /// Puts a number behind the others. The one error is want of memory.
     pub fn push(&mut self, number: u64) -> Result<(), AllocError>
         requires small { number ≤ 2199023255552 }
-        requires few { length self.old < 200001 }
+        requires few { length self.old < MOST_PINS + 1 }
         ensures put { OnOk result (self.new ≡ self.old ++ number ∷ []) }
         ensures kept { OnErr result (self.new ≡ self.old) }
     {
@@ -61,7 +62,7 @@ impl Summed {
     pub fn sum(&self) -> u64
         ensures is { result ≡ sum self.now }
         ensures small { result ≤ 2199023255552 * length self.now }
-        ensures few { length self.now ≤ 200001 }
+        ensures few { length self.now ≤ MOST_PINS + 1 }
     {
         self.sum
     }

@@ -1,6 +1,7 @@
 use crate::rows::{Rows, Seat};
 use design_model::Design;
 use geom_core::Items;
+use limits::MOST_PLACED_ROWS;
 use std::marker::Model;
 
 /// Rows of a design that hold each of its instances once, which every value keeps. Contracts see the design and the rows.
@@ -52,7 +53,7 @@ impl<'r> PlacedRows<'r> {
         ensures is { result.now ≡ self.now.rows }
         ensures placed { ArePlaced self.now.design self.now.rows }
         ensures some { 0 < length self.now.rows }
-        ensures few { length self.now.rows ≤ 514 }
+        ensures few { length self.now.rows ≤ MOST_PLACED_ROWS }
         ensures short { AreShort self.now.rows }
     {
         let rows = self.rows;

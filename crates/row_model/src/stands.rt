@@ -8,6 +8,7 @@ use crate::placed::PlacedRows;
 use crate::rows::Seat;
 use crate::widths::columns_of;
 use design_model::Design;
+use limits::MOST_INSTANCES;
 use std::alloc::{AllocError, Global};
 use std::marker::Model;
 
@@ -35,7 +36,7 @@ impl Model for Stand {
 
 // Where an instance stands among the seats of the row with this number, if it is one of them.
 fn stand_in(design: &Design, row: u16, seats: &[Seat], instance: u32) -> Option<Stand>
-    requires { length seats.now ≤ 20000 }
+    requires { length seats.now ≤ MOST_INSTANCES }
     ensures { result ≡ stand_in design.now row 0 seats.now instance }
 {
     let mut left = 0;
@@ -90,7 +91,7 @@ pub fn stands_of(alloc: Global, placed: &PlacedRows) -> Result<Vec<Option<Stand>
 
 // Enters where the instances of a row stand that have not been entered.
 fn enter_row(design: &Design, row: u16, seats: &[Seat], stands: &mut [Option<Stand>])
-    requires { length seats.now ≤ 20000 }
+    requires { length seats.now ≤ MOST_INSTANCES }
     ensures { (i : ℕ) → slice_get stands.new i ≡ option_map (λ (s : Option Placed). or_else s (stand_in design.now row 0 seats.now i)) (slice_get stands.old i) }
 {
     let mut left = 0;

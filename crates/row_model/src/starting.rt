@@ -6,6 +6,7 @@ use crate::rows::{Rows, Seat};
 use crate::widths::{all_columns, columns_of};
 use design_model::Design;
 use geom_core::Items;
+use limits::{MOST_HEIGHT, MOST_INSTANCES};
 use std::alloc::{AllocError, Global};
 use std::marker::Model;
 use tech_rules::{Rules, StartBy};
@@ -25,7 +26,7 @@ pub fn default_rows(design: &Design, rules: &Rules) -> u32
 // The least number from `first` on, among `more` further ones, of rows whose square has this area, or the last of them.
 fn least_rows(area: u64, height: u32, more: u32, first: u32) -> u32
     requires few { first + more ≤ 512 }
-    requires low { height ≤ 200000000 }
+    requires low { height ≤ MOST_HEIGHT }
     ensures is { result ≡ least_rows area height more first }
     ensures from { first ≤ result }
     ensures to { result ≤ first + more }
@@ -129,7 +130,7 @@ fn counted_row(
     rows: RowCount,
     row: u32,
 ) -> Result<Items<Seat>, AllocError>
-    requires few { count ≤ 20000 }
+    requires few { count ≤ MOST_INSTANCES }
     requires within { row < rows }
     ensures { IfOk result (λ seats. seats ≡ counted_row count rows row) }
 {
@@ -165,7 +166,7 @@ fn rows_from(
 
 // How many of so many instances from `first` on a row takes.
 fn taken(design: &Design, target: u64, first: u32, count: u32) -> u32
-    requires { first + count ≤ 20000 }
+    requires { first + count ≤ MOST_INSTANCES }
     ensures is { result ≡ taken design.now target first count }
     ensures few { result ≤ count }
 {
@@ -181,7 +182,7 @@ fn taken(design: &Design, target: u64, first: u32, count: u32) -> u32
 
 // The seats of so many instances from `first` on, upright.
 fn seats(alloc: Global, first: u32, count: u32) -> Result<Vec<Seat>, AllocError>
-    requires { first + count ≤ 20000 }
+    requires { first + count ≤ MOST_INSTANCES }
     ensures { IfOk result (λ seats. seats.items ≡ seats_from first count) }
 {
     let mut seats = Vec::new(alloc);

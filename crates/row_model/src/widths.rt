@@ -3,6 +3,7 @@ ghost use Rattle.std.specs.Option.{option_map};
 ghost use Rattle.std.specs.Prelude.{◌≡◌, ◌≤◌};
 
 use design_model::{CellKind, Design};
+use limits::MOST_KIND_COLUMNS;
 
 /// The kind of the instance with this number, if there is one. Takes no memory.
 pub fn kind_of<'d>(design: &'d Design, instance: u32) -> Option<&'d CellKind>
@@ -15,7 +16,7 @@ pub fn kind_of<'d>(design: &'d Design, instance: u32) -> Option<&'d CellKind>
 /// The width of the instance with this number in columns, 1 to 100,000,000; 0 where there is none. Takes no memory.
 pub fn columns_of(design: &Design, instance: u32) -> u32
     ensures width { result ≡ columns_of design.now instance }
-    ensures few { result ≤ 100000000 }
+    ensures few { result ≤ MOST_KIND_COLUMNS }
 {
     // The bounds of the design's type are known once a field is read.
     let _instances = &design.instances;
