@@ -3,12 +3,13 @@
 ghost use Rattle.choose_core.specs.Answers.{IsAsked};
 ghost use Rattle.std.specs.Prelude.{◌<◌, length, ℕ};
 
-use choose_core::{Candidate, Choice, Chooser, Manner, Plan, Style, high, lean, near};
+use choose_core::{Candidate, Choice, Chooser, Manner, Plan, Style};
 use commands::{Ended, Word, run};
 use geom_core::Name;
 use samples::{INVERTER, RULES, design_text};
 use shelf_io::{MemShelf, MemSink};
 use std::alloc::{AllocError, Global};
+use stock_styles::Stock;
 
 /// The layout of one inverter.
 pub const ONE_INVERTER: &str =
@@ -76,57 +77,32 @@ pub fn inverter_shelf(alloc: Global) -> Result<MemShelf, AllocError> {
     shelf_of(alloc, RULES, INVERTER, "u1 INV n1;\n")
 }
 
-/// The style of one sweep as it was published, without free tracks to begin with.
-pub fn published(alloc: Global, chooser: Chooser) -> Style {
-    Style {
-        chooser,
-        plan: Plan::of_one(alloc, Manner::Published, 0),
-    }
-}
-
-/// That style of a choice, under a name.
+/// The style of a choice under a name, with one sweep as it was published, without free tracks to begin with.
 pub fn named_style(alloc: Global, name: &str, choice: Choice) -> Result<Style, AllocError>
     requires callable { (list : _) → IsAsked list.now → Choice.pre choice list }
     requires within { (list : _) (answer : ℕ) → IsAsked list.now → Choice.post choice list answer → answer < length list.now }
 {
     let name = name.as_bytes().to_vec(alloc)?;
-    Ok(published(alloc, Chooser::new(Name::new(name), choice)))
+    Ok(Style {
+        chooser: Chooser::new(Name::new(name), choice),
+        plan: Plan::of_one(alloc, Manner::Published, 0),
+    })
 }
 
-/// The style `near`.
-fn near_style(alloc: Global) -> Result<Style, AllocError> {
+/// A style in stock.
+fn stock_style(alloc: Global, stock: Stock) -> Result<Style, AllocError> {
     let choice: Choice = Box::new(
         alloc,
-        |list: &[Candidate]| -> usize
+        move |list: &[Candidate]| -> usize
             requires { IsAsked list.now }
             ensures { result < length list.entry.now }
-        { near(list) },
+        { stock.choose(list) },
     )?;
-    named_style(alloc, "near", choice)
-}
-
-/// The style `lean`.
-fn lean_style(alloc: Global) -> Result<Style, AllocError> {
-    let choice: Choice = Box::new(
-        alloc,
-        |list: &[Candidate]| -> usize
-            requires { IsAsked list.now }
-            ensures { result < length list.entry.now }
-        { lean(list) },
-    )?;
-    named_style(alloc, "lean", choice)
-}
-
-/// The style `high`.
-fn high_style(alloc: Global) -> Result<Style, AllocError> {
-    let choice: Choice = Box::new(
-        alloc,
-        |list: &[Candidate]| -> usize
-            requires { IsAsked list.now }
-            ensures { result < length list.entry.now }
-        { high(list) },
-    )?;
-    named_style(alloc, "high", choice)
+    let name = Name::new(stock.name().to_vec(alloc)?);
+    Ok(Style {
+        chooser: Chooser::new(name, choice),
+        plan: stock.plan(alloc)?,
+    })
 }
 
 /// How these words end over this shelf and this sink, with the styles `near`, `lean` and `high`.
@@ -137,9 +113,9 @@ pub fn ended(
     out: &mut MemSink,
 ) -> Result<Ended, AllocError> {
     let words = words(alloc, text)?;
-    let near = near_style(alloc)?;
-    let lean = lean_style(alloc)?;
-    let high = high_style(alloc)?;
+    let near = stock_style(alloc, Stock::Near)?;
+    let lean = stock_style(alloc, Stock::Lean)?;
+    let high = stock_style(alloc, Stock::High)?;
     Ok(run(alloc, words.as_slice(), shelf, out, &[near, lean, high]))
 }
 
