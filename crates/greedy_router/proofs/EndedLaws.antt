@@ -6,11 +6,11 @@ use Rattle.greedy_column.specs.declared.column.Track.{Track}
 use Rattle.greedy_column.specs.declared.column.Column.{Column}
 use Rattle.greedy_column.specs.Tracks.{ids}
 use Rattle.greedy_router.specs.Answers.{IsChannelRouted, IsFinished, IsOver}
-use Rattle.greedy_router.specs.Running.{is_past, is_going, IsRun}
+use Rattle.greedy_router.specs.Running.{is_past, is_going}
 use Rattle.greedy_router.specs.Runs.{routed_of}
 use Rattle.greedy_router.specs.Sweeps.{Lessens}
 use Rattle.greedy_router.specs.SweepWiring.{wiring_of}
-use Rattle.greedy_router.proofs.GoingLaws.{run-sweep, run-past, run-done, past-not_done}
+use Rattle.greedy_router.proofs.GoingLaws.{IsRun, run-sweep, run-past, run-done, past-not_done}
 use Rattle.greedy_router.proofs.FewerLaws.{sweep-lessens}
 use Rattle.greedy_router.proofs.FewLaws.{tracks-few, columns-few}
 use Rattle.greedy_router.proofs.WiredLaws.{sweep-wired}

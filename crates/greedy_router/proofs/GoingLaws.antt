@@ -10,17 +10,30 @@ use Rattle.greedy_column.specs.declared.column.Track.{Track}
 use Rattle.greedy_column.specs.declared.column.Column.{Column}
 use Rattle.greedy_column.specs.Tracks.{ids}
 use Rattle.greedy_column.specs.Replay.{after, free_tracks, replay}
-use Rattle.greedy_column.specs.Fair.{Fair}
+use Rattle.greedy_column.specs.Fair.{AllFair, Fair}
 use Rattle.greedy_column.specs.Follows.{Follows}
 use Rattle.greedy_column.specs.State.{AreNumbered}
 use Rattle.greedy_column.proofs.StateLaws.{IsState-first}
 use Rattle.greedy_column.specs.Held.{IsHeld}
 use Rattle.greedy_router.specs.Moments.{tracks_after}
-use Rattle.greedy_router.specs.Sweeps.{AllFollow, IsSweep, IsPast, IsDone}
-use Rattle.greedy_router.specs.Running.{is_past, is_going, IsRun}
+use Rattle.greedy_router.specs.Sweeps.{AllFollow, IsSweep, IsPast, IsPastAt, IsDone}
+use Rattle.greedy_router.specs.Running.{is_past, is_going}
 use Rattle.greedy_router.specs.declared.sweep.Sweep.{Sweep}
 use Rattle.greedy_router.proofs.CountLaws.{fresh_after}
 use Rattle.greedy_router.proofs.SweepLaws.{replay_from-push, AllFair-push, AllFollow-push, tracks_after-push, tracks_after-all, past-is, past-not, going-open, going-held, stopped-parts}
+
+-- the records of a sweep of a channel in a manner, which began with so many free tracks and was not past its limits before the last of them,
+-- and the tracks after it
+pub record IsRun (manner : Manner) (begun : ℕ) (may : List Candidate → ℕ → Type 0) (pins : Pins) (most extra : ℕ) (columns : List Column) (fresh : ℕ)
+    (tracks : List Track) : Type 0 where
+  pub channel : IsChannel pins
+  pub fair : AllFair pins 0 (begun + 1) (free_tracks begun) columns
+  pub follows : AllFollow manner may pins 0 (begun + 1) (free_tracks begun) columns
+  pub order : tracks ≡ replay begun pins columns
+  pub numbered : AreNumbered fresh tracks
+  pub within : (n : ℕ) → n < length columns → IsPastAt begun pins most extra columns n → ⊥
+  pub needed : (n : ℕ) → length pins.top ≤ n → n < length columns → IsHeld (tracks_after begun pins columns n)
+  pub few : length columns ≤ length pins.top + extra
 
 -- past the limits at a moment, by its tracks
 abbrev PastBy : Pins → ℕ → ℕ → ℕ → List Track → Type 0

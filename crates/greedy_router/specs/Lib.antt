@@ -10,7 +10,7 @@ pub mod SweepWiring
 pub mod Answers
 -- the same wiring, from tables by ids
 pub mod Tables
--- the records of a sweep that goes on
+-- whether a sweep goes on
 pub mod Running
 -- a sweep that was made, and how the channel is routed by it
 pub mod Runs

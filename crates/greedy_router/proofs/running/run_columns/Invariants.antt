@@ -1,7 +1,7 @@
 use Rattle.std.proofs.Common.{◌≡◌, ◌+◌, ◌-◌, length}
 use Rattle.greedy_column.specs.State.{IsState}
-use Rattle.greedy_router.specs.Running.{IsRun}
 use Rattle.greedy_router.proofs.CountLaws.{fresh_after}
+use Rattle.greedy_router.proofs.GoingLaws.{IsRun}
 use Rattle.greedy_router.proofs.running.run_columns.Given as goal
 
 abbrev pub invariant-columns : goal.invariant-columns
