@@ -1,4 +1,4 @@
-use Rattle.std.proofs.Common.{◌≡◌, List, ℕ, length}
+use Rattle.std.proofs.Common.{List, length}
 use Rattle.std.specs.List.{All, AllByRecursion}
 use Rattle.channel_model.specs.Elements.{elements}
 use Rattle.channel_model.specs.Wired.{IsOnGrid}

@@ -1,4 +1,4 @@
-use Rattle.std.proofs.Common.{◌≡◌, List, ℕ, length, None}
+use Rattle.std.proofs.Common.{◌≡◌, length, None}
 use Rattle.cif_text.specs.Printing.{text_of}
 use Rattle.cif_text.specs.Written.{items_commands}
 use Rattle.cif_writer.specs.Symbols.{copies_of}

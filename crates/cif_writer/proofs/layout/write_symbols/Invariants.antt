@@ -1,4 +1,4 @@
-use Rattle.std.proofs.Common.{◌≡◌, ◌+◌, List, ℕ, length, None}
+use Rattle.std.proofs.Common.{◌≡◌, ◌+◌, List, length, None}
 use Rattle.std.specs.List.{AllByRecursion}
 use Rattle.cif_text.specs.Printing.{text_of}
 use Rattle.cif_text.specs.Written.{symbols_commands}

@@ -1,4 +1,4 @@
-use Rattle.std.proofs.Common.{◌≡◌, List, ℕ, drop}
+use Rattle.std.proofs.Common.{◌≡◌, drop}
 use Rattle.cif_text.specs.Printing.{text_of}
 use Rattle.cif_text.specs.Written.{items_commands, layer_after}
 use Rattle.wire_geom.specs.Drawing.{drawing}
