@@ -11,9 +11,13 @@ use Rattle.cif_text.specs.declared.command.Command.TheVariants as commands
 use Rattle.cif_writer.specs.LayoutText.{text_behind}
 use Rattle.cif_writer.proofs.Lines.{text-last}
 use Rattle.cif_writer.specs.Symbols.{copies_of, copy_name, copy_number, items_of, kind_name, symbols_with, wires_of}
+use Rattle.channel_model.specs.declared.wiring.Wiring.{Wiring}
+use Rattle.channel_stack.specs.Stack.{drawings}
 use Rattle.channel_stack.specs.declared.placed.PlacedItem.{PlacedItem}
 use Rattle.design_model.specs.Netlist.{Netlist}
 use Rattle.geom_core.specs.declared.layout.Shape.{Shape}
+use Rattle.tech_rules.specs.Rules.{RuleValues}
+use Rattle.wire_geom.specs.Drawing.{drawing}
 use Rattle.wire_geom.specs.declared.drawn.Drawn as wires
 
 -- what is left of a list from a place on: the element there, and what is left behind it
@@ -61,7 +65,7 @@ symbols-parts d n shapes rest =
     (sym (add-one (n + 1))) (sym (add-one n))
 
 -- the text of channels and rows: that of the first channel, and that of the first row and of what stands above it
-pub main-parts : (d : Netlist) (last : Option (List ℕ)) (drawn : List wires.Drawn) (above : List (List wires.Drawn)) (row : List PlacedItem)
+main-parts : (d : Netlist) (last : Option (List ℕ)) (drawn : List wires.Drawn) (above : List (List wires.Drawn)) (row : List PlacedItem)
     (higher : List (List PlacedItem))
     → text_of (items_commands last (items_of d (drawn ∷ above) (row ∷ higher)))
     ≡ text_of (items_commands last (wires_of drawn))
@@ -79,7 +83,7 @@ main-parts d last drawn above row higher =
     (ap text_of behind ∙ text_of-append (items_commands None (copies_of d row)) (items_commands layer (items_of d above higher)))
 
 -- the text of a channel and of what stands above it
-pub main-first : (d : Netlist) (last : Option (List ℕ)) (drawn : List wires.Drawn) (above : List (List wires.Drawn)) (rows : List (List PlacedItem))
+main-first : (d : Netlist) (last : Option (List ℕ)) (drawn : List wires.Drawn) (above : List (List wires.Drawn)) (rows : List (List PlacedItem))
     → (rest : List ℕ) × (text_of (items_commands last (items_of d (drawn ∷ above) rows)) ≡ text_of (items_commands last (wires_of drawn)) ++ rest)
 main-first d last drawn above [] = ([], sym (append-nil (text_of (items_commands last (wires_of drawn)))))
 main-first d last drawn above (row ∷ higher) = (
@@ -88,10 +92,42 @@ main-first d last drawn above (row ∷ higher) = (
 )
 
 -- above the last row is one channel
-pub main-last : (d : Netlist) (last : Option (List ℕ)) (drawn : List wires.Drawn) (above : List (List wires.Drawn)) (rows : List (List PlacedItem))
+main-last : (d : Netlist) (last : Option (List ℕ)) (drawn : List wires.Drawn) (above : List (List wires.Drawn)) (rows : List (List PlacedItem))
     → length rows ≡ 0 → text_of (items_commands last (items_of d (drawn ∷ above) rows)) ≡ text_of (items_commands last (wires_of drawn)) ++ []
 main-last d last drawn above [] none = sym (append-nil (text_of (items_commands last (wires_of drawn))))
 main-last d last drawn above (row ∷ higher) none = absurd (omega (arith, none))
+
+-- the text of what is left of channels and rows where a first channel and its base are found
+main-drawn : (d : Netlist) (r : RuleValues) (last : Option (List ℕ)) (rows : List (List PlacedItem)) {ws : List Wiring} {w : Wiring} {above : List Wiring}
+    {bs : List ℕ} {b : ℕ} {others : List ℕ} → ws ≡ w ∷ above → bs ≡ b ∷ others
+    → text_of (items_commands last (items_of d (drawings r ws bs) rows)) ≡ text_of (items_commands last (items_of d (drawing r b w ∷ drawings r above others) rows))
+main-drawn d r last rows channels edges =
+    ap₂ (λ (l : List Wiring) (k : List ℕ). text_of (items_commands last (items_of d (drawings r l k) rows))) channels edges
+
+-- that of the channel, and what follows
+pub main-channel : (d : Netlist) (r : RuleValues) (last : Option (List ℕ)) (rows : List (List PlacedItem)) {ws : List Wiring} {w : Wiring} {above : List Wiring}
+    {bs : List ℕ} {b : ℕ} {others : List ℕ} → ws ≡ w ∷ above → bs ≡ b ∷ others
+    → (rest : List ℕ) × (text_of (items_commands last (items_of d (drawings r ws bs) rows)) ≡ text_of (items_commands last (wires_of (drawing r b w))) ++ rest)
+main-channel d r last rows {w = w} {above = above} {b = b} {others = others} channels edges =
+    let first = main-first d last (drawing r b w) (drawings r above others) rows in
+    (first.0, main-drawn d r last rows channels edges ∙ first.1)
+
+-- that of the channel alone, above the last row
+pub main-top : (d : Netlist) (r : RuleValues) (last : Option (List ℕ)) (rows : List (List PlacedItem)) {ws : List Wiring} {w : Wiring} {above : List Wiring}
+    {bs : List ℕ} {b : ℕ} {others : List ℕ} → ws ≡ w ∷ above → bs ≡ b ∷ others → length rows ≡ 0
+    → text_of (items_commands last (items_of d (drawings r ws bs) rows)) ≡ text_of (items_commands last (wires_of (drawing r b w))) ++ []
+main-top d r last rows {w = w} {above = above} {b = b} {others = others} channels edges none =
+    main-drawn d r last rows channels edges ∙ main-last d last (drawing r b w) (drawings r above others) rows none
+
+-- that of the channel, of the row above it, and of what stands above the row
+pub main-level : (d : Netlist) (r : RuleValues) (last : Option (List ℕ)) {rows : List (List PlacedItem)} {row : List PlacedItem} {higher : List (List PlacedItem)}
+    {ws : List Wiring} {w : Wiring} {above : List Wiring} {bs : List ℕ} {b : ℕ} {others : List ℕ} → ws ≡ w ∷ above → bs ≡ b ∷ others → rows ≡ row ∷ higher
+    → text_of (items_commands last (items_of d (drawings r ws bs) rows)) ≡ text_of (items_commands last (wires_of (drawing r b w)))
+    ++ (text_of (items_commands None (copies_of d row)) ++ text_of (items_commands (layer_after last (wires_of (drawing r b w))) (items_of d (drawings r above others) higher)))
+main-level d r last {rows = rows} {row = row} {higher = higher} {w = w} {above = above} {b = b} {others = others} channels edges is =
+    main-drawn d r last rows channels edges
+    ∙ ap (λ (l : List (List PlacedItem)). text_of (items_commands last (items_of d (drawing r b w ∷ drawings r above others) l))) is
+    ∙ main-parts d last (drawing r b w) (drawings r above others) row higher
 
 -- the whole text: its first line, and what stands behind it
 pub layout-text : (symbols : List WrittenSymbol) (items : List MainItem)

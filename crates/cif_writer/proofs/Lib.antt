@@ -1,5 +1,7 @@
 -- bytes that go behind those that were buffered
 pub mod AppendsLaws
+-- texts written one behind another
+pub mod WroteLaws
 -- the text of commands, one part after another
 pub mod Lines
 -- drawings lie within reach

@@ -1,11 +1,9 @@
 use Rattle.std.proofs.Common.{◌≡◌, ℕ, ◌+◌, ◌-◌, ◌*◌, ◌<◌, ◌≤◌, List, [], ◌∷◌, length, map, Bool, true, false, refl, add-mul, arith}
 use Rattle.std.proofs.Math.Nat.{mul-le-mul, mul-le-mul_right}
 use Rattle.std.proofs.lemmas.Bool.Decides.{nat_tests}
-use Rattle.std.proofs.lemmas.Int.{ints}
 use Rattle.std.proofs.lemmas.List.Elements.{recursion_from_All}
 use Rattle.std.specs.List.{AllByRecursion, list_all}
-use Rattle.std.specs.Prelude.{pos, nat_le}
-use Rattle.geom_core.specs.Reach.{IsInReach, IsShapeInReach}
+use Rattle.std.specs.Prelude.{nat_le}
 use Rattle.tech_rules.specs.Rules.{RuleValues, ValidRules, pad}
 use Rattle.geom_core.specs.Names.{IsName, is_name_byte}
 use Rattle.design_model.specs.Drawing.{outline_shape, position_shape, middle_of, pin_low, pin_high}

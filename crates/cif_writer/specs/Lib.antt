@@ -1,5 +1,7 @@
 -- bytes that go behind those that were buffered
 pub mod Appends
+-- a text that is written behind what is buffered, or not to its end
+pub mod Wrote
 pub mod BufferView
 -- a text that is begun
 pub mod Begun

@@ -9,18 +9,18 @@ ghost use Rattle.channel_stack.specs.Stack.{drawings, laid_of, stack_of};
 ghost use Rattle.cif_text.specs.Printing.{text_of};
 ghost use Rattle.cif_text.specs.ReadsAs.{ReadsAs};
 ghost use Rattle.cif_text.specs.Written.{items_commands, layer_after, layout_commands, symbols_commands};
-ghost use Rattle.cif_writer.specs.Appends.{Appends};
 ghost use Rattle.cif_writer.specs.LayoutText.{HoldsFront, placed_text, text_behind};
 ghost use Rattle.cif_writer.specs.Symbols.{copies_of, copy_name, copy_number, items_of, kind_name, symbol_drawings, symbols_with, wires_of};
+ghost use Rattle.cif_writer.specs.Wrote.{Ended, Stopped, Wrote};
 ghost use Rattle.cif_writer.specs.declared.writer.StartFault.TheVariants as faults;
 ghost use Rattle.design_model.specs.Room.{HasRoom};
 ghost use Rattle.feed_cells.specs.Fed.{IsFed};
 ghost use Rattle.geom_core.specs.Reach.{IsShapeInReach};
 ghost use Rattle.geom_core.specs.declared.layout.Shape.{Shape};
 ghost use Rattle.shelf_io.specs.Count.{Rose};
-ghost use Rattle.shelf_io.specs.Told.{EndsWithin, Refines, appended};
+ghost use Rattle.shelf_io.specs.Told.{Refines};
 ghost use Rattle.std.specs.List.{All, AllByRecursion};
-ghost use Rattle.std.specs.Prelude.{◌≡◌, ◌≢◌, ◌∷◌, ◌++◌, [], List, ℕ, None, Some, option_map, IfOk, OnOk, OnErr};
+ghost use Rattle.std.specs.Prelude.{◌≡◌, ◌≢◌, List, ℕ, None, Some, option_map, IfOk, OnOk, OnErr};
 ghost use Rattle.std.specs.Result.{IsErrOf};
 ghost use Rattle.tech_rules.specs.Rules.{ValidRules};
 ghost use Rattle.wire_geom.specs.Drawing.{drawing};
@@ -57,13 +57,9 @@ fn write_symbols<S: Shelf>(
 ) -> Result<Writer, Failed>
     requires reach { AllByRecursion (λ (shapes : List Shape). AllByRecursion IsShapeInReach shapes) drawings.now }
     requires begun { writer.last ≡ None }
-    ensures appends { IfOk result (λ next. Appends (text_of (symbols_commands 1 (symbols_with design.now 0 drawings.now))) writer.buffered next.buffered (S.holds shelf.old file.now) (S.holds shelf.new file.now)) }
+    ensures wrote { IfOk result (λ next. Wrote (text_of (symbols_commands 1 (symbols_with design.now 0 drawings.now))) writer.buffered next.buffered file.now (S.holds shelf.old) (S.holds shelf.new) (S.read_faults shelf.old) (S.read_faults shelf.new) (S.write_faults shelf.old) (S.write_faults shelf.new)) }
     ensures layer { IfOk result (λ next. next.last ≡ None) }
-    ensures front { OnErr result (EndsWithin (S.holds shelf.old file.now) (writer.buffered ++ (text_of (symbols_commands 1 (symbols_with design.now 0 drawings.now)))) (S.holds shelf.new file.now)) }
-    ensures others { (other : List ℕ) → other ≢ file.now → S.holds shelf.new other ≡ S.holds shelf.old other }
-    ensures reads { S.read_faults shelf.new ≡ S.read_faults shelf.old }
-    ensures quiet { OnOk result (S.write_faults shelf.new ≡ S.write_faults shelf.old) }
-    ensures cause { OnErr result (Rose (S.write_faults shelf.old file.now) (S.write_faults shelf.new file.now)) }
+    ensures stopped { OnErr result (Stopped (text_of (symbols_commands 1 (symbols_with design.now 0 drawings.now))) writer.buffered file.now (S.holds shelf.old) (S.holds shelf.new) (S.read_faults shelf.old) (S.read_faults shelf.new) (S.write_faults shelf.old file.now) (S.write_faults shelf.new file.now)) }
 {
     let mut writer = writer;
     let mut number = 0;
@@ -88,13 +84,9 @@ fn write_wires<S: Shelf>(
 ) -> Result<Writer, Failed>
     requires on_grid { All (IsOnGrid wiring.now.columns wiring.now.tracks) (elements wiring.now) }
     requires reach { AllByRecursion (λ (a : Drawn). IsShapeInReach a.shape) (drawing rules.now base wiring.now) }
-    ensures appends { IfOk result (λ next. Appends (text_of (items_commands writer.last (wires_of (drawing rules.now base wiring.now)))) writer.buffered next.buffered (S.holds shelf.old file.now) (S.holds shelf.new file.now)) }
+    ensures wrote { IfOk result (λ next. Wrote (text_of (items_commands writer.last (wires_of (drawing rules.now base wiring.now)))) writer.buffered next.buffered file.now (S.holds shelf.old) (S.holds shelf.new) (S.read_faults shelf.old) (S.read_faults shelf.new) (S.write_faults shelf.old) (S.write_faults shelf.new)) }
     ensures layer { IfOk result (λ next. next.last ≡ layer_after writer.last (wires_of (drawing rules.now base wiring.now))) }
-    ensures front { OnErr result (EndsWithin (S.holds shelf.old file.now) (writer.buffered ++ (text_of (items_commands writer.last (wires_of (drawing rules.now base wiring.now))))) (S.holds shelf.new file.now)) }
-    ensures others { (other : List ℕ) → other ≢ file.now → S.holds shelf.new other ≡ S.holds shelf.old other }
-    ensures reads { S.read_faults shelf.new ≡ S.read_faults shelf.old }
-    ensures quiet { OnOk result (S.write_faults shelf.new ≡ S.write_faults shelf.old) }
-    ensures cause { OnErr result (Rose (S.write_faults shelf.old file.now) (S.write_faults shelf.new file.now)) }
+    ensures stopped { OnErr result (Stopped (text_of (items_commands writer.last (wires_of (drawing rules.now base wiring.now)))) writer.buffered file.now (S.holds shelf.old) (S.holds shelf.new) (S.read_faults shelf.old) (S.read_faults shelf.new) (S.write_faults shelf.old file.now) (S.write_faults shelf.new file.now)) }
 {
     let mut writer = writer;
     for k in 0..shapes(wiring) {
@@ -138,13 +130,9 @@ fn write_row<S: Shelf>(
     design: &Design,
     row: &[PlacedItem],
 ) -> Result<Writer, Failed>
-    ensures appends { IfOk result (λ next. Appends (text_of (items_commands None (copies_of design.now row.now))) writer.buffered next.buffered (S.holds shelf.old file.now) (S.holds shelf.new file.now)) }
+    ensures wrote { IfOk result (λ next. Wrote (text_of (items_commands None (copies_of design.now row.now))) writer.buffered next.buffered file.now (S.holds shelf.old) (S.holds shelf.new) (S.read_faults shelf.old) (S.read_faults shelf.new) (S.write_faults shelf.old) (S.write_faults shelf.new)) }
     ensures layer { IfOk result (λ next. next.last ≡ writer.last) }
-    ensures front { OnErr result (EndsWithin (S.holds shelf.old file.now) (writer.buffered ++ (text_of (items_commands None (copies_of design.now row.now)))) (S.holds shelf.new file.now)) }
-    ensures others { (other : List ℕ) → other ≢ file.now → S.holds shelf.new other ≡ S.holds shelf.old other }
-    ensures reads { S.read_faults shelf.new ≡ S.read_faults shelf.old }
-    ensures quiet { OnOk result (S.write_faults shelf.new ≡ S.write_faults shelf.old) }
-    ensures cause { OnErr result (Rose (S.write_faults shelf.old file.now) (S.write_faults shelf.new file.now)) }
+    ensures stopped { OnErr result (Stopped (text_of (items_commands None (copies_of design.now row.now))) writer.buffered file.now (S.holds shelf.old) (S.holds shelf.new) (S.read_faults shelf.old) (S.read_faults shelf.new) (S.write_faults shelf.old file.now) (S.write_faults shelf.new file.now)) }
 {
     let mut writer = writer;
     let mut rest = row;
@@ -170,12 +158,8 @@ fn write_main<S: Shelf>(
 ) -> Result<Writer, Failed>
     requires on_grid { AllByRecursion (λ (w : Wiring). All (IsOnGrid w.columns w.tracks) (elements w)) wirings.now }
     requires reach { AllByRecursion (λ (drawn : List Drawn). AllByRecursion (λ (a : Drawn). IsShapeInReach a.shape) drawn) (drawings rules.now wirings.now bases.now) }
-    ensures appends { IfOk result (λ next. Appends (text_of (items_commands writer.last (items_of design.now (drawings rules.now wirings.now bases.now) cells.now))) writer.buffered next.buffered (S.holds shelf.old file.now) (S.holds shelf.new file.now)) }
-    ensures front { OnErr result (EndsWithin (S.holds shelf.old file.now) (writer.buffered ++ (text_of (items_commands writer.last (items_of design.now (drawings rules.now wirings.now bases.now) cells.now)))) (S.holds shelf.new file.now)) }
-    ensures others { (other : List ℕ) → other ≢ file.now → S.holds shelf.new other ≡ S.holds shelf.old other }
-    ensures reads { S.read_faults shelf.new ≡ S.read_faults shelf.old }
-    ensures quiet { OnOk result (S.write_faults shelf.new ≡ S.write_faults shelf.old) }
-    ensures cause { OnErr result (Rose (S.write_faults shelf.old file.now) (S.write_faults shelf.new file.now)) }
+    ensures wrote { IfOk result (λ next. Wrote (text_of (items_commands writer.last (items_of design.now (drawings rules.now wirings.now bases.now) cells.now))) writer.buffered next.buffered file.now (S.holds shelf.old) (S.holds shelf.new) (S.read_faults shelf.old) (S.read_faults shelf.new) (S.write_faults shelf.old) (S.write_faults shelf.new)) }
+    ensures stopped { OnErr result (Stopped (text_of (items_commands writer.last (items_of design.now (drawings rules.now wirings.now bases.now) cells.now))) writer.buffered file.now (S.holds shelf.old) (S.holds shelf.new) (S.read_faults shelf.old) (S.read_faults shelf.new) (S.write_faults shelf.old file.now) (S.write_faults shelf.new file.now)) }
 {
     let mut writer = writer;
     let mut channels = wirings;
@@ -212,14 +196,8 @@ fn write_all<S: Shelf>(
     requires on_grid { AllByRecursion (λ (w : Wiring). All (IsOnGrid w.columns w.tracks) (elements w)) wirings.now }
     requires symbols { AllByRecursion (λ (shapes : List Shape). AllByRecursion IsShapeInReach shapes) symbols.now }
     requires reach { AllByRecursion (λ (drawn : List Drawn). AllByRecursion (λ (a : Drawn). IsShapeInReach a.shape) drawn) (drawings rules.now wirings.now laid.now.channel_base) }
-    ensures whole { OnOk result (Refines (S.holds shelf.new file.now) (appended (S.holds shelf.old file.now)
-        (writer.buffered ++ text_behind (symbols_with design.now 0 symbols.now) (items_of design.now (drawings rules.now wirings.now laid.now.channel_base) laid.now.cells)))) }
-    ensures front { OnErr result (EndsWithin (S.holds shelf.old file.now)
-        (writer.buffered ++ text_behind (symbols_with design.now 0 symbols.now) (items_of design.now (drawings rules.now wirings.now laid.now.channel_base) laid.now.cells)) (S.holds shelf.new file.now)) }
-    ensures others { (other : List ℕ) → other ≢ file.now → S.holds shelf.new other ≡ S.holds shelf.old other }
-    ensures reads { S.read_faults shelf.new ≡ S.read_faults shelf.old }
-    ensures quiet { OnOk result (S.write_faults shelf.new ≡ S.write_faults shelf.old) }
-    ensures cause { OnErr result (Rose (S.write_faults shelf.old file.now) (S.write_faults shelf.new file.now)) }
+    ensures ended { OnOk result (Ended (text_behind (symbols_with design.now 0 symbols.now) (items_of design.now (drawings rules.now wirings.now laid.now.channel_base) laid.now.cells)) writer.buffered file.now (S.holds shelf.old) (S.holds shelf.new) (S.read_faults shelf.old) (S.read_faults shelf.new) (S.write_faults shelf.old) (S.write_faults shelf.new)) }
+    ensures stopped { OnErr result (Stopped (text_behind (symbols_with design.now 0 symbols.now) (items_of design.now (drawings rules.now wirings.now laid.now.channel_base) laid.now.cells)) writer.buffered file.now (S.holds shelf.old) (S.holds shelf.new) (S.read_faults shelf.old) (S.read_faults shelf.new) (S.write_faults shelf.old file.now) (S.write_faults shelf.new file.now)) }
 {
     let writer = write_symbols(writer, shelf, file, design, symbols)?;
     let writer = write_main(

@@ -55,11 +55,11 @@ pub returns-in-Ok-clause-text : goal.returns-in-Ok-clause-text
 returns-in-Ok-clause-text g c =
     let whole = whole-text c.args.rules.now c.args.design.now c.args.fed.now c.args.wirings.now c.args.symbols.now c.args.laid.now c.in_ok-writer.writer.buffered
     c.requires.symbols c.requires.laid (ap (λ (b : Begun). b.buffered) c.in_ok-writer.ensures.begun) in
-    begun-whole _ _ _ c.in_ok-writer.ensures.emptied (rw whole at c.in-Ok.ensures.whole)
+    begun-whole _ _ _ c.in_ok-writer.ensures.emptied (rw whole at c.in-Ok.ensures.ended.whole)
 
 pub returns-in-Err-clause-front : goal.returns-in-Err-clause-front
 returns-in-Err-clause-front g c =
     let whole = whole-text c.args.rules.now c.args.design.now c.args.fed.now c.args.wirings.now c.args.symbols.now c.args.laid.now c.in_ok-writer.writer.buffered
     c.requires.symbols c.requires.laid (ap (λ (b : Begun). b.buffered) c.in_ok-writer.ensures.begun) in
     begun-front (placed_text c.args.rules.now c.args.design.now c.args.fed.now (stack_of c.args.rules.now c.args.design.now c.args.fed.now c.args.wirings.now)) _ _ _
-    c.in_ok-writer.ensures.emptied (rw whole at c.in-Err.ensures.front)
+    c.in_ok-writer.ensures.emptied (rw whole at c.in-Err.ensures.stopped.front)

@@ -1,4 +1,4 @@
-use Rattle.std.proofs.Common.{◌≡◌, ◌≢◌, List, ℕ, length}
+use Rattle.std.proofs.Common.{List, length}
 use Rattle.std.specs.List.{All, AllByRecursion}
 use Rattle.channel_model.specs.Elements.{elements}
 use Rattle.channel_model.specs.Wired.{IsOnGrid}
@@ -9,19 +9,17 @@ use Rattle.cif_text.specs.Written.{items_commands}
 use Rattle.geom_core.specs.Reach.{IsShapeInReach}
 use Rattle.wire_geom.specs.declared.drawn.Drawn.{Drawn}
 use Rattle.cif_writer.specs.Symbols.{items_of}
-use Rattle.cif_writer.proofs.AppendsLaws.{SoFar}
+use Rattle.cif_writer.proofs.WroteLaws.{WroteSoFar}
 use Rattle.cif_writer.proofs.layout.write_main.Given as goal
 
 abbrev pub invariant-loop-wiring : goal.invariant-loop-wiring
 invariant-loop-wiring g l = record {
-  so_far : SoFar (text_of (items_commands l.fn.writer.last (items_of l.design (drawings l.rules l.wirings l.bases) l.cells)))
+  so_far : WroteSoFar (text_of (items_commands l.fn.writer.last (items_of l.design (drawings l.rules l.wirings l.bases) l.cells)))
       (text_of (items_commands l.writer.last (items_of l.design (drawings l.rules l.channels l.edges) l.rows)))
-      l.fn.writer.buffered l.writer.buffered (g.S.Shelf.holds l.fn.shelf l.file) (g.S.Shelf.holds l.shelf l.file);
+      l.fn.writer.buffered l.writer.buffered l.file (g.S.Shelf.holds l.fn.shelf) (g.S.Shelf.holds l.shelf)
+      (g.S.Shelf.read_faults l.fn.shelf) (g.S.Shelf.read_faults l.shelf) (g.S.Shelf.write_faults l.fn.shelf) (g.S.Shelf.write_faults l.shelf);
   on_grid : AllByRecursion (λ (w : Wiring). All (IsOnGrid w.columns w.tracks) (elements w)) l.channels;
   reach : AllByRecursion (λ (drawn : List Drawn). AllByRecursion (λ (a : Drawn). IsShapeInReach a.shape) drawn) (drawings l.rules l.channels l.edges);
-  others : (other : List ℕ) → other ≢ l.file → g.S.Shelf.holds l.shelf other ≡ g.S.Shelf.holds l.fn.shelf other;
-  reads : g.S.Shelf.read_faults l.shelf ≡ g.S.Shelf.read_faults l.fn.shelf;
-  writes : g.S.Shelf.write_faults l.shelf ≡ g.S.Shelf.write_faults l.fn.shelf;
 }
 
 abbrev pub decreases-loop-wiring : goal.decreases-loop-wiring
