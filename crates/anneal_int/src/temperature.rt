@@ -8,19 +8,21 @@ pub struct Temperature {
 }
 
 impl Model for Temperature {
+    ghost use Rattle.limits.specs.declared.TheConstants.{MOST_TEMPERATURE};
     ghost use Rattle.std.specs.Prelude.{ℕ, ◌<◌, ◌≤◌};
 
     ghost Value = { ℕ };
 
     ghost view = { λ t. t.degrees };
 
-    ghost invariant = { λ t. (0 < t.degrees) × (t.degrees ≤ 1000000000) };
+    ghost invariant = { λ t. (0 < t.degrees) × (t.degrees ≤ MOST_TEMPERATURE) };
 
     ghost inverse = { λ n. record { degrees = n } };
 }
 
 impl Temperature {
     ghost use Rattle.anneal_int.specs.Cooling.{cooler};
+    ghost use Rattle.limits.specs.declared.TheConstants.{MOST_TEMPERATURE};
     ghost use Rattle.std.specs.Prelude.{◌≡◌, ◌<◌, ◌≤◌};
 
     /// The temperature of the first stage of a schedule.
@@ -45,7 +47,7 @@ impl Temperature {
     pub fn degrees(self) -> u64
         ensures is { result ≡ self }
         ensures some { 0 < result }
-        ensures few { result ≤ 1000000000 }
+        ensures few { result ≤ MOST_TEMPERATURE }
     {
         self.degrees
     }

@@ -1,4 +1,4 @@
-use Rattle.std.proofs.Common.{◌≡◌, ◌≢◌, ◌⊎◌, inl, inr, ◌<◌, ◌≤◌, ◌+◌, ◌-◌, ℕ, zero, suc, List, length, map, refl, sym, subst, ap, arith}
+use Rattle.std.proofs.Common.{◌≡◌, ◌≢◌, ◌⊎◌, inl, inr, ◌<◌, ◌≤◌, ◌+◌, ℕ, zero, suc, List, length, map, refl, sym, subst, arith}
 use Rattle.channel_model.specs.Pins.{Pins, IsChannel}
 use Rattle.greedy_column.specs.declared.column.Track.{Track}
 use Rattle.greedy_column.specs.Tracks.{ids}
@@ -12,7 +12,6 @@ use Rattle.greedy_column.proofs.IdLaws.{Apart-from}
 use Rattle.greedy_column.proofs.GroupLaws.{Grouped-trans, Grouped-sym}
 use Rattle.greedy_router.specs.declared.sweep.Sweep.{Sweep}
 use Rattle.greedy_column.specs.Held.{held_count, IsHeld}
-use Rattle.greedy_router.specs.Moments.{tracks_after}
 use Rattle.greedy_router.specs.Sweeps.{Lessens}
 use Rattle.greedy_column.proofs.NoPinLaws.{no_pins}
 use Rattle.greedy_column.proofs.EnteredLaws.{now-apart}
@@ -102,30 +101,3 @@ module _ (pins : Pins) (order : List ℕ) (course : Course pins order) where
 pub sweep-lessens : (pins : Pins) (sweep : Sweep) → IsChannel pins → AllFair pins 0 (sweep.begun + 1) (free_tracks sweep.begun) sweep.columns → Lessens pins sweep
 sweep-lessens pins sweep channel fair n past within held =
     fewer_after pins (ids (replay sweep.begun pins sweep.columns)) (course_of sweep.begun pins sweep.columns fair) n within channel.matched past held
-
--- So a sweep that goes on only while a net holds a track takes at most as many columns past the end as tracks are held there.
-held_past : (pins : Pins) (sweep : Sweep) → Lessens pins sweep
-    → ((n : ℕ) → length pins.top ≤ n → n < length sweep.columns → IsHeld (tracks_after sweep.begun pins sweep.columns n))
-    → (k : ℕ) → length pins.top + k ≤ length sweep.columns
-    → held_count (tracks_after sweep.begun pins sweep.columns (length pins.top + k)) + k ≤ held_count (tracks_after sweep.begun pins sweep.columns (length pins.top))
-held_past pins sweep lessens needed zero within =
-    let e : length pins.top + 0 ≡ length pins.top = omega arith in
-    let same = ap (λ n. held_count (tracks_after sweep.begun pins sweep.columns n)) e in
-    omega (arith, same)
-held_past pins sweep lessens needed (suc k) within =
-    let n : ℕ = length pins.top + k in
-    let inside : n < length sweep.columns = omega (arith, within) in
-    let past : length pins.top ≤ n = omega arith in
-    let less = lessens n past inside (needed n past inside) in
-    let rest = held_past pins sweep lessens needed k (omega (arith, within)) in
-    let e : length pins.top + suc k ≡ suc n = omega arith in
-    let same = ap (λ m. held_count (tracks_after sweep.begun pins sweep.columns m)) e in
-    omega (arith, less, rest, same)
-
-pub columns-past : (pins : Pins) (sweep : Sweep) → Lessens pins sweep
-    → ((n : ℕ) → length pins.top ≤ n → n < length sweep.columns → IsHeld (tracks_after sweep.begun pins sweep.columns n))
-    → length pins.top ≤ length sweep.columns → length sweep.columns ≤ length pins.top + held_count (tracks_after sweep.begun pins sweep.columns (length pins.top))
-columns-past pins sweep lessens needed covers =
-    let k : ℕ = length sweep.columns - length pins.top in
-    let few = held_past pins sweep lessens needed k (omega (arith, covers)) in
-    omega (arith, few, covers)
