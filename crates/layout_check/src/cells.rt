@@ -17,7 +17,7 @@ use crate::finding::Finding;
 use crate::names::{
     Names, cell_names, different, instance_names, tell_doubled, tell_missing, tell_strange,
 };
-use crate::telling::put_drawing;
+use crate::telling::{OfNumber, put_numbers};
 use geom_core::{Cell, Items, Shape};
 use indexmap::IndexSet;
 use list_facts::place_of;
@@ -86,7 +86,7 @@ fn tell_drawings(
 {
     let drawings = drawings(alloc, case.design, case.rules)?;
     let numbers = misdrawn(alloc, case, names, drawings.as_slice())?;
-    put_drawing(findings, numbers.as_slice())
+    put_numbers(findings, OfNumber::Drawing, numbers.as_slice())
 }
 
 // The cells with an instance's name that are not copies of its kind.

@@ -10,7 +10,7 @@ ghost use Rattle.std.specs.Str.{bytes_eq};
 
 use crate::finding::Finding;
 use crate::groups::differing_pairs;
-use crate::telling::{put_doubled, put_missing, put_strange};
+use crate::telling::{OfNumber, OfPair, put_numbers, put_pairs};
 use design_model::Design;
 use geom_core::Layout;
 use indexmap::IndexSet;
@@ -83,7 +83,7 @@ pub fn tell_missing(
     ensures { OnOk result (findings.new.items ≡ findings.old.items ++ map Missing (failing (λ name. not (list_any (bytes_eq name) (texts cells.now.set.now.keys))) (texts instances.now.list.now))) }
 {
     let missing = not_among(alloc, instances, cells)?;
-    put_missing(findings, missing.as_slice())
+    put_numbers(findings, OfNumber::Missing, missing.as_slice())
 }
 
 /// Tells which of these names of cells no instance has. The one error is want of memory.
@@ -96,7 +96,7 @@ pub fn tell_strange(
     ensures { OnOk result (findings.new.items ≡ findings.old.items ++ map Strange (failing (λ name. not (list_any (bytes_eq name) (texts instances.now.set.now.keys))) (texts cells.now.list.now))) }
 {
     let strange = not_among(alloc, cells, instances)?;
-    put_strange(findings, strange.as_slice())
+    put_numbers(findings, OfNumber::Strange, strange.as_slice())
 }
 
 /// Tells which of these names of cells repeat an earlier one. The one error is want of memory.
@@ -108,7 +108,7 @@ pub fn tell_doubled(
     ensures { OnOk result (findings.new.items ≡ findings.old.items ++ map (λ (p : ℕ × ℕ). Doubled p.0 p.1) (pairs_of_firsts bytes_eq (λ name other. true) (texts cells.now.list.now))) }
 {
     let doubled = repeated(alloc, cells)?;
-    put_doubled(findings, doubled.as_slice())
+    put_pairs(findings, OfPair::Doubled, doubled.as_slice())
 }
 
 // The place of each name of a list among the different ones. The one error is want of memory.

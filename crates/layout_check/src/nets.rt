@@ -4,7 +4,7 @@ ghost use Rattle.std.specs.Prelude.{◌≡◌, ◌++◌, length, map, IfOk, OnOk
 
 use crate::finding::Finding;
 use crate::groups::differing_pairs;
-use crate::telling::{put_opened, put_short};
+use crate::telling::{OfPair, put_pairs};
 use design_model::Design;
 use std::alloc::{AllocError, Global};
 
@@ -22,8 +22,8 @@ pub fn tell_nets(
     let nets = nets_of(alloc, design)?;
     let opened = differing_pairs(alloc, nets.as_slice(), classes)?;
     let shorted = differing_pairs(alloc, classes, nets.as_slice())?;
-    put_opened(findings, opened.as_slice())?;
-    put_short(findings, shorted.as_slice())
+    put_pairs(findings, OfPair::Opened, opened.as_slice())?;
+    put_pairs(findings, OfPair::Short, shorted.as_slice())
 }
 
 // The net of each pin.

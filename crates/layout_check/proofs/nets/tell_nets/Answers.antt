@@ -36,9 +36,9 @@ returns c =
     c.as_slice-4.ensures.value ∙ c.in_ok-shorted.ensures
     ∙ ap (λ (ns : List ℕ). differing_pairs (firsts_of c.args.classes.now) ns) (c.as_slice-2.ensures.value ∙ nets)
     ∙ sym (shorted-differing c.args.design.now c.args.classes.now c.requires) in
-    on_ok_weaker c.put_short.result
+    on_ok_weaker c.put_pairs-2.result
     (λ is. is
     ∙ ap₂ (λ (fs : List Finding) (ps : List (ℕ × ℕ)). fs ++ map (λ (p : ℕ × ℕ). Short p.0 p.1) ps)
-    (c.in_ok-put_opened.ensures ∙ ap (λ (ps : List (ℕ × ℕ)). c.args.findings.now.items ++ map (λ (p : ℕ × ℕ). Opened p.0 p.1) ps) opens) shorts
+    (c.in_ok-put_pairs.ensures ∙ ap (λ (ps : List (ℕ × ℕ)). c.args.findings.now.items ++ map (λ (p : ℕ × ℕ). Opened p.0 p.1) ps) opens) shorts
     ∙ append_assoc c.args.findings.now.items (map (λ (p : ℕ × ℕ). Opened p.0 p.1) (opened c.args.design.now c.args.classes.now))
-    (map (λ (p : ℕ × ℕ). Short p.0 p.1) (shorted c.args.design.now c.args.classes.now))) c.put_short.ensures
+    (map (λ (p : ℕ × ℕ). Short p.0 p.1) (shorted c.args.design.now c.args.classes.now))) c.put_pairs-2.ensures
