@@ -10,7 +10,7 @@ ghost use Rattle.std.specs.Str.{bytes_eq};
 
 use crate::finding::Finding;
 use crate::groups::differing_pairs;
-use crate::telling::{OfNumber, OfPair, put_numbers, put_pairs};
+use crate::telling::{OfNumber, OfPair, push_unless, put_numbers, put_pairs};
 use design_model::Design;
 use geom_core::Layout;
 use indexmap::IndexSet;
@@ -64,11 +64,8 @@ fn not_among(alloc: Global, names: &Names, others: &Names) -> Result<Vec<u32>, A
     ensures { IfOk result (λ v. v.items ≡ failing (λ name. not (list_any (bytes_eq name) (texts others.now.set.now.keys))) (texts names.now.list.now)) }
 {
     let mut numbers = Vec::new(alloc);
-    for (k, name) in names.list.iter().enumerate() {
-        if is_among(others.set, *name) {
-            continue;
-        }
-        numbers.push(k as u32)?;
+    for k in 0..names.list.len() {
+        push_unless(&mut numbers, k as u32, is_among(others.set, names.list[k]))?;
     }
     Ok(numbers)
 }

@@ -1,5 +1,5 @@
 ghost use Rattle.layout_check.specs.Telling.{of_number, of_pair};
-ghost use Rattle.std.specs.Prelude.{◌≡◌, ◌++◌, map, OnOk};
+ghost use Rattle.std.specs.Prelude.{◌≡◌, ◌++◌, ◌∷◌, [], map, not, if◌then◌else◌, OnOk};
 
 use crate::finding::Finding;
 use std::alloc::AllocError;
@@ -76,4 +76,14 @@ fn pair_finding(kind: OfPair, first: u32, later: u32) -> Finding
         OfPair::Opened => Finding::Opened(first, later),
         OfPair::Short => Finding::Short(first, later),
     }
+}
+
+/// Puts a number at the end, unless something is well with it. The one error is want of memory.
+pub fn push_unless(numbers: &mut Vec<u32>, number: u32, is_well: bool) -> Result<(), AllocError>
+    ensures { OnOk result (numbers.new.items ≡ (if not is_well then numbers.old.items ++ number ∷ [] else numbers.old.items)) }
+{
+    if !is_well {
+        numbers.push(number)?;
+    }
+    Ok(())
 }
