@@ -9,7 +9,7 @@ ghost use Rattle.std.specs.Prelude.{◌≡◌, ◌<◌, ◌≤◌, ◌^◌, ◌+
 ghost use Rattle.std.specs.Str.{bytes_eq};
 
 use crate::finding::Finding;
-use crate::groups::differing_pairs;
+use crate::groups::{Members, differing_pairs};
 use crate::telling::{OfNumber, OfPair, push_unless, put_numbers, put_pairs};
 use design_model::Design;
 use geom_core::Layout;
@@ -23,6 +23,7 @@ pub struct Names<'l, 's, 't> {
     pub list: &'l [&'t [u8]],
     pub set: &'s IndexSet<&'t [u8]>,
     ghost few: { length list.now < 2 ^ 32 },
+    ghost fewer: { length (texts set.now.keys) ≤ length list.now },
     ghost mentioned: { texts set.now.keys ≡ mentions (texts list.now) },
 }
 
@@ -50,7 +51,8 @@ pub fn instance_names<'a>(alloc: Global, design: &'a Design) -> Result<Vec<&'a [
 
 /// The different names of a list. The one error is want of memory.
 pub fn different<'a>(alloc: Global, names: &[&'a [u8]]) -> Result<IndexSet<&'a [u8]>, AllocError>
-    ensures { IfOk result (λ set. texts set.keys ≡ mentions (texts names.now)) }
+    ensures mentioned { IfOk result (λ set. texts set.keys ≡ mentions (texts names.now)) }
+    ensures fewer { IfOk result (λ set. length (texts set.keys) ≤ length names.now) }
 {
     let mut set = IndexSet::new(alloc);
     for name in names {
@@ -124,9 +126,13 @@ fn places(alloc: Global, names: &Names) -> Result<Vec<u32>, AllocError>
 fn repeated(alloc: Global, names: &Names) -> Result<Vec<(u32, u32)>, AllocError>
     ensures { IfOk result (λ v. v.items ≡ pairs_of_firsts bytes_eq (λ name other. true) (texts names.now.list.now)) }
 {
-    let groups = places(alloc, names)?;
+    let places = places(alloc, names)?;
     let own = numbers_below(alloc, names.list.len() as u32)?;
-    differing_pairs(alloc, groups.as_slice(), own.as_slice())
+    let members = Members {
+        groups: places.as_slice(),
+        kinds: own.as_slice(),
+    };
+    differing_pairs(alloc, &members)
 }
 
 fn numbers_below(alloc: Global, count: u32) -> Result<Vec<u32>, AllocError>

@@ -3,7 +3,7 @@ ghost use Rattle.layout_check.specs.Findings.{net_findings};
 ghost use Rattle.std.specs.Prelude.{◌≡◌, ◌++◌, length, map, IfOk, OnOk};
 
 use crate::finding::Finding;
-use crate::groups::differing_pairs;
+use crate::groups::{Members, differing_pairs};
 use crate::telling::{OfPair, put_pairs};
 use design_model::Design;
 use std::alloc::{AllocError, Global};
@@ -20,8 +20,16 @@ pub fn tell_nets(
 {
     let _ = &design.height;
     let nets = nets_of(alloc, design)?;
-    let opened = differing_pairs(alloc, nets.as_slice(), classes)?;
-    let shorted = differing_pairs(alloc, classes, nets.as_slice())?;
+    let by_net = Members {
+        groups: nets.as_slice(),
+        kinds: classes,
+    };
+    let by_class = Members {
+        groups: classes,
+        kinds: nets.as_slice(),
+    };
+    let opened = differing_pairs(alloc, &by_net)?;
+    let shorted = differing_pairs(alloc, &by_class)?;
     put_pairs(findings, OfPair::Opened, opened.as_slice())?;
     put_pairs(findings, OfPair::Short, shorted.as_slice())
 }

@@ -10,16 +10,16 @@ use Rattle.layout_check.specs.declared.finding.Finding.TheVariants.{Opened, Shor
 use Rattle.layout_check.proofs.PinGroups.{opened-differing, shorted-differing}
 use Rattle.layout_check.proofs.nets.tell_nets.Goals as goal
 
-pub differing_pairs-requires-clause-few : goal.differing_pairs-requires-clause-few
-differing_pairs-requires-clause-few c =
+pub invariant_of-by_net-clause-few : goal.invariant_of-by_net-clause-few
+invariant_of-by_net-clause-few c =
     let good : IsNetlist c.args.design.now = rw (← c.design.view_is) c.design.invariant.netlist in
     let few : length c.args.design.now.pins ≤ 200000 = good.few_pins in
     let long : length c.as_slice.result.now ≡ length c.args.design.now.pins =
     ap (λ (l : List ℕ). length l) (c.as_slice.ensures.value ∙ c.in_ok-nets.ensures) ∙ length-map c.args.design.now.pins (λ (p : Pin). p.net) in
     omega arith
 
-pub differing_pairs-requires-2-clause-few : goal.differing_pairs-requires-2-clause-few
-differing_pairs-requires-2-clause-few c =
+pub invariant_of-by_class-clause-few : goal.invariant_of-by_class-clause-few
+invariant_of-by_class-clause-few c =
     let good : IsNetlist c.args.design.now = rw (← c.design.view_is) c.design.invariant.netlist in
     let few : length c.args.design.now.pins ≤ 200000 = good.few_pins in
     let long : length c.args.classes.now ≡ length c.args.design.now.pins = c.requires in
