@@ -8,8 +8,6 @@ pub mod Alike
 pub mod PinGroups
 -- tables of firsts, and lists of those that differ from them
 pub mod Tables
--- names that are among others, and which are repeated
-pub mod NameLaws
 -- lists with the same members
 pub mod SameMembers
 -- cells that are repeated

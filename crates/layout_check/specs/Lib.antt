@@ -10,3 +10,5 @@ pub mod Findings
 pub mod Groups
 -- the drawings of kinds, and cells with their shapes
 pub mod Drawings
+-- findings of a kind
+pub mod Telling

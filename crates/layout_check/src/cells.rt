@@ -7,9 +7,8 @@ ghost use Rattle.layout_check.specs.Measured.{IsCellAmong};
 ghost use Rattle.layout_check.specs.declared.finding.Finding.TheVariants.{Drawing};
 ghost use Rattle.list_facts.specs.Names.{mentions};
 ghost use Rattle.list_facts.specs.Texts.{texts};
-ghost use Rattle.std.specs.Prelude.{◌≡◌, ◌<◌, ◌^◌, ◌++◌, length, map, find, IfOk, OnOk};
+ghost use Rattle.std.specs.Prelude.{◌≡◌, ◌++◌, length, map, find, IfOk, OnOk};
 ghost use Rattle.std.specs.Str.{bytes_eq};
-ghost use Rattle.tech_rules.specs.Rules.{RuleValues};
 
 use crate::case::Case;
 use crate::drawings::{drawings, is_copy_with};
@@ -17,11 +16,28 @@ use crate::finding::Finding;
 use crate::names::{
     Names, cell_names, different, instance_names, tell_doubled, tell_missing, tell_strange,
 };
-use crate::telling::put_drawing;
+use crate::telling::{OfNumber, push_unless, put_numbers};
 use geom_core::{Cell, Items, Shape};
-use indexmap::IndexSet;
 use list_facts::place_of;
 use std::alloc::{AllocError, Global};
+
+// A case with the names of its instances, all of which are different.
+#[derive(Clone, Copy)]
+struct Named<'c, 'l, 's, 't> {
+    case: &'c Case<'c>,
+    instances: &'c Names<'l, 's, 't>,
+    ghost each: { texts instances.now.list.now ≡ instance_names case.now.design.now },
+    ghost different: { texts instances.now.set.now.keys ≡ instance_names case.now.design.now },
+}
+
+// The same with the drawing of each kind.
+#[derive(Clone, Copy)]
+struct Drawn<'n, 'c, 'l, 's, 't> {
+    named: &'n Named<'c, 'l, 's, 't>,
+    drawings: &'n [Items<Shape>],
+    ghost are: { drawings.now ≡ drawings_of named.now.case.now.rules.now named.now.case.now.design.now },
+    ghost kinds: { AreForKinds named.now.case.now.design.now drawings.now },
+}
 
 /// What is wrong with the cells of a layout: instances without a cell, names of several cells, cells without an instance, and cells that
 /// are no copies of their kinds. The one error is want of memory.
@@ -36,17 +52,21 @@ pub fn cell_findings(alloc: Global, case: &Case) -> Result<Vec<Finding>, AllocEr
         list: instances.as_slice(),
         set: &set,
     };
-    findings_among(alloc, case, &instances)
+    findings_among(
+        alloc,
+        &Named {
+            case,
+            instances: &instances,
+        },
+    )
 }
 
 // The same, where the names of the instances are given.
-fn findings_among(alloc: Global, case: &Case, instances: &Names) -> Result<Vec<Finding>, AllocError>
-    requires instances { texts instances.now.list.now ≡ instance_names case.now.design.now }
-    requires each { texts instances.now.set.now.keys ≡ instance_names case.now.design.now }
-    ensures { IfOk result (λ v. v.items ≡ cell_findings case.now.rules.now case.now.design.now case.now.layout.now) }
+fn findings_among(alloc: Global, named: &Named) -> Result<Vec<Finding>, AllocError>
+    ensures { IfOk result (λ v. v.items ≡ cell_findings named.now.case.now.rules.now named.now.case.now.design.now named.now.case.now.layout.now) }
 {
-    let mut findings = name_findings(alloc, case, instances)?;
-    tell_drawings(alloc, &mut findings, case, instances.set)?;
+    let mut findings = name_findings(alloc, named.case, named.instances)?;
+    tell_drawings(alloc, &mut findings, named)?;
     Ok(findings)
 }
 
@@ -78,52 +98,43 @@ fn tell_names(alloc: Global, cells: &Names, instances: &Names) -> Result<Vec<Fin
 fn tell_drawings(
     alloc: Global,
     findings: &mut Vec<Finding>,
-    case: &Case,
-    names: &IndexSet<&[u8]>,
+    named: &Named,
 ) -> Result<(), AllocError>
-    requires { texts names.now.keys ≡ instance_names case.now.design.now }
-    ensures { OnOk result (findings.new.items ≡ findings.old.items ++ map Drawing (misdrawn case.now.rules.now case.now.design.now case.now.layout.now)) }
+    ensures { OnOk result (findings.new.items ≡ findings.old.items ++ map Drawing (misdrawn named.now.case.now.rules.now named.now.case.now.design.now named.now.case.now.layout.now)) }
 {
-    let drawings = drawings(alloc, case.design, case.rules)?;
-    let numbers = misdrawn(alloc, case, names, drawings.as_slice())?;
-    put_drawing(findings, numbers.as_slice())
+    let drawings = drawings(alloc, named.case)?;
+    let drawn = Drawn {
+        named,
+        drawings: drawings.as_slice(),
+    };
+    let numbers = misdrawn(alloc, &drawn)?;
+    put_numbers(findings, OfNumber::Drawing, numbers.as_slice())
 }
 
 // The cells with an instance's name that are not copies of its kind.
-fn misdrawn(
-    alloc: Global,
-    case: &Case,
-    names: &IndexSet<&[u8]>,
-    drawings: &[Items<Shape>],
-) -> Result<Vec<u32>, AllocError>
-    requires names { texts names.now.keys ≡ instance_names case.now.design.now }
-    requires kinds { AreForKinds case.now.design.now drawings.now }
-    ensures { (r : RuleValues) → drawings.now ≡ drawings_of r case.now.design.now → IfOk result (λ v. v.items ≡ misdrawn r case.now.design.now case.now.layout.now) }
+fn misdrawn(alloc: Global, drawn: &Drawn) -> Result<Vec<u32>, AllocError>
+    ensures { IfOk result (λ v. v.items ≡ misdrawn drawn.now.named.now.case.now.rules.now drawn.now.named.now.case.now.design.now drawn.now.named.now.case.now.layout.now) }
 {
-    let cells = case.layout.cells.items();
+    let cells = drawn.named.case.layout.cells.items();
     let mut numbers = Vec::new(alloc);
     for k in 0..cells.len() {
-        if is_copy(case, names, drawings, &cells[k]) {
-            continue;
-        }
-        numbers.push(k as u32)?;
+        push_unless(&mut numbers, k as u32, is_copy(drawn, &cells[k]))?;
     }
     Ok(numbers)
 }
 
 // Whether a cell has no instance's name, or is a copy of its instance's kind.
-fn is_copy(case: &Case, names: &IndexSet<&[u8]>, drawings: &[Items<Shape>], cell: &Cell) -> bool
-    requires cell { IsCellAmong (length case.now.layout.now.shapes) cell.now }
-    requires names { texts names.now.keys ≡ instance_names case.now.design.now }
-    requires kinds { AreForKinds case.now.design.now drawings.now }
-    ensures { (r : RuleValues) → drawings.now ≡ drawings_of r case.now.design.now → result ≡ is_copy_for r case.now.design.now case.now.layout.now (find (λ (i : Inst). bytes_eq i.name cell.now.name) case.now.design.now.instances) cell.now }
+fn is_copy(drawn: &Drawn, cell: &Cell) -> bool
+    requires { IsCellAmong (length drawn.now.named.now.case.now.layout.now.shapes) cell.now }
+    ensures { result ≡ is_copy_for drawn.now.named.now.case.now.rules.now drawn.now.named.now.case.now.design.now drawn.now.named.now.case.now.layout.now (find (λ (i : Inst). bytes_eq i.name cell.now.name) drawn.now.named.now.case.now.design.now.instances) cell.now }
 {
-    let design = case.design;
-    let place = place_of(names, cell.name.items());
+    let design = drawn.named.case.design;
+    let drawings = drawn.drawings;
+    let place = place_of(drawn.named.instances.set, cell.name.items());
     let Some(inst) = design.instances.items().get(place) else {
         return true;
     };
     let kind = inst.kind as usize;
     let name = &design.kinds.items()[kind].name;
-    is_copy_with(case.layout, name, drawings[kind].items(), cell)
+    is_copy_with(drawn.named.case.layout, name, drawings[kind].items(), cell)
 }

@@ -1,4 +1,3 @@
-ghost use Rattle.design_model.specs.Room.{HasRoom};
 ghost use Rattle.geom_core.specs.Moving.{moved_shape};
 ghost use Rattle.geom_core.specs.Reach.{IsInReach, IsShapeInReach};
 ghost use Rattle.layout_check.specs.CellFaults.{are_shapes, is_extent, is_shape};
@@ -6,21 +5,18 @@ ghost use Rattle.layout_check.specs.Drawings.{drawings_of, is_copy_with, AreForK
 ghost use Rattle.layout_check.specs.Measured.{IsCellAmong};
 ghost use Rattle.std.specs.Prelude.{◌≡◌, length, map, All, IfOk};
 
-use design_model::{Design, drawing};
+use crate::case::Case;
+use design_model::drawing;
 use geom_core::{Cell, Items, Layout, Name, Rect, Shape, Turn, moved};
 use std::alloc::{AllocError, Global};
-use tech_rules::Rules;
 
 /// The drawing of each kind of a design. The one error is want of memory.
-pub fn drawings(
-    alloc: Global,
-    design: &Design,
-    rules: &Rules,
-) -> Result<Vec<Items<Shape>>, AllocError>
-    requires { HasRoom rules.now design.now }
-    ensures is { IfOk result (λ v. v.items ≡ drawings_of rules.now design.now) }
-    ensures kinds { IfOk result (λ v. AreForKinds design.now v.items) }
+pub fn drawings(alloc: Global, case: &Case) -> Result<Vec<Items<Shape>>, AllocError>
+    ensures is { IfOk result (λ v. v.items ≡ drawings_of case.now.rules.now case.now.design.now) }
+    ensures kinds { IfOk result (λ v. AreForKinds case.now.design.now v.items) }
 {
+    let design = case.design;
+    let rules = case.rules;
     let _ = &rules.version;
     let kinds = design.kinds.items();
     let mut drawings = Vec::with_capacity(alloc, kinds.len())?;

@@ -1,30 +1,32 @@
 ghost use Rattle.layout_check.specs.Groups.{differing, differing_pairs, firsts_of, pairs_in};
-ghost use Rattle.std.specs.Prelude.{◌≡◌, ◌<◌, ◌≤◌, ◌^◌, ◌++◌, ℕ, length, map, set, slice_get, unwrap_or, All, IfOk, OnOk, Some};
+ghost use Rattle.std.specs.Prelude.{◌≡◌, ◌<◌, ◌^◌, ◌++◌, ℕ, length, map, set, slice_get, unwrap_or, All, IfOk, OnOk, Some};
 
 use list_facts::Lists;
 use std::alloc::{AllocError, Global};
 
-/// The first member of each group with each later one of the group that is of another kind, in order. Members are given by the numbers of
-/// their groups and of their kinds; there are fewer than 2^32. The one error is want of memory.
-pub fn differing_pairs(
-    alloc: Global,
-    groups: &[u32],
-    kinds: &[u32],
-) -> Result<Vec<(u32, u32)>, AllocError>
-    requires few { length groups.now < 2 ^ 32 }
-    requires each { length kinds.now ≡ length groups.now }
-    ensures { IfOk result (λ v. v.items ≡ differing_pairs (firsts_of groups.now) kinds.now) }
+/// Members by the numbers of their groups and of their kinds; there are fewer than 2^32.
+#[derive(Clone, Copy)]
+pub struct Members<'m> {
+    pub groups: &'m [u32],
+    pub kinds: &'m [u32],
+    ghost few: { length groups.now < 2 ^ 32 },
+    ghost each: { length kinds.now ≡ length groups.now },
+}
+
+/// The first member of each group with each later one of the group that is of another kind, in order. The one error is want of memory.
+pub fn differing_pairs(alloc: Global, members: &Members) -> Result<Vec<(u32, u32)>, AllocError>
+    ensures { IfOk result (λ v. v.items ≡ differing_pairs (firsts_of members.now.groups.now) members.now.kinds.now) }
 {
-    let firsts = firsts_of(alloc, groups)?;
-    let lists = differing(alloc, firsts.as_slice(), kinds)?;
-    pairs_in(alloc, &lists, groups.len())
+    let firsts = firsts_of(alloc, members)?;
+    let lists = differing(alloc, firsts.as_slice(), members.kinds)?;
+    pairs_in(alloc, &lists, members)
 }
 
 // For each member the number of the first of its group.
-fn firsts_of(alloc: Global, groups: &[u32]) -> Result<Vec<u32>, AllocError>
-    requires { length groups.now < 2 ^ 32 }
-    ensures { IfOk result (λ v. v.items ≡ firsts_of groups.now) }
+fn firsts_of(alloc: Global, members: &Members) -> Result<Vec<u32>, AllocError>
+    ensures { IfOk result (λ v. v.items ≡ firsts_of members.now.groups.now) }
 {
+    let groups = members.groups;
     let mut table = vec![in alloc; None; count_of(groups)]?;
     let mut firsts = Vec::with_capacity(alloc, groups.len())?;
     for k in 0..groups.len() {
@@ -75,13 +77,16 @@ fn differing(alloc: Global, firsts: &[u32], kinds: &[u32]) -> Result<Lists<u32>,
     Ok(lists)
 }
 
-// So many lists, each with its number before its members.
-fn pairs_in(alloc: Global, lists: &Lists<u32>, count: usize) -> Result<Vec<(u32, u32)>, AllocError>
-    requires { count ≤ 2 ^ 32 }
-    ensures { IfOk result (λ v. v.items ≡ pairs_in count lists.now) }
+// The lists of so many members, each member with those of its list.
+fn pairs_in(
+    alloc: Global,
+    lists: &Lists<u32>,
+    members: &Members,
+) -> Result<Vec<(u32, u32)>, AllocError>
+    ensures { IfOk result (λ v. v.items ≡ pairs_in (length members.now.groups.now) lists.now) }
 {
     let mut pairs = Vec::new(alloc);
-    for k in 0..count {
+    for k in 0..members.groups.len() {
         push_each(&mut pairs, k as u32, lists.at(k))?;
     }
     Ok(pairs)

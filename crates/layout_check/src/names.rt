@@ -9,8 +9,8 @@ ghost use Rattle.std.specs.Prelude.{◌≡◌, ◌<◌, ◌≤◌, ◌^◌, ◌+
 ghost use Rattle.std.specs.Str.{bytes_eq};
 
 use crate::finding::Finding;
-use crate::groups::differing_pairs;
-use crate::telling::{put_doubled, put_missing, put_strange};
+use crate::groups::{Members, differing_pairs};
+use crate::telling::{OfNumber, OfPair, push_unless, put_numbers, put_pairs};
 use design_model::Design;
 use geom_core::Layout;
 use indexmap::IndexSet;
@@ -23,6 +23,7 @@ pub struct Names<'l, 's, 't> {
     pub list: &'l [&'t [u8]],
     pub set: &'s IndexSet<&'t [u8]>,
     ghost few: { length list.now < 2 ^ 32 },
+    ghost fewer: { length (texts set.now.keys) ≤ length list.now },
     ghost mentioned: { texts set.now.keys ≡ mentions (texts list.now) },
 }
 
@@ -50,7 +51,8 @@ pub fn instance_names<'a>(alloc: Global, design: &'a Design) -> Result<Vec<&'a [
 
 /// The different names of a list. The one error is want of memory.
 pub fn different<'a>(alloc: Global, names: &[&'a [u8]]) -> Result<IndexSet<&'a [u8]>, AllocError>
-    ensures { IfOk result (λ set. texts set.keys ≡ mentions (texts names.now)) }
+    ensures mentioned { IfOk result (λ set. texts set.keys ≡ mentions (texts names.now)) }
+    ensures fewer { IfOk result (λ set. length (texts set.keys) ≤ length names.now) }
 {
     let mut set = IndexSet::new(alloc);
     for name in names {
@@ -64,11 +66,8 @@ fn not_among(alloc: Global, names: &Names, others: &Names) -> Result<Vec<u32>, A
     ensures { IfOk result (λ v. v.items ≡ failing (λ name. not (list_any (bytes_eq name) (texts others.now.set.now.keys))) (texts names.now.list.now)) }
 {
     let mut numbers = Vec::new(alloc);
-    for (k, name) in names.list.iter().enumerate() {
-        if is_among(others.set, *name) {
-            continue;
-        }
-        numbers.push(k as u32)?;
+    for k in 0..names.list.len() {
+        push_unless(&mut numbers, k as u32, is_among(others.set, names.list[k]))?;
     }
     Ok(numbers)
 }
@@ -83,7 +82,7 @@ pub fn tell_missing(
     ensures { OnOk result (findings.new.items ≡ findings.old.items ++ map Missing (failing (λ name. not (list_any (bytes_eq name) (texts cells.now.set.now.keys))) (texts instances.now.list.now))) }
 {
     let missing = not_among(alloc, instances, cells)?;
-    put_missing(findings, missing.as_slice())
+    put_numbers(findings, OfNumber::Missing, missing.as_slice())
 }
 
 /// Tells which of these names of cells no instance has. The one error is want of memory.
@@ -96,7 +95,7 @@ pub fn tell_strange(
     ensures { OnOk result (findings.new.items ≡ findings.old.items ++ map Strange (failing (λ name. not (list_any (bytes_eq name) (texts instances.now.set.now.keys))) (texts cells.now.list.now))) }
 {
     let strange = not_among(alloc, cells, instances)?;
-    put_strange(findings, strange.as_slice())
+    put_numbers(findings, OfNumber::Strange, strange.as_slice())
 }
 
 /// Tells which of these names of cells repeat an earlier one. The one error is want of memory.
@@ -108,7 +107,7 @@ pub fn tell_doubled(
     ensures { OnOk result (findings.new.items ≡ findings.old.items ++ map (λ (p : ℕ × ℕ). Doubled p.0 p.1) (pairs_of_firsts bytes_eq (λ name other. true) (texts cells.now.list.now))) }
 {
     let doubled = repeated(alloc, cells)?;
-    put_doubled(findings, doubled.as_slice())
+    put_pairs(findings, OfPair::Doubled, doubled.as_slice())
 }
 
 // The place of each name of a list among the different ones. The one error is want of memory.
@@ -127,9 +126,13 @@ fn places(alloc: Global, names: &Names) -> Result<Vec<u32>, AllocError>
 fn repeated(alloc: Global, names: &Names) -> Result<Vec<(u32, u32)>, AllocError>
     ensures { IfOk result (λ v. v.items ≡ pairs_of_firsts bytes_eq (λ name other. true) (texts names.now.list.now)) }
 {
-    let groups = places(alloc, names)?;
+    let places = places(alloc, names)?;
     let own = numbers_below(alloc, names.list.len() as u32)?;
-    differing_pairs(alloc, groups.as_slice(), own.as_slice())
+    let members = Members {
+        groups: places.as_slice(),
+        kinds: own.as_slice(),
+    };
+    differing_pairs(alloc, &members)
 }
 
 fn numbers_below(alloc: Global, count: u32) -> Result<Vec<u32>, AllocError>

@@ -3,8 +3,8 @@ ghost use Rattle.layout_check.specs.Findings.{net_findings};
 ghost use Rattle.std.specs.Prelude.{◌≡◌, ◌++◌, length, map, IfOk, OnOk};
 
 use crate::finding::Finding;
-use crate::groups::differing_pairs;
-use crate::telling::{put_opened, put_short};
+use crate::groups::{Members, differing_pairs};
+use crate::telling::{OfPair, put_pairs};
 use design_model::Design;
 use std::alloc::{AllocError, Global};
 
@@ -20,10 +20,18 @@ pub fn tell_nets(
 {
     let _ = &design.height;
     let nets = nets_of(alloc, design)?;
-    let opened = differing_pairs(alloc, nets.as_slice(), classes)?;
-    let shorted = differing_pairs(alloc, classes, nets.as_slice())?;
-    put_opened(findings, opened.as_slice())?;
-    put_short(findings, shorted.as_slice())
+    let by_net = Members {
+        groups: nets.as_slice(),
+        kinds: classes,
+    };
+    let by_class = Members {
+        groups: classes,
+        kinds: nets.as_slice(),
+    };
+    let opened = differing_pairs(alloc, &by_net)?;
+    let shorted = differing_pairs(alloc, &by_class)?;
+    put_pairs(findings, OfPair::Opened, opened.as_slice())?;
+    put_pairs(findings, OfPair::Short, shorted.as_slice())
 }
 
 // The net of each pin.

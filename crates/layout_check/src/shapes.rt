@@ -4,7 +4,7 @@ ghost use Rattle.std.specs.Prelude.{◌≡◌, ◌++◌, length, All, OnOk};
 
 use crate::case::Case;
 use crate::finding::Finding;
-use crate::telling::{put_bare_cut, put_close, put_narrow, put_out_of_row, put_overlap};
+use crate::telling::{OfNumber, OfPair, put_numbers, put_pairs};
 use geom_core::{Rect, Shape};
 use rule_check::{bare_cuts, close_pairs, narrow, out_of_row, overlaps};
 use std::alloc::{AllocError, Global};
@@ -16,8 +16,8 @@ pub fn tell_rows(alloc: Global, findings: &mut Vec<Finding>, case: &Case) -> Res
     let shapes = case.layout.shapes.items();
     let overlapping = overlaps(alloc, shapes, case.rules)?;
     let uneven = out_of_row(alloc, shapes, case.rules)?;
-    put_overlap(findings, overlapping.list.as_slice())?;
-    put_out_of_row(findings, uneven.list.as_slice())
+    put_pairs(findings, OfPair::Overlap, overlapping.list.as_slice())?;
+    put_pairs(findings, OfPair::OutOfRow, uneven.list.as_slice())
 }
 
 /// Tells which wires and cuts are too narrow. The one error is want of memory.
@@ -29,7 +29,7 @@ pub fn tell_narrow(
     ensures { OnOk result (findings.new.items ≡ findings.old.items ++ narrow_findings case.now.rules.now case.now.layout.now) }
 {
     let numbers = narrow(alloc, case.layout.shapes.items(), case.rules)?;
-    put_narrow(findings, numbers.as_slice())
+    put_numbers(findings, OfNumber::Narrow, numbers.as_slice())
 }
 
 /// Tells which shapes of different classes are too close; there is a class for each shape. The one error is want of memory.
@@ -43,7 +43,7 @@ pub fn tell_close(
     ensures { OnOk result (findings.new.items ≡ findings.old.items ++ close_findings case.now.rules.now case.now.layout.now classes.now) }
 {
     let pairs = close_pairs(alloc, case.layout.shapes.items(), case.rules, classes)?;
-    put_close(findings, pairs.list.as_slice())
+    put_pairs(findings, OfPair::Close, pairs.list.as_slice())
 }
 
 /// Tells which cuts are bare. The one error is want of memory.
@@ -51,7 +51,7 @@ pub fn tell_bare(alloc: Global, findings: &mut Vec<Finding>, case: &Case) -> Res
     ensures { OnOk result (findings.new.items ≡ findings.old.items ++ bare_findings case.now.rules.now case.now.layout.now) }
 {
     let numbers = bare_cuts(alloc, case.layout.shapes.items(), case.rules)?;
-    put_bare_cut(findings, numbers.as_slice())
+    put_numbers(findings, OfNumber::BareCut, numbers.as_slice())
 }
 
 /// Reads a side of each shape, which tells a proof that each has an inside, as every `Rect` has.

@@ -1,73 +1,89 @@
-ghost use Rattle.layout_check.specs.declared.finding.Finding.TheVariants.{Missing, Doubled, Strange, Drawing, Overlap, OutOfRow, Narrow, Close, BareCut, Opened, Short};
-ghost use Rattle.std.specs.Prelude.{◌≡◌, ◌++◌, ℕ, map, OnOk};
+ghost use Rattle.layout_check.specs.Telling.{of_number, of_pair};
+ghost use Rattle.std.specs.Prelude.{◌≡◌, ◌++◌, ◌∷◌, [], map, not, if◌then◌else◌, OnOk};
 
 use crate::finding::Finding;
 use std::alloc::AllocError;
 
-// Each of these puts findings of one kind at the end, one for each number or pair of numbers.
-
-pub fn put_missing(findings: &mut Vec<Finding>, numbers: &[u32]) -> Result<(), AllocError>
-    ensures { OnOk result (findings.new.items ≡ findings.old.items ++ map Missing numbers.now) }
-{
-    findings.extend(numbers.iter().map(|n| Finding::Missing(*n)))
+/// A kind of findings that tell of one number each.
+#[derive(Clone, Copy)]
+pub enum OfNumber {
+    Missing,
+    Strange,
+    Drawing,
+    Narrow,
+    BareCut,
 }
 
-pub fn put_doubled(findings: &mut Vec<Finding>, pairs: &[(u32, u32)]) -> Result<(), AllocError>
-    ensures { OnOk result (findings.new.items ≡ findings.old.items ++ map (λ (p : ℕ × ℕ). Doubled p.0 p.1) pairs.now) }
-{
-    findings.extend(pairs.iter().map(|pair| Finding::Doubled(pair.0, pair.1)))
+/// A kind of findings that tell of two numbers each.
+#[derive(Clone, Copy)]
+pub enum OfPair {
+    Doubled,
+    Overlap,
+    OutOfRow,
+    Close,
+    Opened,
+    Short,
 }
 
-pub fn put_strange(findings: &mut Vec<Finding>, numbers: &[u32]) -> Result<(), AllocError>
-    ensures { OnOk result (findings.new.items ≡ findings.old.items ++ map Strange numbers.now) }
+/// Puts a finding of this kind at the end for each number. The one error is want of memory.
+pub fn put_numbers(
+    findings: &mut Vec<Finding>,
+    kind: OfNumber,
+    numbers: &[u32],
+) -> Result<(), AllocError>
+    ensures { OnOk result (findings.new.items ≡ findings.old.items ++ map (λ n. of_number kind n) numbers.now) }
 {
-    findings.extend(numbers.iter().map(|n| Finding::Strange(*n)))
+    for n in numbers {
+        findings.push(number_finding(kind, *n))?;
+    }
+    Ok(())
 }
 
-pub fn put_drawing(findings: &mut Vec<Finding>, numbers: &[u32]) -> Result<(), AllocError>
-    ensures { OnOk result (findings.new.items ≡ findings.old.items ++ map Drawing numbers.now) }
+/// Puts a finding of this kind at the end for each pair. The one error is want of memory.
+pub fn put_pairs(
+    findings: &mut Vec<Finding>,
+    kind: OfPair,
+    pairs: &[(u32, u32)],
+) -> Result<(), AllocError>
+    ensures { OnOk result (findings.new.items ≡ findings.old.items ++ map (λ p. of_pair kind p) pairs.now) }
 {
-    findings.extend(numbers.iter().map(|n| Finding::Drawing(*n)))
+    for pair in pairs {
+        findings.push(pair_finding(kind, pair.0, pair.1))?;
+    }
+    Ok(())
 }
 
-pub fn put_overlap(findings: &mut Vec<Finding>, pairs: &[(u32, u32)]) -> Result<(), AllocError>
-    ensures { OnOk result (findings.new.items ≡ findings.old.items ++ map (λ (p : ℕ × ℕ). Overlap p.0 p.1) pairs.now) }
+fn number_finding(kind: OfNumber, n: u32) -> Finding
+    ensures { result ≡ of_number kind n }
 {
-    findings.extend(pairs.iter().map(|pair| Finding::Overlap(pair.0, pair.1)))
+    match kind {
+        OfNumber::Missing => Finding::Missing(n),
+        OfNumber::Strange => Finding::Strange(n),
+        OfNumber::Drawing => Finding::Drawing(n),
+        OfNumber::Narrow => Finding::Narrow(n),
+        OfNumber::BareCut => Finding::BareCut(n),
+    }
 }
 
-pub fn put_out_of_row(findings: &mut Vec<Finding>, pairs: &[(u32, u32)]) -> Result<(), AllocError>
-    ensures { OnOk result (findings.new.items ≡ findings.old.items ++ map (λ (p : ℕ × ℕ). OutOfRow p.0 p.1) pairs.now) }
+fn pair_finding(kind: OfPair, first: u32, later: u32) -> Finding
+    ensures { result ≡ of_pair kind (first, later) }
 {
-    findings.extend(pairs.iter().map(|pair| Finding::OutOfRow(pair.0, pair.1)))
+    match kind {
+        OfPair::Doubled => Finding::Doubled(first, later),
+        OfPair::Overlap => Finding::Overlap(first, later),
+        OfPair::OutOfRow => Finding::OutOfRow(first, later),
+        OfPair::Close => Finding::Close(first, later),
+        OfPair::Opened => Finding::Opened(first, later),
+        OfPair::Short => Finding::Short(first, later),
+    }
 }
 
-pub fn put_narrow(findings: &mut Vec<Finding>, numbers: &[u32]) -> Result<(), AllocError>
-    ensures { OnOk result (findings.new.items ≡ findings.old.items ++ map Narrow numbers.now) }
+/// Puts a number at the end, unless something is well with it. The one error is want of memory.
+pub fn push_unless(numbers: &mut Vec<u32>, number: u32, is_well: bool) -> Result<(), AllocError>
+    ensures { OnOk result (numbers.new.items ≡ (if not is_well then numbers.old.items ++ number ∷ [] else numbers.old.items)) }
 {
-    findings.extend(numbers.iter().map(|n| Finding::Narrow(*n)))
-}
-
-pub fn put_close(findings: &mut Vec<Finding>, pairs: &[(u32, u32)]) -> Result<(), AllocError>
-    ensures { OnOk result (findings.new.items ≡ findings.old.items ++ map (λ (p : ℕ × ℕ). Close p.0 p.1) pairs.now) }
-{
-    findings.extend(pairs.iter().map(|pair| Finding::Close(pair.0, pair.1)))
-}
-
-pub fn put_bare_cut(findings: &mut Vec<Finding>, numbers: &[u32]) -> Result<(), AllocError>
-    ensures { OnOk result (findings.new.items ≡ findings.old.items ++ map BareCut numbers.now) }
-{
-    findings.extend(numbers.iter().map(|n| Finding::BareCut(*n)))
-}
-
-pub fn put_opened(findings: &mut Vec<Finding>, pairs: &[(u32, u32)]) -> Result<(), AllocError>
-    ensures { OnOk result (findings.new.items ≡ findings.old.items ++ map (λ (p : ℕ × ℕ). Opened p.0 p.1) pairs.now) }
-{
-    findings.extend(pairs.iter().map(|pair| Finding::Opened(pair.0, pair.1)))
-}
-
-pub fn put_short(findings: &mut Vec<Finding>, pairs: &[(u32, u32)]) -> Result<(), AllocError>
-    ensures { OnOk result (findings.new.items ≡ findings.old.items ++ map (λ (p : ℕ × ℕ). Short p.0 p.1) pairs.now) }
-{
-    findings.extend(pairs.iter().map(|pair| Finding::Short(pair.0, pair.1)))
+    if !is_well {
+        numbers.push(number)?;
+    }
+    Ok(())
 }

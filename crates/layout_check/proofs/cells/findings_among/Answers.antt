@@ -9,5 +9,5 @@ use Rattle.layout_check.proofs.cells.findings_among.Goals as goal
 pub returns : goal.returns
 returns c =
     c.in_ok-tell_drawings.ensures
-    ∙ ap (λ (fs : List Finding). fs ++ map Drawing (misdrawn c.args.case.now.rules.now c.args.case.now.design.now c.args.case.now.layout.now))
-    (c.in_ok-findings.ensures ∙ ap (λ (names : List (List ℕ)). name_findings names (cell_names c.args.case.now.layout.now)) c.requires.instances)
+    ∙ ap (λ (fs : List Finding). fs ++ map Drawing (misdrawn c.args.named.now.case.now.rules.now c.args.named.now.case.now.design.now c.args.named.now.case.now.layout.now))
+    (c.in_ok-findings.ensures ∙ ap (λ (names : List (List ℕ)). name_findings names (cell_names c.args.named.now.case.now.layout.now)) c.args.named.now.each)

@@ -16,44 +16,50 @@ use Rattle.layout_check.proofs.Instances.{find-place}
 use Rattle.layout_check.proofs.cells.is_copy.Goals as goal
 
 pub returns-in_default : goal.returns-in_default
-returns-in_default c = λ r are.
-    let place : c.place_of-place.result ≡ place_among (instance_names c.args.case.now.design.now) c.args.cell.now.name =
-    c.place_of-place.ensures.is ∙ ap₂ place_among c.requires.names c.items.ensures in
-    let insts : c.items-2.result.now ≡ c.args.case.now.design.now.instances = c.items-2.ensures ∙ ap (λ (d : Netlist). d.instances) c.design.view_is in
-    let past : length c.args.case.now.design.now.instances ≤ c.place_of-place.result =
-    subst (λ (l : List Inst). length l ≤ c.place_of-place.result) insts c.in_default.ensures.lookup.3 in
-    sym (ap (λ (o : Option Inst). is_copy_for r c.args.case.now.design.now c.args.case.now.layout.now o c.args.cell.now)
-    (find-place c.args.case.now.design.now.instances c.args.cell.now.name ∙ ap (slice_get c.args.case.now.design.now.instances) (sym place)
-    ∙ slice_get_past c.args.case.now.design.now.instances c.place_of-place.result past))
+returns-in_default c =
+    let r = c.args.drawn.now.named.now.case.now.rules.now in
+    let d = c.args.drawn.now.named.now.case.now.design.now in
+    let l = c.args.drawn.now.named.now.case.now.layout.now in
+    let place : c.place_of-place.result ≡ place_among (instance_names d) c.args.cell.now.name =
+    c.place_of-place.ensures.is ∙ ap₂ place_among c.args.drawn.now.named.now.different c.items.ensures in
+    let insts : c.items-2.result.now ≡ d.instances = c.items-2.ensures ∙ ap (λ (d : Netlist). d.instances) c.design.view_is in
+    let past : length d.instances ≤ c.place_of-place.result =
+    subst (λ (is : List Inst). length is ≤ c.place_of-place.result) insts c.in_default.ensures.lookup.3 in
+    sym (ap (λ (o : Option Inst). is_copy_for r d l o c.args.cell.now)
+    (find-place d.instances c.args.cell.now.name ∙ ap (slice_get d.instances) (sym place)
+    ∙ slice_get_past d.instances c.place_of-place.result past))
 
 pub returns : goal.returns
-returns c = λ r are.
-    let place : c.place_of-place.result ≡ place_among (instance_names c.args.case.now.design.now) c.args.cell.now.name =
-    c.place_of-place.ensures.is ∙ ap₂ place_among c.requires.names c.items.ensures in
-    let insts : c.items-2.result.now ≡ c.args.case.now.design.now.instances = c.items-2.ensures ∙ ap (λ (d : Netlist). d.instances) c.design.view_is in
-    let kinds : c.items-3.result.now ≡ c.args.case.now.design.now.kinds = c.items-3.ensures ∙ ap (λ (d : Netlist). d.kinds) c.design.view_is in
-    let inst_is : slice_get c.args.case.now.design.now.instances c.place_of-place.result ≡ Some c.in-Some.inst.now =
-    ap (λ (l : List Inst). slice_get l c.place_of-place.result) (sym insts)
+returns c =
+    let r = c.args.drawn.now.named.now.case.now.rules.now in
+    let d = c.args.drawn.now.named.now.case.now.design.now in
+    let l = c.args.drawn.now.named.now.case.now.layout.now in
+    let place : c.place_of-place.result ≡ place_among (instance_names d) c.args.cell.now.name =
+    c.place_of-place.ensures.is ∙ ap₂ place_among c.args.drawn.now.named.now.different c.items.ensures in
+    let insts : c.items-2.result.now ≡ d.instances = c.items-2.ensures ∙ ap (λ (d : Netlist). d.instances) c.design.view_is in
+    let kinds : c.items-3.result.now ≡ d.kinds = c.items-3.ensures ∙ ap (λ (d : Netlist). d.kinds) c.design.view_is in
+    let inst_is : slice_get d.instances c.place_of-place.result ≡ Some c.in-Some.inst.now =
+    ap (λ (is : List Inst). slice_get is c.place_of-place.result) (sym insts)
     ∙ slice_get_read c.items-2.result.now (length c.items-2.result.now) c.place_of-place.result c.in-Some.inst.now refl
     c.in-Some.ensures.lookup.3.0 c.in-Some.ensures.lookup.1 in
-    let good : IsNetlist c.args.case.now.design.now = rw (← c.design.view_is) c.design.invariant.netlist in
-    let below : c.in-Some.inst.now.kind < length c.args.case.now.design.now.kinds =
-    all-get (λ (i : Inst). i.kind < length c.args.case.now.design.now.kinds) c.args.case.now.design.now.instances c.place_of-place.result c.in-Some.inst.now good.instances inst_is in
-    let kind_is : slice_get c.args.case.now.design.now.kinds c.in-Some.inst.now.kind ≡ Some c.index-items-kind.result =
-    ap (λ (l : List CellKind). slice_get l c.in-Some.inst.now.kind) (sym kinds)
+    let good : IsNetlist d = rw (← c.design.view_is) c.design.invariant.netlist in
+    let below : c.in-Some.inst.now.kind < length d.kinds =
+    all-get (λ (i : Inst). i.kind < length d.kinds) d.instances c.place_of-place.result c.in-Some.inst.now good.instances inst_is in
+    let kind_is : slice_get d.kinds c.in-Some.inst.now.kind ≡ Some c.index-items-kind.result =
+    ap (λ (ks : List CellKind). slice_get ks c.in-Some.inst.now.kind) (sym kinds)
     ∙ slice_get_read c.items-3.result.now (length c.items-3.result.now) c.in-Some.inst.now.kind c.index-items-kind.result refl
-    (subst (λ (l : List CellKind). c.in-Some.inst.now.kind < length l) (sym kinds) below) c.index-items-kind.is in
-    let long : length c.args.drawings.now ≡ length c.args.case.now.design.now.kinds = c.requires.kinds.each in
-    let drawn_is : slice_get c.args.drawings.now c.in-Some.inst.now.kind ≡ Some c.index-drawings-kind.result =
-    slice_get_read c.args.drawings.now (length c.args.drawings.now) c.in-Some.inst.now.kind c.index-drawings-kind.result refl
+    (subst (λ (ks : List CellKind). c.in-Some.inst.now.kind < length ks) (sym kinds) below) c.index-items-kind.is in
+    let long : length c.args.drawn.now.drawings.now ≡ length d.kinds = c.args.drawn.now.kinds.each in
+    let drawn_is : slice_get c.args.drawn.now.drawings.now c.in-Some.inst.now.kind ≡ Some c.index-drawings-kind.result =
+    slice_get_read c.args.drawn.now.drawings.now (length c.args.drawn.now.drawings.now) c.in-Some.inst.now.kind c.index-drawings-kind.result refl
     (subst (λ (n : ℕ). c.in-Some.inst.now.kind < n) (sym long) below) c.index-drawings-kind.is in
-    let drawing : c.index-drawings-kind.result ≡ drawing_of r c.args.case.now.design.now.height c.index-items-kind.result =
-    same_Some c.index-drawings-kind.result (drawing_of r c.args.case.now.design.now.height c.index-items-kind.result)
-    (sym drawn_is ∙ ap (λ (l : List (List Shape)). slice_get l c.in-Some.inst.now.kind) are
-    ∙ slice_get-map (drawing_of r c.args.case.now.design.now.height) c.args.case.now.design.now.kinds c.in-Some.inst.now.kind
-    ∙ ap (option_map (drawing_of r c.args.case.now.design.now.height)) kind_is) in
+    let drawing : c.index-drawings-kind.result ≡ drawing_of r d.height c.index-items-kind.result =
+    same_Some c.index-drawings-kind.result (drawing_of r d.height c.index-items-kind.result)
+    (sym drawn_is ∙ ap (λ (ss : List (List Shape)). slice_get ss c.in-Some.inst.now.kind) c.args.drawn.now.are
+    ∙ slice_get-map (drawing_of r d.height) d.kinds c.in-Some.inst.now.kind
+    ∙ ap (option_map (drawing_of r d.height)) kind_is) in
     c.is_copy_with.ensures
-    ∙ ap₂ (λ (kind : CellKind) (shapes : List Shape). is_copy_with c.args.case.now.layout.now kind.name shapes c.args.cell.now) (sym c.index-items-kind.is) (c.items-4.ensures ∙ drawing)
-    ∙ sym (ap (λ (o : Option Inst). is_copy_for r c.args.case.now.design.now c.args.case.now.layout.now o c.args.cell.now)
-    (find-place c.args.case.now.design.now.instances c.args.cell.now.name ∙ ap (slice_get c.args.case.now.design.now.instances) (sym place) ∙ inst_is)
-    ∙ ap (λ (o : Option CellKind). is_copy_of_kind r c.args.case.now.design.now c.args.case.now.layout.now o c.args.cell.now) kind_is)
+    ∙ ap₂ (λ (kind : CellKind) (shapes : List Shape). is_copy_with l kind.name shapes c.args.cell.now) (sym c.index-items-kind.is) (c.items-4.ensures ∙ drawing)
+    ∙ sym (ap (λ (o : Option Inst). is_copy_for r d l o c.args.cell.now)
+    (find-place d.instances c.args.cell.now.name ∙ ap (slice_get d.instances) (sym place) ∙ inst_is)
+    ∙ ap (λ (o : Option CellKind). is_copy_of_kind r d l o c.args.cell.now) kind_is)

@@ -10,16 +10,16 @@ use Rattle.layout_check.specs.declared.finding.Finding.TheVariants.{Opened, Shor
 use Rattle.layout_check.proofs.PinGroups.{opened-differing, shorted-differing}
 use Rattle.layout_check.proofs.nets.tell_nets.Goals as goal
 
-pub differing_pairs-requires-clause-few : goal.differing_pairs-requires-clause-few
-differing_pairs-requires-clause-few c =
+pub invariant_of-by_net-clause-few : goal.invariant_of-by_net-clause-few
+invariant_of-by_net-clause-few c =
     let good : IsNetlist c.args.design.now = rw (← c.design.view_is) c.design.invariant.netlist in
     let few : length c.args.design.now.pins ≤ 200000 = good.few_pins in
     let long : length c.as_slice.result.now ≡ length c.args.design.now.pins =
     ap (λ (l : List ℕ). length l) (c.as_slice.ensures.value ∙ c.in_ok-nets.ensures) ∙ length-map c.args.design.now.pins (λ (p : Pin). p.net) in
     omega arith
 
-pub differing_pairs-requires-2-clause-few : goal.differing_pairs-requires-2-clause-few
-differing_pairs-requires-2-clause-few c =
+pub invariant_of-by_class-clause-few : goal.invariant_of-by_class-clause-few
+invariant_of-by_class-clause-few c =
     let good : IsNetlist c.args.design.now = rw (← c.design.view_is) c.design.invariant.netlist in
     let few : length c.args.design.now.pins ≤ 200000 = good.few_pins in
     let long : length c.args.classes.now ≡ length c.args.design.now.pins = c.requires in
@@ -36,9 +36,9 @@ returns c =
     c.as_slice-4.ensures.value ∙ c.in_ok-shorted.ensures
     ∙ ap (λ (ns : List ℕ). differing_pairs (firsts_of c.args.classes.now) ns) (c.as_slice-2.ensures.value ∙ nets)
     ∙ sym (shorted-differing c.args.design.now c.args.classes.now c.requires) in
-    on_ok_weaker c.put_short.result
+    on_ok_weaker c.put_pairs-2.result
     (λ is. is
     ∙ ap₂ (λ (fs : List Finding) (ps : List (ℕ × ℕ)). fs ++ map (λ (p : ℕ × ℕ). Short p.0 p.1) ps)
-    (c.in_ok-put_opened.ensures ∙ ap (λ (ps : List (ℕ × ℕ)). c.args.findings.now.items ++ map (λ (p : ℕ × ℕ). Opened p.0 p.1) ps) opens) shorts
+    (c.in_ok-put_pairs.ensures ∙ ap (λ (ps : List (ℕ × ℕ)). c.args.findings.now.items ++ map (λ (p : ℕ × ℕ). Opened p.0 p.1) ps) opens) shorts
     ∙ append_assoc c.args.findings.now.items (map (λ (p : ℕ × ℕ). Opened p.0 p.1) (opened c.args.design.now c.args.classes.now))
-    (map (λ (p : ℕ × ℕ). Short p.0 p.1) (shorted c.args.design.now c.args.classes.now))) c.put_short.ensures
+    (map (λ (p : ℕ × ℕ). Short p.0 p.1) (shorted c.args.design.now c.args.classes.now))) c.put_pairs-2.ensures
