@@ -49,9 +49,10 @@ fn square(layer: LayerName, x: u32, side: u32) -> Shape
 
 #[test]
 fn a_million_that_do_not_touch(rt: HostRuntime) -> Result<(), Fail> {
-    let rules = sample_rules(rt.alloc())?;
+    let sample = sample_rules(rt.alloc())?;
+    let rules = &sample;
     let shapes = squares(rt.alloc(), rules.vertical.layer, 1_000_000, 1000, 999)?;
-    let classes = shape_classes(rt.alloc(), shapes.as_slice(), &[], &rules)?;
+    let classes = shape_classes(rt.alloc(), shapes.as_slice(), &[], rules)?;
     let mut number: u32 = 0;
     for class in classes.as_slice() {
         assert_eq!(rt; *class, number);
@@ -62,9 +63,10 @@ fn a_million_that_do_not_touch(rt: HostRuntime) -> Result<(), Fail> {
 
 #[test]
 fn a_million_that_all_touch(rt: HostRuntime) -> Result<(), Fail> {
-    let rules = sample_rules(rt.alloc())?;
+    let sample = sample_rules(rt.alloc())?;
+    let rules = &sample;
     let shapes = squares(rt.alloc(), rules.horizontal.layer, 1_000_000, 1, 2_000_000)?;
-    let classes = shape_classes(rt.alloc(), shapes.as_slice(), &[], &rules)?;
+    let classes = shape_classes(rt.alloc(), shapes.as_slice(), &[], rules)?;
     for class in classes.as_slice() {
         assert_eq!(rt; *class, 0);
     }

@@ -30,7 +30,8 @@ fn shape(layer: LayerName, x0: u32, y0: u32, width: u32, height: u32) -> Shape
 }
 
 fn classes(alloc: Global, tied: bool) -> Result<Vec<u32>, AllocError> {
-    let rules = sample_rules(alloc)?;
+    let sample = sample_rules(alloc)?;
+    let rules = &sample;
     let shapes = [
         shape(rules.horizontal.layer, 0, 0, 100, 10),
         shape(rules.cut.layer, 90, 5, 10, 10),
@@ -41,9 +42,9 @@ fn classes(alloc: Global, tied: bool) -> Result<Vec<u32>, AllocError> {
         shape(rules.vertical.layer, 300, 0, 10, 10),
     ];
     if tied {
-        shape_classes(alloc, &shapes, &[(6, 4)], &rules)
+        shape_classes(alloc, &shapes, &[(6, 4)], rules)
     } else {
-        shape_classes(alloc, &shapes, &[], &rules)
+        shape_classes(alloc, &shapes, &[], rules)
     }
 }
 

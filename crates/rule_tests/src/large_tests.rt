@@ -85,13 +85,14 @@ fn a_million_in_one_place_of_different_classes(rt: HostRuntime) -> Result<(), Fa
 // A thousand rows of a thousand outlines, which touch.
 #[test]
 fn a_million_outlines_in_rows(rt: HostRuntime) -> Result<(), Fail> {
-    let rules = sample_rules(rt.alloc())?;
+    let sample = sample_rules(rt.alloc())?;
+    let rules = &sample;
     let shapes = grid(rt.alloc(), rules.outline.layer, 1000, 1000, 1000, 1000)?;
     assert_eq!(rt; shapes.len(), 1_000_000);
-    let overlapping = overlaps(rt.alloc(), shapes.as_slice(), &rules)?;
+    let overlapping = overlaps(rt.alloc(), shapes.as_slice(), rules)?;
     assert_eq!(rt; overlapping.list.len(), 0);
     assert!(rt; overlapping.whole);
-    let out = out_of_row(rt.alloc(), shapes.as_slice(), &rules)?;
+    let out = out_of_row(rt.alloc(), shapes.as_slice(), rules)?;
     assert_eq!(rt; out.list.len(), 0);
     assert!(rt; out.whole);
     Ok(())
