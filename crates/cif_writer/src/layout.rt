@@ -145,35 +145,42 @@ fn write_row<S: Shelf>(
     Ok(writer)
 }
 
+// A placed design, and the drawings of its symbols.
+#[derive(Drop)]
+struct Placed<'p> {
+    design: &'p Design,
+    rules: &'p Rules,
+    laid: &'p Laid,
+    wirings: &'p [Wiring],
+    symbols: &'p [Items<Shape>],
+}
+
 // Writes the channels and rows from the bottom up: channel 0, row 0, channel 1, and so on.
-fn write_main<S: Shelf>(
+fn write_main<'p, S: Shelf>(
     writer: Writer,
     shelf: &mut S,
     file: &str,
-    design: &Design,
-    rules: &Rules,
-    wirings: &[Wiring],
-    bases: &[u32],
-    cells: &[Items<PlacedItem>],
+    placed: &'p Placed<'p>,
 ) -> Result<Writer, Failed>
-    requires on_grid { AllByRecursion (λ (w : Wiring). All (IsOnGrid w.columns w.tracks) (elements w)) wirings.now }
-    requires reach { AllByRecursion (λ (drawn : List Drawn). AllByRecursion (λ (a : Drawn). IsShapeInReach a.shape) drawn) (drawings rules.now wirings.now bases.now) }
-    ensures wrote { IfOk result (λ next. Wrote (text_of (items_commands writer.last (items_of design.now (drawings rules.now wirings.now bases.now) cells.now))) writer.buffered next.buffered file.now (S.holds shelf.old) (S.holds shelf.new) (S.read_faults shelf.old) (S.read_faults shelf.new) (S.write_faults shelf.old) (S.write_faults shelf.new)) }
-    ensures stopped { OnErr result (Stopped (text_of (items_commands writer.last (items_of design.now (drawings rules.now wirings.now bases.now) cells.now))) writer.buffered file.now (S.holds shelf.old) (S.holds shelf.new) (S.read_faults shelf.old) (S.read_faults shelf.new) (S.write_faults shelf.old file.now) (S.write_faults shelf.new file.now)) }
+    requires on_grid { AllByRecursion (λ (w : Wiring). All (IsOnGrid w.columns w.tracks) (elements w)) placed.now.wirings.now }
+    requires reach { AllByRecursion (λ (drawn : List Drawn). AllByRecursion (λ (a : Drawn). IsShapeInReach a.shape) drawn) (drawings placed.now.rules.now placed.now.wirings.now placed.now.laid.now.channel_base) }
+    ensures wrote { IfOk result (λ next. Wrote (text_of (items_commands writer.last (items_of placed.now.design.now (drawings placed.now.rules.now placed.now.wirings.now placed.now.laid.now.channel_base) placed.now.laid.now.cells))) writer.buffered next.buffered file.now (S.holds shelf.old) (S.holds shelf.new) (S.read_faults shelf.old) (S.read_faults shelf.new) (S.write_faults shelf.old) (S.write_faults shelf.new)) }
+    ensures stopped { OnErr result (Stopped (text_of (items_commands writer.last (items_of placed.now.design.now (drawings placed.now.rules.now placed.now.wirings.now placed.now.laid.now.channel_base) placed.now.laid.now.cells))) writer.buffered file.now (S.holds shelf.old) (S.holds shelf.new) (S.read_faults shelf.old) (S.read_faults shelf.new) (S.write_faults shelf.old file.now) (S.write_faults shelf.new file.now)) }
 {
     let mut writer = writer;
-    let mut channels = wirings;
-    let mut edges = bases;
-    let mut rows = cells;
+    let mut channels = placed.wirings;
+    let laid = placed.laid;
+    let mut edges = laid.channel_base.items();
+    let mut rows = laid.cells.items();
     while let Some((wiring, above)) = channels.split_first() {
         let Some((base, others)) = edges.split_first() else {
             return Ok(writer);
         };
-        writer = write_wires(writer, shelf, file, wiring, *base, rules)?;
+        writer = write_wires(writer, shelf, file, wiring, *base, placed.rules)?;
         let Some((row, higher)) = rows.split_first() else {
             return Ok(writer);
         };
-        writer = write_row(writer, shelf, file, design, row.items())?;
+        writer = write_row(writer, shelf, file, placed.design, row.items())?;
         channels = above;
         edges = others;
         rows = higher;
@@ -182,34 +189,21 @@ fn write_main<S: Shelf>(
 }
 
 // Writes all of a placed design behind the first line of its text, and ends the text.
-fn write_all<S: Shelf>(
+fn write_all<'p, S: Shelf>(
     writer: Writer,
     shelf: &mut S,
     file: &str,
-    design: &Design,
-    laid: &Laid,
-    wirings: &[Wiring],
-    symbols: &[Items<Shape>],
-    rules: &Rules,
+    placed: &'p Placed<'p>,
 ) -> Result<(), Failed>
     requires begun { writer.last ≡ None }
-    requires on_grid { AllByRecursion (λ (w : Wiring). All (IsOnGrid w.columns w.tracks) (elements w)) wirings.now }
-    requires symbols { AllByRecursion (λ (shapes : List Shape). AllByRecursion IsShapeInReach shapes) symbols.now }
-    requires reach { AllByRecursion (λ (drawn : List Drawn). AllByRecursion (λ (a : Drawn). IsShapeInReach a.shape) drawn) (drawings rules.now wirings.now laid.now.channel_base) }
-    ensures ended { OnOk result (Ended (text_behind (symbols_with design.now 0 symbols.now) (items_of design.now (drawings rules.now wirings.now laid.now.channel_base) laid.now.cells)) writer.buffered file.now (S.holds shelf.old) (S.holds shelf.new) (S.read_faults shelf.old) (S.read_faults shelf.new) (S.write_faults shelf.old) (S.write_faults shelf.new)) }
-    ensures stopped { OnErr result (Stopped (text_behind (symbols_with design.now 0 symbols.now) (items_of design.now (drawings rules.now wirings.now laid.now.channel_base) laid.now.cells)) writer.buffered file.now (S.holds shelf.old) (S.holds shelf.new) (S.read_faults shelf.old) (S.read_faults shelf.new) (S.write_faults shelf.old file.now) (S.write_faults shelf.new file.now)) }
+    requires on_grid { AllByRecursion (λ (w : Wiring). All (IsOnGrid w.columns w.tracks) (elements w)) placed.now.wirings.now }
+    requires symbols { AllByRecursion (λ (shapes : List Shape). AllByRecursion IsShapeInReach shapes) placed.now.symbols.now }
+    requires reach { AllByRecursion (λ (drawn : List Drawn). AllByRecursion (λ (a : Drawn). IsShapeInReach a.shape) drawn) (drawings placed.now.rules.now placed.now.wirings.now placed.now.laid.now.channel_base) }
+    ensures ended { OnOk result (Ended (text_behind (symbols_with placed.now.design.now 0 placed.now.symbols.now) (items_of placed.now.design.now (drawings placed.now.rules.now placed.now.wirings.now placed.now.laid.now.channel_base) placed.now.laid.now.cells)) writer.buffered file.now (S.holds shelf.old) (S.holds shelf.new) (S.read_faults shelf.old) (S.read_faults shelf.new) (S.write_faults shelf.old) (S.write_faults shelf.new)) }
+    ensures stopped { OnErr result (Stopped (text_behind (symbols_with placed.now.design.now 0 placed.now.symbols.now) (items_of placed.now.design.now (drawings placed.now.rules.now placed.now.wirings.now placed.now.laid.now.channel_base) placed.now.laid.now.cells)) writer.buffered file.now (S.holds shelf.old) (S.holds shelf.new) (S.read_faults shelf.old) (S.read_faults shelf.new) (S.write_faults shelf.old file.now) (S.write_faults shelf.new file.now)) }
 {
-    let writer = write_symbols(writer, shelf, file, design, symbols)?;
-    let writer = write_main(
-        writer,
-        shelf,
-        file,
-        design,
-        rules,
-        wirings,
-        laid.channel_base.items(),
-        laid.cells.items(),
-    )?;
+    let writer = write_symbols(writer, shelf, file, placed.design, placed.symbols)?;
+    let writer = write_main(writer, shelf, file, placed)?;
     writer.close(shelf, file)
 }
 
@@ -251,7 +245,14 @@ pub fn write_layout<S: Shelf>(
     // The bounds of the design's type are known once a field is read.
     let _kinds = &design.kinds;
     let writer = Writer::start(alloc, shelf, file)?;
-    match write_all(writer, shelf, file, design, laid, wirings, symbols, rules) {
+    let placed = Placed {
+        design,
+        rules,
+        laid,
+        wirings,
+        symbols,
+    };
+    match write_all(writer, shelf, file, &placed) {
         Ok(()) => Ok(()),
         Err(_) => Err(StartFault::Write),
     }

@@ -1,4 +1,3 @@
-use Rattle.std.proofs.Common.{rules as all_rules, ◌≡◌}
 use Rattle.std.proofs.lemmas.Result.{on_err_weaker, on_ok_weaker}
 use Rattle.cif_text.specs.Printing.{line}
 use Rattle.cif_text.specs.declared.command.Command.TheVariants as commands
@@ -11,26 +10,20 @@ returns-in_err-writer-clause-stopped g c = on-err c.from_residual.result _ (stop
 
 pub returns-in_err-writer-2-clause-stopped : goal.returns-in_err-writer-2-clause-stopped
 returns-in_err-writer-2-clause-stopped g c =
-    let bases : c.items.result.now ≡ c.args.laid.now.channel_base = search all_rules in
-    let cells : c.items-2.result.now ≡ c.args.laid.now.cells = search all_rules in
     on-err c.from_residual-in_err-writer-2.result _
     (stopped-behind c.in_ok-writer.ensures.wrote
-    (stopped-first _ (rw (bases, cells, c.in_ok-writer.ensures.layer) at c.in_err-writer-2.ensures.stopped)))
+    (stopped-first _ (rw c.in_ok-writer.ensures.layer at c.in_err-writer-2.ensures.stopped)))
 
 pub returns-clause-ended : goal.returns-clause-ended
 returns-clause-ended g c =
-    let bases : c.items.result.now ≡ c.args.laid.now.channel_base = search all_rules in
-    let cells : c.items-2.result.now ≡ c.args.laid.now.cells = search all_rules in
-    let main = rw (bases, cells, c.in_ok-writer.ensures.layer) at c.in_ok-writer-2.ensures.wrote in
+    let main = rw c.in_ok-writer.ensures.layer at c.in_ok-writer-2.ensures.wrote in
     let e = c.close.ensures in
     on_ok_weaker c.close.result (λ last. ended-behind c.in_ok-writer.ensures.wrote (ended-behind main last))
     (ended-of c.close.result (line commands.End) c.in_ok-writer-2.writer.buffered _ _ e.others e.reads e.quiet e.put)
 
 pub returns-clause-stopped : goal.returns-clause-stopped
 returns-clause-stopped g c =
-    let bases : c.items.result.now ≡ c.args.laid.now.channel_base = search all_rules in
-    let cells : c.items-2.result.now ≡ c.args.laid.now.cells = search all_rules in
-    let main = rw (bases, cells, c.in_ok-writer.ensures.layer) at c.in_ok-writer-2.ensures.wrote in
+    let main = rw c.in_ok-writer.ensures.layer at c.in_ok-writer-2.ensures.wrote in
     let e = c.close.ensures in
     on_err_weaker c.close.result (λ last. stopped-behind c.in_ok-writer.ensures.wrote (stopped-behind main last))
     (ended-not c.close.result (line commands.End) c.in_ok-writer-2.writer.buffered _ _ e.others e.reads e.cause e.front)
