@@ -4,6 +4,7 @@
 mod items;
 mod layer;
 mod layout;
+mod mask;
 mod name;
 mod rect;
 mod turn;
@@ -11,6 +12,7 @@ mod turn;
 pub use items::Items;
 pub use layer::LayerName;
 pub use layout::{Cell, Layout, Shape};
+pub use mask::Mask;
 pub use name::Name;
 pub use rect::{Rect, gap, inside, touch};
 pub use turn::{Place, Turn, moved};

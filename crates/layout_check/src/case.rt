@@ -1,9 +1,10 @@
 //! What is judged: a layout of a design under rules.
 ghost use Rattle.design_model.specs.Room.{HasRoom};
 ghost use Rattle.layout_check.specs.Measured.{IsMeasured};
+ghost use Rattle.std.specs.Prelude.{◌≡◌};
 
 use design_model::Design;
-use geom_core::Layout;
+use geom_core::{Layout, Mask};
 use tech_rules::Rules;
 
 /// A layout that is judged for a design under rules: its lengths are within reach, and the cells of the design have room for their pins.
@@ -14,4 +15,13 @@ pub struct Case<'c> {
     pub rules: &'c Rules,
     ghost measured: { IsMeasured layout.now },
     ghost room: { HasRoom rules.now design.now },
+}
+
+impl<'c> Case<'c> {
+    /// The shapes of the layout, as a mask that can be judged. Takes no memory.
+    pub fn mask(&self) -> Mask<'_>
+        ensures { result ≡ self.now.layout.now.shapes }
+    {
+        Mask::new(self.layout.shapes.items())
+    }
 }

@@ -13,9 +13,9 @@ use std::alloc::{AllocError, Global};
 pub fn tell_rows(alloc: Global, findings: &mut Vec<Finding>, case: &Case) -> Result<(), AllocError>
     ensures { OnOk result (findings.new.items ≡ findings.old.items ++ row_findings case.now.rules.now case.now.layout.now) }
 {
-    let shapes = case.layout.shapes.items();
-    let overlapping = overlaps(alloc, shapes, case.rules)?;
-    let uneven = out_of_row(alloc, shapes, case.rules)?;
+    let mask = case.mask();
+    let overlapping = overlaps(alloc, &mask, case.rules)?;
+    let uneven = out_of_row(alloc, &mask, case.rules)?;
     put_pairs(findings, OfPair::Overlap, overlapping.list.as_slice())?;
     put_pairs(findings, OfPair::OutOfRow, uneven.list.as_slice())
 }
@@ -28,7 +28,7 @@ pub fn tell_narrow(
 ) -> Result<(), AllocError>
     ensures { OnOk result (findings.new.items ≡ findings.old.items ++ narrow_findings case.now.rules.now case.now.layout.now) }
 {
-    let numbers = narrow(alloc, case.layout.shapes.items(), case.rules)?;
+    let numbers = narrow(alloc, &case.mask(), case.rules)?;
     put_numbers(findings, OfNumber::Narrow, numbers.as_slice())
 }
 
@@ -42,7 +42,7 @@ pub fn tell_close(
     requires { length classes.now ≡ length case.now.layout.now.shapes }
     ensures { OnOk result (findings.new.items ≡ findings.old.items ++ close_findings case.now.rules.now case.now.layout.now classes.now) }
 {
-    let pairs = close_pairs(alloc, case.layout.shapes.items(), case.rules, classes)?;
+    let pairs = close_pairs(alloc, &case.mask(), case.rules, classes)?;
     put_pairs(findings, OfPair::Close, pairs.list.as_slice())
 }
 
@@ -50,7 +50,7 @@ pub fn tell_close(
 pub fn tell_bare(alloc: Global, findings: &mut Vec<Finding>, case: &Case) -> Result<(), AllocError>
     ensures { OnOk result (findings.new.items ≡ findings.old.items ++ bare_findings case.now.rules.now case.now.layout.now) }
 {
-    let numbers = bare_cuts(alloc, case.layout.shapes.items(), case.rules)?;
+    let numbers = bare_cuts(alloc, &case.mask(), case.rules)?;
     put_numbers(findings, OfNumber::BareCut, numbers.as_slice())
 }
 

@@ -1,10 +1,9 @@
-use Rattle.std.proofs.Common.{◌≡◌, ◌+◌, ◌<◌, ◌≤◌, ℕ, zero, suc, List, [], ◌∷◌, ◌++◌, Bool, true, false, if◌then◌else◌, Option, Some, None, length, map, take, drop, min, leb, refl, ap, subst, sym, ◌∙◌, append_assoc, arith, inl, inr, length-take}
+use Rattle.std.proofs.Common.{◌≡◌, ◌+◌, ◌<◌, ◌≤◌, ℕ, zero, suc, List, [], ◌∷◌, ◌++◌, Bool, true, false, if◌then◌else◌, Option, Some, None, length, map, take, drop, min, leb, refl, ap, sym, ◌∙◌, append_assoc, arith, inl, inr, length-take}
 use Rattle.std.specs.Prelude.{All}
 use Rattle.std.specs.List.{cons_option, slice_get, zip}
 use Rattle.std.specs.Option.{option_to_list}
 use Rattle.std.proofs.lemmas.Bool.{cases_lt, le-leb, lt-leb}
 use Rattle.std.proofs.lemmas.List.{append-nil, take-take}
-use Rattle.std.proofs.lemmas.Option.{get_or_from_slice_get, slice_get_within}
 use Rattle.std.proofs.lemmas.List.Elements.{All-cons, All-nil}
 use Rattle.list_facts.proofs.Places.{drop-here, drop-past}
 use Rattle.close_rects.specs.Crowds.{KeepsInReach, crowd_of, crowds_of, is_crowded}

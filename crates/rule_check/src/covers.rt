@@ -6,16 +6,15 @@ ghost use Rattle.std.specs.Prelude.{◌≡◌, ◌<◌, ◌^◌, List, length, I
 
 use crate::measures::{grown, is_on, length_in};
 use close_rects::RectSet;
-use geom_core::{LayerName, Rect, Shape};
+use geom_core::{LayerName, Mask, Rect, Shape};
 use std::alloc::{AllocError, Global};
 use tech_rules::Rules;
 
-// The rectangles of the shapes of a layer.
-pub fn wires_on(alloc: Global, shapes: &[Shape], layer: &LayerName) -> Result<RectSet, AllocError>
-    requires { length shapes.now < 2 ^ 32 }
-    ensures { IfOk result (IsCoverOf layer.now shapes.now) }
+// The rectangles of the shapes of a layer of the mask.
+pub fn wires_on(alloc: Global, mask: &Mask, layer: &LayerName) -> Result<RectSet, AllocError>
+    ensures { IfOk result (IsCoverOf layer.now mask.now) }
 {
-    let rects = rects_on(alloc, shapes, layer)?;
+    let rects = rects_on(alloc, mask.shapes(), layer)?;
     RectSet::new(alloc, rects.as_slice())
 }
 

@@ -11,12 +11,11 @@ use tech_rules::Rules;
 
 // A length in half centimicrons.
 pub fn length_in(rules: &Rules, units: u32) -> i64
-    requires { units ≤ MOST_LENGTH }
     ensures is { result ≡ length_in rules.now units }
     ensures low { pos 0 ≤ℤ result }
-    ensures high { result ≤ℤ pos 2000000 }
+    ensures high { units ≤ MOST_LENGTH → result ≤ℤ pos 2000000 }
 {
-    i64::from(2 * units * rules.grid.centi)
+    2 * i64::from(units) * i64::from(rules.grid.centi)
 }
 
 pub fn is_on(layer: &LayerName, shape: &Shape) -> bool
@@ -27,9 +26,6 @@ pub fn is_on(layer: &LayerName, shape: &Shape) -> bool
 
 // Whether both sides are at least this long.
 pub fn has_sides(side: i64, rect: &Rect) -> bool
-    requires reach { IsExtentInReach rect.now }
-    requires low { pos 0 ≤ℤ side }
-    requires high { side ≤ℤ pos 2000000 }
     ensures { result ≡ has_sides side rect.now }
 {
     let across = reaches(rect.x0, side, rect.x1);
@@ -38,9 +34,6 @@ pub fn has_sides(side: i64, rect: &Rect) -> bool
 }
 
 pub fn is_square(side: i64, rect: &Rect) -> bool
-    requires reach { IsExtentInReach rect.now }
-    requires low { pos 0 ≤ℤ side }
-    requires high { side ≤ℤ pos 2000000 }
     ensures { result ≡ is_square side rect.now }
 {
     let across = fills(rect.x0, side, rect.x1);
@@ -48,24 +41,28 @@ pub fn is_square(side: i64, rect: &Rect) -> bool
     across && up
 }
 
+// Where a stretch of this length ends.
+#[tactic(auto, using(geom_core::proofs::Signed::read_back, std::proofs::lemmas::Int::ints))]
+fn end_of(low: i64, length: i64) -> i128
+    ensures { result ≡ low +ℤ length }
+{
+    i128::from(low) + i128::from(length)
+}
+
 // Whether a stretch is at least this long.
+#[tactic(auto, using(geom_core::proofs::Signed::read_back, std::proofs::lemmas::Int::ints))]
 fn reaches(low: i64, length: i64, high: i64) -> bool
-    requires within { IsInReach low }
-    requires some { pos 0 ≤ℤ length }
-    requires short { length ≤ℤ pos 2000000 }
     ensures { result ≡ int_le (low +ℤ length) high }
 {
-    low + length <= high
+    end_of(low, length) <= i128::from(high)
 }
 
 // Whether a stretch is just this long.
+#[tactic(auto, using(geom_core::proofs::Signed::read_back, std::proofs::lemmas::Int::ints))]
 fn fills(low: i64, length: i64, high: i64) -> bool
-    requires within { IsInReach low }
-    requires some { pos 0 ≤ℤ length }
-    requires short { length ≤ℤ pos 2000000 }
     ensures { result ≡ int_eq (low +ℤ length) high }
 {
-    low + length == high
+    end_of(low, length) == i128::from(high)
 }
 
 // A rectangle that reaches further on each side.

@@ -1,4 +1,3 @@
-ghost use Rattle.geom_core.specs.Reach.{IsShapeInReach};
 ghost use Rattle.geom_core.specs.declared.layout.Shape.{Shape};
 ghost use Rattle.rule_check.specs.Crowded.{are_out_of_row, do_overlap};
 ghost use Rattle.rule_check.specs.Failing.{failing_pairs, AreFirstOf};
@@ -13,7 +12,7 @@ use crate::heights::{Rows, heights_of, row_of};
 use crate::measures::is_on;
 use crate::pairs::{Pairs, crowded, push_made};
 use close_rects::Member;
-use geom_core::{Rect, Shape};
+use geom_core::{Mask, Rect, Shape};
 use std::alloc::{AllocError, Global};
 use std::collections::BTreeMap;
 use tech_rules::Rules;
@@ -21,38 +20,30 @@ use tech_rules::Rules;
 // The reach at which just those rectangles are close that share an inner point.
 const INNER: i64 = 0;
 
-/// The pairs of outlines that share an inner point. There are fewer than 2^32 shapes, whose sides lie within 10^15 half centimicrons. The
-/// one error is want of memory.
-pub fn overlaps(alloc: Global, shapes: &[Shape], rules: &Rules) -> Result<Pairs, AllocError>
-    requires few { length shapes.now < 2 ^ 32 }
-    requires reach { All IsShapeInReach shapes.now }
-    ensures { IfOk result (AreFirstOf (failing_pairs (do_overlap rules.now) shapes.now)) }
+/// The pairs of outlines that share an inner point. The one error is want of memory.
+pub fn overlaps(alloc: Global, mask: &Mask, rules: &Rules) -> Result<Pairs, AllocError>
+    ensures { IfOk result (AreFirstOf (failing_pairs (do_overlap rules.now) mask.now)) }
 {
-    let members = outline_members(alloc, shapes, rules)?;
+    let _ = mask.shapes();
+    let members = outline_members(alloc, mask, rules)?;
     crowded(alloc, members.as_slice())
 }
 
-/// The pairs of outlines that begin or end at different heights and share an inner height. There are fewer than 2^32 shapes, whose sides
-/// lie within 10^15 half centimicrons. The one error is want of memory.
-pub fn out_of_row(alloc: Global, shapes: &[Shape], rules: &Rules) -> Result<Pairs, AllocError>
-    requires few { length shapes.now < 2 ^ 32 }
-    requires reach { All IsShapeInReach shapes.now }
-    ensures { IfOk result (AreFirstOf (failing_pairs (are_out_of_row rules.now) shapes.now)) }
+/// The pairs of outlines that begin or end at different heights and share an inner height. The one error is want of memory.
+pub fn out_of_row(alloc: Global, mask: &Mask, rules: &Rules) -> Result<Pairs, AllocError>
+    ensures { IfOk result (AreFirstOf (failing_pairs (are_out_of_row rules.now) mask.now)) }
 {
-    let numbers = row_numbers(alloc, shapes, rules)?;
-    let members = row_members(alloc, shapes, rules, numbers.as_slice())?;
+    let _ = mask.shapes();
+    let numbers = row_numbers(alloc, mask, rules)?;
+    let members = row_members(alloc, mask, rules, numbers.as_slice())?;
     crowded(alloc, members.as_slice())
 }
 
 // The outlines as members, each of a class of its own.
-fn outline_members(
-    alloc: Global,
-    shapes: &[Shape],
-    rules: &Rules,
-) -> Result<Vec<Member>, AllocError>
-    requires few { length shapes.now < 2 ^ 32 }
-    ensures { IfOk result (λ v. v.items ≡ members_from (outline_member rules.now) 0 shapes.now) }
+fn outline_members(alloc: Global, mask: &Mask, rules: &Rules) -> Result<Vec<Member>, AllocError>
+    ensures { IfOk result (λ v. v.items ≡ members_from (outline_member rules.now) 0 mask.now) }
 {
+    let shapes = mask.shapes();
     let mut members = Vec::new(alloc);
     for k in 0..shapes.len() {
         let made = outline_member(rules, &shapes[k], k as u32);
@@ -78,14 +69,14 @@ fn outline_member(rules: &Rules, shape: &Shape, number: u32) -> Option<Member>
 // The heights of the outlines as members, whose classes are the numbers of their rows.
 fn row_members(
     alloc: Global,
-    shapes: &[Shape],
+    mask: &Mask,
     rules: &Rules,
     numbers: &[u32],
 ) -> Result<Vec<Member>, AllocError>
-    requires few { length shapes.now < 2 ^ 32 }
-    requires each { length numbers.now ≡ length shapes.now }
-    ensures { IfOk result (λ v. v.items ≡ members_from (row_member rules.now) 0 (zip numbers.now shapes.now)) }
+    requires { length numbers.now ≡ length mask.now }
+    ensures { IfOk result (λ v. v.items ≡ members_from (row_member rules.now) 0 (zip numbers.now mask.now)) }
 {
+    let shapes = mask.shapes();
     let mut members = Vec::new(alloc);
     for k in 0..shapes.len() {
         let made = row_member(rules, &shapes[k], numbers[k], k as u32);
@@ -121,10 +112,10 @@ fn flat(rect: &Rect) -> Rect
 }
 
 // A number for each shape: of outlines, equal ones exactly for those of the same heights.
-fn row_numbers(alloc: Global, shapes: &[Shape], rules: &Rules) -> Result<Vec<u32>, AllocError>
-    requires few { length shapes.now < 2 ^ 32 }
-    ensures { IfOk result (λ v. AreNumbersOf rules.now.outline.layer shapes.now v.items) }
+fn row_numbers(alloc: Global, mask: &Mask, rules: &Rules) -> Result<Vec<u32>, AllocError>
+    ensures { IfOk result (λ v. AreNumbersOf rules.now.outline.layer mask.now v.items) }
 {
+    let shapes = mask.shapes();
     let mut rows = BTreeMap::new(alloc);
     let mut numbers = Vec::with_capacity(alloc, shapes.len())?;
     for k in 0..shapes.len() {

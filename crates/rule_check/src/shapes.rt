@@ -1,4 +1,3 @@
-ghost use Rattle.geom_core.specs.Reach.{IsShapeInReach};
 ghost use Rattle.rule_check.specs.Failing.{failing};
 ghost use Rattle.rule_check.specs.Narrow.{has_sides, is_bare, is_narrow, is_on};
 ghost use Rattle.tech_rules.specs.Lengths.{length_in};
@@ -6,19 +5,16 @@ ghost use Rattle.std.specs.Prelude.{◌≡◌, ◌++◌, [], ◌∷◌, ◌<◌,
 
 use crate::covers::{is_bare, wires_on};
 use crate::measures::{has_sides, is_on, is_square, length_in};
-use geom_core::{LayerName, Shape};
-use limits::MOST_LENGTH;
+use geom_core::{LayerName, Mask, Shape};
 use std::alloc::{AllocError, Global};
 use tech_rules::Rules;
 
 /// The numbers of the shapes that are too narrow, in order: of wires with a side below their layer's width, and of cuts that are no
-/// squares of the cut's size. There are fewer than 2^32 shapes, whose sides lie within 10^15 half centimicrons. The one error is want
-/// of memory.
-pub fn narrow(alloc: Global, shapes: &[Shape], rules: &Rules) -> Result<Vec<u32>, AllocError>
-    requires few { length shapes.now < 2 ^ 32 }
-    requires reach { All IsShapeInReach shapes.now }
-    ensures { IfOk result (λ v. v.items ≡ failing (is_narrow rules.now) shapes.now) }
+/// squares of the cut's size. The one error is want of memory.
+pub fn narrow(alloc: Global, mask: &Mask, rules: &Rules) -> Result<Vec<u32>, AllocError>
+    ensures { IfOk result (λ v. v.items ≡ failing (is_narrow rules.now) mask.now) }
 {
+    let shapes = mask.shapes();
     let mut numbers = Vec::new(alloc);
     for k in 0..shapes.len() {
         let fails = is_narrow(rules, &shapes[k]);
@@ -28,14 +24,13 @@ pub fn narrow(alloc: Global, shapes: &[Shape], rules: &Rules) -> Result<Vec<u32>
 }
 
 /// The numbers of the cuts, in order, that do not lie, with what has to enclose them on each side, in one shape of each layer of wires.
-/// There are fewer than 2^32 shapes, whose sides lie within 10^15 half centimicrons. The one error is want of memory.
-pub fn bare_cuts(alloc: Global, shapes: &[Shape], rules: &Rules) -> Result<Vec<u32>, AllocError>
-    requires few { length shapes.now < 2 ^ 32 }
-    requires reach { All IsShapeInReach shapes.now }
-    ensures { IfOk result (λ v. v.items ≡ failing (is_bare rules.now shapes.now) shapes.now) }
+/// The one error is want of memory.
+pub fn bare_cuts(alloc: Global, mask: &Mask, rules: &Rules) -> Result<Vec<u32>, AllocError>
+    ensures { IfOk result (λ v. v.items ≡ failing (is_bare rules.now mask.now) mask.now) }
 {
-    let horizontal = wires_on(alloc, shapes, &rules.horizontal.layer)?;
-    let vertical = wires_on(alloc, shapes, &rules.vertical.layer)?;
+    let horizontal = wires_on(alloc, mask, &rules.horizontal.layer)?;
+    let vertical = wires_on(alloc, mask, &rules.vertical.layer)?;
+    let shapes = mask.shapes();
     let mut numbers = Vec::new(alloc);
     for k in 0..shapes.len() {
         let fails = is_bare(rules, &horizontal, &vertical, &shapes[k]);
@@ -55,7 +50,6 @@ fn push_if(numbers: &mut Vec<u32>, number: u32, fails: bool) -> Result<(), Alloc
 }
 
 fn is_narrow(rules: &Rules, shape: &Shape) -> bool
-    requires { IsShapeInReach shape.now }
     ensures { result ≡ is_narrow rules.now shape.now }
 {
     let horizontal = is_thin(
@@ -72,8 +66,6 @@ fn is_narrow(rules: &Rules, shape: &Shape) -> bool
 
 // Whether a shape of this layer has a side below this width.
 fn is_thin(rules: &Rules, layer: &LayerName, width: u32, shape: &Shape) -> bool
-    requires reach { IsShapeInReach shape.now }
-    requires small { width ≤ MOST_LENGTH }
     ensures { result ≡ (is_on layer.now shape.now && not (has_sides (length_in rules.now width) shape.now.rect)) }
 {
     is_on(layer, shape) && !has_sides(length_in(rules, width), &shape.rect)

@@ -6,7 +6,7 @@ ghost use Rattle.std.specs.Prelude.{◌≡◌, ◌<◌, ◌^◌, ◌≤ℤ◌, p
 use crate::measures::length_in;
 use crate::pairs::push_made;
 use close_rects::Member;
-use geom_core::{LayerName, Rect, Shape};
+use geom_core::{LayerName, Mask, Rect, Shape};
 use std::alloc::{AllocError, Global};
 use tech_rules::Rules;
 
@@ -21,15 +21,14 @@ pub enum Layer {
 // The shapes of these layers, each with its class, as members that keep their layer's space.
 pub fn wire_members(
     alloc: Global,
-    shapes: &[Shape],
+    mask: &Mask,
     rules: &Rules,
     classes: &[u32],
 ) -> Result<Vec<Member>, AllocError>
-    requires few { length shapes.now < 2 ^ 32 }
-    requires reach { All IsShapeInReach shapes.now }
-    requires each { length classes.now ≡ length shapes.now }
-    ensures { IfOk result (λ v. v.items ≡ members_from (wire_member rules.now) 0 (zip classes.now shapes.now)) }
+    requires { length classes.now ≡ length mask.now }
+    ensures { IfOk result (λ v. v.items ≡ members_from (wire_member rules.now) 0 (zip classes.now mask.now)) }
 {
+    let shapes = mask.shapes();
     let mut members = Vec::new(alloc);
     for k in 0..shapes.len() {
         let made = wire_member(rules, &shapes[k], classes[k], k as u32);

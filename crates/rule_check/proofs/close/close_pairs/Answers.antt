@@ -1,4 +1,4 @@
-use Rattle.std.proofs.Common.{◌≡◌, ◌≤◌, ◌∙◌, All, List, ap, sym, subst, length, arith}
+use Rattle.std.proofs.Common.{◌<◌, ◌^◌, ◌≡◌, ◌≤◌, ◌∙◌, All, List, ap, sym, subst, length, arith}
 use Rattle.std.specs.List.{zip}
 use Rattle.close_rects.specs.Crowds.{KeepsInReach, crowds_of}
 use Rattle.close_rects.specs.declared.member.Member.{Member}
@@ -10,23 +10,24 @@ use Rattle.rule_check.proofs.close.close_pairs.Goals as goal
 
 pub crowded-requires-clause-few : goal.crowded-requires-clause-few
 crowded-requires-clause-few c =
-    let made : length c.as_slice.result.now ≡ length (members_from (wire_member c.args.rules.now) 0 (zip c.args.classes.now c.args.shapes.now)) =
+    let few : length c.args.mask.now < 2 ^ 32 = rw (← c.shapes.ensures.is) c.shapes.ensures.few in
+    let made : length c.as_slice.result.now ≡ length (members_from (wire_member c.args.rules.now) 0 (zip c.args.classes.now c.args.mask.now)) =
     ap length (c.as_slice.ensures.value ∙ c.in_ok-members.ensures) in
-    let less : length (members_from (wire_member c.args.rules.now) 0 (zip c.args.classes.now c.args.shapes.now)) ≤ length (zip c.args.classes.now c.args.shapes.now) =
-    members-fewer (wire_member c.args.rules.now) 0 (zip c.args.classes.now c.args.shapes.now) in
-    let all : length (zip c.args.classes.now c.args.shapes.now) ≡ length c.args.shapes.now =
-    length-zip c.args.classes.now c.args.shapes.now c.requires.each in
+    let less : length (members_from (wire_member c.args.rules.now) 0 (zip c.args.classes.now c.args.mask.now)) ≤ length (zip c.args.classes.now c.args.mask.now) =
+    members-fewer (wire_member c.args.rules.now) 0 (zip c.args.classes.now c.args.mask.now) in
+    let all : length (zip c.args.classes.now c.args.mask.now) ≡ length c.args.mask.now =
+    length-zip c.args.classes.now c.args.mask.now c.requires.each in
     omega arith
 
 pub crowded-requires-clause-reach : goal.crowded-requires-clause-reach
 crowded-requires-clause-reach c =
     let valid : ValidRules c.args.rules.now = rw (← c.rules.view_is) c.rules.invariant in
     let P : List Member → Type 0 = λ members. All KeepsInReach members in
-    subst P (sym (c.as_slice.ensures.value ∙ c.in_ok-members.ensures)) (close-reach c.args.rules.now c.args.classes.now c.args.shapes.now valid c.requires.reach)
+    subst P (sym (c.as_slice.ensures.value ∙ c.in_ok-members.ensures)) (close-reach c.args.rules.now c.args.classes.now c.args.mask.now valid (rw (← c.shapes.ensures.is) c.shapes.ensures.reach))
 
 pub returns : goal.returns
 returns c =
     let valid : ValidRules c.args.rules.now = rw (← c.rules.view_is) c.rules.invariant in
     let same : crowds_of c.as_slice.result.now ≡ _ =
-    ap crowds_of (c.as_slice.ensures.value ∙ c.in_ok-members.ensures) ∙ close-failing c.args.rules.now c.args.classes.now c.args.shapes.now valid c.requires.reach in
+    ap crowds_of (c.as_slice.ensures.value ∙ c.in_ok-members.ensures) ∙ close-failing c.args.rules.now c.args.classes.now c.args.mask.now valid (rw (← c.shapes.ensures.is) c.shapes.ensures.reach) in
     rw (← same) c.crowded.ensures

@@ -8,9 +8,10 @@ use Rattle.rule_check.proofs.covers.wires_on.Goals as goal
 
 pub new-requires : goal.new-requires
 new-requires c =
-    let len : length c.as_slice.result.now ≡ length (filter (is_on c.args.layer.now) c.args.shapes.now) =
+    let len : length c.as_slice.result.now ≡ length (filter (is_on c.args.layer.now) c.shapes.result.now) =
     ap length c.as_slice.ensures.value ∙ ap length c.in_ok-rects.ensures
-    ∙ length-map (filter (is_on c.args.layer.now) c.args.shapes.now) (λ (s : Shape). s.rect) in
-    let less : length (filter (is_on c.args.layer.now) c.args.shapes.now) ≤ length c.args.shapes.now =
-    filter-short (is_on c.args.layer.now) c.args.shapes.now in
+    ∙ length-map (filter (is_on c.args.layer.now) c.shapes.result.now) (λ (s : Shape). s.rect) in
+    let less : length (filter (is_on c.args.layer.now) c.shapes.result.now) ≤ length c.shapes.result.now =
+    filter-short (is_on c.args.layer.now) c.shapes.result.now in
+    let same = ap length c.shapes.ensures.is in
     record { few = omega arith }
