@@ -145,14 +145,15 @@ fn write_row<S: Shelf>(
     Ok(writer)
 }
 
-// A placed design, and the drawings of its symbols.
+/// A routed design as it is written: its rows with feeds, the wirings of its channels, where all of it lies, and the drawings of its symbols.
 #[derive(Drop)]
-struct Placed<'p> {
-    design: &'p Design,
-    rules: &'p Rules,
-    laid: &'p Laid,
-    wirings: &'p [Wiring],
-    symbols: &'p [Items<Shape>],
+pub struct RoutedDesign<'p> {
+    pub design: &'p Design,
+    pub fed: &'p FedRows,
+    pub wirings: &'p [Wiring],
+    pub laid: &'p Laid,
+    pub symbols: &'p [Items<Shape>],
+    pub rules: &'p Rules,
 }
 
 // Writes the channels and rows from the bottom up: channel 0, row 0, channel 1, and so on.
@@ -160,27 +161,27 @@ fn write_main<'p, S: Shelf>(
     writer: Writer,
     shelf: &mut S,
     file: &str,
-    placed: &'p Placed<'p>,
+    routed: &'p RoutedDesign<'p>,
 ) -> Result<Writer, Failed>
-    requires on_grid { AllByRecursion (λ (w : Wiring). All (IsOnGrid w.columns w.tracks) (elements w)) placed.now.wirings.now }
-    requires reach { AllByRecursion (λ (drawn : List Drawn). AllByRecursion (λ (a : Drawn). IsShapeInReach a.shape) drawn) (drawings placed.now.rules.now placed.now.wirings.now placed.now.laid.now.channel_base) }
-    ensures wrote { IfOk result (λ next. Wrote (text_of (items_commands writer.last (items_of placed.now.design.now (drawings placed.now.rules.now placed.now.wirings.now placed.now.laid.now.channel_base) placed.now.laid.now.cells))) writer.buffered next.buffered file.now (S.holds shelf.old) (S.holds shelf.new) (S.read_faults shelf.old) (S.read_faults shelf.new) (S.write_faults shelf.old) (S.write_faults shelf.new)) }
-    ensures stopped { OnErr result (Stopped (text_of (items_commands writer.last (items_of placed.now.design.now (drawings placed.now.rules.now placed.now.wirings.now placed.now.laid.now.channel_base) placed.now.laid.now.cells))) writer.buffered file.now (S.holds shelf.old) (S.holds shelf.new) (S.read_faults shelf.old) (S.read_faults shelf.new) (S.write_faults shelf.old file.now) (S.write_faults shelf.new file.now)) }
+    requires on_grid { AllByRecursion (λ (w : Wiring). All (IsOnGrid w.columns w.tracks) (elements w)) routed.now.wirings.now }
+    requires reach { AllByRecursion (λ (drawn : List Drawn). AllByRecursion (λ (a : Drawn). IsShapeInReach a.shape) drawn) (drawings routed.now.rules.now routed.now.wirings.now routed.now.laid.now.channel_base) }
+    ensures wrote { IfOk result (λ next. Wrote (text_of (items_commands writer.last (items_of routed.now.design.now (drawings routed.now.rules.now routed.now.wirings.now routed.now.laid.now.channel_base) routed.now.laid.now.cells))) writer.buffered next.buffered file.now (S.holds shelf.old) (S.holds shelf.new) (S.read_faults shelf.old) (S.read_faults shelf.new) (S.write_faults shelf.old) (S.write_faults shelf.new)) }
+    ensures stopped { OnErr result (Stopped (text_of (items_commands writer.last (items_of routed.now.design.now (drawings routed.now.rules.now routed.now.wirings.now routed.now.laid.now.channel_base) routed.now.laid.now.cells))) writer.buffered file.now (S.holds shelf.old) (S.holds shelf.new) (S.read_faults shelf.old) (S.read_faults shelf.new) (S.write_faults shelf.old file.now) (S.write_faults shelf.new file.now)) }
 {
     let mut writer = writer;
-    let mut channels = placed.wirings;
-    let laid = placed.laid;
+    let mut channels = routed.wirings;
+    let laid = routed.laid;
     let mut edges = laid.channel_base.items();
     let mut rows = laid.cells.items();
     while let Some((wiring, above)) = channels.split_first() {
         let Some((base, others)) = edges.split_first() else {
             return Ok(writer);
         };
-        writer = write_wires(writer, shelf, file, wiring, *base, placed.rules)?;
+        writer = write_wires(writer, shelf, file, wiring, *base, routed.rules)?;
         let Some((row, higher)) = rows.split_first() else {
             return Ok(writer);
         };
-        writer = write_row(writer, shelf, file, placed.design, row.items())?;
+        writer = write_row(writer, shelf, file, routed.design, row.items())?;
         channels = above;
         edges = others;
         rows = higher;
@@ -188,27 +189,27 @@ fn write_main<'p, S: Shelf>(
     Ok(writer)
 }
 
-// Writes all of a placed design behind the first line of its text, and ends the text.
+// Writes all of a routed design behind the first line of its text, and ends the text.
 fn write_all<'p, S: Shelf>(
     writer: Writer,
     shelf: &mut S,
     file: &str,
-    placed: &'p Placed<'p>,
+    routed: &'p RoutedDesign<'p>,
 ) -> Result<(), Failed>
     requires begun { writer.last ≡ None }
-    requires on_grid { AllByRecursion (λ (w : Wiring). All (IsOnGrid w.columns w.tracks) (elements w)) placed.now.wirings.now }
-    requires symbols { AllByRecursion (λ (shapes : List Shape). AllByRecursion IsShapeInReach shapes) placed.now.symbols.now }
-    requires reach { AllByRecursion (λ (drawn : List Drawn). AllByRecursion (λ (a : Drawn). IsShapeInReach a.shape) drawn) (drawings placed.now.rules.now placed.now.wirings.now placed.now.laid.now.channel_base) }
-    ensures ended { OnOk result (Ended (text_behind (symbols_with placed.now.design.now 0 placed.now.symbols.now) (items_of placed.now.design.now (drawings placed.now.rules.now placed.now.wirings.now placed.now.laid.now.channel_base) placed.now.laid.now.cells)) writer.buffered file.now (S.holds shelf.old) (S.holds shelf.new) (S.read_faults shelf.old) (S.read_faults shelf.new) (S.write_faults shelf.old) (S.write_faults shelf.new)) }
-    ensures stopped { OnErr result (Stopped (text_behind (symbols_with placed.now.design.now 0 placed.now.symbols.now) (items_of placed.now.design.now (drawings placed.now.rules.now placed.now.wirings.now placed.now.laid.now.channel_base) placed.now.laid.now.cells)) writer.buffered file.now (S.holds shelf.old) (S.holds shelf.new) (S.read_faults shelf.old) (S.read_faults shelf.new) (S.write_faults shelf.old file.now) (S.write_faults shelf.new file.now)) }
+    requires on_grid { AllByRecursion (λ (w : Wiring). All (IsOnGrid w.columns w.tracks) (elements w)) routed.now.wirings.now }
+    requires symbols { AllByRecursion (λ (shapes : List Shape). AllByRecursion IsShapeInReach shapes) routed.now.symbols.now }
+    requires reach { AllByRecursion (λ (drawn : List Drawn). AllByRecursion (λ (a : Drawn). IsShapeInReach a.shape) drawn) (drawings routed.now.rules.now routed.now.wirings.now routed.now.laid.now.channel_base) }
+    ensures ended { OnOk result (Ended (text_behind (symbols_with routed.now.design.now 0 routed.now.symbols.now) (items_of routed.now.design.now (drawings routed.now.rules.now routed.now.wirings.now routed.now.laid.now.channel_base) routed.now.laid.now.cells)) writer.buffered file.now (S.holds shelf.old) (S.holds shelf.new) (S.read_faults shelf.old) (S.read_faults shelf.new) (S.write_faults shelf.old) (S.write_faults shelf.new)) }
+    ensures stopped { OnErr result (Stopped (text_behind (symbols_with routed.now.design.now 0 routed.now.symbols.now) (items_of routed.now.design.now (drawings routed.now.rules.now routed.now.wirings.now routed.now.laid.now.channel_base) routed.now.laid.now.cells)) writer.buffered file.now (S.holds shelf.old) (S.holds shelf.new) (S.read_faults shelf.old) (S.read_faults shelf.new) (S.write_faults shelf.old file.now) (S.write_faults shelf.new file.now)) }
 {
-    let writer = write_symbols(writer, shelf, file, placed.design, placed.symbols)?;
-    let writer = write_main(writer, shelf, file, placed)?;
+    let writer = write_symbols(writer, shelf, file, routed.design, routed.symbols)?;
+    let writer = write_main(writer, shelf, file, routed)?;
     writer.close(shelf, file)
 }
 
 /// Makes a file hold the text of a routed design, and nothing else: the symbols of its kinds and of its feeds, and then its channels and rows from the bottom up,
-/// each rectangle written as it is drawn. `laid` is where the design's rows with feeds lie with these wirings, which are routed, and `symbols` are the drawings of its symbols. Memory
+/// each rectangle written as it is drawn. Its wirings are routed, it lies as its stack says, and its symbols are drawn so. Memory
 /// is taken only before the file is begun: after Memory the shelf is as before. After Write, which comes only where the file's write count rose, the file holds what it held before, or
 /// a front of the text.
 ///
@@ -218,23 +219,18 @@ pub fn write_layout<S: Shelf>(
     alloc: Global,
     shelf: &mut S,
     file: &str,
-    design: &Design,
-    fed: &FedRows,
-    laid: &Laid,
-    wirings: &[Wiring],
-    symbols: &[Items<Shape>],
-    rules: &Rules,
+    routed: &RoutedDesign,
 ) -> Result<(), StartFault>
-    requires valid { ValidRules rules.now }
-    requires high { HasRoom rules.now design.now }
-    requires fed { IsFed design.now fed.now }
-    requires routed { IsRouted rules.now design.now fed.now wirings.now }
-    requires laid { laid.now ≡ laid_of (stack_of rules.now design.now fed.now wirings.now) }
-    requires symbols { symbols.now ≡ symbol_drawings rules.now design.now fed.now }
-    ensures text { OnOk result (Refines (S.holds shelf.new file.now) (Some (placed_text rules.now design.now fed.now (stack_of rules.now design.now fed.now wirings.now)))) }
-    ensures reads_as { ReadsAs (placed_text rules.now design.now fed.now (stack_of rules.now design.now fed.now wirings.now))
-        (layout_of rules.now design.now (stack_of rules.now design.now fed.now wirings.now)) }
-    ensures front { OnErr result (HoldsFront (placed_text rules.now design.now fed.now (stack_of rules.now design.now fed.now wirings.now))
+    requires valid { ValidRules routed.now.rules.now }
+    requires high { HasRoom routed.now.rules.now routed.now.design.now }
+    requires fed { IsFed routed.now.design.now routed.now.fed.now }
+    requires wired { IsRouted routed.now.rules.now routed.now.design.now routed.now.fed.now routed.now.wirings.now }
+    requires laid { routed.now.laid.now ≡ laid_of (stack_of routed.now.rules.now routed.now.design.now routed.now.fed.now routed.now.wirings.now) }
+    requires symbols { routed.now.symbols.now ≡ symbol_drawings routed.now.rules.now routed.now.design.now routed.now.fed.now }
+    ensures text { OnOk result (Refines (S.holds shelf.new file.now) (Some (placed_text routed.now.rules.now routed.now.design.now routed.now.fed.now (stack_of routed.now.rules.now routed.now.design.now routed.now.fed.now routed.now.wirings.now)))) }
+    ensures reads_as { ReadsAs (placed_text routed.now.rules.now routed.now.design.now routed.now.fed.now (stack_of routed.now.rules.now routed.now.design.now routed.now.fed.now routed.now.wirings.now))
+        (layout_of routed.now.rules.now routed.now.design.now (stack_of routed.now.rules.now routed.now.design.now routed.now.fed.now routed.now.wirings.now)) }
+    ensures front { OnErr result (HoldsFront (placed_text routed.now.rules.now routed.now.design.now routed.now.fed.now (stack_of routed.now.rules.now routed.now.design.now routed.now.fed.now routed.now.wirings.now))
         (S.holds shelf.old file.now) (S.holds shelf.new file.now)) }
     ensures memory { IsErrOf result faults.Memory → shelf.new ≡ shelf.old }
     ensures others { (other : List ℕ) → other ≢ file.now → S.holds shelf.new other ≡ S.holds shelf.old other }
@@ -243,16 +239,10 @@ pub fn write_layout<S: Shelf>(
     ensures cause { IsErrOf result faults.Write → Rose (S.write_faults shelf.old file.now) (S.write_faults shelf.new file.now) }
 {
     // The bounds of the design's type are known once a field is read.
+    let design = routed.design;
     let _kinds = &design.kinds;
     let writer = Writer::start(alloc, shelf, file)?;
-    let placed = Placed {
-        design,
-        rules,
-        laid,
-        wirings,
-        symbols,
-    };
-    match write_all(writer, shelf, file, &placed) {
+    match write_all(writer, shelf, file, routed) {
         Ok(()) => Ok(()),
         Err(_) => Err(StartFault::Write),
     }

@@ -8,5 +8,5 @@ mod printing;
 mod writer;
 
 pub use drawings::symbol_drawings;
-pub use layout::write_layout;
+pub use layout::{RoutedDesign, write_layout};
 pub use writer::{StartFault, Writer};

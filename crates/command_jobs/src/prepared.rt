@@ -19,7 +19,7 @@ use crate::laying::{ReadyRows, ready_rows};
 use crate::placing::rows_for;
 use channel_stack::Laid;
 use choose_core::{Chooser, Chooses, Style};
-use cif_writer::{StartFault, write_layout};
+use cif_writer::{RoutedDesign, StartFault, write_layout};
 use command_ends::{Refusal, Stop};
 use command_words::Wanted;
 use design_model::Design;
@@ -117,18 +117,15 @@ impl Prepared {
         ensures writes { ending_status result ≢ 9 → S.write_faults shelf.new ≡ S.write_faults shelf.old }
         ensures cause { ending_status result ≡ 9 → Rose (S.write_faults shelf.old out.now) (S.write_faults shelf.new out.now) }
     {
-        let written = write_layout(
-            alloc,
-            shelf,
-            out,
-            &self.design,
-            &self.fed,
-            &self.laid,
-            self.kept.wirings(),
-            self.symbols.as_slice(),
-            &self.rules,
-        );
-        match written {
+        let routed = RoutedDesign {
+            design: &self.design,
+            fed: &self.fed,
+            wirings: self.kept.wirings(),
+            laid: &self.laid,
+            symbols: self.symbols.as_slice(),
+            rules: &self.rules,
+        };
+        match write_layout(alloc, shelf, out, &routed) {
             Ok(()) => Ok(()),
             Err(StartFault::Memory) => Err(Stop::Refused(Refusal::Memory)),
             Err(StartFault::Write) => Err(Stop::WriteFault),

@@ -71,16 +71,7 @@ pub fn route_named<S: Shelf, K: Sink>(
 {
     let style = &styles[names.style];
     match load_inputs(alloc, shelf, names.rules, &names.design) {
-        Ok(inputs) => lay_and_report(
-            alloc,
-            shelf,
-            out,
-            inputs,
-            names.wanted,
-            style,
-            names.out,
-            kept,
-        ),
+        Ok(inputs) => lay_and_report(alloc, shelf, out, inputs, names, style, kept),
         Err(stop) => report_stop(out, &stop),
     }
 }

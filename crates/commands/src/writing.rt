@@ -25,7 +25,7 @@ use choose_core::{Chooser, Chooses, Style};
 use command_ends::Stop;
 use command_inputs::Inputs;
 use command_jobs::{Prepared, Told, lay_out};
-use command_words::Wanted;
+use command_words::{Route, Wanted};
 use greedy_router::Routed;
 use layout_report::Summary;
 use shelf_io::{Shelf, Sink};
@@ -114,16 +114,15 @@ fn lay_and_write<S: Shelf>(
     }
 }
 
-/// Lays a design out as is wanted, routes it by the choices of a style, writes it into a file, prints the layout in short or the line of what stopped
+/// Lays a design out as `route` wants it, routes it by the choices of a style, writes it into its file, prints the layout in short or the line of what stopped
 /// that, and gives the status: 0 where all is written and printed, 9 where the file or the sink failed, or that of the first refusal.
 pub fn lay_and_report<S: Shelf, K: Sink>(
     alloc: Global,
     shelf: &mut S,
     sink: &mut K,
     inputs: Inputs,
-    wanted: Wanted,
+    route: &Route<'_>,
     style: &Style,
-    out: &str,
     kept: &mut Vec<Routed>,
 ) -> u8
     requires high { HasRoom inputs.rules inputs.design }
@@ -131,28 +130,28 @@ pub fn lay_and_report<S: Shelf, K: Sink>(
     ensures listed { is_status result ≡ true }
     ensures command { result ≢ 2 }
     ensures unread { result ≢ 8 }
-    ensures ends { EndsAs (Some (job_verdict wanted inputs)) kept.new.items result
+    ensures ends { EndsAs (Some (job_verdict route.now.wanted inputs)) kept.new.items result
         (K.written sink.old) (K.written sink.new) (K.faults sink.old) (K.faults sink.new) }
-    ensures kept { (result ≡ 0) ⊎ (result ≡ 9) → IsRoutedSo wanted.edge style.now.plan (⟦<Chooser as Chooses>⟧.answers style.now.chooser) (job_verdict wanted inputs) kept.new.items }
+    ensures kept { (result ≡ 0) ⊎ (result ≡ 9) → IsRoutedSo route.now.wanted.edge style.now.plan (⟦<Chooser as Chooses>⟧.answers style.now.chooser) (job_verdict route.now.wanted inputs) kept.new.items }
     ensures none { result ≢ 0 → result ≢ 9 → kept.new.items ≡ [] }
-    ensures written { result ≡ 0 → Holds (job_verdict wanted inputs) kept.new.items (S.holds shelf.new out.now) }
-    ensures whole { result ≡ 9 → Still (S.write_faults shelf.old out.now) (S.write_faults shelf.new out.now)
-        → Holds (job_verdict wanted inputs) kept.new.items (S.holds shelf.new out.now) }
+    ensures written { result ≡ 0 → Holds (job_verdict route.now.wanted inputs) kept.new.items (S.holds shelf.new route.now.out.now) }
+    ensures whole { result ≡ 9 → Still (S.write_faults shelf.old route.now.out.now) (S.write_faults shelf.new route.now.out.now)
+        → Holds (job_verdict route.now.wanted inputs) kept.new.items (S.holds shelf.new route.now.out.now) }
     ensures headline { (stated bytes held : List ℕ) → AreInputsFrom stated bytes inputs → result ≡ 0
-        → S.holds shelf.new out.now ≡ Some held → Headline stated bytes held }
-    ensures front { result ≡ 9 → HoldsFront (job_verdict wanted inputs) kept.new.items (S.holds shelf.old out.now) (S.holds shelf.new out.now) }
-    ensures cause { result ≡ 9 → WriteFails (Some out.now) (S.write_faults shelf.old) (S.write_faults shelf.new) (K.faults sink.old) (K.faults sink.new) }
-    ensures fault { S.write_faults shelf.old out.now < S.write_faults shelf.new out.now
+        → S.holds shelf.new route.now.out.now ≡ Some held → Headline stated bytes held }
+    ensures front { result ≡ 9 → HoldsFront (job_verdict route.now.wanted inputs) kept.new.items (S.holds shelf.old route.now.out.now) (S.holds shelf.new route.now.out.now) }
+    ensures cause { result ≡ 9 → WriteFails (Some route.now.out.now) (S.write_faults shelf.old) (S.write_faults shelf.new) (K.faults sink.old) (K.faults sink.new) }
+    ensures fault { S.write_faults shelf.old route.now.out.now < S.write_faults shelf.new route.now.out.now
         → Gains (line_of WriteFault) (K.written sink.old) (K.written sink.new) (K.faults sink.old) (K.faults sink.new) }
     ensures reads { S.read_faults shelf.new ≡ S.read_faults shelf.old }
     ensures writes { result ≢ 9 → S.write_faults shelf.new ≡ S.write_faults shelf.old }
     ensures untouched { result ≢ 0 → result ≢ 9 → S.holds shelf.new ≡ S.holds shelf.old }
-    ensures others { (other : List ℕ) → other ≢ out.now → S.holds shelf.new other ≡ S.holds shelf.old other }
-    ensures complete { Still (S.write_faults shelf.old out.now) (S.write_faults shelf.new out.now) → Still (K.faults sink.old) (K.faults sink.new)
-        → IsStatusOf (job_verdict wanted inputs) result ⊎ (result ≡ 10) }
+    ensures others { (other : List ℕ) → other ≢ route.now.out.now → S.holds shelf.new other ≡ S.holds shelf.old other }
+    ensures complete { Still (S.write_faults shelf.old route.now.out.now) (S.write_faults shelf.new route.now.out.now) → Still (K.faults sink.old) (K.faults sink.new)
+        → IsStatusOf (job_verdict route.now.wanted inputs) result ⊎ (result ≡ 10) }
     ensures calm { (result ≡ 0) ⊎ (result ≡ 1) → K.faults sink.new ≡ K.faults sink.old }
 {
-    match lay_and_write(alloc, shelf, inputs, wanted, style, out, kept) {
+    match lay_and_write(alloc, shelf, inputs, route.wanted, style, route.out, kept) {
         Ok(summary) => report_laid(sink, &summary),
         Err(stop) => report_stop(sink, &stop),
     }

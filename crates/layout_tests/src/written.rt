@@ -10,10 +10,9 @@ ghost use Rattle.tech_rules.specs.Rules.{ValidRules};
 
 use channel_model::Wiring;
 use channel_stack::{Laid, lay};
-use cif_writer::{symbol_drawings, write_layout};
+use cif_writer::{RoutedDesign, symbol_drawings, write_layout};
 use design_model::Design;
 use feed_cells::FedRows;
-use geom_core::{Items, Shape};
 use shelf_io::MemShelf;
 use std::alloc::{AllocError, Global};
 use tech_rules::Rules;
@@ -26,28 +25,17 @@ fn text_on(alloc: Global, shelf: &MemShelf) -> Result<Option<Vec<u8>>, AllocErro
     }
 }
 
-/// The text of a routed design that is laid, with the drawings of its symbols, as it is written to a shelf in memory; None where that fails.
-fn text_drawn(
-    alloc: Global,
-    design: &Design,
-    fed: &FedRows,
-    laid: &Laid,
-    wirings: &[Wiring],
-    symbols: &[Items<Shape>],
-    rules: &Rules,
-) -> Result<Option<Vec<u8>>, AllocError>
-    requires valid { ValidRules rules.now }
-    requires high { HasRoom rules.now design.now }
-    requires fed { IsFed design.now fed.now }
-    requires routed { IsRouted rules.now design.now fed.now wirings.now }
-    requires laid { laid.now ≡ laid_of (stack_of rules.now design.now fed.now wirings.now) }
-    requires symbols { symbols.now ≡ symbol_drawings rules.now design.now fed.now }
+/// The text of a routed design as it is written to a shelf in memory; None where that fails.
+fn text_drawn(alloc: Global, routed: &RoutedDesign) -> Result<Option<Vec<u8>>, AllocError>
+    requires valid { ValidRules routed.now.rules.now }
+    requires high { HasRoom routed.now.rules.now routed.now.design.now }
+    requires fed { IsFed routed.now.design.now routed.now.fed.now }
+    requires wired { IsRouted routed.now.rules.now routed.now.design.now routed.now.fed.now routed.now.wirings.now }
+    requires laid { routed.now.laid.now ≡ laid_of (stack_of routed.now.rules.now routed.now.design.now routed.now.fed.now routed.now.wirings.now) }
+    requires symbols { routed.now.symbols.now ≡ symbol_drawings routed.now.rules.now routed.now.design.now routed.now.fed.now }
 {
     let mut shelf = MemShelf::new(alloc)?;
-    let written = write_layout(
-        alloc, &mut shelf, "out", design, fed, laid, wirings, symbols, rules,
-    );
-    match written {
+    match write_layout(alloc, &mut shelf, "out", routed) {
         Ok(()) => text_on(alloc, &shelf),
         Err(_) => Ok(None),
     }
@@ -69,7 +57,15 @@ fn text_laid(
     requires laid { laid.now ≡ laid_of (stack_of rules.now design.now fed.now wirings.now) }
 {
     let symbols = symbol_drawings(alloc, design, fed, rules)?;
-    text_drawn(alloc, design, fed, laid, wirings, symbols.as_slice(), rules)
+    let routed = RoutedDesign {
+        design,
+        fed,
+        wirings,
+        laid,
+        symbols: symbols.as_slice(),
+        rules,
+    };
+    text_drawn(alloc, &routed)
 }
 
 /// The text of a routed design; None where that fails.

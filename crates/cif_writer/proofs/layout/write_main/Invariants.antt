@@ -14,12 +14,12 @@ use Rattle.cif_writer.proofs.layout.write_main.Given as goal
 
 abbrev pub invariant-loop-wiring : goal.invariant-loop-wiring
 invariant-loop-wiring g l = record {
-  so_far : WroteSoFar (text_of (items_commands l.fn.writer.last (items_of l.placed.design.now (drawings l.placed.rules.now l.placed.wirings.now l.placed.laid.now.channel_base) l.placed.laid.now.cells)))
-      (text_of (items_commands l.writer.last (items_of l.placed.design.now (drawings l.placed.rules.now l.channels l.edges) l.rows)))
+  so_far : WroteSoFar (text_of (items_commands l.fn.writer.last (items_of l.routed.design.now (drawings l.routed.rules.now l.routed.wirings.now l.routed.laid.now.channel_base) l.routed.laid.now.cells)))
+      (text_of (items_commands l.writer.last (items_of l.routed.design.now (drawings l.routed.rules.now l.channels l.edges) l.rows)))
       l.fn.writer.buffered l.writer.buffered l.file (g.S.Shelf.holds l.fn.shelf) (g.S.Shelf.holds l.shelf)
       (g.S.Shelf.read_faults l.fn.shelf) (g.S.Shelf.read_faults l.shelf) (g.S.Shelf.write_faults l.fn.shelf) (g.S.Shelf.write_faults l.shelf);
   on_grid : AllByRecursion (λ (w : Wiring). All (IsOnGrid w.columns w.tracks) (elements w)) l.channels;
-  reach : AllByRecursion (λ (drawn : List Drawn). AllByRecursion (λ (a : Drawn). IsShapeInReach a.shape) drawn) (drawings l.placed.rules.now l.channels l.edges);
+  reach : AllByRecursion (λ (drawn : List Drawn). AllByRecursion (λ (a : Drawn). IsShapeInReach a.shape) drawn) (drawings l.routed.rules.now l.channels l.edges);
 }
 
 abbrev pub decreases-loop-wiring : goal.decreases-loop-wiring

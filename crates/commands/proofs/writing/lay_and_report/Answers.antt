@@ -66,14 +66,14 @@ returns-in-Err-clause-cause g c = λ nine. inl (c.in-Err.ensures.cause (sym c.re
 
 pub returns-in-Err-clause-complete : goal.returns-in-Err-clause-complete
 returns-in-Err-clause-complete g c = λ still sink.
-    subst (λ (n : ℕ). IsStatusOf (job_verdict c.args.wanted c.args.inputs) n ⊎ (n ≡ 10)) (sym c.report_stop.ensures.tells.number) (c.in-Err.ensures.complete still)
+    subst (λ (n : ℕ). IsStatusOf (job_verdict c.args.route.now.wanted c.args.inputs) n ⊎ (n ≡ 10)) (sym c.report_stop.ensures.tells.number) (c.in-Err.ensures.complete still)
 
 pub returns-in-Ok-clause-fault : goal.returns-in-Ok-clause-fault
 returns-in-Ok-clause-fault g c = λ rose.
-    let same = ap (λ (f : List ℕ → ℕ). f c.args.out.now) (c.in-Ok.ensures.writes (λ (e : 0 ≡ 9). absurd (omega (arith, e)))) in
+    let same = ap (λ (f : List ℕ → ℕ). f c.args.route.now.out.now) (c.in-Ok.ensures.writes (λ (e : 0 ≡ 9). absurd (omega (arith, e)))) in
     absurd (omega (arith, rose, same))
 
 pub returns-in-Err-clause-fault : goal.returns-in-Err-clause-fault
 returns-in-Err-clause-fault g c = λ rose.
-    line-of-fault c.in-Err.stop _ _ _ _ _ _ (λ other. ap (λ (f : List ℕ → ℕ). f c.args.out.now) (c.in-Err.ensures.writes other)) rose
+    line-of-fault c.in-Err.stop _ _ _ _ _ _ (λ other. ap (λ (f : List ℕ → ℕ). f c.args.route.now.out.now) (c.in-Err.ensures.writes other)) rose
     c.report_stop.ensures.tells.line
