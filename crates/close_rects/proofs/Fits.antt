@@ -10,7 +10,7 @@ use Rattle.std.proofs.lemmas.Option.{slice_get-map, slice_get_within, get_or_fro
 use Rattle.geom_core.specs.Extent.{Extent}
 use Rattle.geom_core.specs.Reach.{IsExtentInWideReach}
 use Rattle.geom_core.specs.Rectangles.{grown}
-use Rattle.close_rects.specs.declared.item.Item.{Item}
+use Rattle.close_rects.specs.declared.items.Item.{Item}
 use Rattle.close_rects.specs.Items.{entry, fresh, HasInside, IsFit}
 use Rattle.close_rects.specs.Blocks.{IsFirstMet, IsMet, NoneMet}
 use Rattle.close_rects.specs.ClosePairs.{is_close}
