@@ -1,7 +1,7 @@
-use Rattle.std.proofs.Common.{◌≡◌, ◌+◌, ◌*◌, ◌<◌, ◌≤◌, ◌^◌, ◌↔◌, Bool, IsTrue, ℕ, List, length, Some, true, false, arith, inl, inr, ap, sym, set, [], ◌∷◌, ◌++◌, ◌∙◌}
+use Rattle.std.proofs.Common.{◌≡◌, ◌+◌, ◌*◌, ◌<◌, ◌≤◌, ◌^◌, ◌↔◌, Bool, IsTrue, ℕ, List, length, Some, true, false, arith, inl, inr, ap, sym, refl, get_or, set, [], ◌∷◌, ◌++◌, ◌∙◌}
 use Rattle.std.proofs.lemmas.List.{length-set}
 use Rattle.std.specs.List.{slice_get}
-use Rattle.std.proofs.lemmas.Option.{slice_get_within}
+use Rattle.std.proofs.lemmas.Option.{slice_get_read, slice_get_within}
 use Rattle.std.proofs.lemmas.Bool.{cases_lt}
 use Rattle.geom_core.specs.Extent.{Extent}
 use Rattle.geom_core.specs.Rectangles.{Encloses, Meet}
@@ -25,6 +25,11 @@ pub NoneMet-covered : (items : List Item) (low high start stop : ℕ) (window bo
     → Covers items start stop bounds → ¬ Meet window bounds → NoneMet items window low high
 NoneMet-covered items low high start stop window bounds from to covers apart k item on below is met =
     apart (Meet-enclosing window bounds item.rect (covers k item (omega arith) (omega arith) is met.left) met.meets)
+
+-- what the node that is read tells
+pub IsNode-at : (items : List Item) (nodes : List Node) (b : ℕ) (node : Node) → IsIndexed items nodes → b < length nodes
+    → node ≡ get_or nodes b node → IsNode items (length nodes) b node
+IsNode-at items nodes b node indexed within is = indexed.each b node (slice_get_read nodes (length nodes) b node refl within is)
 
 -- bounds that reach one item further
 pub Covers-more : (items : List Item) (low at : ℕ) (item : Item) (a whole : Extent) → slice_get items at ≡ Some item

@@ -1,8 +1,9 @@
-use Rattle.std.proofs.Common.{◌≡◌, ◌+◌, ◌*◌, ℕ, List, [], ◌∷◌, ◌++◌, length, Option, Some, None, true, eqb, ap, set, arith, inl, inr, subst}
+use Rattle.std.proofs.Common.{◌≡◌, ◌+◌, ◌*◌, ◌<◌, ℕ, get_or, refl, List, [], ◌∷◌, ◌++◌, length, Option, Some, None, true, eqb, ap, set, arith, inl, inr, subst}
 use Rattle.std.specs.Prelude.{IfSome}
 use Rattle.std.specs.List.{slice_get}
 use Rattle.std.proofs.lemmas.List.{length-append, length-set}
 use Rattle.std.proofs.lemmas.Bool.{cases_lt, eqb-true}
+use Rattle.std.proofs.lemmas.Option.{slice_get_read}
 use Rattle.std.specs.Option.{option_eq}
 use Rattle.geom_core.specs.Extent.{Extent}
 use Rattle.close_rects.specs.declared.items.Item.{Item}
@@ -25,6 +26,11 @@ AreOfClass-over members items low middle high class first second k item on below
       | inl early ↦ first k item on early is
       | inr late ↦ second k item late below is
     ]
+
+-- what the kin that is read tells
+pub IsKin-at : (members : List Member) (items : List Item) (kins : List Kin) (b : ℕ) (kin : Kin) → AreKins members items kins → b < length kins
+    → kin ≡ get_or kins b kin → IsKin members items (length kins) b kin
+IsKin-at members items kins b kin are within is = are b kin (slice_get_read kins (length kins) b kin refl within is)
 
 -- kin that tells the truth may be written
 pub AreKins-set : (members : List Member) (items : List Item) (kins : List Kin) (b : ℕ) (kin : Kin) → AreKins members items kins

@@ -1,6 +1,3 @@
-ghost use Rattle.std.specs.List.{slice_get};
-ghost use Rattle.std.specs.Prelude.{◌≡◌, ◌<◌, length, Some};
-
 use crate::blocks::BLOCK;
 use crate::bounds::Bounds;
 use crate::indexed::{Indexed, is_met};
@@ -130,12 +127,12 @@ impl<'a> Crowd<'a> {
         if b >= count {
             return;
         }
-        let kin = kin_at(self.kins.as_slice(), b);
+        let kin = self.kins[b];
         let end = count.min(b.saturating_add(span.blocks));
         let mut all = kin.own;
         let mut next = b + 1;
         while next < end {
-            let further = kin_at(self.kins.as_slice(), next);
+            let further = self.kins[next];
             all = common(all, further.all);
             next = further.next;
         }
@@ -152,7 +149,7 @@ impl<'a> Crowd<'a> {
             let next = self.passed(window, class, at);
             if next > at {
                 at = next;
-            } else if self.is_stranger(window, class, at) {
+            } else if self.class_at(at) != class && is_met(self.items().at(at), window) {
                 return Some(at);
             } else {
                 at += 1;
@@ -183,7 +180,7 @@ impl<'a> Crowd<'a> {
         if at % BLOCK != 0 || b >= self.kins.len() {
             return at;
         }
-        let kin = kin_at(self.kins.as_slice(), b);
+        let kin = self.kins[b];
         if kin.all == Some(class) {
             BLOCK.saturating_mul(kin.next)
         } else if kin.own == Some(class) {
@@ -192,19 +189,4 @@ impl<'a> Crowd<'a> {
             at
         }
     }
-
-    // Whether the item at a place meets the window and stands for a member of another class.
-    fn is_stranger(&self, window: &Bounds, class: u32, at: usize) -> bool
-        requires { at < length self.now.items }
-        ensures { (item : Item) → slice_get self.now.items at ≡ Some item → IsTrue result ↔ IsStranger self.now.members window.now class item }
-    {
-        self.class_at(at) != class && is_met(self.items().at(at), window)
-    }
-}
-
-fn kin_at(kins: &[Kin], b: usize) -> Kin
-    requires { b < length kins.now }
-    ensures { slice_get kins.now b ≡ Some result }
-{
-    kins[b]
 }

@@ -1,6 +1,5 @@
 ghost use Rattle.close_rects.specs.Blocks.{IsMet};
-ghost use Rattle.std.specs.List.{slice_get};
-ghost use Rattle.std.specs.Prelude.{◌≡◌, ◌<◌, ◌↔◌, length, IsTrue, Some};
+ghost use Rattle.std.specs.Prelude.{◌↔◌, IsTrue};
 
 use crate::blocks::{BLOCK, Node, own_bounds, single_nodes};
 use crate::bounds::Bounds;
@@ -90,12 +89,12 @@ impl Indexed {
         if b >= count {
             return false;
         }
-        let node = node_at(self.nodes.as_slice(), b);
+        let node = self.nodes[b];
         let end = count.min(b.saturating_add(span.blocks));
         let mut all = node.own;
         let mut next = b + 1;
         while next < end {
-            let further = node_at(self.nodes.as_slice(), next);
+            let further = self.nodes[next];
             all = all.over(&further.all);
             next = further.next;
         }
@@ -131,7 +130,7 @@ impl Indexed {
         if at % BLOCK != 0 || b >= self.nodes.len() {
             return at;
         }
-        let node = node_at(self.nodes.as_slice(), b);
+        let node = self.nodes[b];
         if !window.meets(&node.all) {
             BLOCK * node.next
         } else if !window.meets(&node.own) {
@@ -160,7 +159,7 @@ impl Indexed {
         ensures { self.new ≡ self.old }
     {
         if b < self.nodes.len() {
-            let node = node_at(self.nodes.as_slice(), b);
+            let node = self.nodes[b];
             self.nodes[b] = Node {
                 own: own_bounds(&self.items, b),
                 ..node
@@ -168,13 +167,6 @@ impl Indexed {
             self.join_above(b);
         }
     }
-}
-
-fn node_at(nodes: &[Node], b: usize) -> Node
-    requires { b < length nodes.now }
-    ensures { slice_get nodes.now b ≡ Some result }
-{
-    nodes[b]
 }
 
 // Whether a rectangle is left and meets the window.

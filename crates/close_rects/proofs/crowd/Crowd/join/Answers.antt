@@ -1,10 +1,10 @@
-use Rattle.std.proofs.Common.{◌≡◌, Some, arith, length}
-use Rattle.close_rects.proofs.KinLaws.{AreKins-set, AreOfClass-over, some_told}
+use Rattle.std.proofs.Common.{◌≡◌, Some, arith}
+use Rattle.close_rects.proofs.KinLaws.{AreKins-set, AreOfClass-over, IsKin-at, some_told}
 use Rattle.close_rects.proofs.crowd.Crowd.join.Goals as goal
 
 pub loop-next-init : goal.loop-next-init
 loop-next-init c =
-    let told = c.self.invariant.known _ _ (rw c.as_slice.ensures.value at c.kin_at-kin.ensures) in
+    let told = IsKin-at _ _ _ _ _ c.self.invariant.known (omega arith) c.index-kin.ensures in
     record {
       on = omega arith;
       within = omega arith;
@@ -13,18 +13,18 @@ loop-next-init c =
 
 pub loop-next-preserved : goal.loop-next-preserved
 loop-next-preserved c =
-    let told = c.self.invariant.known _ _ (rw c.as_slice-in-loop-next.ensures.value at c.kin_at-further.ensures) in
+    let told = IsKin-at _ _ _ _ _ c.self.invariant.known (omega arith) c.index-further.ensures in
     record {
-      on = omega arith;
+      on = omega (arith, told.on);
       within = told.within;
       all = λ class named. AreOfClass-over _ _ _ _ _ class
-          (c.loop-next.invariant.all class (some_told (λ n. c.loop-next.all ≡ Some n) c.common-all.result class c.common-all.ensures.first named))
-          (told.all class (some_told (λ n. c.kin_at-further.result.all ≡ Some n) c.common-all.result class c.common-all.ensures.second named));
+          (c.loop-next.invariant.all class (some_told (λ n. c.loop-next.all ≡ Some n) _ class c.common-all.ensures.first named))
+          (told.all class (some_told (λ n. c.index-further.result.now.all ≡ Some n) _ class c.common-all.ensures.second named));
     }
 
 pub invariant_of-self : goal.invariant_of-self
 invariant_of-self c =
-    let told = c.self.invariant.known _ _ (rw c.as_slice.ensures.value at c.kin_at-kin.ensures) in
+    let told = IsKin-at _ _ _ _ _ c.self.invariant.known (omega arith) c.index-kin.ensures in
     record {
       placed = c.self.invariant.placed;
       numbered = c.self.invariant.numbered;

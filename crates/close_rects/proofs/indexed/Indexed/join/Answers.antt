@@ -1,10 +1,10 @@
 use Rattle.std.proofs.Common.{arith}
-use Rattle.close_rects.proofs.Indexes.{Covers-over, IsIndexed-set}
+use Rattle.close_rects.proofs.Indexes.{Covers-over, IsIndexed-set, IsNode-at}
 use Rattle.close_rects.proofs.indexed.Indexed.join.Goals as goal
 
 pub loop-next-init : goal.loop-next-init
 loop-next-init c =
-    let told = c.self.invariant.each _ _ (rw c.as_slice.ensures.value at c.node_at-node.ensures) in
+    let told = IsNode-at _ _ _ _ c.self.invariant (omega arith) c.index.ensures in
     record {
       on = omega arith;
       within = omega arith;
@@ -12,12 +12,11 @@ loop-next-init c =
     }
 
 pub loop-next-smaller : goal.loop-next-smaller
-loop-next-smaller c =
-    let told = c.self.invariant.each _ _ (rw c.as_slice-in-loop-next.ensures.value at c.node_at-further.ensures) in omega (arith, told.on)
+loop-next-smaller c = let told = IsNode-at _ _ _ _ c.self.invariant (omega arith) c.index-in-loop-next.ensures in omega (arith, told.on)
 
 pub loop-next-preserved : goal.loop-next-preserved
 loop-next-preserved c =
-    let told = c.self.invariant.each _ _ (rw c.as_slice-in-loop-next.ensures.value at c.node_at-further.ensures) in
+    let told = IsNode-at _ _ _ _ c.self.invariant (omega arith) c.index-in-loop-next.ensures in
     record {
       on = omega (arith, told.on);
       within = told.within;
@@ -26,7 +25,7 @@ loop-next-preserved c =
 
 pub invariant_of-self : goal.invariant_of-self
 invariant_of-self c =
-    let told = c.self.invariant.each _ _ (rw c.as_slice.ensures.value at c.node_at-node.ensures) in
+    let told = IsNode-at _ _ _ _ c.self.invariant (omega arith) c.index.ensures in
     IsIndexed-set _ _ _ _ c.self.invariant (record {
       on = c.loop-next.invariant.on;
       within = c.loop-next.invariant.within;
