@@ -93,13 +93,3 @@ rest_at-none reach items row at item reaches fit here none =
     let all : length (map entry items) ≡ length items = length-map items entry in
     rest_at-next reach (map entry items) row at (entry item) (entry_at items row item here)
     (rw all (NoneClose-met reach items item at (length items) reaches fit (fit_at items row item fit here) none))
-
--- the first close pair from a state with the same rest
-pub IsNextClose-from : (reach : ℤ) (rects : List (ℕ × Extent)) (row at later_row later_at : ℕ) (places : ℕ × ℕ)
-    → rest_at reach rects row at ≡ rest_at reach rects later_row later_at → IsNextClose reach rects later_row later_at places
-    → IsNextClose reach rects row at places
-IsNextClose-from reach rects row at later_row later_at places same next = record {
-  first = next.first;
-  second = next.second;
-  is = λ a b a_is b_is. same ∙ next.is a b a_is b_is;
-}

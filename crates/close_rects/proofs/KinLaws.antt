@@ -1,16 +1,13 @@
-use Rattle.std.proofs.Common.{◌≡◌, ◌+◌, ◌*◌, ◌<◌, ℕ, get_or, refl, List, [], ◌∷◌, ◌++◌, length, Option, Some, None, true, eqb, ap, set, arith, inl, inr, subst}
+use Rattle.std.proofs.Common.{◌≡◌, ◌+◌, ◌<◌, ℕ, get_or, refl, List, [], ◌∷◌, ◌++◌, length, Option, Some, None, true, eqb, ap, set, arith, inl, inr, subst}
 use Rattle.std.specs.Prelude.{IfSome}
-use Rattle.std.specs.List.{slice_get}
 use Rattle.std.proofs.lemmas.List.{length-append, length-set}
 use Rattle.std.proofs.lemmas.Bool.{cases_lt, eqb-true}
 use Rattle.std.proofs.lemmas.Option.{slice_get_read}
 use Rattle.std.specs.Option.{option_eq}
-use Rattle.geom_core.specs.Extent.{Extent}
 use Rattle.close_rects.specs.declared.items.Item.{Item}
 use Rattle.close_rects.specs.declared.kin.Kin.{Kin}
 use Rattle.close_rects.specs.declared.member.Member.{Member}
-use Rattle.close_rects.specs.Blocks.{NoneMet}
-use Rattle.close_rects.specs.Kins.{AreKins, AreOfClass, IsKin, NoneStrange, class_of}
+use Rattle.close_rects.specs.Kins.{AreKins, AreOfClass, IsKin}
 use Rattle.close_rects.proofs.Lists.{slice_get-push, slice_get-set}
 
 -- what is told of a value that is there

@@ -1,4 +1,4 @@
-use Rattle.std.specs.Prelude.{◌≡◌, ◌≢◌, ◌+◌, ◌*◌, ◌<◌, ◌≤◌, ◌^◌, ◌==◌, ℕ, List, [], ◌∷◌, Bool, false, nat_lt, if◌then◌else◌, length, map, All, Some}
+use Rattle.std.specs.Prelude.{◌≡◌, ◌≢◌, ◌+◌, ◌*◌, ◌<◌, ◌≤◌, ◌==◌, ℕ, List, [], ◌∷◌, Bool, false, nat_lt, if◌then◌else◌, length, map, All, Some}
 use Rattle.std.specs.List.{slice_get, slice_index, enumerate_from}
 use Rattle.std.specs.List.Sorted.{IsPermutation}
 use Rattle.geom_core.specs.Extent.{Extent}

@@ -1,6 +1,6 @@
 use Rattle.std.proofs.Common.{◌≡◌, ◌∙◌, SFits, w64, Some, sym, subst, arith, drop, ◌+◌}
 use Rattle.std.proofs.lemmas.Int.{ints, to_z-of_z}
-use Rattle.close_rects.specs.Crowds.{KeepsInReach, places_from}
+use Rattle.close_rects.specs.Crowds.{places_from}
 use Rattle.close_rects.specs.declared.member.Member.{Member}
 use Rattle.close_rects.proofs.Placing.{found-more, found-all, places-sorted}
 use Rattle.close_rects.proofs.crowding.places_after.Goals as goal

@@ -1,5 +1,4 @@
-use Rattle.std.proofs.Common.{◌≡◌, ◌+◌, ◌<◌, ◌∙◌, All, List, ℕ, Some, drop, length, arith, length-take, subst, sym}
-use Rattle.std.specs.List.{slice_get}
+use Rattle.std.proofs.Common.{◌≡◌, ◌+◌, ◌<◌, ◌∙◌, All, List, ℕ, drop, length, arith, length-take, subst, sym}
 use Rattle.close_rects.specs.Crowds.{places_from}
 use Rattle.close_rects.proofs.Gathering.{rows-more}
 use Rattle.close_rects.proofs.Placing.{StandFrom-drop, places-within}

@@ -1,4 +1,4 @@
-use Rattle.std.proofs.Common.{◌≡◌, ◌+◌, ◌*◌, Some, arith, length}
+use Rattle.std.proofs.Common.{◌≡◌, ◌+◌, ◌*◌, arith, length}
 use Rattle.close_rects.specs.Kins.{AreOfClass}
 use Rattle.close_rects.proofs.KinLaws.{AreKins-push, some_told}
 use Rattle.close_rects.proofs.crowd.Crowd.add_kins.Goals as goal

@@ -1,4 +1,3 @@
-use Rattle.std.proofs.Common.{◌<◌}
 use Rattle.close_rects.specs.Kins.{AreOfClass}
 use Rattle.close_rects.proofs.crowd.Crowd.block_class.Given as goal
 

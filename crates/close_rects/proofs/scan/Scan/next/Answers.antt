@@ -1,5 +1,4 @@
-use Rattle.std.proofs.Common.{◌∙◌, arith}
-use Rattle.std.proofs.lemmas.Int.{to_z-of_z}
+use Rattle.std.proofs.Common.{◌∙◌}
 use Rattle.close_rects.proofs.Fits.{IsNextClose-found, entry_at, rest_at-none}
 use Rattle.close_rects.proofs.scan.Scan.next.Goals as goal
 
