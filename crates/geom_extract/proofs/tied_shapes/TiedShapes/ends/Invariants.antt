@@ -1,7 +1,7 @@
 use Rattle.std.proofs.Common.{◌≡◌, ◌++◌, drop}
 use Rattle.std.specs.List.{range_with_len}
 use Rattle.geom_extract.specs.Touching.{firsts, seconds}
-use Rattle.geom_extract.proofs.shapes.ends_of.Given as goal
+use Rattle.geom_extract.proofs.tied_shapes.TiedShapes.ends.Given as goal
 
 abbrev pub invariant-loop-k : goal.invariant-loop-k
 invariant-loop-k l = l.ends.items ≡ range_with_len 0 l.k
