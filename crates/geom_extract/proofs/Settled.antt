@@ -1,4 +1,4 @@
-use Rattle.std.proofs.Common.{◌≡◌, ◌<◌, ◌+◌, ◌∙◌, ℕ, List, length, ap, sym, subst, refl, inl, inr, arith, replicate}
+use Rattle.std.proofs.Common.{◌≡◌, ◌↔◌, ◌<◌, ◌+◌, ◌∙◌, ℕ, List, length, ap, sym, subst, refl, inl, inr, arith, replicate}
 use Rattle.std.specs.Prelude.{slice_index}
 use Rattle.std.specs.List.{enumerate_from}
 use Rattle.std.specs.List.Sorted.{IsPermutation}
@@ -82,6 +82,16 @@ settled-joined web classes stock x y is settled shape other all same =
     let first : Chain web (slice_index classes x) x = settled.chain x shape (all x shape) in
     let second : Chain web (slice_index classes x) y = subst (λ (c : ℕ). Chain web c y) (sym same) (settled.chain y other (all y other)) in
     chain-more web x (slice_index classes x) y (chain-turned web (slice_index classes x) x is first) second
+
+-- where each shape has a class, equal classes and chains are the same
+pub settled-exact : (web : Web) (classes : List ℕ) (stock : List (ℕ × Extent)) → IsWeb web → IsSettled web classes stock
+    → ((z : ℕ) → z < length web.asks → IsFree classes z → ⊥) → (x y : ℕ) → x < length classes → y < length classes
+    → (slice_index classes x ≡ slice_index classes y) ↔ Chain web x y
+settled-exact web classes stock is settled all x y shape other =
+    let len : length classes ≡ length web.asks = settled.rest.len in (
+      λ same. settled-joined web classes stock x y is settled (omega arith) (omega arith) all same,
+      λ chain. (settled-along web classes stock x y is settled (omega arith) all chain).0,
+    )
 
 -- before any walk no shape has a class, and all rectangles are there
 pub settled-start : (web : Web) (classes : List ℕ) (stock : List (ℕ × Extent)) → classes ≡ replicate (length web.asks) 4294967295

@@ -1,9 +1,6 @@
-ghost use Rattle.geom_core.specs.Reach.{IsExtentInReach};
-ghost use Rattle.geom_extract.specs.Touching.{rect_of};
-ghost use Rattle.std.specs.Prelude.{◌≡◌};
-
 use crate::asker::Asker;
 use crate::plane::{plane_of, raised, tie_at};
+use crate::walked::Classes;
 use crate::web::Web;
 use geom_core::{Rect, Shape};
 use std::alloc::{AllocError, Global};
@@ -62,7 +59,7 @@ impl<'a> TiedShapes<'a> {
         let rules = self.rules;
         let _ = &rules.version;
         let web = self.web(alloc)?;
-        web.classes(alloc)
+        Classes::all(alloc, &web)
     }
 
     // The web of these shapes. The one error is want of memory.
@@ -89,7 +86,7 @@ impl<'a> TiedShapes<'a> {
         let (shapes, ties, rules) = (self.shapes, self.ties, self.rules);
         let mut rects = Vec::with_capacity(alloc, shapes.len())?;
         for shape in shapes {
-            rects.push(rect_of(rules, shape))?;
+            rects.push(raised(&shape.rect, plane_of(rules, &shape.layer)))?;
         }
         for tie in ties {
             rects.push(tie_at(tie.0))?;
@@ -129,11 +126,4 @@ impl<'a> TiedShapes<'a> {
         }
         Ok(asks)
     }
-}
-
-fn rect_of(rules: &Rules, shape: &Shape) -> Rect
-    requires { IsExtentInReach shape.now.rect }
-    ensures { result ≡ rect_of rules.now shape.now }
-{
-    raised(&shape.rect, plane_of(rules, &shape.layer))
 }

@@ -68,14 +68,14 @@ impl<'w> Walk<'w> {
     }
 }
 
-// Gives a shape the class if it has none, and puts it in the queue then.
+// Gives a shape the class if it is there and has none, and puts it in the queue then.
 fn reach(x: u32, start: u32, classes: &mut Vec<u32>, queue: &mut Vec<u32>) -> Result<(), AllocError>
-    requires { x < length classes.old.items }
     ensures reached { OnOk result (IsReached x start classes.old.items classes.new.items queue.old.items queue.new.items) }
     ensures begun { OnErr result (IsReached x start classes.old.items classes.new.items queue.old.items (queue.old.items ++ x ∷ [])) }
 {
-    if classes[x as usize] == NONE {
-        classes[x as usize] = start;
+    let at = x as usize;
+    if at < classes.len() && classes[at] == NONE {
+        classes[at] = start;
         queue.push(x)?;
     }
     Ok(())

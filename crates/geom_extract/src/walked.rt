@@ -30,8 +30,21 @@ impl<'w> Classes<'w> {
     ghost use Rattle.geom_extract.specs.Webs.{Chain};
     ghost use Rattle.std.specs.Prelude.{◌≡◌, ◌<◌, ◌↔◌, length, slice_index, IfOk, ℕ};
 
+    // A number for each shape of a web: two shapes have equal numbers exactly where a chain of links leads from one to the other.
+    // The one error is want of memory.
+    pub fn all(alloc: Global, web: &'w Web) -> Result<Vec<u32>, AllocError>
+        ensures len { IfOk result (λ v. length v.items ≡ length web.now.asks) }
+        ensures classes { IfOk result (λ v. (x y : ℕ) → x < length v.items → y < length v.items → (slice_index v.items x ≡ slice_index v.items y) ↔ Chain web.now x y) }
+    {
+        let mut classes = Classes::none(alloc, web)?;
+        for start in 0..web.asks.len() {
+            classes = classes.walk(alloc, start as u32)?;
+        }
+        Ok(classes.list)
+    }
+
     // No shape has a class. The one error is want of memory.
-    pub fn none(alloc: Global, web: &'w Web) -> Result<Classes<'w>, AllocError>
+    fn none(alloc: Global, web: &'w Web) -> Result<Classes<'w>, AllocError>
         ensures { IfOk result (λ made. made.web ≡ web.now) }
     {
         let set = RectSet::new(alloc, web.rects.as_slice())?;
@@ -42,7 +55,7 @@ impl<'w> Classes<'w> {
     // A shape that has no class, and all that a chain leads to from it, get the shape's number as their class. Each shape is
     // put in the queue once, and from each in the queue all rectangles are taken that meet what it asks with. The one error is
     // want of memory.
-    pub fn walk(self, alloc: Global, start: u32) -> Result<Classes<'w>, AllocError>
+    fn walk(self, alloc: Global, start: u32) -> Result<Classes<'w>, AllocError>
         ensures web { IfOk result (λ walked. walked.web ≡ self.entry.web) }
         ensures grown { IfOk result (λ walked. IsGrown self.entry.classes walked.classes) }
         ensures reached { IfOk result (λ walked. IsFree walked.classes start → ⊥) }
@@ -76,17 +89,5 @@ impl<'w> Classes<'w> {
             set: walk.set,
             list: walk.classes,
         })
-    }
-
-    // The classes, where each shape has one.
-    pub fn into_list(self) -> Vec<u32>
-        requires { (x : ℕ) → x < length self.web.asks → IsFree self.classes x → ⊥ }
-        ensures len { length result.items ≡ length self.entry.web.asks }
-        ensures classes { (x y : ℕ) → x < length result.items → y < length result.items → (slice_index result.items x ≡ slice_index result.items y) ↔ Chain self.entry.web x y }
-    {
-        // The bounds of the web's type are known once a field is read.
-        let web = self.web;
-        let _ = &web.asks;
-        self.list
     }
 }

@@ -14,17 +14,6 @@ index-x-requires c =
     let number = taken-number c.args.self.now.web c.loop-number.self-inside.classes.items _ _ _ _ good c.loop-number.invariant.rest c.in-Some.ensures.taken in
     omega (arith, number, ap length ends, c.web.inside.ends.ok)
 
-pub reach-requires : goal.reach-requires
-reach-requires c =
-    let web : c.self.inside.web.now ≡ c.args.self.now.web = ap (λ (w : Walking). w.web) c.self.view_is in
-    let good : IsWeb c.args.self.now.web = rw (← web, ← c.web.view_is) c.web.invariant in
-    let ends : c.web.inside.ends.items ≡ c.args.self.now.web.ends = ap (λ (w : Web). w.ends) (c.web.view_is ∙ web) in
-    let number = taken-number c.args.self.now.web c.loop-number.self-inside.classes.items _ _ _ _ good c.loop-number.invariant.rest c.in-Some.ensures.taken in
-    let leads = end-read _ _ _ number (rw ends at c.index-x.ensures) in
-    let within : c.index-x.result.now < length c.loop-number.self-inside.classes.items =
-    omega (arith, good.ends c.in-Some.number c.index-x.result.now leads, c.loop-number.invariant.rest.len) in
-    within
-
 pub loop-number-preserved : goal.loop-number-preserved
 loop-number-preserved c =
     let web : c.self.inside.web.now ≡ c.args.self.now.web = ap (λ (w : Walking). w.web) c.self.view_is in

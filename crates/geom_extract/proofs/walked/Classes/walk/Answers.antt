@@ -2,10 +2,10 @@ use Rattle.std.proofs.Common.{◌≡◌, ◌<◌, ◌≤◌, ◌∙◌, [], ◌�
 use Rattle.std.specs.Prelude.{slice_index}
 use Rattle.std.proofs.lemmas.Bool.{cases_lt}
 use Rattle.std.proofs.lemmas.Grind.{get_or_default_zero}
-use Rattle.geom_extract.specs.Walks.{Classed, IsFree, IsOfWalk, IsWalk, Walking}
+use Rattle.geom_extract.specs.Walks.{Classed, IsFree, IsWalk, Walking}
 use Rattle.geom_extract.specs.Webs.{IsWeb, Linked, Web}
 use Rattle.geom_extract.specs.Webs.Chain.{step}
-use Rattle.geom_extract.proofs.Reached.{grown-free, rest-begun, start-given, walk-begun}
+use Rattle.geom_extract.proofs.Reached.{grown-free, start-given, walk-begun}
 use Rattle.geom_extract.proofs.Settled.{settled-walk}
 use Rattle.geom_extract.proofs.walked.Classes.walk.Goals as goal
 

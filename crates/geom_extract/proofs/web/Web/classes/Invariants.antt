@@ -1,6 +1,0 @@
-use Rattle.std.proofs.Common.{◌≡◌, ◌<◌, ℕ}
-use Rattle.geom_extract.specs.Walks.{IsFree}
-use Rattle.geom_extract.proofs.web.Web.classes.Given as goal
-
-abbrev pub invariant-loop-start : goal.invariant-loop-start
-invariant-loop-start l = record { web : l.classes.web ≡ l.self; done : (x : ℕ) → x < l.start → IsFree l.classes.classes x → ⊥ }
