@@ -10,7 +10,7 @@ use Rattle.std.proofs.lemmas.Option.{slice_get-map, slice_get_within, get_or_fro
 use Rattle.geom_core.specs.Extent.{Extent}
 use Rattle.geom_core.specs.Reach.{IsExtentInWideReach}
 use Rattle.geom_core.specs.Rectangles.{grown}
-use Rattle.close_rects.specs.declared.item.Item.{Item}
+use Rattle.close_rects.specs.declared.items.Item.{Item}
 use Rattle.close_rects.specs.Items.{entry, fresh, HasInside, IsFit}
 use Rattle.close_rects.specs.Blocks.{IsFirstMet, IsMet, NoneMet}
 use Rattle.close_rects.specs.ClosePairs.{is_close}
@@ -93,13 +93,3 @@ rest_at-none reach items row at item reaches fit here none =
     let all : length (map entry items) ≡ length items = length-map items entry in
     rest_at-next reach (map entry items) row at (entry item) (entry_at items row item here)
     (rw all (NoneClose-met reach items item at (length items) reaches fit (fit_at items row item fit here) none))
-
--- the first close pair from a state with the same rest
-pub IsNextClose-from : (reach : ℤ) (rects : List (ℕ × Extent)) (row at later_row later_at : ℕ) (places : ℕ × ℕ)
-    → rest_at reach rects row at ≡ rest_at reach rects later_row later_at → IsNextClose reach rects later_row later_at places
-    → IsNextClose reach rects row at places
-IsNextClose-from reach rects row at later_row later_at places same next = record {
-  first = next.first;
-  second = next.second;
-  is = λ a b a_is b_is. same ∙ next.is a b a_is b_is;
-}

@@ -1,9 +1,9 @@
 use Rattle.std.proofs.Common.{◌≡◌, ◌+◌, ◌<◌, ◌≤◌, ℕ, zero, suc, List, [], ◌∷◌, ◌++◌, Bool, true, false, if◌then◌else◌, length, map, take, drop, get_or, Some, refl, ap, sym, ◌∙◌, arith, ◌-◌, min, append_assoc}
 use Rattle.std.specs.Option.{option_map}
 use Rattle.std.specs.List.{slice_get, slice_index}
-use Rattle.std.proofs.lemmas.List.{append-nil, map-append, take_all, take_at, take_more}
+use Rattle.std.proofs.lemmas.List.{map-append, take_more}
 use Rattle.std.proofs.lemmas.Option.{get_or_from_slice_get, slice_get-map}
-use Rattle.list_facts.proofs.Places.{drop-here, drop-past}
+use Rattle.list_facts.proofs.Places.{drop-here}
 use Rattle.close_rects.specs.declared.member.Member.{Member}
 use Rattle.close_rects.specs.Crowds.{crowd_of, crowds_of, is_crowded, places_from}
 use Rattle.close_rects.specs.Kins.{pairs_of}

@@ -1,13 +1,13 @@
-use Rattle.std.proofs.Common.{◌≡◌, ◌+◌, ◌*◌, ◌<◌, ◌≤◌, ◌↔◌, Bool, IsTrue, ℕ, List, length, Some, true, false, arith, inl, inr, ap, sym, set, [], ◌∷◌, ◌++◌, ◌∙◌}
+use Rattle.std.proofs.Common.{◌≡◌, ◌+◌, ◌*◌, ◌<◌, ◌≤◌, ◌^◌, ◌↔◌, Bool, IsTrue, ℕ, List, length, Some, true, false, arith, inl, inr, ap, sym, refl, get_or, set, [], ◌∷◌, ◌++◌, ◌∙◌}
 use Rattle.std.proofs.lemmas.List.{length-set}
 use Rattle.std.specs.List.{slice_get}
-use Rattle.std.proofs.lemmas.Option.{slice_get_within}
+use Rattle.std.proofs.lemmas.Option.{slice_get_read, slice_get_within}
 use Rattle.std.proofs.lemmas.Bool.{cases_lt}
 use Rattle.geom_core.specs.Extent.{Extent}
 use Rattle.geom_core.specs.Rectangles.{Encloses, Meet}
-use Rattle.close_rects.specs.declared.item.Item.{Item}
+use Rattle.close_rects.specs.declared.items.Item.{Item}
 use Rattle.close_rects.specs.declared.blocks.Node.{Node}
-use Rattle.close_rects.specs.Blocks.{Covers, IsNode, IsIndexed, IsLinked, NoneMet}
+use Rattle.close_rects.specs.Blocks.{Covers, IsNode, IsIndexed, NoneMet}
 use Rattle.close_rects.proofs.Lists.{slice_get-set, slice_get-push}
 use Rattle.close_rects.proofs.Windows.{Meet-enclosing, Encloses-trans}
 
@@ -26,18 +26,10 @@ pub NoneMet-covered : (items : List Item) (low high start stop : ℕ) (window bo
 NoneMet-covered items low high start stop window bounds from to covers apart k item on below is met =
     apart (Meet-enclosing window bounds item.rect (covers k item (omega arith) (omega arith) is met.left) met.meets)
 
--- an index links its nodes
-pub IsLinked-indexed : (items : List Item) (nodes : List Node) → IsIndexed items nodes → IsLinked nodes
-IsLinked-indexed items nodes indexed b node is = let told : IsNode items (length nodes) b node = indexed.each b node is in (told.on, told.within)
-
--- a node that is linked may be written
-pub IsLinked-set : (nodes : List Node) (b : ℕ) (node : Node) → IsLinked nodes → b < node.next → node.next ≤ length nodes
-    → IsLinked (set nodes b node)
-IsLinked-set nodes b node linked on within k other is =
-    rw length-set (elim (slice_get-set nodes b k node other is) [
-      | inl same ↦ rw (same.0, same.1) (on, within)
-      | inr kept ↦ linked k other kept
-    ])
+-- what the node that is read tells
+pub IsNode-at : (items : List Item) (nodes : List Node) (b : ℕ) (node : Node) → IsIndexed items nodes → b < length nodes
+    → node ≡ get_or nodes b node → IsNode items (length nodes) b node
+IsNode-at items nodes b node indexed within is = indexed.each b node (slice_get_read nodes (length nodes) b node refl within is)
 
 -- bounds that reach one item further
 pub Covers-more : (items : List Item) (low at : ℕ) (item : Item) (a whole : Extent) → slice_get items at ≡ Some item
@@ -61,7 +53,8 @@ IsIndexed-set items nodes b node indexed told = record {
     | inr kept ↦ indexed.each k other kept
   ]);
   enough = rw length-set indexed.enough;
-  few = rw length-set indexed.few;
+  short = rw length-set indexed.short;
+  few = indexed.few;
 }
 
 -- a test that fails refutes what it decides
@@ -86,8 +79,8 @@ EachSingle-push items nodes pushed node is each single b other at =
     ]
 
 pub IsIndexed-single : (items : List Item) (nodes : List Node) → EachSingle items nodes → length items ≤ 8 * length nodes
-    → length nodes ≤ length items → IsIndexed items nodes
-IsIndexed-single items nodes each enough few = record {
+    → length nodes ≤ length items → length items < 2 ^ 32 → IsIndexed items nodes
+IsIndexed-single items nodes each enough short few = record {
   each = λ b node is.
       let single : IsSingle items b node = each b node is in
       let next : node.next ≡ b + 1 = single.next in
@@ -99,6 +92,7 @@ IsIndexed-single items nodes each enough few = record {
         all = λ k item on below. single.all k item on (omega arith);
       };
   enough = enough;
+  short = short;
   few = few;
 }
 
@@ -124,5 +118,6 @@ IsIndexed-taken items nodes at item gone indexed = record {
     all = Covers-taken items at _ _ item _ gone told.all;
   };
   enough = rw length-set indexed.enough;
+  short = rw length-set indexed.short;
   few = rw length-set indexed.few;
 }

@@ -14,7 +14,7 @@ use Rattle.list_facts.proofs.Places.{drop-here, drop-past}
 use Rattle.geom_core.specs.Extent.{Extent}
 use Rattle.geom_core.specs.Reach.{IsExtentInWideReach}
 use Rattle.geom_core.specs.Rectangles.{grown}
-use Rattle.close_rects.specs.declared.item.Item.{Item}
+use Rattle.close_rects.specs.declared.items.Item.{Item}
 use Rattle.close_rects.specs.declared.member.Member.{Member}
 use Rattle.close_rects.specs.ClosePairs.{is_close}
 use Rattle.close_rects.specs.Crowds.{KeepsInReach, area, is_crowded, places_from}

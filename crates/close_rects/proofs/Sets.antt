@@ -6,7 +6,7 @@ use Rattle.std.proofs.lemmas.List.Sorted.{IsPermutation-map, All-permutation}
 use Rattle.std.proofs.lemmas.List.Elements.{All-nil, All-cons, All-head, All-tail}
 use Rattle.geom_core.specs.Extent.{Extent}
 use Rattle.geom_core.specs.Rectangles.{Encloses, Meet}
-use Rattle.close_rects.specs.declared.item.Item.{Item}
+use Rattle.close_rects.specs.declared.items.Item.{Item}
 use Rattle.close_rects.specs.Items.{entry, fresh, left_of}
 use Rattle.close_rects.specs.Blocks.{IsMet, NoneMet, inside_out}
 use Rattle.close_rects.specs.RectSets.{IsHeldBy, NoneIn, Takes}

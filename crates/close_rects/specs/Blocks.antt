@@ -1,8 +1,8 @@
-use Rattle.std.specs.Prelude.{◌≡◌, ◌+◌, ◌*◌, ◌<◌, ◌≤◌, ℕ, List, length, Some, false}
+use Rattle.std.specs.Prelude.{◌≡◌, ◌+◌, ◌*◌, ◌<◌, ◌≤◌, ◌^◌, ℕ, List, length, Some, false}
 use Rattle.std.specs.List.{slice_get}
 use Rattle.geom_core.specs.Extent.{Extent}
 use Rattle.geom_core.specs.Rectangles.{Encloses, Meet}
-use Rattle.close_rects.specs.declared.item.Item.{Item}
+use Rattle.close_rects.specs.declared.items.Item.{Item}
 use Rattle.close_rects.specs.declared.blocks.Node.{Node}
 
 -- what is left from one place on up to before another lies in these bounds
@@ -17,15 +17,12 @@ pub record IsNode (items : List Item) (count b : ℕ) (node : Node) : Type 0 whe
   pub own : Covers items (8 * b) (8 * b + 8) node.own
   pub all : Covers items (8 * b) (8 * node.next) node.all
 
--- each node tells of its own block, and of no more blocks than there are
-abbrev pub IsLinked : List Node → Type 0
-IsLinked nodes = (b : ℕ) (node : Node) → slice_get nodes b ≡ Some node → (b < node.next) × (node.next ≤ length nodes)
-
 -- a node for each block of eight items
 pub record IsIndexed (items : List Item) (nodes : List Node) : Type 0 where
   pub each : (b : ℕ) (node : Node) → slice_get nodes b ≡ Some node → IsNode items (length nodes) b node
   pub enough : length items ≤ 8 * length nodes
-  pub few : length nodes ≤ length items
+  pub short : length nodes ≤ length items
+  pub few : length items < 2 ^ 32
 
 -- a rectangle that is left meets the window
 pub record IsMet (window : Extent) (item : Item) : Type 0 where

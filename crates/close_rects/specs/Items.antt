@@ -1,7 +1,7 @@
 use Rattle.std.specs.Prelude.{◌≡◌, ◌<ℤ◌, ℕ, List, [], ◌∷◌, false, if◌then◌else◌}
 use Rattle.geom_core.specs.Extent.{Extent}
 use Rattle.geom_core.specs.Reach.{IsExtentInWideReach}
-use Rattle.close_rects.specs.declared.item.Item.{Item}
+use Rattle.close_rects.specs.declared.items.Item.{Item}
 
 -- a numbered rectangle that has not been taken
 abbrev pub fresh : ℕ × Extent → Item

@@ -1,12 +1,11 @@
-use Rattle.std.specs.Prelude.{◌≡◌, ◌≢◌, ◌+◌, ◌*◌, ◌<◌, ◌≤◌, ◌^◌, ◌==◌, ℕ, List, [], ◌∷◌, Bool, false, nat_lt, if◌then◌else◌, length, map, All, Some}
+use Rattle.std.specs.Prelude.{◌≡◌, ◌≢◌, ◌+◌, ◌*◌, ◌<◌, ◌≤◌, ◌==◌, ℕ, List, [], ◌∷◌, Bool, false, nat_lt, if◌then◌else◌, length, map, All, Some}
 use Rattle.std.specs.List.{slice_get, slice_index, enumerate_from}
 use Rattle.std.specs.List.Sorted.{IsPermutation}
 use Rattle.geom_core.specs.Extent.{Extent}
-use Rattle.close_rects.specs.declared.item.Item.{Item}
-use Rattle.close_rects.specs.declared.blocks.Node.{Node}
+use Rattle.close_rects.specs.declared.items.Item.{Item}
 use Rattle.close_rects.specs.declared.kin.Kin.{Kin}
 use Rattle.close_rects.specs.declared.member.Member.{Member}
-use Rattle.close_rects.specs.Blocks.{IsIndexed, IsMet}
+use Rattle.close_rects.specs.Blocks.{IsMet}
 use Rattle.close_rects.specs.Crowds.{area, KeepsInReach}
 use Rattle.close_rects.specs.ClosePairs.{is_close}
 use Rattle.close_rects.specs.Items.{fresh, HasInside}
@@ -21,27 +20,15 @@ AreOfClass members items low high class =
     (k : ℕ) (item : Item) → low ≤ k → k < high → slice_get items k ≡ Some item → class_of members item.number ≡ class
 
 -- where the kin of block b names a class, the items of this block, or of those up to before the next, are all of that class
-pub record IsKin (members : List Member) (items : List Item) (b next : ℕ) (kin : Kin) : Type 0 where
+pub record IsKin (members : List Member) (items : List Item) (count b : ℕ) (kin : Kin) : Type 0 where
+  pub on : b < kin.next
+  pub within : kin.next ≤ count
   pub own : (class : ℕ) → kin.own ≡ Some class → AreOfClass members items (8 * b) (8 * b + 8) class
-  pub all : (class : ℕ) → kin.all ≡ Some class → AreOfClass members items (8 * b) (8 * next) class
+  pub all : (class : ℕ) → kin.all ≡ Some class → AreOfClass members items (8 * b) (8 * kin.next) class
 
 -- the kin of each block
-pub record AreKins (members : List Member) (items : List Item) (nodes : List Node) (kins : List Kin) : Type 0 where
-  pub each : (b : ℕ) (node : Node) (kin : Kin) → slice_get nodes b ≡ Some node → slice_get kins b ≡ Some kin
-      → IsKin members items b node.next kin
-  pub enough : length kins ≡ length nodes
-
--- each item stands for a member
-abbrev pub AreNumbered : List Member → List Item → Type 0
-AreNumbered members items = All (λ (item : Item). item.number < length members) items
-
--- members by their places: an item for each, in any order, the nodes of its blocks and their kin
-pub record IsCrowd (members : List Member) (items : List Item) (nodes : List Node) (kins : List Kin) : Type 0 where
-  pub few : length members < 2 ^ 32
-  pub len : length items ≡ length members
-  pub numbered : AreNumbered members items
-  pub indexed : IsIndexed items nodes
-  pub known : AreKins members items nodes kins
+abbrev pub AreKins : List Member → List Item → List Kin → Type 0
+AreKins members items kins = (b : ℕ) (kin : Kin) → slice_get kins b ≡ Some kin → IsKin members items (length kins) b kin
 
 -- an item that meets a window and stands for a member of another class
 pub record IsStranger (members : List Member) (window : Extent) (class : ℕ) (item : Item) : Type 0 where
@@ -59,6 +46,15 @@ pub record IsFirstStranger (members : List Member) (items : List Item) (window :
   pub within : k < length items
   pub strange : (item : Item) → slice_get items k ≡ Some item → IsStranger members window class item
   pub before : NoneStrange members items window class from k
+
+-- members, and items that stand for them
+pub record Crowded : Type 0 where
+  pub members : List Member
+  pub items : List Item
+
+-- each item stands for a member
+abbrev pub AreNumbered : List Member → List Item → Type 0
+AreNumbered members items = All (λ (item : Item). item.number < length members) items
 
 -- the items are those of the members' rectangles, in any order, and these have sides
 pub record ArePlaced (members : List Member) (items : List Item) : Type 0 where

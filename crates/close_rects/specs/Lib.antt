@@ -4,7 +4,6 @@ pub mod Items
 pub mod Blocks
 -- taking out of a set of rectangles
 pub mod RectSets
-pub mod RectSetView
 -- pairs of close rectangles, and those that a scan has still to give
 pub mod ClosePairs
 pub mod Rests
@@ -12,3 +11,4 @@ pub mod ScanView
 -- members of classes that are too close, and how they are looked for
 pub mod Crowds
 pub mod Kins
+pub mod CrowdView

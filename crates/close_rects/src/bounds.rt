@@ -3,6 +3,7 @@ ghost use Rattle.geom_core.specs.Reach.{IsExtentInWideReach};
 ghost use Rattle.geom_core.specs.Rectangles.{Encloses, Meet, grown};
 ghost use Rattle.std.specs.Prelude.{◌≡◌, ◌<ℤ◌, ◌≤ℤ◌, ◌↔◌, ◌-ℤ◌, pos, IsTrue};
 
+use crate::reach::Reach;
 use geom_core::Rect;
 use std::marker::Model;
 
@@ -50,13 +51,11 @@ impl Bounds {
     }
 
     // The bounds that just those rectangles meet whose two gaps from this one are both below `reach`.
-    pub fn near(rect: &Rect, reach: i64) -> Bounds
-        requires wide { IsExtentInWideReach rect.now }
-        requires low { pos 0 ≤ℤ reach }
-        requires high { reach ≤ℤ pos 10000000000000000 }
-        ensures { result ≡ grown (reach -ℤ pos 1) rect.now }
+    pub fn near(rect: &Rect, reach: Reach) -> Bounds
+        requires { IsExtentInWideReach rect.now }
+        ensures { result ≡ grown (reach.length -ℤ pos 1) rect.now }
     {
-        let d = reach - 1;
+        let d = reach.length - 1;
         Bounds {
             x0: rect.x0 - d,
             y0: rect.y0 - d,

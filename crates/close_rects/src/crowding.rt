@@ -1,15 +1,14 @@
 ghost use Rattle.close_rects.specs.Crowds.{KeepsInReach, crowds_of, places_from};
 ghost use Rattle.close_rects.specs.declared.member.Member.{Member};
-ghost use Rattle.close_rects.specs.Kins.{ArePlaced, IsCrowd, is_later, numbers_of, pairs_of};
+ghost use Rattle.close_rects.specs.Kins.{pairs_of};
 ghost use Rattle.std.specs.List.{slice_get};
 ghost use Rattle.std.specs.Prelude.{◌≡◌, ◌+◌, [], ◌∷◌, ◌++◌, nat_lt, if◌then◌else◌, ◌<◌, ◌≤◌, ◌^◌, length, drop, take, All, IfOk, OnOk, Some};
 
-use crate::blocks::nodes_of;
 use crate::bounds::Bounds;
-use crate::item::item_at;
-use crate::kin::kins_of;
-use crate::member::{Member, member_at, placed};
-use crate::strangers::{Crowd, first_stranger};
+use crate::crowd::Crowd;
+use crate::member::Member;
+use crate::members::Members;
+use crate::reach::Reach;
 use std::alloc::{AllocError, Global};
 
 /// The first pairs of members of different classes of which both gaps are below the reach of the first, `most` of them at most: by
@@ -28,30 +27,20 @@ pub fn first_pairs(
     requires reach { All KeepsInReach members.now }
     ensures { IfOk result (λ v. v.items ≡ take most (crowds_of members.now)) }
 {
-    let items = placed(alloc, members)?;
-    let nodes = nodes_of(alloc, items.as_slice())?;
-    let kins = kins_of(alloc, members, items.as_slice(), nodes.as_slice())?;
-    let crowd = Crowd {
-        members,
-        items: items.as_slice(),
-        nodes: nodes.as_slice(),
-        kins: kins.as_slice(),
-    };
+    let crowd = Crowd::of(alloc, Members::new(members))?;
     rows(alloc, &crowd, most)
 }
 
 // The pairs of each member with those after it.
 fn rows(alloc: Global, crowd: &Crowd, most: usize) -> Result<Vec<(u32, u32)>, AllocError>
-    requires crowd { IsCrowd crowd.now.members.now crowd.now.items.now crowd.now.nodes.now crowd.now.kins.now }
-    requires placed { ArePlaced crowd.now.members.now crowd.now.items.now }
-    ensures { IfOk result (λ v. v.items ≡ take most (crowds_of crowd.now.members.now)) }
+    ensures { IfOk result (λ v. v.items ≡ take most (crowds_of crowd.now.members)) }
 {
     let mut pairs = Vec::new(alloc);
     let mut row = 0;
-    while row < crowd.members.len() && pairs.len() < most {
+    while row < crowd.members().len() && pairs.len() < most {
         let places = places_after(alloc, crowd, row)?;
-        let number = member_at(crowd.members, row).number;
-        add_pairs(&mut pairs, crowd.members, number, places.as_slice(), most)?;
+        let number = crowd.members().at(row).number;
+        add_pairs(&mut pairs, crowd.members(), number, places.as_slice(), most)?;
         row += 1;
     }
     Ok(pairs)
@@ -59,33 +48,24 @@ fn rows(alloc: Global, crowd: &Crowd, most: usize) -> Result<Vec<(u32, u32)>, Al
 
 // The places in the list of the members after one of them that crowd it.
 fn places_after(alloc: Global, crowd: &Crowd, row: usize) -> Result<Vec<u32>, AllocError>
-    requires within { row < length crowd.now.members.now }
-    requires crowd { IsCrowd crowd.now.members.now crowd.now.items.now crowd.now.nodes.now crowd.now.kins.now }
-    requires placed { ArePlaced crowd.now.members.now crowd.now.items.now }
-    ensures { IfOk result (λ v. (a : Member) → slice_get crowd.now.members.now row ≡ Some a
-        → v.items ≡ places_from (row + 1) a (drop (row + 1) crowd.now.members.now)) }
+    requires { row < length crowd.now.members }
+    ensures { IfOk result (λ v. (a : Member) → slice_get crowd.now.members row ≡ Some a
+        → v.items ≡ places_from (row + 1) a (drop (row + 1) crowd.now.members)) }
 {
-    let mut places = strangers_after(alloc, crowd, row)?;
-    places.sort_unstable();
-    Ok(places)
-}
-
-// The same in the order of the items.
-fn strangers_after(alloc: Global, crowd: &Crowd, row: usize) -> Result<Vec<u32>, AllocError>
-    requires within { row < length crowd.now.members.now }
-    requires crowd { IsCrowd crowd.now.members.now crowd.now.items.now crowd.now.nodes.now crowd.now.kins.now }
-    requires placed { ArePlaced crowd.now.members.now crowd.now.items.now }
-    ensures { IfOk result (λ v. (a : Member) → slice_get crowd.now.members.now row ≡ Some a
-        → v.items ≡ numbers_of (is_later crowd.now.members.now row a) crowd.now.items.now) }
-{
-    let member = member_at(crowd.members, row);
-    let window = Bounds::near(&member.rect, member.reach);
+    let member = crowd.members().at(row);
+    let window = Bounds::near(
+        &member.rect,
+        Reach {
+            length: member.reach,
+        },
+    );
     let mut places = Vec::new(alloc);
     let mut at = 0;
-    while let Some(found) = first_stranger(crowd, &window, member.class, at) {
-        push_later(&mut places, item_at(crowd.items, found).number, row)?;
+    while let Some(found) = crowd.first_stranger(&window, member.class, at) {
+        push_later(&mut places, crowd.items().at(found).number, row)?;
         at = found + 1;
     }
+    places.sort_unstable();
     Ok(places)
 }
 
@@ -102,7 +82,7 @@ fn push_later(places: &mut Vec<u32>, place: u32, row: usize) -> Result<(), Alloc
 // Puts the pairs of a number with those of the members at some places at the end of a list, which then has `most` at most.
 fn add_pairs(
     pairs: &mut Vec<(u32, u32)>,
-    members: &[Member],
+    members: &Members,
     number: u32,
     places: &[u32],
     most: usize,
@@ -113,7 +93,7 @@ fn add_pairs(
 {
     let count = places.len().min(most - pairs.len());
     for place in &places[..count] {
-        pairs.push((number, member_at(members, *place as usize).number))?;
+        pairs.push((number, members.at(*place as usize).number))?;
     }
     Ok(())
 }

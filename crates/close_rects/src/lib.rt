@@ -3,15 +3,18 @@
 
 mod blocks;
 mod bounds;
+mod crowd;
 mod crowding;
-mod item;
+mod indexed;
+mod items;
 mod kin;
 mod member;
+mod members;
 mod order;
+mod reach;
 mod rect_set;
 mod scan;
-mod search;
-mod strangers;
+mod span;
 
 pub use crowding::first_pairs;
 pub use member::Member;

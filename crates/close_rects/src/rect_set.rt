@@ -1,16 +1,6 @@
-ghost use Rattle.close_rects.specs.Blocks.{IsIndexed};
-ghost use Rattle.close_rects.specs.Items.{left_of};
-ghost use Rattle.close_rects.specs.RectSets.{IsHeldBy, NoneIn, Takes};
-ghost use Rattle.geom_core.specs.Rectangles.{Encloses, Meet};
-ghost use Rattle.std.specs.List.{enumerate_from};
-ghost use Rattle.std.specs.List.Sorted.{IsPermutation};
-ghost use Rattle.std.specs.Prelude.{◌≡◌, ◌<◌, ◌^◌, length, IfNone, IfOk, IfSome};
-
-use crate::blocks::{BLOCK, Node, nodes_of, renew};
 use crate::bounds::Bounds;
-use crate::item::{Item, item_at};
-use crate::order::ordered;
-use crate::search::first_meeting;
+use crate::indexed::Indexed;
+use crate::items::Items;
 use geom_core::Rect;
 use std::alloc::{AllocError, Global};
 use std::marker::Model;
@@ -21,31 +11,35 @@ use std::marker::Model;
 /// of them where they are spread out, and also where they all overlap; no bound is promised.
 #[derive(Drop)]
 pub struct RectSet {
-    items: Vec<Item>,
-    nodes: Vec<Node>,
+    indexed: Indexed,
 }
 
 impl Model for RectSet {
-    ghost use Rattle.close_rects.specs.RectSetView.{left_in, IsRectSet};
+    ghost use Rattle.close_rects.specs.Items.{left_of};
     ghost use Rattle.geom_core.specs.Extent.{Extent};
     ghost use Rattle.std.specs.Prelude.{List, ℕ};
 
     ghost Value = { List (ℕ × Extent) };
 
-    ghost view = { left_in };
-
-    ghost invariant = { IsRectSet };
+    ghost view = { λ a. left_of a.indexed };
 }
 
 impl RectSet {
+    ghost use Rattle.close_rects.specs.RectSets.{IsHeldBy, NoneIn, Takes};
+    ghost use Rattle.geom_core.specs.Rectangles.{Encloses, Meet};
+    ghost use Rattle.std.specs.List.{enumerate_from};
+    ghost use Rattle.std.specs.List.Sorted.{IsPermutation};
+    ghost use Rattle.std.specs.Prelude.{◌≡◌, ◌<◌, ◌^◌, length, IfNone, IfOk, IfSome};
+
     /// All rectangles of a list, each with its number there, from 0 on. There are fewer than 2^32. The one error is want of memory.
     pub fn new(alloc: Global, rects: &[Rect]) -> Result<RectSet, AllocError>
         requires few { length rects.now < 2 ^ 32 }
         ensures { IfOk result (IsPermutation (enumerate_from 0 rects.now)) }
     {
-        let items = ordered(alloc, rects)?;
-        let nodes = nodes_of(alloc, items.as_slice())?;
-        Ok(RectSet { items, nodes })
+        let items = Items::numbered(alloc, rects)?.ordered();
+        Ok(RectSet {
+            indexed: Indexed::of(alloc, items)?,
+        })
     }
 
     /// Takes out one of those left that share a point with a rectangle, and gives its number; None where there is none, and then
@@ -56,14 +50,7 @@ impl RectSet {
         ensures same { IfNone result (self.new ≡ self.old) }
     {
         let window = Bounds::of(rect);
-        let at = first_meeting(self.items.as_slice(), self.nodes.as_slice(), &window, 0)?;
-        let item = item_at(self.items.as_slice(), at);
-        self.items[at] = Item {
-            taken: true,
-            ..item
-        };
-        renew(self.items.as_slice(), self.nodes.as_mut_slice(), at / BLOCK);
-        Some(item.number)
+        self.indexed.take_meeting(&window)
     }
 
     /// The number of one of those left in which a rectangle lies, side on side too; None where it lies in none. Takes no memory.
@@ -72,7 +59,7 @@ impl RectSet {
         ensures none { IfNone result (NoneIn (λ held. Encloses held rect.now) self.now) }
     {
         let window = Bounds::inside_out(rect);
-        let at = first_meeting(self.items.as_slice(), self.nodes.as_slice(), &window, 0)?;
-        Some(item_at(self.items.as_slice(), at).number)
+        let at = self.indexed.first_meeting(&window, 0)?;
+        Some(self.indexed.items().at(at).number)
     }
 }

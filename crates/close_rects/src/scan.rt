@@ -1,15 +1,11 @@
-ghost use Rattle.close_rects.specs.Blocks.{IsIndexed};
-ghost use Rattle.close_rects.specs.ClosePairs.{AreClosePairs};
-ghost use Rattle.close_rects.specs.Items.{entry, IsFit};
-ghost use Rattle.close_rects.specs.Rests.{IsNextClose, pair_of, rest_at};
-ghost use Rattle.geom_core.specs.Reach.{IsExtentInWideReach};
-ghost use Rattle.std.specs.Prelude.{◌≡◌, ◌+◌, ◌<◌, ◌≤◌, ◌≤ℤ◌, ◌^◌, pos, [], ◌∷◌, length, map, All, IfNone, IfOk, IfSome};
+ghost use Rattle.close_rects.specs.Items.{entry};
+ghost use Rattle.close_rects.specs.Rests.{pair_of};
+ghost use Rattle.std.specs.Prelude.{◌≡◌};
 
-use crate::blocks::{Node, nodes_of};
 use crate::bounds::Bounds;
-use crate::item::{Item, item_at};
-use crate::order::ordered;
-use crate::search::first_meeting;
+use crate::indexed::Indexed;
+use crate::items::{Item, Items};
+use crate::reach::Reach;
 use geom_core::Rect;
 use std::alloc::{AllocError, Global};
 use std::marker::Model;
@@ -20,9 +16,8 @@ use std::marker::Model;
 /// pairs come early however many there are.
 #[derive(Drop)]
 pub struct Scan {
-    items: Vec<Item>,
-    nodes: Vec<Node>,
-    reach: i64,
+    indexed: Indexed,
+    reach: Reach,
     row: usize,
     at: usize,
 }
@@ -39,6 +34,10 @@ impl Model for Scan {
 }
 
 impl Scan {
+    ghost use Rattle.close_rects.specs.ClosePairs.{AreClosePairs};
+    ghost use Rattle.geom_core.specs.Reach.{IsExtentInWideReach};
+    ghost use Rattle.std.specs.Prelude.{◌≡◌, ◌<◌, ◌≤ℤ◌, ◌^◌, pos, [], ◌∷◌, length, All, IfNone, IfOk, IfSome};
+
     /// All pairs of close rectangles of a list, each once, by their numbers there from 0 on, the lesser first. There are fewer
     /// than 2^32 rectangles, whose sides lie within 10^16 half centimicrons; the reach is 0 to 10^16 of these. The order of the pairs
     /// is left open. The one error is want of memory.
@@ -49,12 +48,10 @@ impl Scan {
         requires high { reach ≤ℤ pos 10000000000000000 }
         ensures { IfOk result (AreClosePairs reach rects.now) }
     {
-        let items = ordered(alloc, rects)?;
-        let nodes = nodes_of(alloc, items.as_slice())?;
+        let items = Items::numbered(alloc, rects)?.ordered();
         Ok(Scan {
-            items,
-            nodes,
-            reach,
+            indexed: Indexed::of(alloc, items)?,
+            reach: Reach { length: reach },
             row: 0,
             at: 1,
         })
@@ -66,59 +63,18 @@ impl Scan {
         ensures none { IfNone result (self.old ≡ []) }
         ensures same { IfNone result (self.new ≡ self.old) }
     {
-        match next_close(
-            self.items.as_slice(),
-            self.nodes.as_slice(),
-            self.reach,
-            self.row,
-            self.at,
-        ) {
-            Some((row, at)) => {
-                let pair = numbers(
-                    item_at(self.items.as_slice(), row),
-                    item_at(self.items.as_slice(), at),
-                );
-                self.row = row;
-                self.at = at + 1;
-                Some(pair)
+        while self.row < self.indexed.items().len() {
+            let item = self.indexed.items().at(self.row);
+            let window = Bounds::near(&item.rect, self.reach);
+            if let Some(found) = self.indexed.first_meeting(&window, self.at) {
+                self.at = found + 1;
+                return Some(numbers(item, self.indexed.items().at(found)));
             }
-            None => {
-                self.row = self.items.len();
-                None
-            }
+            self.row += 1;
+            self.at = self.row + 1;
         }
+        None
     }
-}
-
-// The places of the two rectangles of the first close pair from a row and a place in it on.
-fn next_close(
-    items: &[Item],
-    nodes: &[Node],
-    reach: i64,
-    row: usize,
-    at: usize,
-) -> Option<(usize, usize)>
-    requires few { length items.now < 2 ^ 32 }
-    requires indexed { IsIndexed items.now nodes.now }
-    requires fit { All IsFit items.now }
-    requires low { pos 0 ≤ℤ reach }
-    requires high { reach ≤ℤ pos 10000000000000000 }
-    requires within { at ≤ length items.now + 1 }
-    ensures first { IfSome result (IsNextClose reach (map entry items.now) row at) }
-    ensures none { IfNone result (rest_at reach (map entry items.now) row at ≡ []) }
-{
-    let mut row = row;
-    let mut at = at;
-    while row < items.len() {
-        let item = item_at(items, row);
-        let window = Bounds::near(&item.rect, reach);
-        if let Some(found) = first_meeting(items, nodes, &window, at) {
-            return Some((row, found));
-        }
-        row += 1;
-        at = row + 1;
-    }
-    None
 }
 
 // The numbers of two items, the lesser first.

@@ -32,3 +32,5 @@ pub mod CellJoins
 pub mod Extracting
 -- the ties of a layout
 pub mod Ties
+-- walks that have gone on
+pub mod Gone

@@ -12,11 +12,10 @@ use Rattle.geom_extract.specs.Planes.{height_of, plane_of, raised, tie_at}
 use Rattle.geom_extract.specs.Touching.{Beside, IsWebOf, rect_of}
 use Rattle.geom_extract.specs.Asking.{asks_of}
 use Rattle.geom_extract.specs.Touching.Beside.{touching, tied, tied_back}
-use Rattle.geom_extract.specs.Webs.{Leads, Linked}
+use Rattle.geom_extract.specs.Webs.{Leads, Linked, Web}
 use Rattle.geom_extract.specs.declared.plane.Plane.{Plane}
 use Rattle.geom_extract.specs.declared.plane.Plane.TheVariants.{Horizontal, Vertical, Cut, Other}
 use Rattle.geom_extract.specs.declared.asker.Asks.{Asks}
-use Rattle.geom_extract.specs.declared.web.Web.{Web}
 use Rattle.geom_extract.proofs.Conducting.{Pass, conducts-pass, layer-is, pass-conducts}
 use Rattle.geom_extract.proofs.Conducting.Pass.{hh, hc, vv, vc, ch, cv}
 use Rattle.geom_extract.proofs.Heights.{Meet-lowered, Meet-raised, Meet-sym, no-tie, one-tie, own-tie, same-plane}
@@ -101,7 +100,7 @@ module _ (r : RuleValues) (shapes : List Shape) (ties : List (ℕ × ℕ)) (web 
   by-asks x y s Other is plane (inr (inl leads)) = by-tie x y leads
   by-asks x y s Other is plane (inr (inr leads)) = by-tie x y leads
 
-  shape-asks : (x : ℕ) (s : Shape) → slice_get shapes x ≡ Some s → slice_get web.asks.items x ≡ Some (asks_of (plane_of r s.layer) s.rect x)
+  shape-asks : (x : ℕ) (s : Shape) → slice_get shapes x ≡ Some s → slice_get web.asks x ≡ Some (asks_of (plane_of r s.layer) s.rect x)
   shape-asks x s is =
       let same : 0 + x ≡ x = omega arith in
       ap (λ (l : List Asks). slice_get l x) of.asks ∙ asks-at r 0 x shapes s is ∙ ap (λ (k : ℕ). Some (asks_of (plane_of r s.layer) s.rect k)) same
@@ -109,7 +108,7 @@ module _ (r : RuleValues) (shapes : List Shape) (ties : List (ℕ × ℕ)) (web 
   pub linked-beside : (x y : ℕ) → Linked web x y → Beside r shapes ties x y
   linked-beside x y link =
       let found = asks-shape r 0 x shapes link.asks (sym (ap (λ (l : List Asks). slice_get l x) of.asks) ∙ link.is_asks) in
-      let there : slice_get web.asks.items x ≡ Some (asks_of (plane_of r found.0.layer) found.0.rect x) = shape-asks x found.0 found.1 in
+      let there : slice_get web.asks x ≡ Some (asks_of (plane_of r found.0.layer) found.0.rect x) = shape-asks x found.0 found.1 in
       let same : link.asks ≡ asks_of (plane_of r found.0.layer) found.0.rect x = cc (link.is_asks, there) in
       by-asks x y found.0 (plane_of r found.0.layer) found.1 refl (subst (λ (a : Asks). LeadsTo web a y) same link.leads)
 

@@ -10,16 +10,15 @@ use Rattle.geom_core.specs.Extent.{Extent}
 use Rattle.close_rects.specs.RectSets.{Takes}
 use Rattle.close_rects.proofs.SetLaws.{after-contains, before-contains, taken-contains}
 use Rattle.geom_extract.specs.declared.asker.Asks.{Asks}
-use Rattle.geom_extract.specs.declared.web.Web.{Web}
+use Rattle.geom_extract.specs.Webs.{Chain, IsWeb, Leads, Linked, Web}
 use Rattle.geom_extract.specs.Walks.{IsFree, IsGrown, IsLonger, IsOfWalk, IsQueued, IsReached, IsRest, IsWalk, free_in}
 use Rattle.geom_extract.specs.Walks.IsReached.{known, found}
-use Rattle.geom_extract.specs.Webs.{Chain, IsWeb, Leads, Linked}
 use Rattle.geom_extract.specs.Webs.Chain.{here}
 
 -- the number of a shape is no sign that a shape has no class
-pub start_is_class : (web : Web) (start : ℕ) → IsWeb web → start < length web.asks.items → start ≢ 4294967295
+pub start_is_class : (web : Web) (start : ℕ) → IsWeb web → start < length web.asks → start ≢ 4294967295
 start_is_class web start is within = λ same.
-    let few : length web.asks.items < 2 ^ 32 = is.few_shapes in
+    let few : length web.asks < 2 ^ 32 = is.few_shapes in
     omega arith
 
 pub grown-refl : (classes : List ℕ) → IsGrown classes classes
@@ -71,7 +70,7 @@ reached-longer x start before after queue longer (found free is push) =
 
 -- the rectangle that led to a shape is taken when the shape has a class
 pub rest-taken : (web : Web) (classes after queue longer : List ℕ) (stock left : List (ℕ × Extent)) (ask : Extent) (number x start : ℕ)
-    → IsRest web classes stock → Takes ask number stock left → slice_get web.ends.items number ≡ Some x → x < length classes
+    → IsRest web classes stock → Takes ask number stock left → slice_get web.ends number ≡ Some x → x < length classes
     → start ≢ 4294967295 → IsReached x start classes after queue longer → IsRest web after left
 rest-taken web classes after queue longer stock left ask number x start rest takes leads within class reached = record {
   len = reached-len x start classes after queue longer reached ∙ rest.len;
@@ -98,8 +97,8 @@ free_in-set classes x start within free class =
     let none : weight start ≡ 0 = ap (λ b. cond b 1 0) (ne_eqb start 4294967295 class) in
     omega arith
 
-walk-found : (web : Web) (start x : ℕ) (before classes after queue longer : List ℕ) → x < length web.asks.items
-    → length classes ≡ length web.asks.items → start ≢ 4294967295 → Chain web start x → IsFree classes x → after ≡ set classes x start
+walk-found : (web : Web) (start x : ℕ) (before classes after queue longer : List ℕ) → x < length web.asks
+    → length classes ≡ length web.asks → start ≢ 4294967295 → Chain web start x → IsFree classes x → after ≡ set classes x start
     → longer ≡ queue ++ x ∷ [] → IsWalk web start before classes queue → IsWalk web start before after longer
 walk-found web start x before classes after queue longer shape len class chain free is push walk =
     let within : x < length classes = omega arith in
@@ -112,7 +111,7 @@ walk-found web start x before classes after queue longer shape len class chain f
     let newest : IsOfWalk web start before after x =
     record { shape = shape; free = grown-free before classes x walk.kept free; class = given_class; chain = chain } in
     let count : free_in after + 1 ≡ free_in classes = ap (λ (t : List ℕ). free_in t + 1) is ∙ free_in-set classes x start within free class in
-    let room : length queue + free_in classes ≤ length web.asks.items = walk.room in
+    let room : length queue + free_in classes ≤ length web.asks = walk.room in
     record {
       kept = grown-more before classes after walk.kept grown;
       given = λ y is_shape was busy. elim (cases_eq y x) [
@@ -138,8 +137,8 @@ walk-found web start x before classes after queue longer shape len class chain f
       room = omega arith;
     }
 
-pub walk-reached : (web : Web) (start x : ℕ) (before classes after queue longer : List ℕ) → x < length web.asks.items
-    → length classes ≡ length web.asks.items → start ≢ 4294967295 → Chain web start x → IsReached x start classes after queue longer
+pub walk-reached : (web : Web) (start x : ℕ) (before classes after queue longer : List ℕ) → x < length web.asks
+    → length classes ≡ length web.asks → start ≢ 4294967295 → Chain web start x → IsReached x start classes after queue longer
     → IsWalk web start before classes queue → IsWalk web start before after longer
 walk-reached web start x before classes after queue longer shape len class chain (known busy same kept) walk =
     subst (λ (t : List ℕ). IsWalk web start before t longer) (sym same) (subst (λ (t : List ℕ). IsWalk web start before classes t) (sym kept) walk)
@@ -147,7 +146,7 @@ walk-reached web start x before classes after queue longer shape len class chain
     walk-found web start x before classes after queue longer shape len class chain free is push walk
 
 -- a walk begins with its first shape
-pub walk-begun : (web : Web) (start : ℕ) (classes : List ℕ) → IsWeb web → start < length web.asks.items → length classes ≡ length web.asks.items
+pub walk-begun : (web : Web) (start : ℕ) (classes : List ℕ) → IsWeb web → start < length web.asks → length classes ≡ length web.asks
     → IsFree classes start → IsWalk web start classes (set classes start start) ([] ++ start ∷ [])
 walk-begun web start classes is shape len free =
     walk-found web start start classes classes (set classes start start) [] ([] ++ start ∷ []) shape len (start_is_class web start is shape) here
@@ -160,14 +159,14 @@ walk-begun web start classes is shape len free =
 
 -- what is taken is one of the web's rectangles
 pub taken-number : (web : Web) (classes : List ℕ) (stock left : List (ℕ × Extent)) (ask : Extent) (number : ℕ) → IsWeb web → IsRest web classes stock
-    → Takes ask number stock left → number < length web.ends.items
+    → Takes ask number stock left → number < length web.ends
 taken-number web classes stock left ask number is rest takes =
-    let within : number < length web.rects.items =
+    let within : number < length web.rects =
     slice_get_within _ _ _ (rest.from (number, takes.taken) (taken-contains ask number stock left takes)) in
     omega (arith, is.lengths)
 
 pub taken-leads : (web : Web) (classes : List ℕ) (stock left : List (ℕ × Extent)) (ask : Extent) (number x : ℕ) → IsRest web classes stock
-    → Takes ask number stock left → slice_get web.ends.items number ≡ Some x → Leads web ask x
+    → Takes ask number stock left → slice_get web.ends number ≡ Some x → Leads web ask x
 taken-leads web classes stock left ask number x rest takes leads = record {
   number = number;
   rect = takes.taken;
@@ -180,7 +179,7 @@ pub end-read : (ends : List ℕ) (number x : ℕ) → number < length ends → x
 end-read ends number x within is = slice_get_read ends (length ends) number x refl within is
 
 -- to whatever a shape is linked, one of its three rectangles leads there
-pub linked-any : (web : Web) (x y : ℕ) (asks : Asks) (free : Type 0) → slice_get web.asks.items x ≡ Some asks → (Leads web asks.first y → free)
+pub linked-any : (web : Web) (x y : ℕ) (asks : Asks) (free : Type 0) → slice_get web.asks x ≡ Some asks → (Leads web asks.first y → free)
     → (Leads web asks.second y → free) → (Leads web asks.third y → free) → Linked web x y → free
 linked-any web x y asks free is first second third link =
     let same : link.asks ≡ asks = cc (link.is_asks, is) in
@@ -188,13 +187,13 @@ linked-any web x y asks free is first second third link =
     elim leads [ inl one ↦ first one | inr more ↦ elim more [ inl two ↦ second two | inr three ↦ third three ] ]
 
 -- the first shape of a walk has a class from then on
-pub start-given : (web : Web) (start : ℕ) (classes : List ℕ) → IsWeb web → start < length web.asks.items → length classes ≡ length web.asks.items
+pub start-given : (web : Web) (start : ℕ) (classes : List ℕ) → IsWeb web → start < length web.asks → length classes ≡ length web.asks
     → IsFree (set classes start start) start → ⊥
 start-given web start classes is shape len free =
     let within : start < length classes = omega arith in
     start_is_class web start is shape (sym (get_or-set_same classes start start 0 within) ∙ free)
 
-pub rest-begun : (web : Web) (start : ℕ) (classes : List ℕ) (stock : List (ℕ × Extent)) → IsWeb web → start < length web.asks.items
+pub rest-begun : (web : Web) (start : ℕ) (classes : List ℕ) (stock : List (ℕ × Extent)) → IsWeb web → start < length web.asks
     → IsFree classes start → IsRest web classes stock → IsRest web (set classes start start) stock
 rest-begun web start classes stock is shape free rest =
     let grown : IsGrown classes (set classes start start) =

@@ -10,9 +10,8 @@ use Rattle.tech_rules.specs.Rules.{RuleValues, AreDifferent}
 use Rattle.geom_extract.specs.Planes.{tie_at}
 use Rattle.geom_extract.specs.Touching.{Connected, IsWebOf, asks_from, firsts, rect_of, seconds}
 use Rattle.geom_extract.specs.Touching.Connected.{here as same_shape, step as further}
-use Rattle.geom_extract.specs.Webs.{Chain, IsWeb}
+use Rattle.geom_extract.specs.Webs.{Chain, IsWeb, Web}
 use Rattle.geom_extract.specs.Webs.Chain.{here, step}
-use Rattle.geom_extract.specs.declared.web.Web.{Web}
 use Rattle.geom_extract.proofs.Together.{At, length-map}
 use Rattle.geom_extract.proofs.WebSides.{InReach, IsWay, way-of}
 use Rattle.geom_extract.proofs.WebSides.IsWay.{of_shape, of_tie, of_tie_back}
@@ -37,16 +36,16 @@ asks-length r n (s ∷ shapes) =
     omega arith
 
 pub web-asks : (r : RuleValues) (shapes : List Shape) (ties : List (ℕ × ℕ)) (web : Web) → IsWebOf r shapes ties web
-    → length web.asks.items ≡ length shapes
+    → length web.asks ≡ length shapes
 web-asks r shapes ties web of = ap length of.asks ∙ asks-length r 0 shapes
 
 web-lengths : (r : RuleValues) (shapes : List Shape) (ties : List (ℕ × ℕ)) (web : Web) → IsWebOf r shapes ties web
-    → length web.ends.items ≡ length web.rects.items
+    → length web.ends ≡ length web.rects
 web-lengths r shapes ties web of =
-    let ends : length web.ends.items ≡ length (range_with_len 0 (length shapes)) + (length (seconds ties) + length (firsts ties)) =
+    let ends : length web.ends ≡ length (range_with_len 0 (length shapes)) + (length (seconds ties) + length (firsts ties)) =
     ap length of.ends ∙ length-append (range_with_len 0 (length shapes)) (seconds ties ++ firsts ties)
     ∙ ap (λ (n : ℕ). length (range_with_len 0 (length shapes)) + n) (length-append (seconds ties) (firsts ties)) in
-    let rects : length web.rects.items ≡ length (map (rect_of r) shapes) + (length (map tie_at (firsts ties)) + length (map tie_at (seconds ties))) =
+    let rects : length web.rects ≡ length (map (rect_of r) shapes) + (length (map tie_at (firsts ties)) + length (map tie_at (seconds ties))) =
     ap length of.rects ∙ length-append (map (rect_of r) shapes) (map tie_at (firsts ties) ++ map tie_at (seconds ties))
     ∙ ap (λ (n : ℕ). length (map (rect_of r) shapes) + n) (length-append (map tie_at (firsts ties)) (map tie_at (seconds ties))) in
     let front : length (range_with_len 0 (length shapes)) ≡ length shapes = length-range_with_len 0 (length shapes) in
@@ -62,18 +61,18 @@ way-within r shapes ties rect y range (of_tie a among same) = (range a y among).
 way-within r shapes ties rect y range (of_tie_back a among same) = (range y a among).0
 
 pub shape-web : (r : RuleValues) (shapes : List Shape) (ties : List (ℕ × ℕ)) (web : Web) → IsWebOf r shapes ties web → AreDifferent r
-    → InReach shapes → InRange shapes ties → length shapes < 2 ^ 32 → length web.rects.items < 2 ^ 32 → IsWeb web
+    → InReach shapes → InRange shapes ties → length shapes < 2 ^ 32 → length web.rects < 2 ^ 32 → IsWeb web
 shape-web r shapes ties web of apart reach range few few_rects =
-    let asks : length web.asks.items ≡ length shapes = web-asks r shapes ties web of in
-    let lengths : length web.ends.items ≡ length web.rects.items = web-lengths r shapes ties web of in
+    let asks : length web.asks ≡ length shapes = web-asks r shapes ties web of in
+    let lengths : length web.ends ≡ length web.rects = web-lengths r shapes ties web of in
     record {
       few = few_rects;
       few_shapes = omega arith;
       lengths = lengths;
       ends = λ number y is.
-          let within : number < length web.ends.items = slice_get_within web.ends.items number y is in
-          let found = some-rect web.rects.items number (omega arith) in
-          let at : At web.rects.items web.ends.items found.0 y = record { place = number; first = found.1; second = is } in
+          let within : number < length web.ends = slice_get_within web.ends number y is in
+          let found = some-rect web.rects number (omega arith) in
+          let at : At web.rects web.ends found.0 y = record { place = number; first = found.1; second = is } in
           let inside : y < length shapes = way-within r shapes ties found.0 y range (way-of r shapes ties web found.0 y of at) in
           omega arith;
       both_ways = λ x y link. beside-linked r shapes ties web of reach y x apart range

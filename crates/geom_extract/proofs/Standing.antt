@@ -1,10 +1,9 @@
-use Rattle.std.proofs.Common.{◌≡◌, ◌≤◌, ◌+◌, ◌-◌, ◌∙◌, ℕ, suc, List, Bool, true, false, Option, Some, None, length, map, drop, min, ap, sym, subst, refl, arith}
+use Rattle.std.proofs.Common.{◌≡◌, ◌≤◌, ◌+◌, ◌-◌, ◌∙◌, ℕ, suc, List, true, Option, Some, None, length, map, drop, min, ap, sym, refl, arith}
 use Rattle.std.specs.Prelude.{slice_index}
 use Rattle.std.specs.List.{IsDistinct, list_any, slice_get}
 use Rattle.std.specs.List.Sorted.{IsPermutation}
 use Rattle.std.specs.Option.{option_map}
 use Rattle.std.specs.Str.{bytes_eq}
-use Rattle.std.proofs.lemmas.Bool.{both_ways}
 use Rattle.std.proofs.lemmas.List.{length-map, length-take, length-drop}
 use Rattle.std.proofs.lemmas.List.Sorted.{list_any-IsPermutation}
 use Rattle.std.proofs.lemmas.Map.Keys.{IsDistinct-IsPermutation}
@@ -12,7 +11,7 @@ use Rattle.std.proofs.lemmas.Option.{get_or_from_slice_get, slice_get-map}
 use Rattle.list_facts.specs.Names.{place_among}
 use Rattle.list_facts.proofs.Different.{any-get, place-get}
 use Rattle.list_facts.proofs.Members.{get-contains}
-use Rattle.list_facts.proofs.Mentioned.{bytes_one, bytes_same, get-place, names-flip}
+use Rattle.list_facts.proofs.Mentioned.{get-place, names-flip}
 use Rattle.geom_core.specs.Moving.{moved_shape}
 use Rattle.geom_core.specs.declared.layout.Cell.{Cell}
 use Rattle.geom_core.specs.declared.layout.Layout.{Layout}

@@ -10,9 +10,8 @@ use Rattle.tech_rules.specs.Rules.{RuleValues}
 use Rattle.geom_extract.specs.Planes.{plane_of, tie_at}
 use Rattle.geom_extract.specs.Touching.{IsWebOf, asks_from, firsts, rect_of, seconds}
 use Rattle.geom_extract.specs.Asking.{asks_of}
-use Rattle.geom_extract.specs.Webs.{Leads}
+use Rattle.geom_extract.specs.Webs.{Leads, Web}
 use Rattle.geom_extract.specs.declared.asker.Asks.{Asks}
-use Rattle.geom_extract.specs.declared.web.Web.{Web}
 use Rattle.geom_extract.proofs.Together.{At, At-append, At-images, At-left, At-numbered, At-right, images-At, length-map, numbered-At}
 
 abbrev pub InReach : List Shape → Type 0
@@ -50,7 +49,7 @@ ties-equal : (ties : List (ℕ × ℕ)) → length (map tie_at (firsts ties)) �
 ties-equal ties = length-map tie_at (firsts ties) ∙ length-map first_of ties ∙ sym (length-map second_of ties)
 
 pub way-of : (r : RuleValues) (shapes : List Shape) (ties : List (ℕ × ℕ)) (web : Web) (rect : Extent) (y : ℕ) → IsWebOf r shapes ties web
-    → At web.rects.items web.ends.items rect y → IsWay r shapes ties rect y
+    → At web.rects web.ends rect y → IsWay r shapes ties rect y
 way-of r shapes ties web rect y of at =
     let whole : At (map (rect_of r) shapes ++ (map tie_at (firsts ties) ++ map tie_at (seconds ties)))
     (range_with_len 0 (length shapes) ++ (seconds ties ++ firsts ties)) rect y = rw (← of.rects, ← of.ends) at in
@@ -71,11 +70,11 @@ way-of r shapes ties web rect y of at =
 
 whole-at : (r : RuleValues) (shapes : List Shape) (ties : List (ℕ × ℕ)) (web : Web) (rect : Extent) (y : ℕ) → IsWebOf r shapes ties web
     → At (map (rect_of r) shapes ++ (map tie_at (firsts ties) ++ map tie_at (seconds ties)))
-    (range_with_len 0 (length shapes) ++ (seconds ties ++ firsts ties)) rect y → At web.rects.items web.ends.items rect y
+    (range_with_len 0 (length shapes) ++ (seconds ties ++ firsts ties)) rect y → At web.rects web.ends rect y
 whole-at r shapes ties web rect y of at = rw (of.rects, of.ends) at
 
 pub shape-at : (r : RuleValues) (shapes : List Shape) (ties : List (ℕ × ℕ)) (web : Web) (y : ℕ) (s : Shape) → IsWebOf r shapes ties web
-    → slice_get shapes y ≡ Some s → At web.rects.items web.ends.items (rect_of r s) y
+    → slice_get shapes y ≡ Some s → At web.rects web.ends (rect_of r s) y
 shape-at r shapes ties web y s of is =
     let zero_more : 0 + y ≡ y = omega arith in
     whole-at r shapes ties web (rect_of r s) y of
@@ -83,7 +82,7 @@ shape-at r shapes ties web y s of is =
     (subst (λ (k : ℕ). At (map (rect_of r) shapes) (range_with_len 0 (length shapes)) (rect_of r s) k) zero_more (numbered-At (rect_of r) 0 shapes y s is)))
 
 pub tie-at : (r : RuleValues) (shapes : List Shape) (ties : List (ℕ × ℕ)) (web : Web) (a b : ℕ) → IsWebOf r shapes ties web
-    → Contains ties (a, b) → At web.rects.items web.ends.items (tie_at a) b × At web.rects.items web.ends.items (tie_at b) a
+    → Contains ties (a, b) → At web.rects web.ends (tie_at a) b × At web.rects web.ends (tie_at b) a
 tie-at r shapes ties web a b of among = (
   whole-at r shapes ties web (tie_at a) b of (At-right _ _ _ _ (tie_at a) b (fronts-equal r shapes)
       (At-left (map tie_at (firsts ties)) _ (seconds ties) _ (tie_at a) b (sides-tie ties first_of second_of (a, b) among))),
@@ -91,10 +90,10 @@ tie-at r shapes ties web a b of among = (
       (At-right (map tie_at (firsts ties)) _ (seconds ties) _ (tie_at b) a (ties-equal ties) (sides-tie ties second_of first_of (a, b) among))),
 )
 
-pub leads-at : (web : Web) (ask rect : Extent) (y : ℕ) → At web.rects.items web.ends.items rect y → Meet ask rect → Leads web ask y
+pub leads-at : (web : Web) (ask rect : Extent) (y : ℕ) → At web.rects web.ends rect y → Meet ask rect → Leads web ask y
 leads-at web ask rect y at met = record { number = at.place; rect = rect; is_rect = at.first; is_end = at.second; meets = met }
 
-pub at-leads : (web : Web) (ask : Extent) (y : ℕ) (leads : Leads web ask y) → At web.rects.items web.ends.items leads.rect y
+pub at-leads : (web : Web) (ask : Extent) (y : ℕ) (leads : Leads web ask y) → At web.rects web.ends leads.rect y
 at-leads web ask y leads = record { place = leads.number; first = leads.is_rect; second = leads.is_end }
 
 -- the asks of a shape

@@ -2,12 +2,15 @@
 pub mod Webs
 -- a walk along such chains
 pub mod Walks
+pub mod WalkView
+pub mod ClassesView
 -- layers at different heights
 pub mod Planes
 -- what a shape asks for others with
 pub mod Asking
 -- shapes that touch or are tied, and their web
 pub mod Touching
+pub mod TiedView
 -- where positions are drawn, and the ties in cells
 pub mod CellTies
 -- numbers of shapes and pins

@@ -7,7 +7,13 @@ use Rattle.design_model.specs.Joined.{Touch}
 use Rattle.geom_extract.specs.Asking.{asks_of}
 use Rattle.geom_extract.specs.Planes.{height_of, plane_of, raised, tie_at}
 use Rattle.geom_extract.specs.declared.asker.Asks.{Asks}
-use Rattle.geom_extract.specs.declared.web.Web.{Web}
+use Rattle.geom_extract.specs.Webs.{Web}
+
+-- shapes, some pairs of which are tied, and the rules of their layers
+pub record Tied : Type 0 where
+  pub rules : RuleValues
+  pub shapes : List Shape
+  pub ties : List (ℕ × ℕ)
 
 -- two shapes touch, or they are tied
 pub data Beside (r : RuleValues) (shapes : List Shape) (ties : List (ℕ × ℕ)) (i j : ℕ) : Type 0 where
@@ -36,6 +42,6 @@ seconds ties = map (λ (t : ℕ × ℕ). t.1) ties
 
 -- the web of shapes and ties: each shape is led to by its rectangle, and each of two that are tied by the other's place among ties
 pub record IsWebOf (r : RuleValues) (shapes : List Shape) (ties : List (ℕ × ℕ)) (web : Web) : Type 0 where
-  pub rects : web.rects.items ≡ map (rect_of r) shapes ++ (map tie_at (firsts ties) ++ map tie_at (seconds ties))
-  pub ends : web.ends.items ≡ range_with_len 0 (length shapes) ++ (seconds ties ++ firsts ties)
-  pub asks : web.asks.items ≡ asks_from r 0 shapes
+  pub rects : web.rects ≡ map (rect_of r) shapes ++ (map tie_at (firsts ties) ++ map tie_at (seconds ties))
+  pub ends : web.ends ≡ range_with_len 0 (length shapes) ++ (seconds ties ++ firsts ties)
+  pub asks : web.asks ≡ asks_from r 0 shapes

@@ -1,10 +1,6 @@
 //! What a shape asks for others with.
 
-ghost use Rattle.geom_core.specs.Reach.{IsExtentInReach};
-ghost use Rattle.geom_extract.specs.Asking.{asks_of};
-ghost use Rattle.std.specs.Prelude.{◌≡◌};
-
-use crate::plane::{Plane, height_of, raised, tie_at};
+use crate::plane::{Plane, raised, tie_at};
 use geom_core::Rect;
 use std::marker::Model;
 
@@ -56,36 +52,29 @@ impl Asker {
     pub fn asks(&self) -> Asks
         ensures { result ≡ self.now }
     {
-        asks_of(self.plane, &self.rect, self.number)
-    }
-}
-
-// What a shape of a layer asks with.
-fn asks_of(plane: Plane, rect: &Rect, number: u32) -> Asks
-    requires { IsExtentInReach rect.now }
-    ensures { result ≡ asks_of plane rect.now number }
-{
-    let third = tie_at(number);
-    match plane {
-        Plane::Horizontal => Asks {
-            first: raised(rect, 0),
-            second: raised(rect, height_of(Plane::Cut)),
-            third,
-        },
-        Plane::Vertical => Asks {
-            first: raised(rect, height_of(Plane::Vertical)),
-            second: raised(rect, height_of(Plane::Cut)),
-            third,
-        },
-        Plane::Cut => Asks {
-            first: raised(rect, 0),
-            second: raised(rect, height_of(Plane::Vertical)),
-            third,
-        },
-        Plane::Other => Asks {
-            first: third,
-            second: third,
-            third,
-        },
+        let rect = &self.rect;
+        let third = tie_at(self.number);
+        match self.plane {
+            Plane::Horizontal => Asks {
+                first: raised(rect, Plane::Horizontal),
+                second: raised(rect, Plane::Cut),
+                third,
+            },
+            Plane::Vertical => Asks {
+                first: raised(rect, Plane::Vertical),
+                second: raised(rect, Plane::Cut),
+                third,
+            },
+            Plane::Cut => Asks {
+                first: raised(rect, Plane::Horizontal),
+                second: raised(rect, Plane::Vertical),
+                third,
+            },
+            Plane::Other => Asks {
+                first: third,
+                second: third,
+                third,
+            },
+        }
     }
 }

@@ -8,7 +8,9 @@ mod places;
 mod plane;
 mod shapes;
 mod starts;
+mod tied_shapes;
 mod walk;
+mod walked;
 mod web;
 
 pub use joined::{Extract, classes};

@@ -1,6 +1,5 @@
-ghost use Rattle.design_model.specs.Netlist.{IsKind};
 ghost use Rattle.geom_extract.specs.CellTies.{ArePlaces, first_places, pin_shape};
-ghost use Rattle.std.specs.Prelude.{◌≡◌, map, All, Contains, IfOk};
+ghost use Rattle.std.specs.Prelude.{◌≡◌, map, Contains, IfOk};
 
 use design_model::{CellKind, Design, Pin};
 use geom_core::Items;
@@ -16,7 +15,6 @@ pub struct Places {
 
 // For each kind, the first place at which a position of each of its terminals stands.
 pub fn all_first_places(alloc: Global, kinds: &[CellKind]) -> Result<Vec<Items<usize>>, AllocError>
-    requires { All IsKind kinds.now }
     ensures { IfOk result (λ v. v.items ≡ map first_places kinds.now) }
 {
     let mut tables = Vec::with_capacity(alloc, kinds.len())?;
@@ -28,7 +26,6 @@ pub fn all_first_places(alloc: Global, kinds: &[CellKind]) -> Result<Vec<Items<u
 
 // The places are entered from the last position to the first, so that the first of a terminal stands at the end.
 fn first_places(alloc: Global, kind: &CellKind) -> Result<Items<usize>, AllocError>
-    requires { IsKind kind.now }
     ensures { IfOk result (λ table. table ≡ first_places kind.now) }
 {
     let positions = kind.positions.items();
@@ -36,7 +33,10 @@ fn first_places(alloc: Global, kind: &CellKind) -> Result<Items<usize>, AllocErr
     let mut place = positions.len();
     while place > 0 {
         place -= 1;
-        table[positions[place].terminal as usize] = place;
+        let terminal = positions[place].terminal as usize;
+        if terminal < table.len() {
+            table[terminal] = place;
+        }
     }
     Ok(Items::new(table))
 }

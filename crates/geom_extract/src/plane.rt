@@ -30,7 +30,7 @@ pub fn plane_of(rules: &Rules, layer: &LayerName) -> Plane
 }
 
 // How far the rectangles of a layer are raised, so that those of different layers don't meet.
-pub fn height_of(plane: Plane) -> i64
+fn height_of(plane: Plane) -> i64
     ensures is { result ≡ height_of plane }
     ensures low { pos 0 ≤ℤ result }
     ensures high { result ≤ℤ pos 16000000000000000 }
@@ -43,12 +43,12 @@ pub fn height_of(plane: Plane) -> i64
     }
 }
 
-pub fn raised(rect: &Rect, by: i64) -> Rect
-    requires reach { IsExtentInReach rect.now }
-    requires low { pos 0 ≤ℤ by }
-    requires high { by ≤ℤ pos 16000000000000000 }
-    ensures { result ≡ raised by rect.now }
+// A rectangle at the height of a layer.
+pub fn raised(rect: &Rect, plane: Plane) -> Rect
+    requires { IsExtentInReach rect.now }
+    ensures { result ≡ raised (height_of plane) rect.now }
 {
+    let by = height_of(plane);
     Rect {
         x0: rect.x0,
         y0: rect.y0 + by,

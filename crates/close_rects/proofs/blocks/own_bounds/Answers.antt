@@ -5,7 +5,7 @@ use Rattle.close_rects.proofs.blocks.own_bounds.Goals as goal
 
 pub loop-at-preserved : goal.loop-at-preserved
 loop-at-preserved c =
-    Covers-more _ _ _ c.item_at.result c.loop-at.bounds _ c.item_at.ensures c.loop-at.invariant c.with_item-bounds.ensures.kept c.with_item-bounds.ensures.added
+    Covers-more _ _ _ c.at.result c.loop-at.bounds _ c.at.ensures.is c.loop-at.invariant c.with_item-bounds.ensures.kept c.with_item-bounds.ensures.added
 
 pub returns : goal.returns
 returns c = λ k item on below is left.

@@ -10,4 +10,4 @@ loop-b-preserved c = record {
 }
 
 pub returns : goal.returns
-returns c = IsIndexed-single _ _ c.loop-b.invariant.each (omega arith) (omega arith)
+returns c = IsIndexed-single _ _ c.loop-b.invariant.each (omega arith) (omega arith) (omega arith)

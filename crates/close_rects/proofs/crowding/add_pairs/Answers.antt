@@ -7,7 +7,7 @@ use Rattle.close_rects.proofs.Gathering.{pairs_of-more, take-room}
 use Rattle.close_rects.proofs.crowding.add_pairs.Goals as goal
 
 pub loop-place-preserved : goal.loop-place-preserved
-loop-place-preserved c = pairs_of-more _ _ _ _ _ _ c.loop-place.place-index c.member_at.result c.loop-place-test.true c.member_at.ensures
+loop-place-preserved c = pairs_of-more _ _ _ _ _ _ c.loop-place.place-index c.at.result c.loop-place-test.true c.at.ensures.is
     c.in_ok-push.ensures.items c.loop-place.invariant
 
 pub returns : goal.returns

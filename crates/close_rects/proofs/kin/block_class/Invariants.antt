@@ -1,5 +1,0 @@
-use Rattle.close_rects.specs.Kins.{AreOfClass}
-use Rattle.close_rects.proofs.kin.block_class.Given as goal
-
-abbrev pub invariant-loop-at : goal.invariant-loop-at
-invariant-loop-at l = AreOfClass l.members l.items l.start l.at l.class

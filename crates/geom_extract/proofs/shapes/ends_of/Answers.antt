@@ -1,6 +1,0 @@
-use Rattle.std.proofs.Common.{◌∙◌, [], ◌∷◌, ◌++◌, ap, sym}
-use Rattle.geom_extract.proofs.Together.{numbers-more}
-use Rattle.geom_extract.proofs.shapes.ends_of.Goals as goal
-
-pub loop-k-preserved : goal.loop-k-preserved
-loop-k-preserved c = c.in_ok-push.ensures.items ∙ ap (λ t. t ++ c.loop-k.k ∷ []) c.loop-k.invariant ∙ sym (numbers-more c.loop-k.k)
