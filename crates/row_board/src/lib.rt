@@ -9,6 +9,7 @@ mod net_costs;
 mod net_pins;
 mod nets;
 mod row_lengths;
+mod seated;
 mod seats;
 mod spans;
 mod standings;

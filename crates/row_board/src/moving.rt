@@ -106,19 +106,6 @@ pub fn enter_reach(costs: &mut NetCosts, rows: &[Items<Seat>], reach: Reach)
     enter_seats(costs, seats, reach, left);
 }
 
-// Two instances that stand there exchange their places.
-#[tactic(auto, unfolding(row_model::specs::Changes::swapped))]
-fn swap_seats(rows: &mut [Items<Seat>], a: u32, one: Standing, b: u32, other: Standing)
-    requires apart { AreRows rows.old }
-    requires one { IsAt rows.old one.row one.place (record { instance = a; mirror = one.mirror }) }
-    requires other { IsAt rows.old other.row other.place (record { instance = b; mirror = other.mirror }) }
-    ensures swapped { rows.new ≡ swapped a b rows.old }
-    ensures puts { ArePut one.row one.place (record { instance = b; mirror = other.mirror }) other.row other.place (record { instance = a; mirror = one.mirror }) rows.old rows.new }
-{
-    put(rows, one, other.seat(b));
-    put(rows, other, one.seat(a));
-}
-
 // Two reaches, the one that begins at the lower place first.
 fn in_order(one: Reach, other: Reach) -> (Reach, Reach)
     ensures { result ≡ in_order one other }
@@ -147,7 +134,8 @@ fn exchange_seats(rows: &mut [Items<Seat>], costs: &NetCosts, a: u32, b: u32) ->
     let even = columns_of(design, a) == columns_of(design, b);
     let reach = reach_of(rows, one, other, even);
     let other_reach = reach_of(rows, other, one, even);
-    swap_seats(rows, a, one, b, other);
+    put(rows, one, other.seat(b));
+    put(rows, other, one.seat(a));
     in_order(reach, other_reach)
 }
 

@@ -1,4 +1,4 @@
-ghost use Rattle.row_board.specs.Board.{AreSeated, IsBoard};
+ghost use Rattle.row_board.specs.Board.{IsBoard};
 ghost use Rattle.row_board.specs.Cost.{cost_of};
 ghost use Rattle.row_board.specs.NetCosts.{Tabled, table_costs};
 ghost use Rattle.row_board.specs.RowLengthsView.{misses_of};
@@ -11,6 +11,7 @@ ghost use Rattle.std.specs.Prelude.{◌≡◌, ◌≢◌, ◌<◌, ◌≤◌, �
 use crate::moving::reach_of;
 use crate::net_costs::NetCosts;
 use crate::row_lengths::{RowLengths, difference};
+use crate::seated::Seated;
 use crate::seats::row_at;
 use geom_core::Items;
 use row_model::{Seat, columns_of};
@@ -25,15 +26,15 @@ pub fn total_of(costs: &NetCosts, lengths: &RowLengths) -> u64
 
 // What rows cost where two instances take each other's place and no other is shifted. All is as before after that.
 fn trial_cost(costs: &mut NetCosts, lengths: &RowLengths, a: u32, b: u32) -> u64
-    requires apart { a ≢ b }
-    requires a { a < length costs.old.standings }
-    requires b { b < length costs.old.standings }
     ensures is { result ≡ sum (table_costs costs.old.design costs.old.weights (traded a b costs.old.standings)) + costs.old.weights.length_cost * sum (misses_of lengths.now) }
     ensures same { costs.new ≡ costs.old }
 {
+    let one = costs.standing(a);
+    let other = costs.standing(b);
     costs.trade(a, b);
     let cost = total_of(costs, lengths);
-    costs.trade(a, b);
+    costs.put(a, one);
+    costs.put(b, other);
     cost
 }
 
@@ -46,11 +47,12 @@ fn between(seats: &[Seat], from: usize, to: usize) -> &[Seat]
 }
 
 // The number of pins that shift where an instance exchanges its place with another of another width.
-fn shifted_pins(costs: &NetCosts, rows: &[Items<Seat>], a: u32, b: u32) -> u64
-    requires seated { AreSeated costs.now.design rows.now costs.now.standings }
-    ensures is { result ≡ shifted_pins costs.now.design rows.now (standing_of costs.now.standings a) (standing_of costs.now.standings b) }
+fn shifted_pins(seated: &Seated, a: u32, b: u32) -> u64
+    ensures is { result ≡ shifted_pins seated.now.table.design seated.now.rows (standing_of seated.now.table.standings a) (standing_of seated.now.table.standings b) }
     ensures few { result < 2 ^ 32 }
 {
+    let costs = seated.costs();
+    let rows = seated.rows();
     // What every design keeps is known by this call.
     let _design = costs.design();
     let one = costs.standing(a);
@@ -60,15 +62,15 @@ fn shifted_pins(costs: &NetCosts, rows: &[Items<Seat>], a: u32, b: u32) -> u64
 }
 
 // By how much rows may cost less after a swap of two instances than where these only take each other's place.
-fn slack_of(costs: &NetCosts, rows: &[Items<Seat>], a: u32, b: u32) -> u64
-    requires seated { AreSeated costs.now.design rows.now costs.now.standings }
-    ensures { result ≡ slack costs.now.design rows.now costs.now.weights costs.now.standings a b }
+fn slack_of(seated: &Seated, a: u32, b: u32) -> u64
+    ensures { result ≡ slack seated.now.table.design seated.now.rows seated.now.table.weights seated.now.table.standings a b }
 {
+    let costs = seated.costs();
     let design = costs.design();
     let width = u64::from(columns_of(design, a));
     let other_width = u64::from(columns_of(design, b));
-    let pins = shifted_pins(costs, rows, a, b);
-    let other_pins = shifted_pins(costs, rows, b, a);
+    let pins = shifted_pins(seated, a, b);
+    let other_pins = shifted_pins(seated, b, a);
     let length_cost = costs.weights().length_cost;
     difference(width, other_width) * (pins + other_pins + 2 * length_cost)
 }
@@ -93,7 +95,11 @@ pub fn is_too_dear(
     // What every design keeps is known by this call.
     let _design = costs.design();
     let before = total_of(costs, lengths);
-    let slack = slack_of(costs, rows, a, b);
+    let seated = Seated {
+        rows,
+        costs: &*costs,
+    };
+    let slack = slack_of(&seated, a, b);
     let trial = trial_cost(costs, lengths, a, b);
     trial.saturating_sub(most).saturating_sub(slack) > before
 }
