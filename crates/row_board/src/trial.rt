@@ -13,6 +13,7 @@ use crate::net_costs::NetCosts;
 use crate::row_lengths::{RowLengths, difference};
 use crate::seated::Seated;
 use crate::seats::row_at;
+use crate::stretch::Stretch;
 use geom_core::Items;
 use row_model::{Seat, columns_of};
 
@@ -24,8 +25,8 @@ pub fn total_of(costs: &NetCosts, lengths: &RowLengths) -> u64
     costs.sum() + length_cost * lengths.unevenness()
 }
 
-// What rows cost where two instances take each other's place and no other is shifted. All is as before after that.
-fn trial_cost(costs: &mut NetCosts, lengths: &RowLengths, a: u32, b: u32) -> u64
+/// What rows cost where two instances take each other's place and no other is shifted. All is as before after that.
+pub fn trial_cost(costs: &mut NetCosts, lengths: &RowLengths, a: u32, b: u32) -> u64
     ensures is { result ≡ sum (table_costs costs.old.design costs.old.weights (traded a b costs.old.standings)) + costs.old.weights.length_cost * sum (misses_of lengths.now) }
     ensures same { costs.new ≡ costs.old }
 {
@@ -58,11 +59,13 @@ fn shifted_pins(seated: &Seated, a: u32, b: u32) -> u64
     let one = costs.standing(a);
     let other = costs.standing(b);
     let reach = reach_of(rows, one, other, false);
-    costs.pins_in(between(row_at(rows, reach.row), reach.from, reach.to))
+    let seats = between(row_at(rows, reach.row), reach.from, reach.to);
+    let stretch = Stretch { costs, seats };
+    stretch.pin_count()
 }
 
-// By how much rows may cost less after a swap of two instances than where these only take each other's place.
-fn slack_of(seated: &Seated, a: u32, b: u32) -> u64
+/// By how much rows may cost less after a swap of two instances than where these only take each other's place.
+pub fn slack_of(seated: &Seated, a: u32, b: u32) -> u64
     ensures { result ≡ slack seated.now.table.design seated.now.rows seated.now.table.weights seated.now.table.standings a b }
 {
     let costs = seated.costs();
@@ -73,33 +76,4 @@ fn slack_of(seated: &Seated, a: u32, b: u32) -> u64
     let other_pins = shifted_pins(seated, b, a);
     let length_cost = costs.weights().length_cost;
     difference(width, other_width) * (pins + other_pins + 2 * length_cost)
-}
-
-/// Whether rows surely cost more than so much more than before where two instances exchange their places, each with its mirror. All is as
-/// before after that. Takes no memory.
-pub fn is_too_dear(
-    costs: &mut NetCosts,
-    rows: &[Items<Seat>],
-    lengths: &RowLengths,
-    a: u32,
-    b: u32,
-    most: u64,
-) -> bool
-    requires board { IsBoard costs.old.design rows.now costs.old.standings lengths.now }
-    requires apart { a ≢ b }
-    requires a { a < length costs.old.design.instances }
-    requires b { b < length costs.old.design.instances }
-    ensures dear { OnTrue result (cost_of costs.old.design rows.now costs.old.weights + most < cost_of costs.old.design (swapped a b rows.now) costs.old.weights) }
-    ensures same { costs.new ≡ costs.old }
-{
-    // What every design keeps is known by this call.
-    let _design = costs.design();
-    let before = total_of(costs, lengths);
-    let seated = Seated {
-        rows,
-        costs: &*costs,
-    };
-    let slack = slack_of(&seated, a, b);
-    let trial = trial_cost(costs, lengths, a, b);
-    trial.saturating_sub(most).saturating_sub(slack) > before
 }

@@ -8,11 +8,11 @@ use Rattle.row_model.specs.declared.rows.Seat.{Seat}
 use Rattle.row_board.proofs.TrialLaws.{reach-few, reach-within}
 use Rattle.row_board.proofs.trial.shifted_pins.Goals as goal
 
-pub pins_in-requires : goal.pins_in-requires
-pins_in-requires c =
+pub invariant_of-stretch : goal.invariant_of-stretch
+invariant_of-stretch c =
     let d = c.costs-costs.result.now.design in
     let placed = subst (λ (t : Tabled). ArePlaced t.design c.args.seated.now.rows) (sym c.costs-costs.ensures.is) c.costs-costs.ensures.seated.placed in
-    let seats : c.between.result.now ≡ seats_to c.args.seated.now.rows c.standing-one.result c.reach_of-reach.result.to = c.between.ensures
+    let seats : c.between-seats.result.now ≡ seats_to c.args.seated.now.rows c.standing-one.result c.reach_of-reach.result.to = c.between-seats.ensures
     ∙ ap (seats_between c.reach_of-reach.result.from c.reach_of-reach.result.to) (c.row_at.ensures ∙ ap (λ (rows : List (List Seat)). row_there (slice_get rows c.reach_of-reach.result.row)) c.rows-rows.ensures)
     ∙ ap₂ (λ (from row : ℕ). seats_between from c.reach_of-reach.result.to (row_there (slice_get c.args.seated.now.rows row))) c.reach_of-reach.ensures.from c.reach_of-reach.ensures.row in
     record {

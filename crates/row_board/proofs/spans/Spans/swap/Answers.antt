@@ -1,18 +1,71 @@
-use Rattle.std.proofs.Common.{List, length, ap, sym, ◌∙◌, subst}
-use Rattle.row_model.specs.Rows.{AreRows}
+use Rattle.std.proofs.Common.{◌≡◌, ◌<◌, ℕ, List, length, ap, sym, ◌∙◌, subst, arith}
+use Rattle.design_model.specs.Netlist.{IsNetlist, Netlist}
+use Rattle.row_board.specs.Board.{IsBoard}
+use Rattle.row_board.specs.Moving.{AreExchanged}
+use Rattle.row_board.specs.NetCosts.{Tabled}
+use Rattle.row_board.specs.RowLengths.{Lengths}
+use Rattle.row_board.specs.SpansView.{AreSpans}
+use Rattle.row_board.specs.Spot.{Spot}
 use Rattle.row_board.specs.WeighedRows.{WeighedRows}
+use Rattle.row_board.specs.Weights.{AreFew}
+use Rattle.row_model.specs.Changes.{swapped}
+use Rattle.row_model.specs.Rows.{AreRows}
+use Rattle.row_model.specs.Widths.{columns_of}
 use Rattle.row_model.specs.declared.rows.Seat.{Seat}
 use Rattle.row_model.proofs.ChangeLaws.{overwritten-same}
 use Rattle.row_model.proofs.PlacedLaws.{placed-distinct}
 use Rattle.row_model.proofs.TwiceLaws.{swap-same}
+use Rattle.row_board.proofs.BoardLaws.{lengths-changed, lengths-few, lengths-swapped}
 use Rattle.row_board.proofs.spans.Spans.swap.Goals as goal
 
-pub invariant_of-self-inside : goal.invariant_of-self-inside
-invariant_of-self-inside c =
-    subst AreRows (sym (overwritten-same c.swap_on_board.new.rows _ (c.swap_on_board.auto.rows ∙ ap length c.items_mut.ensures.value)))
-    (placed-distinct _ _ c.swap_on_board.ensures.board.seated.placed)
+pub change-requires-clause-small : goal.change-requires-clause-small
+change-requires-clause-small c = λ width at.
+    let i = c.self.inside in
+    let few = lengths-few i.costs.design i.rows i.lengths.widths c.self.invariant.good c.self.invariant.board.seated.placed
+    (ap (λ (l : Lengths). l.widths) c.self.invariant.board.are_lengths) c.one.inside.row width at in
+    omega (arith, few)
 
-pub returns-else-a-b : goal.returns-else-a-b
-returns-else-a-b c =
+pub change-requires-2-clause-small : goal.change-requires-2-clause-small
+change-requires-2-clause-small c =
+    let i = c.self.inside in
+    lengths-changed i.costs.design i.rows i.lengths.widths c.change.new.self.widths c.one.inside.row c.columns_of-other_width.result c.columns_of-width.result
+    c.self.invariant.good c.self.invariant.board.seated.placed (ap (λ (l : Lengths). l.widths) c.self.invariant.board.are_lengths) c.columns_of-other_width.ensures.few c.change.ensures.widths
+    c.other.inside.row
+
+pub invariant_of-rows : goal.invariant_of-rows
+invariant_of-rows c =
+    subst AreRows (sym (overwritten-same c.exchange_cells.new.rows _ (c.exchange_cells.auto.rows ∙ ap length c.items_mut.ensures.value)))
+    (placed-distinct _ _ c.exchange_cells.ensures.seated.placed)
+
+pub invariant_of-self : goal.invariant_of-self
+invariant_of-self c =
+    let i = c.self.inside in
+    let d = i.costs.design in
+    let new = c.exchange_cells.new.costs in
+    let rows = c.exchange_cells.new.rows in
+    let exchanged = c.exchange_cells.ensures in
+    let design : new.design ≡ d = ap (λ (t : Tabled). t.design) exchanged.rest in
+    let old = c.items_mut.ensures.value ∙ c.rows.view_is in
+    let width : (n i : ℕ) → n ≡ columns_of c.design-design.result.now i → n ≡ columns_of d i = λ n i is. is ∙ ap (λ (d : Netlist). columns_of d i) c.design-design.ensures.is in
+    let within = λ (n : ℕ) (is : n < length c.args.self.now.design.instances). subst (λ (v : WeighedRows). n < length v.design.instances) (sym c.self.view_is) is in
+    subst (λ (l : List (List Seat)). AreSpans (record { rows = l; costs = new; lengths = c.change-2.new.self }))
+    (sym (overwritten-same rows _ (c.exchange_cells.auto.rows ∙ ap length c.items_mut.ensures.value)))
+    (record {
+      good = subst IsNetlist (sym design) c.self.invariant.good;
+      few = subst AreFew (sym (ap (λ (t : Tabled). t.weights) exchanged.rest)) c.self.invariant.few;
+      board = subst (λ (d : Netlist). IsBoard d rows new.standings c.change-2.new.self) (sym design) (record {
+        seated = exchanged.seated;
+        are_lengths = lengths-swapped d i.rows rows i.costs.standings c.args.a c.args.b c.one.inside.row c.other.inside.row
+            c.columns_of-width.result c.columns_of-other_width.result i.lengths c.change.new.self c.change-2.new.self c.self.invariant.good c.self.invariant.board.seated c.if-a-b.false
+            (within c.args.a c.requires.a) (within c.args.b c.requires.b) (exchanged.swapped ∙ ap (swapped c.args.a c.args.b) old)
+            (subst (λ (l : List (List Seat)). AreExchanged i.costs.standings c.args.a c.args.b l rows) old exchanged.exchanged)
+            (ap (λ (s : Spot). s.row) (c.one.view_is ∙ c.standing.ensures)) (ap (λ (s : Spot). s.row) (c.other.view_is ∙ c.standing-2.ensures))
+            (width _ _ c.columns_of-width.ensures.width) (width _ _ c.columns_of-other_width.ensures.width)
+            c.self.invariant.board.are_lengths c.change.ensures.widths c.change.ensures.target c.change-2.ensures.widths c.change-2.ensures.target;
+      });
+    })
+
+pub returns-then-a-b : goal.returns-then-a-b
+returns-then-a-b c =
     ap (λ (l : List (List Seat)). record { design = c.args.self.now.design; rows = l; weights = c.args.self.now.weights }) (sym (swap-same c.args.self.now.rows c.args.a c.args.b
-    (subst (λ (v : WeighedRows). AreRows v.rows) c.self.view_is (placed-distinct c.self.inside.costs.design c.self.inside.rows c.self.invariant.board.seated.placed)) c.if-a-b.false))
+    (subst (λ (v : WeighedRows). AreRows v.rows) c.self.view_is (placed-distinct c.self.inside.costs.design c.self.inside.rows c.self.invariant.board.seated.placed)) c.if-a-b.true))
