@@ -117,8 +117,8 @@ fn in_order(one: Reach, other: Reach) -> (Reach, Reach)
     }
 }
 
-// Two instances exchange their places, and a table still tells where those before stood: which seats moved, those that begin at the lower place first.
-fn exchange_seats(rows: &mut [Items<Seat>], costs: &NetCosts, a: u32, b: u32) -> (Reach, Reach)
+/// Two instances exchange their places, and a table still tells where those before stood: which seats moved, those that begin at the lower place first.
+pub fn exchange_seats(rows: &mut [Items<Seat>], costs: &NetCosts, a: u32, b: u32) -> (Reach, Reach)
     requires seated { AreSeated costs.now.design rows.old costs.now.standings }
     requires apart { a ≢ b }
     requires a { a < length costs.now.design.instances }
@@ -137,22 +137,6 @@ fn exchange_seats(rows: &mut [Items<Seat>], costs: &NetCosts, a: u32, b: u32) ->
     put(rows, one, other.seat(b));
     put(rows, other, one.seat(a));
     in_order(reach, other_reach)
-}
-
-/// Two instances exchange their places in rows and in a table of where instances stand.
-pub fn exchange_cells(rows: &mut [Items<Seat>], costs: &mut NetCosts, a: u32, b: u32)
-    requires seated { AreSeated costs.old.design rows.old costs.old.standings }
-    requires apart { a ≢ b }
-    requires a { a < length costs.old.design.instances }
-    requires b { b < length costs.old.design.instances }
-    ensures swapped { rows.new ≡ swapped a b rows.old }
-    ensures exchanged { AreExchanged costs.old.standings a b rows.old rows.new }
-    ensures rest { costs.new ≡ record costs.old { standings = costs.new.standings } }
-    ensures seated { AreSeated costs.old.design rows.new costs.new.standings }
-{
-    let (first, second) = exchange_seats(rows, costs, a, b);
-    enter_reach(costs, rows, first);
-    enter_reach(costs, rows, second);
 }
 
 /// An instance is turned over, and a table still tells how it stood before: which seat changed.

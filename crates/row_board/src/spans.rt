@@ -1,5 +1,5 @@
 use crate::building::standings_of;
-use crate::moving::{enter_reach, exchange_cells, turn_seat};
+use crate::moving::{enter_reach, exchange_seats, turn_seat};
 use crate::net_costs::NetCosts;
 use crate::row_lengths::RowLengths;
 use crate::seated::Seated;
@@ -91,7 +91,10 @@ impl<'d> Spans<'d> {
         let width = columns_of(design, a);
         let other_width = columns_of(design, b);
         let rows = &mut self.rows;
-        exchange_cells(rows.rows.items_mut(), &mut self.costs, a, b);
+        let seats = rows.rows.items_mut();
+        let (first, second) = exchange_seats(seats, &self.costs, a, b);
+        enter_reach(&mut self.costs, seats, first);
+        enter_reach(&mut self.costs, seats, second);
         self.lengths.change(one, other_width, width);
         self.lengths.change(other, width, other_width);
     }
