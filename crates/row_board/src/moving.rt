@@ -1,5 +1,5 @@
 ghost use Rattle.row_board.specs.Board.{AreSeated};
-ghost use Rattle.row_board.specs.Moving.{ArePut, AreExchanged, AreUnmoved, IsAt, IsReach, in_order, reach_end, row_length};
+ghost use Rattle.row_board.specs.Moving.{ArePut, AreExchanged, AreUnmoved, IsAt, IsReach, in_order, left_of, reach_end, row_length};
 ghost use Rattle.row_board.specs.NetCosts.{Tabled};
 ghost use Rattle.row_board.specs.Standings.{AreApart, HasEntered, IsEntered, KeepsOthers, standing_at};
 ghost use Rattle.row_model.specs.Changes.{mirrored, swapped};
@@ -45,18 +45,17 @@ pub fn reach_of(rows: &[Items<Seat>], one: Standing, other: Standing, even: bool
 }
 
 // The first column of the seat at a place, by where the seat before it stands.
-fn left_of(costs: &NetCosts, row: u16, seats: &[Seat], place: usize) -> u64
-    requires within { place ≤ length seats.now }
-    requires before { (k : ℕ) (s : Placed) → k + 1 ≡ place → slice_get seats.now k ≡ Some s → slice_get costs.now.standings s.instance ≡ Some (standing_at costs.now.design row k seats.now s) }
-    ensures is { result ≡ row_width costs.now.design (take place seats.now) }
-    ensures near { result ≤ MOST_KIND_COLUMNS * place }
+fn left_of(costs: &NetCosts, seats: &[Seat], place: usize) -> u64
+    ensures { result ≡ left_of costs.now.design costs.now.standings seats.now place }
 {
     if place == 0 {
         return 0;
     }
-    let before = seats[place - 1].instance;
-    let standing = costs.standing(before);
-    standing.left + u64::from(columns_of(costs.design(), before))
+    let Some(before) = seats.get(place - 1) else {
+        return 0;
+    };
+    let standing = costs.standing(before.instance);
+    standing.left + u64::from(columns_of(costs.design(), before.instance))
 }
 
 // Enters where the instances of the seats of a row stand that a change moved, the first of which begins in column `left`.
@@ -102,7 +101,7 @@ pub fn enter_reach(costs: &mut NetCosts, rows: &[Items<Seat>], reach: Reach)
     // What every design keeps is known by this call.
     let _design = costs.design();
     let seats = row_at(rows, reach.row);
-    let left = left_of(costs, reach.row, seats, reach.from);
+    let left = left_of(costs, seats, reach.from);
     enter_seats(costs, seats, reach, left);
 }
 
