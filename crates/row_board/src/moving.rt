@@ -58,35 +58,6 @@ fn left_of(costs: &NetCosts, seats: &[Seat], place: usize) -> u64
     standing.left + u64::from(columns_of(costs.design(), before.instance))
 }
 
-// Enters where the instances of the seats of a row stand that a change moved, the first of which begins in column `left`.
-fn enter_seats(costs: &mut NetCosts, seats: &[Seat], reach: Reach, left: u64)
-    requires apart { AreApart (length costs.old.standings) seats.now }
-    requires short { length seats.now ≤ MOST_INSTANCES }
-    requires low { reach.row < MOST_PLACED_ROWS }
-    requires ordered { reach.from ≤ reach.to }
-    requires within { reach.to ≤ length seats.now }
-    requires left { left ≡ row_width costs.old.design (take reach.from seats.now) }
-    requires near { left ≤ MOST_KIND_COLUMNS * reach.from }
-    ensures rest { costs.new ≡ record costs.old { standings = costs.new.standings } }
-    ensures count { length costs.new.standings ≡ length costs.old.standings }
-    ensures entered { HasEntered costs.old.design reach.row reach.from reach.to seats.now costs.new.standings }
-    ensures others { KeepsOthers reach.from reach.to seats.now costs.old.standings costs.new.standings }
-{
-    let design = costs.design();
-    let mut left = left;
-    for place in reach.from..reach.to {
-        let seat = seats[place];
-        let standing = Standing {
-            row: reach.row,
-            mirror: seat.mirror,
-            place: place as u32,
-            left,
-        };
-        costs.put(seat.instance, standing);
-        left += u64::from(columns_of(design, seat.instance));
-    }
-}
-
 /// Enters where the instances of the seats stand that a change moved. The seat before them is entered.
 pub fn enter_reach(costs: &mut NetCosts, rows: &[Items<Seat>], reach: Reach)
     requires placed { ArePlaced costs.old.design rows.now }
@@ -98,11 +69,20 @@ pub fn enter_reach(costs: &mut NetCosts, rows: &[Items<Seat>], reach: Reach)
     ensures entered { (k : ℕ) → reach.from ≤ k → k < reach.to → IsEntered costs.old.design rows.now costs.new.standings reach.row k }
     ensures kept { (row k : ℕ) → IsEntered costs.old.design rows.now costs.old.standings row k → IsEntered costs.old.design rows.now costs.new.standings row k }
 {
-    // What every design keeps is known by this call.
-    let _design = costs.design();
+    let design = costs.design();
     let seats = row_at(rows, reach.row);
-    let left = left_of(costs, seats, reach.from);
-    enter_seats(costs, seats, reach, left);
+    let mut left = left_of(costs, seats, reach.from);
+    for place in reach.from..reach.to {
+        let seat = seats[place];
+        let standing = Standing {
+            row: reach.row,
+            mirror: seat.mirror,
+            place: place as u32,
+            left,
+        };
+        costs.put(seat.instance, standing);
+        left += u64::from(columns_of(design, seat.instance));
+    }
 }
 
 // Two reaches, the one that begins at the lower place first.
