@@ -1,13 +1,13 @@
-use Rattle.std.proofs.Common.{◌≡◌, ◌≤◌, ◌-◌, ◌^◌, ℕ, List, [], ◌∷◌, length, Bool, true, false, cond, None, Result, Ok, Err, ap, sym, subst, arith}
-use Rattle.std.specs.List.{AllByRecursion, IsDistinct, filter}
-use Rattle.std.specs.Str.{bytes_eq}
+use Rattle.std.proofs.Common.{◌≡◌, ◌≤◌, ℕ, List, [], ◌∷◌, length, None, Result, Ok, Err, ap, sym, subst, arith}
+use Rattle.std.specs.List.{AllByRecursion, filter}
 use Rattle.list_facts.proofs.Every.{every-filtered}
-use Rattle.yal_reader.specs.Kept.{IsKeptCall, IsKeptModule, call_names, module_names}
+use Rattle.yal_reader.specs.Kept.{IsKeptModule}
 use Rattle.yal_reader.specs.declared.file.Call.{Call}
 use Rattle.yal_reader.specs.declared.file.Module.{Module}
 use Rattle.netlist_core.specs.Calls.{calls_fault, is_parent_module, only_parent}
 use Rattle.netlist_core.specs.Checked.{IsChecked}
 use Rattle.netlist_core.specs.OnGrid.{used_modules}
+use Rattle.netlist_core.specs.Read.{AreCalls, AreModules}
 use Rattle.netlist_core.specs.Signals.{PinWord, all_signals}
 use Rattle.netlist_core.specs.declared.fault.DesignFault.{DesignFault}
 use Rattle.netlist_core.specs.declared.fault.DesignFault.TheVariants as faults
@@ -16,34 +16,28 @@ use Rattle.netlist_core.proofs.StandardModules.{used-standard}
 use Rattle.netlist_core.proofs.UsesOfKinds.{kinds-called}
 use Rattle.netlist_core.proofs.UsedNames.{few-used, used-different, used-every}
 
-checked : (modules : List Module) (calls : List Call) → calls_fault modules calls ≡ None → length calls ≤ 20000 → length (all_signals modules calls) ≤ 200000
-    → AllByRecursion IsKeptModule modules → length modules ≤ 2 ^ 32 - 1 → IsDistinct bytes_eq (module_names modules)
-    → AllByRecursion IsKeptCall calls → IsDistinct bytes_eq (call_names calls)
-    → IsChecked (used_modules modules calls) (all_signals modules calls) calls
-checked modules calls good few_calls few_signals kept few different kept_calls different_calls = record {
-  few_calls = few_calls;
+-- what the checks of calls give
+checked : (modules : List Module) (calls : List Call) → AreModules modules → AreCalls calls → calls_fault modules calls ≡ None
+    → length (all_signals modules calls) ≤ 200000 → IsChecked (used_modules modules calls) (all_signals modules calls) calls
+checked modules calls of_modules of_calls good few_signals = record {
+  read = of_calls;
   few_signals = few_signals;
-  few_modules = omega (arith, few-used modules calls, few);
-  kept = used-every IsKeptModule modules calls kept;
-  standard = used-standard modules calls different good;
-  different_modules = used-different modules calls different;
-  different_calls = different_calls;
-  kept_calls = kept_calls;
+  few_modules = omega (arith, few-used modules calls, of_modules.few);
+  kept = used-every IsKeptModule modules calls of_modules.kept;
+  standard = used-standard modules calls of_modules.different good;
+  different_modules = used-different modules calls of_modules.different;
   called = called-all modules calls good;
-  uses = kinds-called modules calls different;
+  uses = kinds-called modules calls of_modules.different;
   pins = places-all modules calls good;
 }
 
--- what the checks of calls give
 pub checked-calls : (modules : List Module) (calls : List Call) (used : List (ℕ × Module)) (signals : List PinWord)
-    → used ≡ used_modules modules calls → signals ≡ all_signals modules calls
-    → calls_fault modules calls ≡ None → length calls ≤ 20000 → length signals ≤ 200000
-    → AllByRecursion IsKeptModule modules → length modules ≤ 2 ^ 32 - 1 → IsDistinct bytes_eq (module_names modules)
-    → AllByRecursion IsKeptCall calls → IsDistinct bytes_eq (call_names calls) → IsChecked used signals calls
-checked-calls modules calls used signals is_used is_signals good few_calls few_signals kept few different kept_calls different_calls =
+    → used ≡ used_modules modules calls → signals ≡ all_signals modules calls → AreModules modules → AreCalls calls
+    → calls_fault modules calls ≡ None → length signals ≤ 200000 → IsChecked used signals calls
+checked-calls modules calls used signals is_used is_signals of_modules of_calls good few_signals =
     subst (λ u. IsChecked u signals calls) (sym is_used)
     (subst (λ s. IsChecked (used_modules modules calls) s calls) (sym is_signals)
-    (checked modules calls good few_calls (subst (λ s. length s ≤ 200000) is_signals few_signals) kept few different kept_calls different_calls))
+    (checked modules calls of_modules of_calls good (subst (λ s. length s ≤ 200000) is_signals few_signals)))
 
 -- the one PARENT is the only one of its list
 pub one-parent : (parents : List Module) (m : Module) → only_parent parents ≡ Ok m → parents ≡ m ∷ []

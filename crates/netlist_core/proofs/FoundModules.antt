@@ -1,4 +1,4 @@
-use Rattle.std.proofs.Common.{◌≡◌, ℕ, zero, suc, ◌+◌, ◌-◌, ◌^◌, ◌<◌, ◌≤◌, List, [], ◌∷◌, length, true, false, not, cond, Some, refl, ap, ◌∙◌, subst, arith}
+use Rattle.std.proofs.Common.{◌≡◌, ℕ, zero, suc, ◌+◌, ◌-◌, ◌^◌, ◌<◌, ◌≤◌, List, [], ◌∷◌, length, true, false, not, cond, Some, refl, ap, sym, ◌∙◌, subst, arith}
 use Rattle.std.proofs.lemmas.Option.{slice_get-map}
 use Rattle.std.proofs.lemmas.List.{length-map}
 use Rattle.std.specs.List.{AllByRecursion, slice_get}
@@ -14,6 +14,7 @@ use Rattle.list_facts.proofs.Different.{length-mentions}
 use Rattle.netlist_core.specs.Calls.{module_named}
 use Rattle.netlist_core.specs.Cells.{line_names, terminal_in, terminals_of, terminal_names, power_names}
 use Rattle.netlist_core.specs.LibraryView.{IsLibrary}
+use Rattle.netlist_core.specs.Read.{AreModules}
 use Rattle.design_model.specs.declared.design.Terminal.{Terminal}
 use Rattle.netlist_core.specs.declared.library.Library.TheInside.{Inside}
 
@@ -27,17 +28,19 @@ found-at (m ∷ ms) name =
     ]
 
 -- what stands at a name's place in a library is the module of this name
-pub library-found : (a : Inside) → IsLibrary a → (place : ℕ) (name : List ℕ) → place ≡ place_among (texts a.names.keys) name
-    → slice_get a.modules.now place ≡ module_named a.modules.now name
-library-found a is place name at =
-    ap (slice_get a.modules.now) (at ∙ ap (λ (names : List (List ℕ)). place_among names name) is.names) ∙ found-at a.modules.now name
+pub library-found : (a : Inside) → IsLibrary a → (modules : List Module) → modules ≡ a.modules → (place : ℕ) (name : List ℕ)
+    → place ≡ place_among (texts a.names.keys) name → slice_get modules place ≡ module_named a.modules name
+library-found a is modules same place name at =
+    ap (λ (ms : List Module). slice_get ms place) same
+    ∙ ap (slice_get a.modules) (at ∙ ap (λ (names : List (List ℕ)). place_among names name) is.names) ∙ found-at a.modules name
 
 -- and there stand its terminals
-pub library-terminals : (a : Inside) → IsLibrary a → (place : ℕ) (m : Module) → slice_get a.modules.now place ≡ Some m
-    → slice_get a.terminals.items place ≡ Some (terminals_of m.lines)
-library-terminals a is place m at =
+pub library-terminals : (a : Inside) → IsLibrary a → (modules : List Module) → modules ≡ a.modules → (place : ℕ) (m : Module)
+    → slice_get modules place ≡ Some m → slice_get a.terminals.items place ≡ Some (terminals_of m.lines)
+library-terminals a is modules same place m at =
     ap (λ (all : List (List Terminal)). slice_get all place) is.terminals
-    ∙ slice_get-map (λ (m : Module). terminals_of m.lines) a.modules.now place
+    ∙ slice_get-map (λ (m : Module). terminals_of m.lines) a.modules place
+    ∙ ap (λ (ms : List Module). option_map (λ (m : Module). terminals_of m.lines) (slice_get ms place)) (sym same)
     ∙ ap (option_map (λ (m : Module). terminals_of m.lines)) at
 
 -- a module has at most as many terminals as lines
@@ -56,5 +59,5 @@ short-at most (x ∷ ms) zero m short at = subst (λ (n : Module). length n.line
 short-at most (x ∷ ms) (suc place) m short at = short-at most ms place m short.1 at
 
 -- and fewer than 2 ^ 32
-pub library-few : (a : Inside) → IsLibrary a → (place : ℕ) (m : Module) → slice_get a.modules.now place ≡ Some m → length (terminals_of m.lines) < 2 ^ 32
-library-few a is place m at = omega (arith, few-terminals m.lines, short-at (2 ^ 32 - 1) a.modules.now place m is.short at)
+pub few-found : (modules : List Module) → AreModules modules → (place : ℕ) (m : Module) → slice_get modules place ≡ Some m → length (terminals_of m.lines) < 2 ^ 32
+few-found modules are place m at = omega (arith, few-terminals m.lines, short-at (2 ^ 32 - 1) modules place m are.short at)

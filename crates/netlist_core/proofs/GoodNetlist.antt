@@ -90,7 +90,7 @@ good-netlist rules valid used signals calls kinds checked is =
     record {
       few_kinds = subst (λ n. n < 2 ^ 32) (sym count) checked.few_modules;
       called = subst (λ k. (n : ℕ) → n < k → list_any (λ (i : Inst). i.kind == n) (map (inst_in (used_names used)) calls) ≡ true) (sym count) checked.uses;
-      few_instances = subst (λ n. n ≤ 20000) (sym (length-map calls (inst_in (used_names used)))) checked.few_calls;
+      few_instances = subst (λ n. n ≤ 20000) (sym (length-map calls (inst_in (used_names used)))) checked.read.few;
       few_pins = subst (λ n. n ≤ 200000) (sym (length-map signals (pin_in (nets_of signals)))) checked.few_signals;
       low = low-height used kinds suit checked.kept;
       kinds = All-from_recursion IsKind kinds (good-kinds (height_of used) used kinds suit checked.kept checked.standard);
@@ -100,8 +100,8 @@ good-netlist rules valid used signals calls kinds checked is =
           (λ c among. subst (λ n. place_among (used_names used) c.«module» < n) (length-map used (λ (m : ℕ × Module). m.1.name) ∙ sym count) (place-below (used_names used) c.«module» among))
           calls checked.called));
       instance_names = All-from_recursion (λ (i : Inst). IsName i.name) (map (inst_in (used_names used)) calls)
-          (every-map (λ (i : Inst). IsName i.name) (inst_in (used_names used)) calls (every-weaker IsKeptCall (λ (c : Call). IsName c.name) (λ c kept. kept.name) calls checked.kept_calls));
-      different_instances = subst (λ names. IsDistinct bytes_eq names) (sym (names-of (used_names used) calls)) checked.different_calls;
+          (every-map (λ (i : Inst). IsName i.name) (inst_in (used_names used)) calls (every-weaker IsKeptCall (λ (c : Call). IsName c.name) (λ c kept. kept.name) calls checked.read.kept));
+      different_instances = subst (λ names. IsDistinct bytes_eq names) (sym (names-of (used_names used) calls)) checked.read.different;
       different_nets = different-nets signals;
       pins = places-of-pins (nets_of signals) signals ∙ checked.pins
           ∙ sym (pins-used used kinds (zip-terminals used kinds (zip-weaker (Suits (height_of used)) _ (λ m k suit. suit.terminals) used kinds suit)) 0 calls);

@@ -7,10 +7,9 @@ use Rattle.tech_rules.specs.Rules.{RuleValues, ValidRules}
 use Rattle.yal_reader.specs.Kept.{IsKeptModule, is_standard}
 use Rattle.yal_reader.specs.declared.file.Module.{Module}
 use Rattle.list_facts.proofs.Every.{every-weaker}
-use Rattle.netlist_core.specs.Cells.{grid_at, height_of_module, kind_at, kind_of, power_names, spots_of, terminal_in, terminal_names, terminals_of}
+use Rattle.netlist_core.specs.Cells.{grid_at, kind_at, kind_of, power_names, spots_of, terminal_in, terminal_names, terminals_of}
 use Rattle.design_model.specs.Netlist.{IsKind, IsPosition}
 use Rattle.design_model.specs.Room.{least_height}
-use Rattle.netlist_core.specs.Outline.{height_of_outline}
 use Rattle.design_model.specs.declared.design.CellKind.{CellKind}
 use Rattle.design_model.specs.declared.design.Position.{Position}
 use Rattle.design_model.specs.declared.design.Terminal.{Terminal}

@@ -12,8 +12,12 @@ pub mod Signals
 pub mod OnGrid
 -- the signal words of pins
 pub mod SignalWords
+-- what the modules of a file and the calls of its PARENT have
+pub mod Read
 -- modules found by their names
 pub mod LibraryView
+-- the terminals of lines
+pub mod TerminalsView
 -- used modules with their numbers
 pub mod NumberedView
 -- what the checks before the used modules give

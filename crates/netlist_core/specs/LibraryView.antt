@@ -1,6 +1,5 @@
-use Rattle.std.specs.Prelude.{◌≡◌, ◌-◌, ◌^◌, List, map}
-use Rattle.std.specs.List.{AllByRecursion}
-use Rattle.yal_reader.specs.Kept.{IsShort, module_names}
+use Rattle.std.specs.Prelude.{◌≡◌, List, map}
+use Rattle.yal_reader.specs.Kept.{module_names}
 use Rattle.yal_reader.specs.declared.file.Module.{Module}
 use Rattle.list_facts.specs.Texts.{texts}
 use Rattle.netlist_core.specs.Cells.{terminals_of}
@@ -11,11 +10,7 @@ use Rattle.netlist_core.specs.declared.library.Library.TheInside.{Inside}
 abbrev pub all_terminals : List Module → List (List Terminal)
 all_terminals modules = map (λ (m : Module). terminals_of m.lines) modules
 
-abbrev pub modules_of : Inside → List Module
-modules_of a = a.modules.now
-
--- a library has the names and the terminals of its modules, which have fewer than 2 ^ 32 lines
+-- a library has the names and the terminals of its modules
 pub record IsLibrary (a : Inside) : Type 0 where
-  pub names : texts a.names.keys ≡ module_names a.modules.now
-  pub terminals : a.terminals.items ≡ all_terminals a.modules.now
-  pub short : AllByRecursion (IsShort (2 ^ 32 - 1)) a.modules.now
+  pub names : texts a.names.keys ≡ module_names a.modules
+  pub terminals : a.terminals.items ≡ all_terminals a.modules

@@ -1,7 +1,7 @@
 use Rattle.std.specs.Prelude.{ℕ, ◌<◌, ◌^◌, length}
 use Rattle.yal_reader.specs.Kept.{IsKeptModule}
 use Rattle.yal_reader.specs.declared.file.Module.{Module}
-use Rattle.netlist_core.specs.declared.used.Numbered.TheInside.{Inside}
+use Rattle.netlist_core.specs.declared.numbered.Numbered.TheInside.{Inside}
 
 abbrev pub numbered : Inside → ℕ × Module
 numbered a = (a.number, a.«module».now)

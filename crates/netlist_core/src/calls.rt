@@ -1,43 +1,49 @@
 ghost use Rattle.list_facts.specs.Names.{mentions};
 ghost use Rattle.list_facts.specs.Texts.{texts};
-ghost use Rattle.netlist_core.specs.Answers.{Agrees};
-ghost use Rattle.netlist_core.specs.Calls.{call_fault, calls_fault, is_parent_module, only_parent};
+ghost use Rattle.netlist_core.specs.Calls.{call_fault, calls_fault};
 ghost use Rattle.netlist_core.specs.OnGrid.{called_names, inst_in};
-ghost use Rattle.std.specs.Prelude.{◌≡◌, ◌<◌, ◌≤◌, ◌^◌, filter, length, map, IfOk};
+ghost use Rattle.std.specs.Prelude.{◌≡◌, map, IfOk};
 ghost use Rattle.yal_reader.specs.Kept.{is_standard};
 
 use crate::DesignFault;
 use crate::library::Library;
+use crate::names::Names;
 use design_model::Inst;
 use indexmap::IndexSet;
-use limits::MOST_INSTANCES;
-use list_facts::{number, place_of};
+use list_facts::number;
 use std::alloc::{AllocError, Global};
-use yal_reader::{Call, Kind, Module, YalFile};
+use std::marker::Model;
+use yal_reader::{Call, Kind, Module};
 
-/// The one PARENT of the file. Takes no memory.
-pub fn the_parent(file: &YalFile) -> Result<&Module, DesignFault>
-    ensures { Agrees (λ m. m.now) result (only_parent (filter is_parent_module file.now.modules)) }
-{
-    let mut parent: Option<&Module> = None;
-    for module in file.modules.items() {
-        if is_parent(module) {
-            if parent.is_some() {
-                return Err(DesignFault::ManyParents);
-            }
-            parent = Some(module);
-        }
-    }
-    match parent {
-        Some(parent) => Ok(parent),
-        None => Err(DesignFault::NoParent),
-    }
+/// The calls of a PARENT that was read, no more than a design may have instances. Contracts see the list of them.
+#[derive(Drop)]
+pub struct Calls<'a> {
+    pub calls: &'a [Call],
 }
 
-fn is_parent(module: &Module) -> bool
-    ensures { result ≡ is_parent_module module.now }
-{
-    matches!(module.kind, Kind::Parent)
+impl<'a> Model for Calls<'a> {
+    ghost use Rattle.netlist_core.specs.Read.{AreCalls};
+    ghost use Rattle.std.specs.Prelude.{List};
+    ghost use Rattle.yal_reader.specs.declared.file.Call.{Call};
+
+    ghost Value = { List Call };
+
+    ghost view = { λ a. a.calls.now };
+
+    ghost invariant = { λ a. AreCalls a.calls.now };
+}
+
+impl<'a> Calls<'a> {
+    ghost use Rattle.netlist_core.specs.Read.{AreCalls};
+    ghost use Rattle.std.specs.Prelude.{◌≡◌};
+
+    /// The calls, in the order of the file.
+    pub fn items(&self) -> &'a [Call]
+        ensures is { result.now ≡ self.now }
+        ensures read { AreCalls self.now }
+    {
+        self.calls
+    }
 }
 
 /// What is wrong with the call that makes instance i, if anything. Takes no memory.
@@ -66,12 +72,11 @@ fn is_standard(module: &Module) -> bool
 
 /// The first thing that is wrong with these calls, if anything. Takes no memory.
 #[tactic(auto, unfolding(crate::specs::Calls::calls_fault))]
-pub fn calls_fault(library: &Library, calls: &[Call]) -> Option<DesignFault>
-    requires { length calls.now ≤ MOST_INSTANCES }
+pub fn calls_fault(library: &Library, calls: &Calls) -> Option<DesignFault>
     ensures { result ≡ calls_fault library.now calls.now }
 {
     let mut i = 0;
-    let mut rest = calls;
+    let mut rest = calls.items();
     while let Some((call, after)) = rest.split_first() {
         let fault = call_fault(library, i, call);
         if fault.is_some() {
@@ -95,13 +100,8 @@ pub fn called_names<'a>(alloc: Global, calls: &'a [Call]) -> Result<IndexSet<&'a
 }
 
 /// The instances that calls make, where these are the names of the used modules. The one error is want of memory.
-pub fn instances_of(
-    alloc: Global,
-    names: &IndexSet<&[u8]>,
-    calls: &[Call],
-) -> Result<Vec<Inst>, AllocError>
-    requires { length (texts names.now.keys) < 2 ^ 32 }
-    ensures { IfOk result (λ instances. instances.items ≡ map (inst_in (texts names.now.keys)) calls.now) }
+pub fn instances_of(alloc: Global, names: &Names, calls: &[Call]) -> Result<Vec<Inst>, AllocError>
+    ensures { IfOk result (λ instances. instances.items ≡ map (inst_in names.now) calls.now) }
 {
     let mut instances = Vec::with_capacity(alloc, calls.len())?;
     for call in calls {
@@ -110,13 +110,11 @@ pub fn instances_of(
     Ok(instances)
 }
 
-fn instance_of(alloc: Global, names: &IndexSet<&[u8]>, call: &Call) -> Result<Inst, AllocError>
-    requires { length (texts names.now.keys) < 2 ^ 32 }
-    ensures { IfOk result (λ instance. instance ≡ inst_in (texts names.now.keys) call.now) }
+fn instance_of(alloc: Global, names: &Names, call: &Call) -> Result<Inst, AllocError>
+    ensures { IfOk result (λ instance. instance ≡ inst_in names.now call.now) }
 {
-    let kind = place_of(names, call.module.items()) as u32;
     Ok(Inst {
         name: call.name.copied(alloc)?,
-        kind,
+        kind: names.place(call.module.items()),
     })
 }

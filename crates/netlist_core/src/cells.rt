@@ -1,31 +1,28 @@
 ghost use Rattle.netlist_core.specs.Answers.{Agrees};
 ghost use Rattle.netlist_core.specs.Cells.{grid_of, height_of_module, kind_fault, kind_of};
-ghost use Rattle.std.specs.List.{AllByRecursion};
-ghost use Rattle.std.specs.Prelude.{◌≡◌, ◌<◌, ◌^◌, length, IfOk};
-ghost use Rattle.yal_reader.specs.Kept.{IsKeptModule, IsNear};
+ghost use Rattle.std.specs.Prelude.{◌≡◌, IfOk};
 
 use crate::fault::DesignFault;
+use crate::numbered::Numbered;
 use crate::outline::{Outline, outline_of};
-use crate::positions::{are_on_layer, grid_positions, has_clash};
-use crate::terminals::{NumberedSpot, pinout_of};
+use crate::positions::{Columns, are_on_layer, has_clash};
+use crate::terminals::{NumberedSpot, Terminals};
 use design_model::{CellKind, Position};
 use geom_core::Items;
 use std::alloc::{AllocError, Global};
 use tech_rules::Rules;
-use yal_reader::Module;
 
 /// The height of a module in units, or 0 where its corners are no rectangle. Takes no memory.
-pub fn height_of_module(module: &Module) -> u32
-    requires { AllByRecursion IsNear «module».now.corners }
-    ensures { result ≡ height_of_module «module».now }
+pub fn height_of_module(numbered: &Numbered) -> u32
+    ensures { result ≡ height_of_module numbered.now.1 }
 {
-    match outline_of(module.corners.items()) {
+    match outline_of(numbered.corners()) {
         Some(outline) => outline.height,
         None => 0,
     }
 }
 
-/// The cell kind of the module with number n in its file, where all used modules have this height. It errs with NoShape where
+/// The cell kind of a module, where all used modules have this height. It errs with NoShape where
 /// the corners are no rectangle, OffGrid where the width or a position is off the column grid, Height where the height is
 /// another, TooLow where it is below two pins and the vertical space, PinClash where two positions share a point, and
 /// WrongLayer where a position's layer is not the rules' word, ASCII case aside: the first of these that holds. Positions of
@@ -35,20 +32,19 @@ pub fn kind_of(
     alloc: Global,
     rules: &Rules,
     height: u32,
-    n: u32,
-    module: &Module,
+    numbered: &Numbered,
 ) -> Result<CellKind, DesignFault>
-    requires kept { IsKeptModule «module».now }
-    requires lines { length «module».now.lines < 2 ^ 32 }
-    ensures { Agrees (λ kind. kind) result (kind_of rules.now height n «module».now) }
+    ensures { Agrees (λ kind. kind) result (kind_of rules.now height numbered.now.0 numbered.now.1) }
 {
-    let pinout = pinout_of(alloc, module.lines.items())?;
-    let corners = module.corners.items();
-    let grid = grid_of(alloc, rules, height, n, corners, pinout.spots.as_slice())?;
+    let module = numbered.module;
+    let terminals = Terminals::new(alloc, module.lines.items())?;
+    let list = terminals.list(alloc)?;
+    let spots = terminals.spots(alloc)?;
+    let grid = grid_of(alloc, rules, height, numbered, spots.as_slice())?;
     Ok(CellKind {
         name: module.name.copied(alloc)?,
         columns: grid.columns,
-        terminals: Items::new(pinout.terminals),
+        terminals: Items::new(list),
         positions: grid.positions,
     })
 }
@@ -61,30 +57,33 @@ struct Grid {
     positions: Items<Position>,
 }
 
-// The width and the positions of the module with number n that has these corners and spots, or why it is no kind.
+// The width and the positions of a module that has these spots, or why it is no kind.
 #[tactic(auto, unfolding(crate::specs::Cells::grid_of))]
 fn grid_of(
     alloc: Global,
     rules: &Rules,
     height: u32,
-    n: u32,
-    corners: &[i64],
+    numbered: &Numbered,
     spots: &[NumberedSpot],
 ) -> Result<Grid, DesignFault>
-    requires { AllByRecursion IsNear corners.now }
-    ensures { Agrees (λ grid. (grid.columns, grid.positions)) result (grid_of rules.now height n corners.now spots.now) }
+    ensures { Agrees (λ grid. (grid.columns, grid.positions)) result (grid_of rules.now height numbered.now.0 numbered.now.1.corners spots.now) }
 {
-    let Some(outline) = outline_of(corners) else {
+    let n = numbered.number;
+    let Some(outline) = outline_of(numbered.corners()) else {
         return Err(DesignFault::NoShape(n));
     };
-    let Some(positions) = grid_positions(alloc, rules.grid.column, outline, spots)? else {
+    let columns = Columns {
+        outline,
+        pitch: rules.grid.column,
+    };
+    let Some(positions) = columns.grid_positions(alloc, spots)? else {
         return Err(DesignFault::OffGrid(n));
     };
     if let Some(fault) = kind_fault(alloc, rules, height, n, outline, spots, &positions)? {
         return Err(fault);
     }
     Ok(Grid {
-        columns: outline.width / rules.grid.column,
+        columns: columns.count(),
         positions: Items::new(positions),
     })
 }

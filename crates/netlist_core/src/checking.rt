@@ -1,28 +1,27 @@
 ghost use Rattle.netlist_core.specs.Answers.{unless, Agrees};
-ghost use Rattle.netlist_core.specs.Calls.{calls_fault, over};
-ghost use Rattle.netlist_core.specs.Checked.{IsChecked};
+ghost use Rattle.netlist_core.specs.Calls.{over};
 ghost use Rattle.netlist_core.specs.OnGrid.{calls_design, on_grid, used_design, used_modules};
 ghost use Rattle.design_model.specs.Room.{HasRoom};
 ghost use Rattle.design_model.specs.SameNet.{SameNet};
 ghost use Rattle.netlist_core.specs.SignalWords.{parent_calls, word_of};
-ghost use Rattle.netlist_core.specs.Signals.{all_signals, nets_of, pin_in};
+ghost use Rattle.netlist_core.specs.Signals.{all_signals};
 ghost use Rattle.netlist_core.specs.declared.fault.Count.TheVariants.{Pins};
-ghost use Rattle.std.specs.List.{AllByRecursion, IsDistinct};
-ghost use Rattle.std.specs.Prelude.{◌≡◌, ◌<◌, ◌≤◌, ◌+◌, ◌-◌, ◌*◌, ◌^◌, length, map, IfOk, None};
-ghost use Rattle.std.specs.Str.{bytes_eq};
-ghost use Rattle.yal_reader.specs.Kept.{call_names, module_names, HasAtMost, IsKept, IsKeptCall, IsKeptModule, IsShort};
+ghost use Rattle.std.specs.Prelude.{◌-◌, ◌^◌, length, IfOk};
+ghost use Rattle.yal_reader.specs.Kept.{HasAtMost, IsKept};
 
-use crate::calls::{calls_fault, the_parent};
+use crate::calls::{Calls, calls_fault};
+use crate::checked::{Checked, used_design};
+use crate::circuit::Circuit;
 use crate::library::Library;
-use crate::signals::{Signal, connections_of, signals_of};
-use crate::used::{Numbered, height_of, instances_among, kinds_of, used_modules};
+use crate::modules::{Modules, Parent, the_parent};
+use crate::signals::signals_of;
+use crate::used::used_modules;
 use crate::{Count, DesignFault};
 use design_model::Design;
-use geom_core::Items;
 use limits::{MOST_INSTANCES, MOST_PINS};
 use std::alloc::Global;
 use tech_rules::Rules;
-use yal_reader::{Call, Module, YalFile};
+use yal_reader::YalFile;
 
 /// The checked design of a file: its PARENT's calls as instances, the modules that they use as kinds on the column grid of the
 /// rules, and the pins with the nets that their signal words make. Two pins have one net exactly where their words are equal.
@@ -41,92 +40,52 @@ pub fn to_design(alloc: Global, file: &YalFile, rules: &Rules) -> Result<Design,
     ensures nets { IfOk result (λ design. SameNet (word_of (parent_calls file.now)) design.pins) }
     ensures high { IfOk result (HasRoom rules.now) }
 {
-    let parent = the_parent(file)?;
-    calls_design(alloc, rules, file.modules.items(), parent.calls.items())
+    let modules = Modules {
+        modules: file.modules.items(),
+    };
+    let parent = the_parent(&modules)?;
+    calls_design(alloc, rules, modules, &parent)
 }
 
-// The design of these calls.
+// The design of the calls of this PARENT of a file with these modules.
 #[tactic(auto, unfolding(crate::specs::OnGrid::calls_design))]
 fn calls_design(
     alloc: Global,
     rules: &Rules,
-    modules: &[Module],
-    calls: &[Call],
+    modules: Modules,
+    parent: &Parent,
 ) -> Result<Design, DesignFault>
-    requires kept { AllByRecursion IsKeptModule modules.now }
-    requires short { AllByRecursion (IsShort (2 ^ 32 - 1)) modules.now }
-    requires few { length modules.now ≤ 2 ^ 32 - 1 }
-    requires modules { IsDistinct bytes_eq (module_names modules.now) }
-    requires names { AllByRecursion IsKeptCall calls.now }
-    requires calls { IsDistinct bytes_eq (call_names calls.now) }
-    ensures is { Agrees (λ design. design) result (calls_design rules.now modules.now calls.now) }
-    ensures nets { IfOk result (λ design. SameNet (word_of calls.now) design.pins) }
+    ensures is { Agrees (λ design. design) result (calls_design rules.now modules.entry parent.now.calls) }
+    ensures nets { IfOk result (λ design. SameNet (word_of parent.now.calls) design.pins) }
 {
+    let calls = parent.calls();
     if calls.len() > MOST_INSTANCES {
         return Err(DesignFault::Limit(Count::Instances, calls.len() as u64));
     }
+    let calls = Calls { calls };
     let library = Library::new(alloc, modules)?;
-    match calls_fault(&library, calls) {
+    match calls_fault(&library, &calls) {
         Some(fault) => return Err(fault),
         None => {}
     }
-    called_design(alloc, rules, &library, modules, calls)
+    called_design(alloc, rules, &Circuit { library, calls })
 }
 
-// The design of these calls, each of which fits its module; the library of the modules is given.
-fn called_design(
-    alloc: Global,
-    rules: &Rules,
-    library: &Library,
-    modules: &[Module],
-    calls: &[Call],
-) -> Result<Design, DesignFault>
-    requires library { library.now ≡ modules.now }
-    requires fits { calls_fault modules.now calls.now ≡ None }
-    requires few_calls { length calls.now ≤ MOST_INSTANCES }
-    requires kept { AllByRecursion IsKeptModule modules.now }
-    requires short { AllByRecursion (IsShort (2 ^ 32 - 1)) modules.now }
-    requires few { length modules.now ≤ 2 ^ 32 - 1 }
-    requires modules { IsDistinct bytes_eq (module_names modules.now) }
-    requires names { AllByRecursion IsKeptCall calls.now }
-    requires calls { IsDistinct bytes_eq (call_names calls.now) }
-    ensures is { Agrees (λ design. design) result (unless (over Pins MOST_PINS (length (all_signals modules.now calls.now))) (used_design rules.now (used_modules modules.now calls.now) (all_signals modules.now calls.now) calls.now)) }
-    ensures nets { IfOk result (λ design. SameNet (word_of calls.now) design.pins) }
+// The design of calls that fit their modules.
+fn called_design(alloc: Global, rules: &Rules, circuit: &Circuit) -> Result<Design, DesignFault>
+    ensures is { Agrees (λ design. design) result (unless (over Pins MOST_PINS (length (all_signals circuit.now.0 circuit.now.1))) (used_design rules.now (used_modules circuit.now.0 circuit.now.1) (all_signals circuit.now.0 circuit.now.1) circuit.now.1)) }
+    ensures nets { IfOk result (λ design. SameNet (word_of circuit.now.1) design.pins) }
 {
-    let signals = signals_of(alloc, library, calls)?;
+    let calls = circuit.calls.items();
+    let signals = signals_of(alloc, &circuit.library, &circuit.calls)?;
     if signals.len() > MOST_PINS {
         return Err(DesignFault::Limit(Count::Pins, signals.len() as u64));
     }
-    let used = used_modules(alloc, modules, calls)?;
-    used_design(alloc, rules, &used, &signals, calls)
-}
-
-// The design of these calls with these words at their pins, where these are the used modules.
-#[tactic(auto, unfolding(crate::specs::OnGrid::used_design))]
-fn used_design(
-    alloc: Global,
-    rules: &Rules,
-    used: &[Numbered],
-    signals: &[Signal],
-    calls: &[Call],
-) -> Result<Design, DesignFault>
-    requires { IsChecked used.now signals.now calls.now }
-    ensures is { Agrees (λ design. design) result (used_design rules.now used.now signals.now calls.now) }
-    ensures pins { IfOk result (λ design. design.pins ≡ map (pin_in (nets_of signals.now)) signals.now) }
-{
-    // A look at the rules tells that they are valid.
-    let _ = &rules.version;
-    let kinds = match kinds_of(alloc, rules, used) {
-        Ok(kinds) => kinds,
-        Err(fault) => return Err(fault),
+    let used = used_modules(alloc, circuit.library.modules(), calls)?;
+    let checked = Checked {
+        used,
+        signals,
+        calls,
     };
-    let instances = instances_among(alloc, used, calls)?;
-    let connections = connections_of(alloc, signals)?;
-    Ok(Design {
-        kinds: Items::new(kinds),
-        height: height_of(used),
-        instances: Items::new(instances),
-        pins: Items::new(connections.pins),
-        nets: Items::new(connections.nets),
-    })
+    used_design(alloc, rules, &checked)
 }

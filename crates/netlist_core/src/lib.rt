@@ -3,9 +3,15 @@
 
 mod calls;
 mod cells;
+mod checked;
 mod checking;
+mod circuit;
 mod fault;
 mod library;
+mod modules;
+mod names;
+mod nets;
+mod numbered;
 mod outline;
 mod positions;
 mod signals;

@@ -1,27 +1,27 @@
 ghost use Rattle.list_facts.specs.Names.{mentions};
 ghost use Rattle.list_facts.specs.Texts.{texts};
 ghost use Rattle.netlist_core.specs.Calls.{module_named, terminals_in};
-ghost use Rattle.netlist_core.specs.Cells.{terminals_of};
 ghost use Rattle.netlist_core.specs.LibraryView.{all_terminals};
-ghost use Rattle.std.specs.List.{AllByRecursion, IsDistinct, slice_get};
+ghost use Rattle.netlist_core.specs.Read.{AreModules};
+ghost use Rattle.std.specs.List.{slice_get};
 ghost use Rattle.std.specs.Option.{option_copied, option_map};
-ghost use Rattle.std.specs.Prelude.{◌≡◌, ◌<◌, ◌-◌, ◌^◌, length, IfOk, IfSome};
-ghost use Rattle.std.specs.Str.{bytes_eq};
-ghost use Rattle.yal_reader.specs.Kept.{module_names, IsShort};
+ghost use Rattle.std.specs.Prelude.{◌≡◌, ◌<◌, ◌^◌, length, IfOk, IfSome};
+ghost use Rattle.yal_reader.specs.Kept.{module_names};
 
-use crate::terminals::{power_names, terminal_names, terminals};
+use crate::modules::Modules;
+use crate::terminals::Terminals;
 use design_model::Terminal;
 use geom_core::Items;
 use indexmap::IndexSet;
 use list_facts::{number, place_of};
 use std::alloc::{AllocError, Global};
 use std::marker::Model;
-use yal_reader::{Line, Module};
+use yal_reader::Module;
 
 /// The modules of a file with their names, by which they are found, and the terminals of each.
 #[derive(Drop)]
 pub struct Library<'a> {
-    modules: &'a [Module],
+    modules: Modules<'a>,
     names: IndexSet<&'a [u8]>,
     terminals: Vec<Items<Terminal>>,
 }
@@ -32,27 +32,34 @@ impl<'a> Model for Library<'a> {
 
     ghost Value = { List Module };
 
-    ghost use Rattle.netlist_core.specs.LibraryView.{modules_of, IsLibrary};
+    ghost use Rattle.netlist_core.specs.LibraryView.{IsLibrary};
 
-    ghost view = { modules_of };
+    ghost view = { λ a. a.modules };
 
     ghost invariant = { IsLibrary };
 }
 
 impl<'a> Library<'a> {
     /// The library of these modules. The one error is want of memory.
-    pub fn new(alloc: Global, modules: &'a [Module]) -> Result<Library<'a>, AllocError>
-        requires names { IsDistinct bytes_eq (module_names modules.now) }
-        requires short { AllByRecursion (IsShort (2 ^ 32 - 1)) modules.now }
-        ensures { IfOk result (λ library. library ≡ modules.entry.now) }
+    pub fn new(alloc: Global, modules: Modules<'a>) -> Result<Library<'a>, AllocError>
+        ensures { IfOk result (λ library. library ≡ modules.entry) }
     {
-        let names = names_of(alloc, modules)?;
-        let terminals = all_terminals(alloc, modules)?;
+        let names = names_of(alloc, modules.items())?;
+        let terminals = all_terminals(alloc, &modules)?;
         Ok(Library {
             modules,
             names,
             terminals,
         })
+    }
+
+    /// The modules.
+    pub fn modules(&self) -> &Modules<'a>
+        ensures is { result.now ≡ self.now }
+        ensures read { AreModules self.now }
+    {
+        let _modules = self.modules.items();
+        &self.modules
     }
 
     /// The module of this name with its terminals, or None where there is no such module. Takes no memory.
@@ -62,7 +69,7 @@ impl<'a> Library<'a> {
         ensures few { IfSome result (λ f. length f.1.now < 2 ^ 32) }
     {
         let place = place_of(&self.names, name);
-        let Some(module) = item_at(self.modules, place) else {
+        let Some(module) = item_at(self.modules.items(), place) else {
             return None;
         };
         let Some(terminals) = item_at(self.terminals.as_slice(), place) else {
@@ -102,20 +109,14 @@ fn names_of<'a>(alloc: Global, modules: &'a [Module]) -> Result<IndexSet<&'a [u8
 }
 
 // The terminals of each module. The one error is want of memory.
-fn all_terminals(alloc: Global, modules: &[Module]) -> Result<Vec<Items<Terminal>>, AllocError>
+fn all_terminals(alloc: Global, modules: &Modules) -> Result<Vec<Items<Terminal>>, AllocError>
     ensures { IfOk result (λ all. all.items ≡ all_terminals modules.now) }
 {
+    let modules = modules.items();
     let mut all = Vec::with_capacity(alloc, modules.len())?;
     for module in modules {
-        all.push(Items::new(terminals_of(alloc, module.lines.items())?))?;
+        let terminals = Terminals::new(alloc, module.lines.items())?;
+        all.push(Items::new(terminals.list(alloc)?))?;
     }
     Ok(all)
-}
-
-fn terminals_of(alloc: Global, lines: &[Line]) -> Result<Vec<Terminal>, AllocError>
-    ensures { IfOk result (λ terminals. terminals.items ≡ terminals_of lines.now) }
-{
-    let names = terminal_names(alloc, lines)?;
-    let power = power_names(alloc, lines)?;
-    terminals(alloc, &names, &power)
 }

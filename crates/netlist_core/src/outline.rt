@@ -1,6 +1,6 @@
 ghost use Rattle.netlist_core.specs.Outline.{are_pairs, between, has_turns, IsOutlineOf, outline_of};
 ghost use Rattle.std.specs.List.{AllByRecursion};
-ghost use Rattle.std.specs.Prelude.{◌≡◌, ◌≤◌, IfSome};
+ghost use Rattle.std.specs.Prelude.{◌≡◌};
 ghost use Rattle.yal_reader.specs.Kept.{IsNear};
 
 /// The rectangle of a module, in units: its least x and y, and its sides, which are above 0.
@@ -10,6 +10,15 @@ pub struct Outline {
     pub low: i64,
     pub width: u32,
     pub height: u32,
+}
+
+// A corner of a module that was read.
+#[derive(Clone, Copy)]
+struct Corner {
+    x: i64,
+    y: i64,
+    ghost near_x: { IsNear x },
+    ghost near_y: { IsNear y },
 }
 
 /// The outline whose four corners these are, as pairs of x and y in order, in either direction and from any corner on; None
@@ -24,7 +33,7 @@ pub fn outline_of(corners: &[i64]) -> Option<Outline>
             if !has_turns((*x0, *y0), (*x1, *y1), (*x2, *y2), (*x3, *y3)) {
                 return None;
             }
-            between((*x0, *y0), (*x2, *y2))
+            between(Corner { x: *x0, y: *y0 }, Corner { x: *x2, y: *y2 })
         }
         _ => None,
     }
@@ -49,23 +58,19 @@ fn has_turns(a: (i64, i64), b: (i64, i64), c: (i64, i64), d: (i64, i64)) -> bool
 
 // The outline between opposite corners, if they differ in x and in y.
 #[tactic(auto, unfolding(crate::specs::Outline::between))]
-fn between(a: (i64, i64), c: (i64, i64)) -> Option<Outline>
-    requires ax { IsNear a.0 }
-    requires ay { IsNear a.1 }
-    requires cx { IsNear c.0 }
-    requires cy { IsNear c.1 }
-    ensures { result ≡ between a.0 a.1 c.0 c.1 }
+fn between(a: Corner, c: Corner) -> Option<Outline>
+    ensures { result ≡ between a.x a.y c.x c.y }
 {
-    if a.0 == c.0 {
+    if a.x == c.x {
         return None;
     }
-    if a.1 == c.1 {
+    if a.y == c.y {
         return None;
     }
     Some(Outline {
-        left: a.0.min(c.0),
-        low: a.1.min(c.1),
-        width: a.0.abs_diff(c.0) as u32,
-        height: a.1.abs_diff(c.1) as u32,
+        left: a.x.min(c.x),
+        low: a.y.min(c.y),
+        width: a.x.abs_diff(c.x) as u32,
+        height: a.y.abs_diff(c.y) as u32,
     })
 }

@@ -1,7 +1,6 @@
-ghost use Rattle.netlist_core.specs.Cells.{clashes, column_of, edge_of, grid_positions, is_on_layer, position_of, positions_of, same_point};
+ghost use Rattle.netlist_core.specs.Cells.{clashes, edge_of, is_on_layer, same_point};
 ghost use Rattle.std.specs.List.{list_all, list_any};
-ghost use Rattle.std.specs.Option.{option_map};
-ghost use Rattle.std.specs.Prelude.{◌≡◌, ◌<◌, ◌/◌, [], ◌++◌, ◌∷◌, not, IfOk, IsTrue, Vec};
+ghost use Rattle.std.specs.Prelude.{◌≡◌, ◌<◌, [], ◌++◌, ◌∷◌, not, IfOk, IsTrue};
 ghost use Rattle.std.specs.Str.{str_eq_ignore_ascii_case};
 
 use crate::outline::Outline;
@@ -17,62 +16,93 @@ pub struct Point {
     pub column: u32,
 }
 
-/// The positions at these spots of a module with this outline, in columns of this pitch; None where the width is not whole
-/// columns or a spot is off the grid: not on the top or the bottom edge, or not in the middle of a column inside.
-/// The one error is want of memory.
-#[tactic(auto, unfolding(crate::specs::Cells::grid_positions))]
-pub fn grid_positions(
-    alloc: Global,
-    pitch: u32,
-    outline: Outline,
-    spots: &[NumberedSpot],
-) -> Result<Option<Vec<Position>>, AllocError>
-    requires { 0 < pitch }
-    ensures { IfOk result (λ positions. option_map (λ (v : Vec Position Global). v.items) positions ≡ grid_positions pitch outline spots.now) }
-{
-    if outline.width % pitch != 0 {
-        return Ok(None);
-    }
-    positions_of(alloc, pitch, outline, spots)
+/// The columns of an outline, from its left side on, each as wide as the pitch.
+#[derive(Clone, Copy)]
+pub struct Columns {
+    pub outline: Outline,
+    pub pitch: u32,
+    ghost wide: { 0 < pitch },
 }
 
-// The positions at spots, or None where one is off the grid.
-#[tactic(auto, using(crate::proofs::Fronts::fronts))]
-fn positions_of(
-    alloc: Global,
-    pitch: u32,
-    outline: Outline,
-    spots: &[NumberedSpot],
-) -> Result<Option<Vec<Position>>, AllocError>
-    requires { 0 < pitch }
-    ensures { IfOk result (λ positions. option_map (λ (v : Vec Position Global). v.items) positions ≡ positions_of pitch outline spots.now) }
-{
-    let mut positions = Vec::new(alloc);
-    for spot in spots {
-        let Some(position) = position_of(pitch, outline, spot) else {
+impl Columns {
+    ghost use Rattle.netlist_core.specs.Cells.{column_of, grid_positions, position_of, positions_of};
+    ghost use Rattle.std.specs.Option.{option_map};
+    ghost use Rattle.std.specs.Prelude.{◌≡◌, ◌/◌, IfOk, Vec};
+
+    /// How many columns are whole.
+    pub fn count(self) -> u32
+        ensures { result ≡ self.outline.width / self.pitch }
+    {
+        self.outline.width / self.pitch
+    }
+
+    /// The positions at these spots of a module with this outline; None where the width is not whole columns or a spot is off
+    /// the grid: not on the top or the bottom edge, or not in the middle of a column inside. The one error is want of memory.
+    #[tactic(auto, unfolding(crate::specs::Cells::grid_positions))]
+    pub fn grid_positions(
+        self,
+        alloc: Global,
+        spots: &[NumberedSpot],
+    ) -> Result<Option<Vec<Position>>, AllocError>
+        ensures { IfOk result (λ positions. option_map (λ (v : Vec Position Global). v.items) positions ≡ grid_positions self.pitch self.outline spots.now) }
+    {
+        if self.outline.width % self.pitch != 0 {
             return Ok(None);
-        };
-        positions.push(position)?;
+        }
+        self.positions(alloc, spots)
     }
-    Ok(Some(positions))
-}
 
-// The position at a spot, or None where that is off the grid.
-fn position_of(pitch: u32, outline: Outline, spot: &NumberedSpot) -> Option<Position>
-    requires { 0 < pitch }
-    ensures { result ≡ position_of pitch outline spot.now }
-{
-    let Some(top) = edge_of(outline.height, outline.low, spot.spot.y) else {
-        return None;
-    };
-    let Some(column) = column_of(pitch, outline.width / pitch, outline.left, spot.spot.x) else {
-        return None;
-    };
-    Some(Position {
-        terminal: spot.terminal,
-        top,
-        column,
-    })
+    // The positions at spots, or None where one is off the grid.
+    #[tactic(auto, using(crate::proofs::Fronts::fronts))]
+    fn positions(
+        self,
+        alloc: Global,
+        spots: &[NumberedSpot],
+    ) -> Result<Option<Vec<Position>>, AllocError>
+        ensures { IfOk result (λ positions. option_map (λ (v : Vec Position Global). v.items) positions ≡ positions_of self.pitch self.outline spots.now) }
+    {
+        let mut positions = Vec::new(alloc);
+        for spot in spots {
+            let Some(position) = self.position(spot) else {
+                return Ok(None);
+            };
+            positions.push(position)?;
+        }
+        Ok(Some(positions))
+    }
+
+    // The position at a spot, or None where that is off the grid.
+    fn position(self, spot: &NumberedSpot) -> Option<Position>
+        ensures { result ≡ position_of self.pitch self.outline spot.now }
+    {
+        let Some(top) = edge_of(self.outline.height, self.outline.low, spot.spot.y) else {
+            return None;
+        };
+        let Some(column) = self.column(spot.spot.x) else {
+            return None;
+        };
+        Some(Position {
+            terminal: spot.terminal,
+            top,
+            column,
+        })
+    }
+
+    // The column in whose middle x lies, or None where there is none.
+    fn column(self, x: i64) -> Option<u32>
+        ensures { result ≡ column_of self.pitch (self.outline.width / self.pitch) self.outline.left x }
+    {
+        if x < self.outline.left {
+            return None;
+        }
+        let distance = x.abs_diff(self.outline.left);
+        let pitch = u64::from(self.pitch);
+        let column = distance / pitch;
+        if distance % pitch == u64::from(self.pitch / 2) && column < u64::from(self.count()) {
+            return Some(column as u32);
+        }
+        None
+    }
 }
 
 // Whether y is the top edge, or None where it is neither edge.
@@ -84,22 +114,6 @@ fn edge_of(height: u32, low: i64, y: i64) -> Option<bool>
     }
     if low < y && y.abs_diff(low) == u64::from(height) {
         return Some(true);
-    }
-    None
-}
-
-// The column in whose middle x lies, or None where there is none.
-fn column_of(pitch: u32, columns: u32, left: i64, x: i64) -> Option<u32>
-    requires { 0 < pitch }
-    ensures { result ≡ column_of pitch columns left x }
-{
-    if x < left {
-        return None;
-    }
-    let distance = x.abs_diff(left);
-    let column = distance / u64::from(pitch);
-    if distance % u64::from(pitch) == u64::from(pitch / 2) && column < u64::from(columns) {
-        return Some(column as u32);
     }
     None
 }

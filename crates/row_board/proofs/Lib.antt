@@ -16,6 +16,7 @@ pub mod ReachLaws
 pub mod CostLaws
 -- all tables of weighed rows after a change
 pub mod BoardLaws
+pub mod SpansLaws
 -- cells that are turned over
 pub mod TurnLaws
 -- what rows cost by their tables

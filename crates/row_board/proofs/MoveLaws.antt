@@ -1,11 +1,11 @@
-use Rattle.std.proofs.Common.{◌≡◌, ◌<◌, ◌≤◌, ◌⊎◌, inl, inr, ℕ, ◌+◌, ◌-◌, ◌*◌, List, length, get_or, take, Bool, true, false, Option, Some, refl, ap, sym, ◌∙◌, subst, arith}
+use Rattle.std.proofs.Common.{◌≡◌, ◌<◌, ◌≤◌, ◌⊎◌, inl, inr, ℕ, ◌+◌, ◌-◌, ◌*◌, List, length, get_or, take, Bool, true, false, cond, Option, Some, refl, ap, sym, ◌∙◌, subst, arith}
 use Rattle.std.proofs.lemmas.Bool.Decides.{nat_tests}
 use Rattle.std.proofs.lemmas.List.{length-take}
 use Rattle.std.proofs.lemmas.Option.{same_Some, slice_get-get_or, slice_get_within}
 use Rattle.std.specs.List.{slice_get}
 use Rattle.std.specs.Prelude.{nat_eq, nat_le, nat_lt}
 use Rattle.design_model.specs.Netlist.{IsNetlist, Netlist}
-use Rattle.row_board.specs.Moving.{IsAt, reach_end, row_length, row_there}
+use Rattle.row_board.specs.Moving.{IsAt, column_behind, left_of, reach_end, row_length, row_there}
 use Rattle.row_model.specs.Rows.{ArePlaced, AreRows}
 use Rattle.row_board.specs.Standings.{AreEntered, HasEntered, IsEntered, KeepsOthers, standing_at, standing_in, standing_of}
 use Rattle.row_model.specs.Widths.{columns_of, row_width}
@@ -27,15 +27,23 @@ left-step d row place k seats s st standings next at right told =
 pub left-near : (d : Netlist) → IsNetlist d → (place : ℕ) (seats : List Seat) → row_width d (take place seats) ≤ 100000000 * place
 left-near d good place seats = let few = width-few d good (take place seats) in let short = length-take place seats in omega (arith, few, short)
 
-pub left-told : (d : Netlist) (row place : ℕ) (seats : List Seat) (z : Seat) (st : Spot) (standings : List Spot) (left width : ℕ) → IsNetlist d → 0 < place → place ≤ length seats
+pub left-told : (d : Netlist) (row place : ℕ) (seats : List Seat) (standings : List Spot) → IsNetlist d → place ≤ length seats
     → ((k : ℕ) (s : Seat) → k + 1 ≡ place → slice_get seats k ≡ Some s → slice_get standings s.instance ≡ Some (standing_at d row k seats s))
-    → st ≡ standing_of standings (get_or seats (place - 1) z).instance → left ≡ st.left → width ≡ columns_of d (get_or seats (place - 1) z).instance
-    → (left + width ≡ row_width d (take place seats)) × (left + width ≤ 100000000 * place)
-left-told d row place seats z st standings left width good some within before is is_left is_width =
-    let at = slice_get-get_or seats (place - 1) z (omega arith) in
-    let next : place - 1 + 1 ≡ place = omega arith in
-    let step = left-step d row place (place - 1) seats (get_or seats (place - 1) z) st standings next at (before (place - 1) (get_or seats (place - 1) z) next at) is in
-    (omega (arith, step, is_left, is_width), omega (arith, step, is_left, is_width, left-near d good place seats))
+    → left_of d standings seats place ≡ row_width d (take place seats)
+left-told d row place seats standings good within before = by (nat_eq place 0) refl
+  where
+    by : (b : Bool) → nat_eq place 0 ≡ b → cond b 0 (column_behind d standings (slice_get seats (place - 1))) ≡ row_width d (take place seats)
+    by true test =
+        let none : place ≡ 0 = grind (arith, nat_tests) in
+        sym (ap (λ (n : ℕ). row_width d (take n seats)) none)
+    by false test =
+        let some : 0 < place = grind (arith, nat_tests) in
+        let z : Seat = record { instance = 0; mirror = false } in
+        let s = get_or seats (place - 1) z in
+        let at = slice_get-get_or seats (place - 1) z (omega arith) in
+        let next : place - 1 + 1 ≡ place = omega arith in
+        ap (column_behind d standings) at
+        ∙ left-step d row place (place - 1) seats s (standing_of standings s.instance) standings next at (before (place - 1) s next at) refl
 
 -- what was entered of a row
 pub entered-there : (d : Netlist) (rows : List (List Seat)) (row from to : ℕ) (seats : List Seat) (standings : List Spot) → slice_get rows row ≡ Some seats

@@ -119,6 +119,16 @@ all-entered d rows old now new first second unmoved one kept two kept_too = reco
     by r k (inr off) (inl here) = subst (λ (n : ℕ). IsEntered d rows new n k) (sym here.0) (two k here.1 here.2)
     by r k (inr off) (inr off_too) = kept_too r k (kept r k (unmoved.each r k off off_too))
 
+-- what stands before the second of two reaches is entered once the first is
+pub before-second : (d : Netlist) (rows : List (List Seat)) (old now : List Spot) (first second : Reach) → AreUnmoved d rows old first second
+    → ((k : ℕ) → first.from ≤ k → k < first.to → IsEntered d rows now first.row k) → ((r k : ℕ) → IsEntered d rows old r k → IsEntered d rows now r k)
+    → (k : ℕ) → k + 1 ≡ second.from → IsEntered d rows now second.row k
+before-second d rows old now first second unmoved one kept k is = by (inside first.row first.from first.to second.row k)
+  where
+    by : IsIn first second.row k ⊎ (IsIn first second.row k → ⊥) → IsEntered d rows now second.row k
+    by (inl here) = subst (λ (n : ℕ). IsEntered d rows now n k) (sym here.0) (one k here.1 here.2)
+    by (inr off) = kept second.row k (unmoved.each second.row k off (λ h. omega (arith, h.1, is)))
+
 -- what holds once the seat is turned over
 pub record Turned (d : Netlist) (new : List (List Seat)) (old : List Spot) (is_mirrored : List (List Seat)) (st : Spot) : Type 0 where
   pub mirrored : new ≡ is_mirrored

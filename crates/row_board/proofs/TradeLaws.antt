@@ -1,7 +1,8 @@
-use Rattle.std.proofs.Common.{◌≡◌, ◌≢◌, ◌<◌, ◌≤◌, ℕ, ◌+◌, ◌*◌, List, length, map, set, sum, Bool, true, false, Option, None, Some, refl, ap, ap₂, sym, ◌∙◌, arith}
+use Rattle.std.proofs.Common.{◌≡◌, ◌≢◌, ◌<◌, ◌≤◌, ℕ, ◌+◌, ◌*◌, List, length, map, set, sum, Bool, true, false, Option, None, Some, refl, ap, sym, ◌∙◌, subst, arith}
 use Rattle.std.proofs.Math.Nat.{mul-le-mul_left}
 use Rattle.std.proofs.lemmas.Bool.Decides.{nat_tests}
 use Rattle.std.proofs.lemmas.List.{length-set}
+use Rattle.std.proofs.lemmas.Option.{slice_get_within}
 use Rattle.std.specs.List.{slice_get}
 use Rattle.std.specs.Prelude.{nat_eq, nat_lt}
 use Rattle.list_facts.proofs.Ranges.{map-map}
@@ -38,16 +39,6 @@ differ : (m n : ℕ) → nat_eq m n ≡ false → m ≢ n
 differ m n test = grind (arith, nat_tests)
 
 -- what a table has after two instances trade their places
-traded-first : (a b : ℕ) (s : List Spot) → a ≢ b → a < length s → slice_get (traded a b s) a ≡ Some (in_place_of (standing_of s b) (standing_of s a))
-traded-first a b s apart within =
-    get-set-other (set s a (in_place_of (standing_of s b) (standing_of s a))) b a (in_place_of (standing_of s a) (standing_of s b)) apart
-    ∙ get-set-same s a (in_place_of (standing_of s b) (standing_of s a)) within
-
-traded-second : (a b : ℕ) (s : List Spot) → b < length s → slice_get (traded a b s) b ≡ Some (in_place_of (standing_of s a) (standing_of s b))
-traded-second a b s within =
-    get-set-same (set s a (in_place_of (standing_of s b) (standing_of s a))) b (in_place_of (standing_of s a) (standing_of s b))
-    (omega (arith, within, length-set s a (in_place_of (standing_of s b) (standing_of s a))))
-
 pub traded-other : (a b : ℕ) (s : List Spot) (i : ℕ) → i ≢ a → i ≢ b → slice_get (traded a b s) i ≡ slice_get s i
 traded-other a b s i not_a not_b =
     get-set-other (set s a (in_place_of (standing_of s b) (standing_of s a))) b i (in_place_of (standing_of s a) (standing_of s b)) not_b
@@ -65,24 +56,34 @@ there s i within = by (slice_get s i) refl
     by None none = let past = none-past s i none in absurd (omega (arith, past, within))
     by (Some x) at = refl
 
--- a second trade takes the first back
-pub traded-twice : (a b : ℕ) (s : List Spot) → a ≢ b → a < length s → b < length s → traded a b (traded a b s) ≡ s
-traded-twice a b s apart in_a in_b = list-same (traded a b (traded a b s)) s (λ i. by i (nat_eq i a) refl (nat_eq i b) refl)
+-- a table has where it tells that an instance stands once that is put there again
+set-there : (s x : List Spot) (i : ℕ) → length x ≡ length s → slice_get (set x i (standing_of s i)) i ≡ slice_get s i
+set-there s x i long = by (slice_get s i) refl (slice_get (set x i (standing_of s i)) i) refl
   where
-    one : standing_of (traded a b s) a ≡ in_place_of (standing_of s b) (standing_of s a)
-    one = ap standing_in (traded-first a b s apart in_a)
+    by : (o : Option Spot) → slice_get s i ≡ o → (p : Option Spot) → slice_get (set x i (standing_of s i)) i ≡ p → slice_get (set x i (standing_of s i)) i ≡ slice_get s i
+    by None none None at = at ∙ sym none
+    by None none (Some y) at =
+        let past = none-past s i none in
+        let within = slice_get_within (set x i (standing_of s i)) i y at in
+        absurd (omega (arith, past, within, long, length-set x i (standing_of s i)))
+    by (Some y) some p at =
+        let within = slice_get_within s i y some in
+        get-set-same x i (standing_of s i) (omega (arith, within, long)) ∙ sym (there s i within)
 
-    other : standing_of (traded a b s) b ≡ in_place_of (standing_of s a) (standing_of s b)
-    other = ap standing_in (traded-second a b s in_b)
-
-    by : (i : ℕ) (x : Bool) → nat_eq i a ≡ x → (y : Bool) → nat_eq i b ≡ y → slice_get (traded a b (traded a b s)) i ≡ slice_get s i
-    by i true first y last =
-        ap (slice_get (traded a b (traded a b s))) (equal i a first) ∙ traded-first a b (traded a b s) apart (omega (arith, in_a, traded-length a b s))
-        ∙ ap₂ (λ (x y : Spot). Some (in_place_of x y)) other one ∙ sym (there s a in_a) ∙ ap (slice_get s) (sym (equal i a first))
-    by i false first true last =
-        ap (slice_get (traded a b (traded a b s))) (equal i b last) ∙ traded-second a b (traded a b s) (omega (arith, in_b, traded-length a b s))
-        ∙ ap₂ (λ (x y : Spot). Some (in_place_of x y)) one other ∙ sym (there s b in_b) ∙ ap (slice_get s) (sym (equal i b last))
-    by i false first false last = traded-other a b (traded a b s) i (differ i a first) (differ i b last) ∙ traded-other a b s i (differ i a first) (differ i b last)
+-- two instances are put back where they stood
+pub traded-back : (a b : ℕ) (s : List Spot) → set (set (traded a b s) a (standing_of s a)) b (standing_of s b) ≡ s
+traded-back a b s = list-same (set (set (traded a b s) a (standing_of s a)) b (standing_of s b)) s (λ i. by i (nat_eq i b) refl (nat_eq i a) refl)
+  where
+    by : (i : ℕ) (x : Bool) → nat_eq i b ≡ x → (y : Bool) → nat_eq i a ≡ y → slice_get (set (set (traded a b s) a (standing_of s a)) b (standing_of s b)) i ≡ slice_get s i
+    by i true last y is =
+        subst (λ n. slice_get (set (set (traded a b s) a (standing_of s a)) b (standing_of s b)) n ≡ slice_get s n) (sym (equal i b last))
+        (set-there s (set (traded a b s) a (standing_of s a)) b (length-set (traded a b s) a (standing_of s a) ∙ traded-length a b s))
+    by i false last true is =
+        get-set-other (set (traded a b s) a (standing_of s a)) b i (standing_of s b) (differ i b last)
+        ∙ subst (λ n. slice_get (set (traded a b s) a (standing_of s a)) n ≡ slice_get s n) (sym (equal i a is)) (set-there s (traded a b s) a (traded-length a b s))
+    by i false last false is =
+        get-set-other (set (traded a b s) a (standing_of s a)) b i (standing_of s b) (differ i b last)
+        ∙ get-set-other (traded a b s) a i (standing_of s a) (differ i a is) ∙ traded-other a b s i (differ i a is) (differ i b last)
 
 -- rows cost after a swap at least what they do by the traded table, but for the slack
 pub trial-total : (d : Netlist) (rows : List (List Seat)) (w : Weighing) (standings : List Spot) (lengths : Lengths) (a b : ℕ) → IsNetlist d → IsBoard d rows standings lengths → a ≢ b

@@ -25,5 +25,6 @@ pub mod RowLengths
 pub mod RowLengthsView
 -- tables of placed rows
 pub mod Board
+pub mod Seated
 -- two instances that take each other's place while no other is shifted
 pub mod Trial

@@ -1,9 +1,10 @@
-use Rattle.std.specs.Prelude.{◌≡◌, ℕ, ◌+◌, ◌<◌, ◌≤◌, List, slice_get, length, if◌then◌else◌, nat_le, Bool, [], Option, None, Some}
+use Rattle.std.specs.Prelude.{◌≡◌, ◌==◌, ℕ, ◌+◌, ◌-◌, ◌<◌, ◌≤◌, List, slice_get, length, if◌then◌else◌, nat_le, Bool, [], Option, None, Some}
 use Rattle.std.specs.Prelude.{max}
 use Rattle.design_model.specs.Netlist.{Netlist}
 use Rattle.std.specs.Option.{option_map}
 use Rattle.row_board.specs.Standings.{put_in, standing_of, IsEntered}
 use Rattle.row_board.specs.declared.moving.Reach.{Reach}
+use Rattle.row_model.specs.Widths.{columns_of}
 use Rattle.row_model.specs.declared.rows.Seat.{Seat}
 use Rattle.row_board.specs.Spot.{Spot}
 
@@ -35,6 +36,15 @@ pub record IsReach (rows : List (List Seat)) (reach : Reach) : Type 0 where
   pub row : reach.row < length rows
   pub ordered : reach.from ≤ reach.to
   pub within : reach.to ≤ row_length (slice_get rows reach.row)
+
+-- the first column behind a seat, by where a table tells that its instance stands, or 0 where there is no seat
+abbrev pub column_behind : Netlist → List Spot → Option Seat → ℕ
+column_behind d standings None = 0
+column_behind d standings (Some s) = (standing_of standings s.instance).left + columns_of d s.instance
+
+-- the first column at a place of a row, by where the seat before it stands
+abbrev pub left_of : Netlist → List Spot → List Seat → ℕ → ℕ
+left_of d standings seats place = if place == 0 then 0 else column_behind d standings (slice_get seats (place - 1))
 
 -- two reaches, the one that begins at the lower place first
 abbrev pub in_order : Reach → Reach → Reach × Reach

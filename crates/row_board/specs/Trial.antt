@@ -1,4 +1,5 @@
-use Rattle.std.specs.Prelude.{ℕ, ◌+◌, ◌-◌, ◌*◌, ◌==◌, List, length, map, sum, take, drop, false, slice_get}
+use Rattle.std.specs.Prelude.{ℕ, ◌<◌, ◌^◌, ◌+◌, ◌-◌, ◌*◌, ◌==◌, List, length, map, sum, take, drop, false, slice_get}
+use Rattle.std.specs.List.{AllByRecursion}
 use Rattle.design_model.specs.Netlist.{Netlist}
 use Rattle.row_board.specs.Cost.{difference}
 use Rattle.row_board.specs.Moving.{reach_end, row_length, row_there}
@@ -20,6 +21,11 @@ seats_to rows one to = seats_between one.place to (row_there (slice_get rows one
 -- the number of pins of the instances of seats
 abbrev pub pins_in : Netlist → List Seat → ℕ
 pins_in d seats = sum (map (λ (s : Seat). length (nets_of d s.instance)) seats)
+
+-- seats of placed rows are of instances of the design, which have few pins
+pub record ArePlacedSeats (d : Netlist) (seats : List Seat) : Type 0 where
+  pub within : AllByRecursion (λ (s : Seat). s.instance < length d.instances) seats
+  pub few : pins_in d seats < 2 ^ 32
 
 -- up to which place of its row a swap with another instance of another width shifts seats
 abbrev pub shift_end : List (List Seat) → Spot → Spot → ℕ

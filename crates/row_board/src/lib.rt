@@ -1,7 +1,7 @@
 //! Rows that are weighed: what they cost, which is kept while their cells exchange places or are mirrored.
 #![tactic(auto)]
 
-mod board;
+mod amount;
 mod building;
 mod costing;
 mod moving;
@@ -9,9 +9,11 @@ mod net_costs;
 mod net_pins;
 mod nets;
 mod row_lengths;
+mod seated;
 mod seats;
 mod spans;
 mod standings;
+mod stretch;
 mod summed;
 mod trial;
 mod weights;

@@ -1,5 +1,5 @@
 ghost use Rattle.row_board.specs.Board.{AreSeated};
-ghost use Rattle.row_board.specs.Moving.{ArePut, AreExchanged, AreUnmoved, IsAt, IsReach, in_order, reach_end, row_length};
+ghost use Rattle.row_board.specs.Moving.{ArePut, AreExchanged, AreUnmoved, IsAt, IsReach, in_order, left_of, reach_end, row_length};
 ghost use Rattle.row_board.specs.NetCosts.{Tabled};
 ghost use Rattle.row_board.specs.Standings.{AreApart, HasEntered, IsEntered, KeepsOthers, standing_at};
 ghost use Rattle.row_model.specs.Changes.{mirrored, swapped};
@@ -45,47 +45,17 @@ pub fn reach_of(rows: &[Items<Seat>], one: Standing, other: Standing, even: bool
 }
 
 // The first column of the seat at a place, by where the seat before it stands.
-fn left_of(costs: &NetCosts, row: u16, seats: &[Seat], place: usize) -> u64
-    requires within { place ≤ length seats.now }
-    requires before { (k : ℕ) (s : Placed) → k + 1 ≡ place → slice_get seats.now k ≡ Some s → slice_get costs.now.standings s.instance ≡ Some (standing_at costs.now.design row k seats.now s) }
-    ensures is { result ≡ row_width costs.now.design (take place seats.now) }
-    ensures near { result ≤ MOST_KIND_COLUMNS * place }
+fn left_of(costs: &NetCosts, seats: &[Seat], place: usize) -> u64
+    ensures { result ≡ left_of costs.now.design costs.now.standings seats.now place }
 {
     if place == 0 {
         return 0;
     }
-    let before = seats[place - 1].instance;
-    let standing = costs.standing(before);
-    standing.left + u64::from(columns_of(costs.design(), before))
-}
-
-// Enters where the instances of the seats of a row stand that a change moved, the first of which begins in column `left`.
-fn enter_seats(costs: &mut NetCosts, seats: &[Seat], reach: Reach, left: u64)
-    requires apart { AreApart (length costs.old.standings) seats.now }
-    requires short { length seats.now ≤ MOST_INSTANCES }
-    requires low { reach.row < MOST_PLACED_ROWS }
-    requires ordered { reach.from ≤ reach.to }
-    requires within { reach.to ≤ length seats.now }
-    requires left { left ≡ row_width costs.old.design (take reach.from seats.now) }
-    requires near { left ≤ MOST_KIND_COLUMNS * reach.from }
-    ensures rest { costs.new ≡ record costs.old { standings = costs.new.standings } }
-    ensures count { length costs.new.standings ≡ length costs.old.standings }
-    ensures entered { HasEntered costs.old.design reach.row reach.from reach.to seats.now costs.new.standings }
-    ensures others { KeepsOthers reach.from reach.to seats.now costs.old.standings costs.new.standings }
-{
-    let design = costs.design();
-    let mut left = left;
-    for place in reach.from..reach.to {
-        let seat = seats[place];
-        let standing = Standing {
-            row: reach.row,
-            mirror: seat.mirror,
-            place: place as u32,
-            left,
-        };
-        costs.put(seat.instance, standing);
-        left += u64::from(columns_of(design, seat.instance));
-    }
+    let Some(before) = seats.get(place - 1) else {
+        return 0;
+    };
+    let standing = costs.standing(before.instance);
+    standing.left + u64::from(columns_of(costs.design(), before.instance))
 }
 
 /// Enters where the instances of the seats stand that a change moved. The seat before them is entered.
@@ -99,24 +69,20 @@ pub fn enter_reach(costs: &mut NetCosts, rows: &[Items<Seat>], reach: Reach)
     ensures entered { (k : ℕ) → reach.from ≤ k → k < reach.to → IsEntered costs.old.design rows.now costs.new.standings reach.row k }
     ensures kept { (row k : ℕ) → IsEntered costs.old.design rows.now costs.old.standings row k → IsEntered costs.old.design rows.now costs.new.standings row k }
 {
-    // What every design keeps is known by this call.
-    let _design = costs.design();
+    let design = costs.design();
     let seats = row_at(rows, reach.row);
-    let left = left_of(costs, reach.row, seats, reach.from);
-    enter_seats(costs, seats, reach, left);
-}
-
-// Two instances that stand there exchange their places.
-#[tactic(auto, unfolding(row_model::specs::Changes::swapped))]
-fn swap_seats(rows: &mut [Items<Seat>], a: u32, one: Standing, b: u32, other: Standing)
-    requires apart { AreRows rows.old }
-    requires one { IsAt rows.old one.row one.place (record { instance = a; mirror = one.mirror }) }
-    requires other { IsAt rows.old other.row other.place (record { instance = b; mirror = other.mirror }) }
-    ensures swapped { rows.new ≡ swapped a b rows.old }
-    ensures puts { ArePut one.row one.place (record { instance = b; mirror = other.mirror }) other.row other.place (record { instance = a; mirror = one.mirror }) rows.old rows.new }
-{
-    put(rows, one, other.seat(b));
-    put(rows, other, one.seat(a));
+    let mut left = left_of(costs, seats, reach.from);
+    for place in reach.from..reach.to {
+        let seat = seats[place];
+        let standing = Standing {
+            row: reach.row,
+            mirror: seat.mirror,
+            place: place as u32,
+            left,
+        };
+        costs.put(seat.instance, standing);
+        left += u64::from(columns_of(design, seat.instance));
+    }
 }
 
 // Two reaches, the one that begins at the lower place first.
@@ -130,8 +96,8 @@ fn in_order(one: Reach, other: Reach) -> (Reach, Reach)
     }
 }
 
-// Two instances exchange their places, and a table still tells where those before stood: which seats moved, those that begin at the lower place first.
-fn exchange_seats(rows: &mut [Items<Seat>], costs: &NetCosts, a: u32, b: u32) -> (Reach, Reach)
+/// Two instances exchange their places, and a table still tells where those before stood: which seats moved, those that begin at the lower place first.
+pub fn exchange_seats(rows: &mut [Items<Seat>], costs: &NetCosts, a: u32, b: u32) -> (Reach, Reach)
     requires seated { AreSeated costs.now.design rows.old costs.now.standings }
     requires apart { a ≢ b }
     requires a { a < length costs.now.design.instances }
@@ -147,24 +113,9 @@ fn exchange_seats(rows: &mut [Items<Seat>], costs: &NetCosts, a: u32, b: u32) ->
     let even = columns_of(design, a) == columns_of(design, b);
     let reach = reach_of(rows, one, other, even);
     let other_reach = reach_of(rows, other, one, even);
-    swap_seats(rows, a, one, b, other);
+    put(rows, one, other.seat(b));
+    put(rows, other, one.seat(a));
     in_order(reach, other_reach)
-}
-
-/// Two instances exchange their places in rows and in a table of where instances stand.
-pub fn exchange_cells(rows: &mut [Items<Seat>], costs: &mut NetCosts, a: u32, b: u32)
-    requires seated { AreSeated costs.old.design rows.old costs.old.standings }
-    requires apart { a ≢ b }
-    requires a { a < length costs.old.design.instances }
-    requires b { b < length costs.old.design.instances }
-    ensures swapped { rows.new ≡ swapped a b rows.old }
-    ensures exchanged { AreExchanged costs.old.standings a b rows.old rows.new }
-    ensures rest { costs.new ≡ record costs.old { standings = costs.new.standings } }
-    ensures seated { AreSeated costs.old.design rows.new costs.new.standings }
-{
-    let (first, second) = exchange_seats(rows, costs, a, b);
-    enter_reach(costs, rows, first);
-    enter_reach(costs, rows, second);
 }
 
 /// An instance is turned over, and a table still tells how it stood before: which seat changed.

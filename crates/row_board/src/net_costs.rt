@@ -10,7 +10,6 @@ use crate::summed::Summed;
 use crate::weights::Weights;
 use design_model::Design;
 use limits::MOST_PINS;
-use row_model::Seat;
 use std::alloc::{AllocError, Global};
 use std::marker::Model;
 
@@ -77,11 +76,9 @@ fn remeasure(
 impl<'d> NetCosts<'d> {
     ghost use Rattle.design_model.specs.Netlist.{IsNetlist};
     ghost use Rattle.row_board.specs.NetCosts.{Tabled, table_costs};
+    ghost use Rattle.row_board.specs.NetPins.{nets_of};
     ghost use Rattle.row_board.specs.Standings.{standing_of, traded};
-    ghost use Rattle.row_board.specs.Trial.{pins_in};
     ghost use Rattle.row_board.specs.Weights.{AreFew};
-    ghost use Rattle.row_model.specs.declared.rows.Seat.{Seat as Place};
-    ghost use Rattle.std.specs.List.{AllByRecursion};
     ghost use Rattle.std.specs.Prelude.{◌≡◌, ◌<◌, ◌≤◌, ◌*◌, ◌^◌, length, slice_set, sum, IfOk};
 
     /// What the nets of a design cost by this table. The one error is want of memory.
@@ -163,19 +160,10 @@ impl<'d> NetCosts<'d> {
         self.put(b, one.taken_by(other));
     }
 
-    /// The number of pins of the instances of seats. Takes no memory, and steps as the number of seats.
-    pub fn pins_in(&self, seats: &[Seat]) -> u64
-        requires within { AllByRecursion (λ (s : Place). s.instance < length self.now.design.instances) seats.now }
-        requires few { pins_in self.now.design seats.now < 2 ^ 32 }
-        ensures is { result ≡ pins_in self.now.design seats.now }
-        ensures few { result < 2 ^ 32 }
+    /// The number of pins of an instance of the design.
+    pub fn pin_count(&self, instance: u32) -> u64
+        ensures { instance < length self.now.design.instances → result ≡ length (nets_of self.now.design instance) }
     {
-        let mut pins = 0;
-        let mut rest = seats;
-        while let Some((seat, after)) = rest.split_first() {
-            pins += self.nets.of(seat.instance).len() as u64;
-            rest = after;
-        }
-        pins
+        self.nets.of(instance).len() as u64
     }
 }

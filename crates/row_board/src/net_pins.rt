@@ -11,6 +11,7 @@ ghost use Rattle.row_board.specs.NetPins.{
 ghost use Rattle.row_board.specs.Standings.{standing_of};
 ghost use Rattle.std.specs.Prelude.{◌≡◌, ◌<◌, ◌≤◌, IfOk};
 
+use crate::amount::Amount;
 use crate::standings::Standing;
 use crate::weights::Weights;
 use design_model::{Design, Pin};
@@ -108,12 +109,11 @@ fn place_of(standings: &[Standing], pin: NetPin) -> (u64, u64)
 
 /// What a net with these pins costs by a table of where instances stand. Takes no memory, and steps as the number of pins.
 #[tactic(auto, unfolding(crate::specs::NetPins::measured))]
-pub fn measure(pins: &[NetPin], standings: &[Standing], weights: Weights) -> u64
-    ensures is { result ≡ measured weights.row_cost standings.now pins.now }
-    ensures small { result ≤ 2199023255552 }
+pub fn measure(pins: &[NetPin], standings: &[Standing], weights: Weights) -> Amount
+    ensures { result ≡ measured weights.row_cost standings.now pins.now }
 {
     let Some((first, others)) = pins.split_first() else {
-        return 0;
+        return Amount { number: 0 };
     };
     let (column, row) = place_of(standings, *first);
     let mut left = column;
@@ -130,5 +130,7 @@ pub fn measure(pins: &[NetPin], standings: &[Standing], weights: Weights) -> u64
         rest = after;
     }
     let row_cost = weights.row_cost;
-    (right - left) + row_cost * (high - low)
+    Amount {
+        number: (right - left) + row_cost * (high - low),
+    }
 }

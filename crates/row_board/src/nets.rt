@@ -1,3 +1,4 @@
+use crate::amount::Amount;
 use crate::net_pins::{NetPin, instance_nets, measure, net_pins};
 use crate::standings::Standing;
 use crate::weights::Weights;
@@ -58,9 +59,8 @@ impl<'d> Nets<'d> {
     }
 
     /// What a net of the design costs by a table of where instances stand. Takes no memory, and steps as the number of its pins.
-    pub fn cost(&self, net: usize, standings: &[Standing], weights: Weights) -> u64
-        ensures is { net ≤ length self.now.nets → result ≡ cost_by self.now weights standings.now net }
-        ensures small { result ≤ 2199023255552 }
+    pub fn cost(&self, net: usize, standings: &[Standing], weights: Weights) -> Amount
+        ensures { net ≤ length self.now.nets → result ≡ cost_by self.now weights standings.now net }
     {
         measure(self.pins.at(net), standings, weights)
     }

@@ -2,6 +2,7 @@ ghost use Rattle.row_board.specs.Cost.{difference};
 ghost use Rattle.row_model.specs.Widths.{row_width};
 ghost use Rattle.std.specs.Prelude.{◌≡◌, ◌≤◌, length};
 
+use crate::amount::Amount;
 use crate::summed::Summed;
 use design_model::Design;
 use limits::{MOST_INSTANCES, MOST_KIND_COLUMNS, MOST_PLACED_ROWS};
@@ -71,7 +72,9 @@ impl RowLengths {
         let mut rest = rows;
         while let Some((seats, after)) = rest.split_first() {
             let width = row_width(design, seats.items());
-            misses.push(difference(width, target))?;
+            misses.push(Amount {
+                number: difference(width, target),
+            })?;
             widths.push(width)?;
             rest = after;
         }
@@ -92,7 +95,8 @@ impl RowLengths {
         let n = row as usize;
         if n < self.widths.len() {
             let width = (self.widths[n] + u64::from(more)).saturating_sub(u64::from(fewer));
-            self.misses.set(n, difference(width, self.target));
+            let number = difference(width, self.target);
+            self.misses.set(n, Amount { number });
             self.widths[n] = width;
         }
     }

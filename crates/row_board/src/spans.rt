@@ -1,8 +1,9 @@
-use crate::board::{mirror_on_board, swap_on_board};
 use crate::building::standings_of;
+use crate::moving::{enter_reach, exchange_seats, turn_seat};
 use crate::net_costs::NetCosts;
 use crate::row_lengths::RowLengths;
-use crate::trial::{is_too_dear, total_of};
+use crate::seated::Seated;
+use crate::trial::{slack_of, total_of, trial_cost};
 use crate::weights::Weights;
 use design_model::Design;
 use row_model::{PlacedRows, Rows, columns_of};
@@ -81,15 +82,21 @@ impl<'d> Spans<'d> {
         requires b { b < length self.old.design.instances }
         ensures { self.new ≡ record self.old { rows = swapped a b self.old.rows } }
     {
-        if a != b {
-            swap_on_board(
-                self.rows.rows.items_mut(),
-                &mut self.costs,
-                &mut self.lengths,
-                a,
-                b,
-            );
+        let design = self.costs.design();
+        if a == b {
+            return;
         }
+        let one = self.costs.standing(a).row;
+        let other = self.costs.standing(b).row;
+        let width = columns_of(design, a);
+        let other_width = columns_of(design, b);
+        let rows = &mut self.rows;
+        let seats = rows.rows.items_mut();
+        let (first, second) = exchange_seats(seats, &self.costs, a, b);
+        enter_reach(&mut self.costs, seats, first);
+        enter_reach(&mut self.costs, seats, second);
+        self.lengths.change(one, other_width, width);
+        self.lengths.change(other, width, other_width);
     }
 
     /// An instance, by its number, is turned over. Takes no memory.
@@ -97,7 +104,10 @@ impl<'d> Spans<'d> {
         requires { a < length self.old.design.instances }
         ensures { self.new ≡ record self.old { rows = mirrored a self.old.rows } }
     {
-        mirror_on_board(self.rows.rows.items_mut(), &mut self.costs, a);
+        let rows = &mut self.rows;
+        let seats = rows.rows.items_mut();
+        let reach = turn_seat(seats, &self.costs, a);
+        enter_reach(&mut self.costs, seats, reach);
     }
 
     // Whether the rows surely cost more than so much more than before after a swap of two instances, of which one is wider. All stays as it is.
@@ -112,14 +122,16 @@ impl<'d> Spans<'d> {
         if columns_of(design, a) == columns_of(design, b) {
             return false;
         }
-        is_too_dear(
-            &mut self.costs,
-            self.rows.rows.items(),
-            &self.lengths,
-            a,
-            b,
-            most,
-        )
+        let spans = &*self;
+        let before = total_of(&spans.costs, &spans.lengths);
+        let rows = &spans.rows;
+        let seated = Seated {
+            rows: rows.rows.items(),
+            costs: &spans.costs,
+        };
+        let slack = slack_of(&seated, a, b);
+        let trial = trial_cost(&mut self.costs, &self.lengths, a, b);
+        trial.saturating_sub(most).saturating_sub(slack) > before
     }
 
     /// Two instances exchange their places, each with its mirror, exactly where the rows then cost at most so much more than before. Whether

@@ -1,3 +1,4 @@
+use crate::amount::Amount;
 use limits::MOST_PINS;
 use std::alloc::{AllocError, Global};
 use std::marker::Model;
@@ -35,26 +36,24 @@ impl Summed {
     }
 
     /// Puts a number behind the others. The one error is want of memory.
-    pub fn push(&mut self, number: u64) -> Result<(), AllocError>
-        requires small { number ≤ 2199023255552 }
-        requires few { length self.old < MOST_PINS + 1 }
-        ensures put { OnOk result (self.new ≡ self.old ++ number ∷ []) }
+    pub fn push(&mut self, amount: Amount) -> Result<(), AllocError>
+        requires { length self.old < MOST_PINS + 1 }
+        ensures put { OnOk result (self.new ≡ self.old ++ amount ∷ []) }
         ensures kept { OnErr result (self.new ≡ self.old) }
     {
-        self.items.push(number)?;
-        self.sum += number;
+        self.items.push(amount.number)?;
+        self.sum += amount.number;
         Ok(())
     }
 
     /// Puts a number at a place, where there is this place. Takes no memory.
-    pub fn set(&mut self, at: usize, number: u64)
-        requires { number ≤ 2199023255552 }
-        ensures { self.new ≡ slice_set self.old at number }
+    pub fn set(&mut self, at: usize, amount: Amount)
+        ensures { self.new ≡ slice_set self.old at amount }
     {
         if at < self.items.len() {
             self.sum -= self.items[at];
-            self.sum += number;
-            self.items[at] = number;
+            self.sum += amount.number;
+            self.items[at] = amount.number;
         }
     }
 

@@ -1,4 +1,4 @@
-ghost use Rattle.row_board.specs.Board.{AreSeated, IsBoard};
+ghost use Rattle.row_board.specs.Board.{IsBoard};
 ghost use Rattle.row_board.specs.Cost.{cost_of};
 ghost use Rattle.row_board.specs.NetCosts.{Tabled, table_costs};
 ghost use Rattle.row_board.specs.RowLengthsView.{misses_of};
@@ -11,7 +11,9 @@ ghost use Rattle.std.specs.Prelude.{◌≡◌, ◌≢◌, ◌<◌, ◌≤◌, �
 use crate::moving::reach_of;
 use crate::net_costs::NetCosts;
 use crate::row_lengths::{RowLengths, difference};
+use crate::seated::Seated;
 use crate::seats::row_at;
+use crate::stretch::Stretch;
 use geom_core::Items;
 use row_model::{Seat, columns_of};
 
@@ -23,17 +25,17 @@ pub fn total_of(costs: &NetCosts, lengths: &RowLengths) -> u64
     costs.sum() + length_cost * lengths.unevenness()
 }
 
-// What rows cost where two instances take each other's place and no other is shifted. All is as before after that.
-fn trial_cost(costs: &mut NetCosts, lengths: &RowLengths, a: u32, b: u32) -> u64
-    requires apart { a ≢ b }
-    requires a { a < length costs.old.standings }
-    requires b { b < length costs.old.standings }
+/// What rows cost where two instances take each other's place and no other is shifted. All is as before after that.
+pub fn trial_cost(costs: &mut NetCosts, lengths: &RowLengths, a: u32, b: u32) -> u64
     ensures is { result ≡ sum (table_costs costs.old.design costs.old.weights (traded a b costs.old.standings)) + costs.old.weights.length_cost * sum (misses_of lengths.now) }
     ensures same { costs.new ≡ costs.old }
 {
+    let one = costs.standing(a);
+    let other = costs.standing(b);
     costs.trade(a, b);
     let cost = total_of(costs, lengths);
-    costs.trade(a, b);
+    costs.put(a, one);
+    costs.put(b, other);
     cost
 }
 
@@ -46,54 +48,32 @@ fn between(seats: &[Seat], from: usize, to: usize) -> &[Seat]
 }
 
 // The number of pins that shift where an instance exchanges its place with another of another width.
-fn shifted_pins(costs: &NetCosts, rows: &[Items<Seat>], a: u32, b: u32) -> u64
-    requires seated { AreSeated costs.now.design rows.now costs.now.standings }
-    ensures is { result ≡ shifted_pins costs.now.design rows.now (standing_of costs.now.standings a) (standing_of costs.now.standings b) }
+fn shifted_pins(seated: &Seated, a: u32, b: u32) -> u64
+    ensures is { result ≡ shifted_pins seated.now.table.design seated.now.rows (standing_of seated.now.table.standings a) (standing_of seated.now.table.standings b) }
     ensures few { result < 2 ^ 32 }
 {
+    let costs = seated.costs();
+    let rows = seated.rows();
     // What every design keeps is known by this call.
     let _design = costs.design();
     let one = costs.standing(a);
     let other = costs.standing(b);
     let reach = reach_of(rows, one, other, false);
-    costs.pins_in(between(row_at(rows, reach.row), reach.from, reach.to))
+    let seats = between(row_at(rows, reach.row), reach.from, reach.to);
+    let stretch = Stretch { costs, seats };
+    stretch.pin_count()
 }
 
-// By how much rows may cost less after a swap of two instances than where these only take each other's place.
-fn slack_of(costs: &NetCosts, rows: &[Items<Seat>], a: u32, b: u32) -> u64
-    requires seated { AreSeated costs.now.design rows.now costs.now.standings }
-    ensures { result ≡ slack costs.now.design rows.now costs.now.weights costs.now.standings a b }
+/// By how much rows may cost less after a swap of two instances than where these only take each other's place.
+pub fn slack_of(seated: &Seated, a: u32, b: u32) -> u64
+    ensures { result ≡ slack seated.now.table.design seated.now.rows seated.now.table.weights seated.now.table.standings a b }
 {
+    let costs = seated.costs();
     let design = costs.design();
     let width = u64::from(columns_of(design, a));
     let other_width = u64::from(columns_of(design, b));
-    let pins = shifted_pins(costs, rows, a, b);
-    let other_pins = shifted_pins(costs, rows, b, a);
+    let pins = shifted_pins(seated, a, b);
+    let other_pins = shifted_pins(seated, b, a);
     let length_cost = costs.weights().length_cost;
     difference(width, other_width) * (pins + other_pins + 2 * length_cost)
-}
-
-/// Whether rows surely cost more than so much more than before where two instances exchange their places, each with its mirror. All is as
-/// before after that. Takes no memory.
-pub fn is_too_dear(
-    costs: &mut NetCosts,
-    rows: &[Items<Seat>],
-    lengths: &RowLengths,
-    a: u32,
-    b: u32,
-    most: u64,
-) -> bool
-    requires board { IsBoard costs.old.design rows.now costs.old.standings lengths.now }
-    requires apart { a ≢ b }
-    requires a { a < length costs.old.design.instances }
-    requires b { b < length costs.old.design.instances }
-    ensures dear { OnTrue result (cost_of costs.old.design rows.now costs.old.weights + most < cost_of costs.old.design (swapped a b rows.now) costs.old.weights) }
-    ensures same { costs.new ≡ costs.old }
-{
-    // What every design keeps is known by this call.
-    let _design = costs.design();
-    let before = total_of(costs, lengths);
-    let slack = slack_of(costs, rows, a, b);
-    let trial = trial_cost(costs, lengths, a, b);
-    trial.saturating_sub(most).saturating_sub(slack) > before
 }

@@ -14,8 +14,8 @@ use Rattle.row_board.proofs.row_lengths.RowLengths.change.Goals as goal
 pub invariant_of-self : goal.invariant_of-self
 invariant_of-self c = record {
   misses = c.set.ensures
-      ∙ ap (λ (l : List ℕ). set l c.args.row c.difference.result) c.self.invariant.misses
-      ∙ ap (λ (n : ℕ). set (map (λ (width : ℕ). difference width c.self.inside.target) c.self.inside.widths.items) c.args.row n) c.difference.ensures
+      ∙ ap (λ (l : List ℕ). set l c.args.row c.difference-number.result) c.self.invariant.misses
+      ∙ ap (λ (n : ℕ). set (map (λ (width : ℕ). difference width c.self.inside.target) c.self.inside.widths.items) c.args.row n) c.difference-number.ensures
       ∙ sym (map-set (λ (width : ℕ). difference width c.self.inside.target) c.self.inside.widths.items c.args.row c.saturating_sub-width.result);
   low = c.self.invariant.low;
   few = omega (arith, c.self.invariant.few, length-set c.self.inside.widths.items c.args.row c.saturating_sub-width.result);

@@ -1,18 +1,85 @@
-use Rattle.std.proofs.Common.{List, length, ap, sym, ◌∙◌, subst}
-use Rattle.row_model.specs.Rows.{AreRows}
+use Rattle.std.proofs.Common.{◌≡◌, ◌<◌, ℕ, List, length, ap, sym, ◌∙◌, subst, arith}
+use Rattle.design_model.specs.Netlist.{Netlist}
+use Rattle.row_board.specs.Moving.{AreExchanged}
+use Rattle.row_board.specs.NetCosts.{Tabled}
+use Rattle.row_board.specs.RowLengths.{Lengths}
+use Rattle.row_board.specs.Spot.{Spot}
+use Rattle.row_board.specs.Standings.{IsEntered}
 use Rattle.row_board.specs.WeighedRows.{WeighedRows}
+use Rattle.row_model.specs.Changes.{swapped}
+use Rattle.row_model.specs.Rows.{ArePlaced, AreRows}
+use Rattle.row_model.specs.Widths.{columns_of}
 use Rattle.row_model.specs.declared.rows.Seat.{Seat}
 use Rattle.row_model.proofs.ChangeLaws.{overwritten-same}
 use Rattle.row_model.proofs.PlacedLaws.{placed-distinct}
 use Rattle.row_model.proofs.TwiceLaws.{swap-same}
+use Rattle.row_board.proofs.ReachLaws.{all-entered, before-second}
+use Rattle.row_board.proofs.SpansLaws.{spans-kept}
+use Rattle.row_board.proofs.BoardLaws.{lengths-changed, lengths-few, lengths-swapped}
 use Rattle.row_board.proofs.spans.Spans.swap.Goals as goal
 
-pub invariant_of-self-inside : goal.invariant_of-self-inside
-invariant_of-self-inside c =
-    subst AreRows (sym (overwritten-same c.swap_on_board.new.rows _ (c.swap_on_board.auto.rows ∙ ap length c.items_mut.ensures.value)))
-    (placed-distinct _ _ c.swap_on_board.ensures.board.seated.placed)
+pub change-requires-clause-small : goal.change-requires-clause-small
+change-requires-clause-small c = λ width at.
+    let i = c.self.inside in
+    let few = lengths-few i.costs.design i.rows i.lengths.widths c.self.invariant.good c.self.invariant.board.seated.placed
+    (ap (λ (l : Lengths). l.widths) c.self.invariant.board.are_lengths) c.one.inside.row width at in
+    omega (arith, few)
 
-pub returns-else-a-b : goal.returns-else-a-b
-returns-else-a-b c =
+pub change-requires-2-clause-small : goal.change-requires-2-clause-small
+change-requires-2-clause-small c =
+    let i = c.self.inside in
+    lengths-changed i.costs.design i.rows i.lengths.widths c.change.new.self.widths c.one.inside.row c.columns_of-other_width.result c.columns_of-width.result
+    c.self.invariant.good c.self.invariant.board.seated.placed (ap (λ (l : Lengths). l.widths) c.self.invariant.board.are_lengths) c.columns_of-other_width.ensures.few c.change.ensures.widths
+    c.other.inside.row
+
+pub enter_reach-requires-2-clause-placed : goal.enter_reach-requires-2-clause-placed
+enter_reach-requires-2-clause-placed c = subst (λ (t : Tabled). ArePlaced t.design c.exchange_seats.new.rows) (sym c.enter_reach.ensures.rest) c.exchange_seats.ensures.placed
+
+pub enter_reach-requires-2-clause-before : goal.enter_reach-requires-2-clause-before
+enter_reach-requires-2-clause-before c = λ k is.
+    subst (λ (t : Tabled). IsEntered t.design c.exchange_seats.new.rows c.enter_reach.new.costs.standings c.exchange_seats.result.1.row k) (sym c.enter_reach.ensures.rest)
+    (before-second c.self.inside.costs.design c.exchange_seats.new.rows c.self.inside.costs.standings c.enter_reach.new.costs.standings c.exchange_seats.result.0 c.exchange_seats.result.1
+    c.exchange_seats.ensures.unmoved c.enter_reach.ensures.entered c.enter_reach.ensures.kept k is)
+
+pub invariant_of-rows : goal.invariant_of-rows
+invariant_of-rows c =
+    subst AreRows (sym (overwritten-same c.exchange_seats.new.rows _ (c.exchange_seats.auto.rows ∙ ap length c.items_mut-seats.ensures.value)))
+    (placed-distinct _ _ c.exchange_seats.ensures.placed)
+
+pub invariant_of-self : goal.invariant_of-self
+invariant_of-self c =
+    let i = c.self.inside in
+    let d = i.costs.design in
+    let board = c.self.invariant.board in
+    let rows = c.exchange_seats.new.rows in
+    let exchanged = c.exchange_seats.ensures in
+    let once = c.enter_reach.new.costs in
+    let new = c.enter_reach-2.new.costs in
+    let same : once.design ≡ d = ap (λ (t : Tabled). t.design) c.enter_reach.ensures.rest in
+    let rest = c.enter_reach-2.ensures.rest ∙ ap (λ (t : Tabled). record t { standings = new.standings }) c.enter_reach.ensures.rest in
+    let old = c.items_mut-seats.ensures.value ∙ c.rows.view_is in
+    let width : (n i : ℕ) → n ≡ columns_of c.design-design.result.now i → n ≡ columns_of d i = λ n i is. is ∙ ap (λ (d : Netlist). columns_of d i) c.design-design.ensures.is in
+    let within = λ (n : ℕ) (is : n < length c.args.self.now.design.instances). subst (λ (v : WeighedRows). n < length v.design.instances) (sym c.self.view_is) is in
+    spans-kept i c.self.invariant rows _ (overwritten-same rows _ (c.exchange_seats.auto.rows ∙ ap length c.items_mut-seats.ensures.value)) new rest c.change-2.new.self
+    (record {
+      seated = record {
+        placed = exchanged.placed;
+        count = c.enter_reach-2.ensures.count ∙ c.enter_reach.ensures.count ∙ board.seated.count;
+        entered = all-entered d rows i.costs.standings once.standings new.standings c.exchange_seats.result.0 c.exchange_seats.result.1 exchanged.unmoved c.enter_reach.ensures.entered c.enter_reach.ensures.kept
+            (λ k low high. subst (λ (d : Netlist). IsEntered d rows new.standings c.exchange_seats.result.1.row k) same (c.enter_reach-2.ensures.entered k low high))
+            (λ r k was. subst (λ (d : Netlist). IsEntered d rows new.standings r k) same
+            (c.enter_reach-2.ensures.kept r k (subst (λ (d : Netlist). IsEntered d rows once.standings r k) (sym same) was)));
+      };
+      are_lengths = lengths-swapped d i.rows rows i.costs.standings c.args.a c.args.b c.one.inside.row c.other.inside.row
+          c.columns_of-width.result c.columns_of-other_width.result i.lengths c.change.new.self c.change-2.new.self c.self.invariant.good board.seated c.if-a-b.false
+          (within c.args.a c.requires.a) (within c.args.b c.requires.b) (exchanged.swapped ∙ ap (swapped c.args.a c.args.b) old)
+          (subst (λ (l : List (List Seat)). AreExchanged i.costs.standings c.args.a c.args.b l rows) old exchanged.exchanged)
+          (ap (λ (s : Spot). s.row) (c.one.view_is ∙ c.standing.ensures)) (ap (λ (s : Spot). s.row) (c.other.view_is ∙ c.standing-2.ensures))
+          (width _ _ c.columns_of-width.ensures.width) (width _ _ c.columns_of-other_width.ensures.width)
+          board.are_lengths c.change.ensures.widths c.change.ensures.target c.change-2.ensures.widths c.change-2.ensures.target;
+    })
+
+pub returns-then-a-b : goal.returns-then-a-b
+returns-then-a-b c =
     ap (λ (l : List (List Seat)). record { design = c.args.self.now.design; rows = l; weights = c.args.self.now.weights }) (sym (swap-same c.args.self.now.rows c.args.a c.args.b
-    (subst (λ (v : WeighedRows). AreRows v.rows) c.self.view_is (placed-distinct c.self.inside.costs.design c.self.inside.rows c.self.invariant.board.seated.placed)) c.if-a-b.false))
+    (subst (λ (v : WeighedRows). AreRows v.rows) c.self.view_is (placed-distinct c.self.inside.costs.design c.self.inside.rows c.self.invariant.board.seated.placed)) c.if-a-b.true))

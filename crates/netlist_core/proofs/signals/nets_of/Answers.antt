@@ -1,6 +1,0 @@
-use Rattle.std.proofs.Common.{arith}
-use Rattle.std.proofs.lemmas.Grind.{common_steps}
-use Rattle.netlist_core.proofs.signals.nets_of.Goals as goal
-
-pub loop-signal-preserved : goal.loop-signal-preserved
-loop-signal-preserved c = grind (arith, common_steps)

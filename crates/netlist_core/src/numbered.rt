@@ -1,0 +1,37 @@
+use std::marker::Model;
+use yal_reader::Module;
+
+/// A module with its number in the file, which contracts see as a pair.
+#[derive(Drop)]
+pub struct Numbered<'a> {
+    pub number: u32,
+    pub module: &'a Module,
+}
+
+impl<'a> Model for Numbered<'a> {
+    ghost use Rattle.std.specs.Prelude.{ℕ};
+    ghost use Rattle.yal_reader.specs.declared.file.Module.{Module};
+
+    ghost Value = { ℕ × Module };
+
+    ghost use Rattle.netlist_core.specs.NumberedView.{numbered, IsNumbered};
+
+    ghost view = { numbered };
+
+    ghost invariant = { IsNumbered };
+}
+
+impl<'a> Numbered<'a> {
+    ghost use Rattle.std.specs.List.{AllByRecursion};
+    ghost use Rattle.std.specs.Prelude.{◌≡◌};
+    ghost use Rattle.yal_reader.specs.Kept.{IsNear};
+
+    /// The corners of the module, as the numbers of the text.
+    pub fn corners(&self) -> &'a [i64]
+        ensures is { result.now ≡ self.now.1.corners }
+        ensures near { AllByRecursion IsNear result.now }
+    {
+        let module = self.module;
+        module.corners.items()
+    }
+}
