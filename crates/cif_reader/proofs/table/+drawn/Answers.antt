@@ -18,8 +18,8 @@ drawn-requires t c =
     let shorter : length (take c.in-Copied.of c.args.table.now) ≡ c.in-Copied.of = length-take-le c.in-Copied.of c.args.table.now (omega arith) in
     (omega arith, (there.front, subst (AllByRecursion (IsItem (length (take c.in-Copied.of c.args.table.now)))) same there.items))
 
-pub push_moved-requires-clause-shapes : goal.push_moved-requires-clause-shapes
-push_moved-requires-clause-shapes t c =
+pub push_moved-requires : goal.push_moved-requires
+push_moved-requires t c =
     let first : c.loop-item.rest.now ≡ items.Copied c.in-Copied.of c.in-Copied.turn ∷ c.in-Some.after.now =
     c.in-Some.ensures.cases.0 ∙ ap (λ (i : Item). i ∷ c.in-Some.after.now) c.in-Copied.is in
     let there = copied-first c.args.table.now c.loop-item.rest.now c.in-Some.after.now c.in-Copied.of c.in-Copied.turn c.index-table-of.result c.requires.table c.loop-item.invariant.items first c.index-table-of.is in
