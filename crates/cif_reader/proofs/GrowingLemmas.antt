@@ -176,35 +176,6 @@ above-ok depth given is = by (nat_lt deepest (suc depth)) refl is
     by true test is = cc
     by false test is = (cc, grind (arith, nat_tests))
 
-none-of : {A : Type 0} (xs : List A) → length xs ≡ 0 → xs ≡ []
-none-of [] h = refl
-none-of (x ∷ xs) h = absurd (omega arith)
-
--- a copy of a symbol without shapes
-empty-grows : (t : Tabled) (place : ℕ) (turn : Turning) (kept old : Kept) (depth : ℕ) → IsKeptAt t place kept → kept.count ≡ 0
-    → depth ≡ suc kept.depth → IsKeptBehind t.symbols old → suc kept.depth ≤ deepest
-    → Grows t.symbols old (record old { depth = max old.depth depth }) (moved_shapes turn (symbol_at t.symbols place).shapes) depth
-empty-grows t place turn kept old depth there none depth_is is deep =
-    let shapes : List Shape = (symbol_at t.symbols place).shapes in
-    let nothing : shapes ≡ [] = none-of shapes (there.count ∙ none) in
-    let old_deep : old.depth ≤ deepest = is.deep in
-    record {
-      number = refl;
-      name = refl;
-      drawn = sym (append-nil (items_drawn t.symbols old.items.items))
-          ∙ ap (λ (ss : List Shape). items_drawn t.symbols old.items.items ++ moved_shapes turn ss) (sym nothing);
-      depth_is = refl;
-      is = record {
-        items = is.items;
-        count = is.count;
-        few = is.few;
-        near = is.near;
-        around = is.around;
-        reach = reach-most old.depth (max old.depth depth) old.bounds (omega arith) is.reach;
-        deep = omega arith;
-      };
-    }
-
 -- a call inside a definition, by the depth of its symbol
 abbrev pub call_drawn : Tabled → Kept → ℕ → Option Turning → Result ((Symbol × Turning) × ℕ) ExpandKind
 call_drawn t old n turn = call_inside n (length (items_drawn t.symbols old.items.items)) t.symbols t.depths turn
@@ -226,14 +197,6 @@ copied-behind t n called place turn kept old new depth call is deep near has =
     let above = above-ok kept.depth depth (sym deep) in
     rw (call-inside t n called place turn kept old (Ok depth) call is deep)
     (copy-grows t n old.count called place turn kept old new depth call refl near has above.0 is above.1)
-
-pub empty-behind : (t : Tabled) (n : ℕ) (called : Option Turning) (place : ℕ) (turn : Turning) (kept old new : Kept) (depth : ℕ)
-    → IsCalled t n old.count called place turn kept → IsKeptBehind t.symbols old → Ok depth ≡ depth_above kept.depth → kept.count ≡ 0
-    → new ≡ record old { depth = max old.depth depth }
-    → IsOkAnd (call_drawn t old n called) (λ call. Grows t.symbols old new (moved_shapes call.0.1 call.0.0.shapes) call.1)
-empty-behind t n called place turn kept old new depth call is deep none new_is =
-    let above = above-ok kept.depth depth (sym deep) in
-    rw (call-inside t n called place turn kept old (Ok depth) call is deep, new_is) (empty-grows t place turn kept old depth call.kept_is none above.0 is above.1)
 
 -- what is kept of a symbol behind a box
 pub boxed-behind : (symbols : List Symbol) (layer : Option (List ℕ)) (sides : Option Extent) (shape : Shape) (old new : Kept) → Ok shape ≡ boxed layer old.count sides

@@ -28,3 +28,5 @@ pub mod Standing
 pub mod Behind
 -- how commands are expanded
 pub mod Expanding
+-- sound commands
+pub mod SoundCommands

@@ -1,10 +1,10 @@
 ghost use Rattle.cif_reader.specs.Levels.{given_inside};
 ghost use Rattle.cif_reader.specs.Refusals.{Takes};
 ghost use Rattle.cif_reader.specs.Standing.{IsInsideBehind, IsOpen, definition_seen};
-ghost use Rattle.cif_text.specs.Sound.{IsSound};
 ghost use Rattle.cif_text.specs.Symbols.{Symbol};
 ghost use Rattle.std.specs.Prelude.{◌≡◌, ℕ, List, OnOk};
 
+use crate::drawing_command::DrawingCommand;
 use crate::growing::{push_box, push_call};
 use crate::refusal::Refusal;
 use crate::scales::Scale;
@@ -58,14 +58,13 @@ pub fn step_inside(
     alloc: Global,
     table: &SymbolTable,
     definition: &mut Open,
-    command: &Command,
+    command: DrawingCommand,
 ) -> Result<(), Refusal>
-    requires { IsSound command.now }
     ensures { IsOpen table.now.symbols definition.old → Takes result
-        (given_inside table.now.symbols table.now.depths (definition_seen table.now.symbols definition.old) command.now)
+        (given_inside table.now.symbols table.now.depths (definition_seen table.now.symbols definition.old) command.entry.command.now)
         (IsInsideBehind table.now.symbols definition.old definition.new) }
 {
-    match command {
+    match command.command {
         Command::Box {
             length,
             width,

@@ -7,6 +7,7 @@
 
 mod bounds;
 mod calls;
+mod drawing_command;
 mod expanding;
 mod fault;
 mod found;

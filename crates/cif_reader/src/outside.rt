@@ -2,12 +2,12 @@ ghost use Rattle.cif_reader.specs.Levels.{boxed, call_of, cells_given, given_out
 ghost use Rattle.cif_reader.specs.Refusals.{Gives, Takes};
 ghost use Rattle.cif_reader.specs.Standing.{IsDrawn, IsOutsideBehind, call_outside, main_seen};
 ghost use Rattle.cif_reader.specs.Table.{symbol_at};
-ghost use Rattle.cif_text.specs.Sound.{IsSound};
 ghost use Rattle.cif_text.specs.Symbols.{Symbol, moved_shapes};
 ghost use Rattle.std.specs.Option.{option_to_list};
 ghost use Rattle.std.specs.Prelude.{◌≡◌, ◌∷◌, [], length, max, ℕ, List, IfOk, OnOk, ◌++◌};
 
 use crate::calls::{Call, called, depth_above};
+use crate::drawing_command::DrawingCommand;
 use crate::fault::ExpandKind;
 use crate::limit_passing::boxed;
 use crate::near_turn::NearTurn;
@@ -188,13 +188,12 @@ pub fn step_outside(
     alloc: Global,
     table: &SymbolTable,
     main: &mut Main,
-    command: &Command,
+    command: DrawingCommand,
 ) -> Result<(), Refusal>
-    requires { IsSound command.now }
-    ensures { Takes result (given_outside table.now.depths (main_seen table.now.symbols main.old) command.now)
+    ensures { Takes result (given_outside table.now.depths (main_seen table.now.symbols main.old) command.entry.command.now)
         (IsOutsideBehind table.now.symbols main.old main.new) }
 {
-    match command {
+    match command.command {
         Command::Box {
             length,
             width,

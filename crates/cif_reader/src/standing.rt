@@ -1,12 +1,12 @@
 ghost use Rattle.cif_reader.specs.Behind.{IsBehind, IsFinished, IsOpened, IsStanding, seen};
 ghost use Rattle.cif_reader.specs.Expansion.{advance, at_first};
-ghost use Rattle.cif_reader.specs.Levels.{is_drawing};
 ghost use Rattle.cif_reader.specs.Refusals.{Takes};
 ghost use Rattle.cif_reader.specs.Table.{IsKeptBehind};
 ghost use Rattle.cif_text.specs.CifReads.{is_open_behind};
-ghost use Rattle.cif_text.specs.Sound.{IsSound, IsInPlace};
+ghost use Rattle.cif_text.specs.Sound.{IsInPlace};
 ghost use Rattle.std.specs.Prelude.{◌≡◌, true, false, is_some, OnOk};
 
+use crate::drawing_command::DrawingCommand;
 use crate::fault::ExpandKind;
 use crate::found::Found;
 use crate::inside::{Open, step_inside};
@@ -100,11 +100,13 @@ fn step_start(alloc: Global, standing: &mut Standing, n: u64, scale: Scale) -> R
     }
 }
 
-fn step_drawing(alloc: Global, standing: &mut Standing, command: &Command) -> Result<(), Refusal>
-    requires is { IsStanding standing.old }
-    requires sound { IsSound command.now }
-    requires drawing { is_drawing command.now ≡ true }
-    ensures { Takes result (advance (seen standing.old) command.now) (IsBehind standing.new (is_some standing.old.definition)) }
+fn step_drawing(
+    alloc: Global,
+    standing: &mut Standing,
+    command: DrawingCommand,
+) -> Result<(), Refusal>
+    requires { IsStanding standing.old }
+    ensures { Takes result (advance (seen standing.old) command.entry.command.now) (IsBehind standing.new (is_some standing.old.definition)) }
 {
     match &mut standing.definition {
         Some(definition) => step_inside(alloc, &standing.table, definition, command),
@@ -122,6 +124,6 @@ pub fn step(alloc: Global, standing: &mut Standing, command: &Command) -> Result
     match command {
         Command::Start { n, a, b } => step_start(alloc, standing, *n, Scale { a: *a, b: *b }),
         Command::Finish => step_finish(standing),
-        _ => step_drawing(alloc, standing, command),
+        _ => step_drawing(alloc, standing, DrawingCommand { command }),
     }
 }
