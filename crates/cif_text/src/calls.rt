@@ -64,7 +64,7 @@ fn step_at(letter: u8, bytes: &[u8]) -> Result<(Step, &[u8]), Misfit>
 /// What a step does behind others, where none of their directions was at fault.
 fn followed(so_far: Result<Transform, CifKind>, step: Step) -> Result<Transform, CifKind>
     requires near { IsNearStep step }
-    requires reach { IfOk so_far (IsWithin (2 ^ 120)) }
+    requires reach { IfOk so_far (IsWithin (2 ^ 119)) }
     ensures is { result ≡ followed so_far (step_seen step) }
     ensures within { (most : ℕ) → IfOk so_far (IsWithin most) → IfOk result (IsWithin (most + greatest)) }
 {
@@ -88,10 +88,16 @@ fn moves_at(bytes: &[u8]) -> Result<Result<Transform, CifKind>, Misfit>
     Ok(whole)
 }
 
+/// The number of a symbol.
+#[derive(Clone, Copy)]
+struct SymbolNumber {
+    value: u64,
+    ghost near: { value ≤ greatest },
+}
+
 /// The call of a symbol, where its whole offset has the magnitude of a number.
-fn call_of(n: u64, t: Transform) -> Result<Command, CifKind>
-    requires { n ≤ greatest }
-    ensures is { result ≡ call_of n t }
+fn call_of(n: SymbolNumber, t: Transform) -> Result<Command, CifKind>
+    ensures is { result ≡ call_of n.value t }
     ensures sound { IfOk result IsFormed }
 {
     if t.dx.unsigned_abs() > u128::from(MOST_NUMBER)
@@ -100,7 +106,7 @@ fn call_of(n: u64, t: Transform) -> Result<Command, CifKind>
         return Err(CifKind::Number);
     }
     Ok(Command::Call {
-        n,
+        n: n.value,
         flip: t.flip,
         quarters: t.quarters,
         dx: t.dx as i64,
@@ -109,9 +115,8 @@ fn call_of(n: u64, t: Transform) -> Result<Command, CifKind>
 }
 
 /// The call of a symbol under what its steps do together.
-fn call_under(n: u64, whole: Result<Transform, CifKind>) -> Result<Command, CifKind>
-    requires { n ≤ greatest }
-    ensures is { result ≡ call_under n whole }
+fn call_under(n: SymbolNumber, whole: Result<Transform, CifKind>) -> Result<Command, CifKind>
+    ensures is { result ≡ call_under n.value whole }
     ensures sound { IfOk result IsFormed }
 {
     match whole {
@@ -127,5 +132,5 @@ pub fn call_form(body: &[u8]) -> Form
 {
     let (n, rest) = natural_at(after_separators(body))?;
     let whole = moves_at(after_blanks(rest))?;
-    Ok(call_under(n, whole))
+    Ok(call_under(SymbolNumber { value: n }, whole))
 }

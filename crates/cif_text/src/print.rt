@@ -4,6 +4,7 @@ ghost use Rattle.std.specs.Fmt.{signed_decimal};
 ghost use Rattle.std.specs.Prelude.{◌≡◌, ◌+◌, ◌≤◌, ◌++◌, ◌∷◌, [], length, take, decimal};
 
 use crate::command::Command;
+use geom_core::LayerName;
 use itoa::Buffer;
 
 /// Writes the command's line to the front of `into`, and gives the length of the line. Takes no memory.
@@ -22,7 +23,7 @@ pub fn print_command(command: &Command, into: &mut [u8; 160]) -> usize
             cy,
             upright,
         } => print_box(*length, *width, *cx, *cy, *upright, into),
-        Command::Layer(layer) => print_layer(layer.text(), into),
+        Command::Layer(layer) => print_layer(layer, into),
         Command::Start { n, a, b } => print_start(*n, *a, *b, into),
         Command::Finish => put(into, 0, b"DF;\n"),
         Command::Call {
@@ -58,13 +59,12 @@ fn print_box(
     put(into, end, b";\n")
 }
 
-fn print_layer(text: &[u8], into: &mut [u8; 160]) -> usize
-    requires { length text.now ≤ 4 }
-    ensures line { take result into.new ≡ line (commands.Layer text.now) }
+fn print_layer(layer: &LayerName, into: &mut [u8; 160]) -> usize
+    ensures line { take result into.new ≡ line (commands.Layer layer.now) }
     ensures fits { result ≤ 160 }
 {
     let end = put(into, 0, b"L ");
-    let end = put(into, end, text);
+    let end = put(into, end, layer.text());
     put(into, end, b";\n")
 }
 
@@ -80,7 +80,6 @@ fn print_start(n: u64, a: u64, b: u64, into: &mut [u8; 160]) -> usize
 }
 
 fn print_call(n: u64, flip: bool, quarters: u8, dx: i64, dy: i64, into: &mut [u8; 160]) -> usize
-    requires { quarters ≤ 3 }
     ensures line { take result into.new ≡ line (commands.Call n flip quarters dx dy) }
     ensures fits { result ≤ 160 }
 {
@@ -111,8 +110,7 @@ fn put_flip(into: &mut [u8; 160], at: usize, flip: bool) -> usize
 }
 
 fn put_quarters(into: &mut [u8; 160], at: usize, quarters: u8) -> usize
-    requires few { quarters ≤ 3 }
-    requires room { at + 7 ≤ 160 }
+    requires { at + 7 ≤ 160 }
     ensures text { take result into.new ≡ take at into.old ++ blanked (quarter_parts quarters []) }
     ensures short { result ≤ at + 7 }
 {

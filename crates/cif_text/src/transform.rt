@@ -32,14 +32,14 @@ pub struct Transform {
 }
 
 impl Model for Transform {
-    ghost use Rattle.std.specs.Prelude.{◌<◌};
+    ghost use Rattle.std.specs.Prelude.{◌<◌, ◌≤◌, ◌^◌, nat_abs};
     ghost use Rattle.geom_core.specs.Turning.{Turning};
 
     ghost Value = { Turning };
 
     ghost view = { λ t. record { flip = t.flip; quarters = t.quarters; dx = t.dx; dy = t.dy } };
 
-    ghost invariant = { λ t. t.quarters < 4 };
+    ghost invariant = { λ t. (t.quarters < 4) × (nat_abs t.dx ≤ 2 ^ 120) × (nat_abs t.dy ≤ 2 ^ 120) };
 
     ghost inverse = { λ t. record { flip = t.flip; quarters = t.quarters; dx = t.dx; dy = t.dy } };
 }
@@ -57,7 +57,6 @@ pub fn at_rest() -> Transform
 }
 
 fn mirrored(t: Transform) -> Transform
-    requires { IsWithin (2 ^ 120) t }
     ensures is { result ≡ mirrored t }
     ensures within { (most : ℕ) → IsWithin most t → IsWithin most result }
 {
@@ -70,7 +69,6 @@ fn mirrored(t: Transform) -> Transform
 }
 
 fn quarter_turned(t: Transform) -> Transform
-    requires { IsWithin (2 ^ 120) t }
     ensures is { result ≡ quarter_turned t }
     ensures within { (most : ℕ) → IsWithin most t → IsWithin most result }
 {
@@ -83,8 +81,7 @@ fn quarter_turned(t: Transform) -> Transform
 }
 
 fn turned(quarters: u8, t: Transform) -> Transform
-    requires few { quarters < 4 }
-    requires reach { IsWithin (2 ^ 120) t }
+    requires { quarters < 4 }
     ensures is { result ≡ turned quarters t }
     ensures within { (most : ℕ) → IsWithin most t → IsWithin most result }
 {
@@ -99,7 +96,7 @@ fn turned(quarters: u8, t: Transform) -> Transform
 #[tactic(auto, using(std::proofs::lemmas::Int::ints))]
 fn plus(a: i128, b: i64) -> i128
     requires near { IsNear b }
-    requires reach { nat_abs a ≤ 2 ^ 120 }
+    requires reach { nat_abs a ≤ 2 ^ 119 }
     ensures is { result ≡ a +ℤ b }
     ensures within { (most : ℕ) → nat_abs a ≤ most → nat_abs result ≤ most + greatest }
 {
@@ -109,7 +106,7 @@ fn plus(a: i128, b: i64) -> i128
 fn translated(x: i64, y: i64, t: Transform) -> Transform
     requires across { IsNear x }
     requires up { IsNear y }
-    requires reach { IsWithin (2 ^ 120) t }
+    requires reach { IsWithin (2 ^ 119) t }
     ensures is { result ≡ translated x y t }
     ensures within { (most : ℕ) → IsWithin most t → IsWithin (most + greatest) result }
 {
@@ -124,7 +121,7 @@ fn translated(x: i64, y: i64, t: Transform) -> Transform
 /// What a step does behind others; Turned where it has a direction that is not along an axis.
 pub fn after(step: Step, t: Transform) -> Result<Transform, CifKind>
     requires near { IsNearStep step }
-    requires reach { IsWithin (2 ^ 120) t }
+    requires reach { IsWithin (2 ^ 119) t }
     ensures is { result ≡ after (step_seen step) t }
     ensures within { (most : ℕ) → IsWithin most t → IfOk result (IsWithin (most + greatest)) }
 {
