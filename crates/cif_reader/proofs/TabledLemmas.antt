@@ -4,6 +4,7 @@ use Rattle.std.specs.BTreeMap.{get}
 use Rattle.std.specs.Ordering.{nat_cmp}
 use Rattle.cif_text.specs.Symbols.{Symbol, symbol_of}
 use Rattle.cif_reader.specs.declared.symbol_table.SymbolTable.TheInside.{Inside}
+use Rattle.cif_reader.specs.declared.table.Item.{Item}
 use Rattle.cif_reader.specs.declared.table.Kept.{Kept}
 use Rattle.cif_reader.specs.Places.{IsEntered}
 use Rattle.cif_reader.specs.SymbolTables.{tabled_in, AreTabled}
@@ -12,7 +13,7 @@ use Rattle.cif_reader.specs.Tabled.{Tabled, table_with, IsPlaceOf, IsKeptAt}
 use Rattle.cif_reader.proofs.CallLemmas.{shapes-at}
 use Rattle.cif_reader.proofs.PlaceLemmas.{no-symbol, place-of}
 use Rattle.cif_reader.proofs.PlacesLaws.{no-places, places-push}
-use Rattle.cif_reader.proofs.TableLemmas.{IsCopied, behind-length, behind-push, kept-push, copied-at}
+use Rattle.cif_reader.proofs.TableLemmas.{AreCopied, copied-items, behind-length, behind-push, kept-push, copied-at}
 
 -- a table without symbols
 pub none-tabled : (t : Inside) → t.kept.items ≡ [] → t.places.entries ≡ [] → AreTabled t × (tabled_in t ≡ record { symbols = []; depths = [] })
@@ -73,21 +74,21 @@ place-below inside t place is below =
     let count : length (symbols_behind [] inside.kept.items) ≡ length inside.kept.items = length-symbols inside.kept.items in
     omega arith
 
-pub copied-there : (inside : Inside) (t : Tabled) (place : ℕ) (kept : Kept) → AreTabled inside → tabled_in inside ≡ t → place < length t.symbols
-    → kept ≡ get_or inside.kept.items place kept → IsCopied inside.kept.items place kept
-copied-there inside t place kept are is below at = copied-at inside.kept.items place kept are.kept (place-below inside t place is below) at
+pub copied-there : (inside : Inside) (t : Tabled) (place : ℕ) (kept : Kept) (copied : List Item) → AreTabled inside → tabled_in inside ≡ t → place < length t.symbols
+    → kept ≡ get_or inside.kept.items place kept → copied ≡ kept.items.items → AreCopied inside.kept.items place copied
+copied-there inside t place kept copied are is below at copied_is =
+    copied-items inside.kept.items place kept copied are.kept (place-below inside t place is below) at copied_is
 
 -- the shapes of the symbol there
-pub shapes-there : (inside : Inside) (t : Tabled) (place : ℕ) (kept : Kept) → tabled_in inside ≡ t → IsCopied inside.kept.items place kept
-    → (symbol_at t.symbols place).shapes ≡ items_drawn (symbols_behind [] (take place inside.kept.items)) kept.items.items
-shapes-there inside t place kept is there =
-    ap (λ (u : Tabled). (symbol_at u.symbols place).shapes) (sym is) ∙ shapes-at inside.kept.items place kept there
+pub shapes-there : (inside : Inside) (t : Tabled) (place : ℕ) (copied : List Item) → tabled_in inside ≡ t → AreCopied inside.kept.items place copied
+    → items_drawn (symbols_behind [] (take place inside.kept.items)) copied ≡ (symbol_at t.symbols place).shapes
+shapes-there inside t place copied is there = sym there.shapes ∙ ap (λ (u : Tabled). (symbol_at u.symbols place).shapes) is
 
 -- what is kept of the symbol there
 pub kept-there : (inside : Inside) (t : Tabled) (place : ℕ) (kept : Kept) → AreTabled inside → tabled_in inside ≡ t → place < length t.symbols
     → kept ≡ get_or inside.kept.items place kept → IsKeptAt t place kept
 kept-there inside t place kept are is below at =
-    let there = copied-there inside t place kept are is below at in
+    let there = copied-at inside.kept.items place kept are.kept (place-below inside t place is below) at in
     let shapes : (symbol_at (symbols_behind [] inside.kept.items) place).shapes ≡ items_drawn (symbols_behind [] (take place inside.kept.items)) kept.items.items =
     shapes-at inside.kept.items place kept there in
     subst (λ (u : Tabled). IsKeptAt u place kept) is (record {
