@@ -11,6 +11,13 @@ use crate::bytes::{
 use crate::stop::Misfit;
 use limits::MOST_NUMBER;
 
+/// A number that can be read.
+#[derive(Clone, Copy, Debug)]
+pub struct Number {
+    pub value: i64,
+    ghost near: { IsNear value },
+}
+
 /// What these digits make, or None where it is above the greatest.
 fn value_within(digits: &Digits) -> Option<u64>
     ensures value { result ≡ (if nat_le (digits_value 10 digits.now.bytes.now) greatest then Some (digits_value 10 digits.now.bytes.now) else None) }
