@@ -1,16 +1,11 @@
-use Rattle.std.proofs.Common.{◌≡◌, refl, ap, ◌∙◌, ℕ, ◌≤◌, List, [], ◌∷◌, ◌++◌, length, map, true, false, Option, Some, None, Result, Err, arith}
-use Rattle.std.proofs.lemmas.List.{map-append}
-use Rattle.std.specs.Prelude.{max, IsOkAnd, IfSome, ◌==◌, position}
-use Rattle.geom_core.specs.declared.layout.Shape.{Shape}
-use Rattle.geom_core.specs.declared.layout.Cell.{Cell}
+use Rattle.std.proofs.Common.{◌≡◌, refl, ap, sym, subst, ◌∙◌, ℕ, ◌≤◌, List, [], length, true, false, Option, Some, None, Result, Err, arith}
+use Rattle.std.specs.Prelude.{max, IsOkAnd, IfSome}
 use Rattle.cif_text.specs.declared.command.Command.{Command}
 use Rattle.cif_text.specs.declared.command.Command.TheVariants as commands
 use Rattle.cif_text.specs.Meaning.{with_inside}
-use Rattle.cif_text.specs.Printable.{IsPart}
-use Rattle.cif_text.specs.Symbols.{Symbol, Definition, State}
+use Rattle.cif_text.specs.Symbols.{Symbol, Definition, State, symbol_of}
 use Rattle.cif_reader.specs.declared.fault.ExpandKind.TheVariants as kinds
 use Rattle.cif_reader.specs.declared.refusal.Refusal.{Refusal}
-use Rattle.cif_reader.specs.declared.table.Kept.{Kept}
 use Rattle.cif_reader.specs.declared.inside.Open.{Open}
 use Rattle.cif_reader.specs.declared.outside.Main.{Main}
 use Rattle.cif_reader.specs.declared.standing.Standing.{Standing}
@@ -18,50 +13,39 @@ use Rattle.cif_reader.specs.Behind.{seen, IsStanding, IsBehind, IsFinished, IsOp
 use Rattle.cif_reader.specs.Expansion.{Progress, advance, at_first}
 use Rattle.cif_reader.specs.Levels.{is_drawing, given_inside, given_outside}
 use Rattle.cif_reader.specs.Limits.{most_shapes}
-use Rattle.cif_reader.specs.Places.{ArePlaces}
 use Rattle.cif_reader.specs.Refusals.{Takes}
 use Rattle.cif_reader.specs.Standing.{definition_seen, main_seen, IsOpen, IsInsideBehind, IsOutsideBehind}
-use Rattle.cif_reader.specs.Table.{symbols_behind, symbols_of, symbol_kept, items_drawn, depth_kept, AreKeptBehind}
+use Rattle.cif_reader.specs.Table.{items_drawn}
+use Rattle.cif_reader.specs.Tabled.{IsPlaceOf}
 use Rattle.cif_reader.proofs.LevelLaws.{advance-inside, advance-outside, advance-start, advance-finish}
-use Rattle.cif_reader.proofs.PlaceLemmas.{no-symbol, place-of}
-use Rattle.cif_reader.proofs.PlacesLaws.{places-push}
-use Rattle.cif_reader.proofs.StandingLemmas.{takes-next}
-use Rattle.cif_reader.proofs.TableLemmas.{behind-push, kept-push}
+use Rattle.cif_reader.proofs.StandingLemmas.{takes-next, few-outside}
 
-pub first-is : (s : Standing) → s.main.shapes.items ≡ [] → s.table.items ≡ [] → ArePlaces s.places [] → s.definition ≡ None → IsStanding s
-unfolding AreKeptBehind
-first-is s shapes table places definition = record { table = rw table tt; places = rw table places; few = rw shapes (omega arith); definition_is = rw definition tt }
+pub first-is : (s : Standing) → s.main.shapes.items ≡ [] → s.definition ≡ None → IsStanding s
+first-is s shapes definition = record { few = rw shapes (omega arith); definition_is = rw definition tt }
 
 -- a level with its symbols, its depths and its depth
 abbrev progress_at : State → List ℕ → ℕ → Progress
 progress_at s depths depth = record { state = s; depths = depths; depth = depth }
 
 abbrev main_of : Standing → State
-main_of s = main_seen (symbols_of s.table.items) s.main
+main_of s = main_seen s.table.symbols s.main
 
 seen-inside : (s : Standing) (d : Open) → s.definition ≡ Some d
-    → seen s ≡ progress_at (with_inside (main_of s) (definition_seen (symbols_of s.table.items) d)) (map depth_kept s.table.items) d.kept.depth
+    → seen s ≡ progress_at (with_inside (main_of s) (definition_seen s.table.symbols d)) s.table.depths d.kept.depth
 unfolding seen
 seen-inside s d is = rw is refl
 
-seen-outside : (s : Standing) → s.definition ≡ None → seen s ≡ progress_at (main_of s) (map depth_kept s.table.items) s.main.depth
+seen-outside : (s : Standing) → s.definition ≡ None → seen s ≡ progress_at (main_of s) s.table.depths s.main.depth
 unfolding seen
 seen-outside s is = rw is refl
 
 -- what stands before the first command
-first-plain : (cells : List Cell) (shapes : List Shape) (layer waiting : Option (List ℕ)) (depth : ℕ) (table : List Kept) → cells ≡ [] → shapes ≡ []
-    → layer ≡ None → waiting ≡ None → depth ≡ 1 → table ≡ []
-    → progress_at (record { cells = cells; shapes = shapes; layer = layer; waiting = waiting; symbols = symbols_behind [] table; inside = None })
-    (map depth_kept table) depth ≡ at_first
-unfolding symbols_behind
-first-plain cells shapes layer waiting depth table no_cells no_shapes no_layer none one no_table = rw (no_cells, no_shapes, no_layer, none, one, no_table) refl
-
 pub first-seen : (s : Standing) → s.main.cells.items ≡ [] → s.main.shapes.items ≡ [] → s.main.layer ≡ None → s.main.waiting ≡ None → s.main.depth ≡ 1
-    → s.table.items ≡ [] → s.definition ≡ None → seen s ≡ at_first
+    → s.table ≡ record { symbols = []; depths = [] } → s.definition ≡ None → seen s ≡ at_first
 first-seen s cells shapes layer waiting depth table definition =
-    seen-outside s definition ∙ first-plain s.main.cells.items s.main.shapes.items s.main.layer s.main.waiting s.main.depth s.table.items cells shapes layer waiting depth table
+    seen-outside s definition ∙ rw (cells, shapes, layer, waiting, depth, table) refl
 
-some-is : {A : Type 0} (P : A → Type 0) (o : Option A) (x : A) → IfSome o P → o ≡ Some x → P x
+pub some-is : {A : Type 0} (P : A → Type 0) (o : Option A) (x : A) → IfSome o P → o ≡ Some x → P x
 some-is P o x h is = let g = rw is at h in g
 
 few-inside : (symbols : List Symbol) (d : Open) → IsOpen symbols d → length (definition_seen symbols d).symbol.shapes ≤ most_shapes
@@ -72,12 +56,12 @@ few-inside symbols d h =
 -- a command inside the definition that is open
 pub inside-behind : (old : Standing) (d e : Open) (drawing : Command) (result : Result (Unit {0}) Refusal) → IsStanding old → old.definition ≡ Some d
     → is_drawing drawing ≡ true
-    → Takes result (given_inside (symbols_of old.table.items) (map depth_kept old.table.items) (definition_seen (symbols_of old.table.items) d) drawing)
-    (IsInsideBehind (symbols_of old.table.items) d e)
+    → Takes result (given_inside old.table.symbols old.table.depths (definition_seen old.table.symbols d) drawing)
+    (IsInsideBehind old.table.symbols d e)
     → Takes result (advance (seen old) drawing) (IsBehind (record old { definition = Some e }) true)
 inside-behind old d e drawing result is there draws taken =
-    let symbols : List Symbol = symbols_of old.table.items in
-    let depths : List ℕ = map depth_kept old.table.items in
+    let symbols : List Symbol = old.table.symbols in
+    let depths : List ℕ = old.table.depths in
     let open_is : IsOpen symbols d = some-is (IsOpen symbols) old.definition d is.definition_is there in
     let given = given_inside symbols depths (definition_seen symbols d) drawing in
     rw (seen-inside old d there, advance-inside (main_of old) depths d.kept.depth (definition_seen symbols d) drawing (few-inside symbols d open_is) draws)
@@ -87,19 +71,19 @@ inside-behind old d e drawing result is there draws taken =
       is_seen = seen-inside (record old { definition = Some e }) e refl
           ∙ ap (λ (x : Definition). progress_at (with_inside (main_of old) x) depths e.kept.depth) h.seen
           ∙ ap (λ (n : ℕ). progress_at (with_inside (main_of old) r.0) depths n) h.depth_is;
-      is = record { table = is.table; places = is.places; few = is.few; definition_is = h.is };
+      is = record { few = is.few; definition_is = h.is };
       is_open = refl;
     }) taken)
 
 -- a command of the main level
 pub outside-behind : (old : Standing) (main : Main) (drawing : Command) (result : Result (Unit {0}) Refusal) → IsStanding old → old.definition ≡ None
     → is_drawing drawing ≡ true
-    → Takes result (given_outside (map depth_kept old.table.items) (main_seen (symbols_of old.table.items) old.main) drawing)
-    (IsOutsideBehind (symbols_of old.table.items) old.main main)
+    → Takes result (given_outside old.table.depths (main_seen old.table.symbols old.main) drawing)
+    (IsOutsideBehind old.table.symbols old.main main)
     → Takes result (advance (seen old) drawing) (IsBehind (record old { main = main }) false)
 outside-behind old main drawing result is there draws taken =
-    let symbols : List Symbol = symbols_of old.table.items in
-    let depths : List ℕ = map depth_kept old.table.items in
+    let symbols : List Symbol = old.table.symbols in
+    let depths : List ℕ = old.table.depths in
     let given = given_outside depths (main_of old) drawing in
     rw (seen-outside old there, advance-outside (main_of old) depths old.main.depth drawing is.few draws)
     (takes-next result given (λ r. progress_at r.0 depths (max old.main.depth r.1)) (IsOutsideBehind symbols old.main main)
@@ -108,20 +92,19 @@ outside-behind old main drawing result is there draws taken =
       is_seen = seen-outside (record old { main = main }) there
           ∙ ap (λ (x : State). progress_at x depths main.depth) h.seen
           ∙ ap (λ (n : ℕ). progress_at r.0 depths n) h.depth_is;
-      is = record { table = is.table; places = is.places; few = h.few; definition_is = is.definition_is };
+      is = record { few = subst (λ (t : State). length t.shapes ≤ most_shapes) (sym h.seen) (few-outside depths (main_of old) drawing r is.few same); definition_is = is.definition_is };
       is_open = rw there refl;
     }) taken)
 
 -- the start of a definition
-pub start-twice : (old : Standing) (n a b place : ℕ) → IsStanding old → old.definition ≡ None
-    → position (λ (k : Kept). k.number == n) old.table.items ≡ Some place → advance (seen old) (commands.Start n a b) ≡ Err (kinds.Twice n)
-start-twice old n a b place is there some =
-    let at = place-of n place old.table.items some in
-    rw (seen-outside old there, advance-start (main_of old) (map depth_kept old.table.items) old.main.depth n a b is.few, at.symbol) refl
+pub start-twice : (old : Standing) (n a b place : ℕ) → IsStanding old → old.definition ≡ None → IsPlaceOf n old.table place
+    → advance (seen old) (commands.Start n a b) ≡ Err (kinds.Twice n)
+start-twice old n a b place is there at =
+    rw (seen-outside old there, advance-start (main_of old) old.table.depths old.main.depth n a b is.few, at.symbol) refl
 
-opened-kept : (symbols : List Symbol) (n a b : ℕ) (d : Open) → IsOpened n a b d → IsPart a → IsPart b → IsOpen symbols d
+opened-kept : (symbols : List Symbol) (n a b : ℕ) (d : Open) → IsOpened n a b d → IsOpen symbols d
 unfolding items_drawn
-opened-kept symbols n a b d h first second = record {
+opened-kept symbols n a b d h = record {
   kept = record {
     items = rw h.items tt;
     count = rw (h.count, h.items) refl;
@@ -132,20 +115,18 @@ opened-kept symbols n a b d h first second = record {
     deep = rw h.depth (omega arith);
   };
   some = rw h.depth (omega arith);
-  a = rw h.a_is first;
-  b = rw h.b_is second;
 }
 
-pub start-behind : (old : Standing) (n a b : ℕ) (d : Open) → IsStanding old → old.definition ≡ None → IsPart a → IsPart b
-    → position (λ (k : Kept). k.number == n) old.table.items ≡ None → IsOpened n a b d
+pub start-behind : (old : Standing) (n a b : ℕ) (d : Open) → IsStanding old → old.definition ≡ None
+    → symbol_of n old.table.symbols ≡ None → IsOpened n a b d
     → IsOkAnd (advance (seen old) (commands.Start n a b)) (IsBehind (record old { main = record old.main { waiting = None }; definition = Some d }) true)
 unfolding items_drawn
-start-behind old n a b d is there first second none h =
+start-behind old n a b d is there none h =
     let new : Standing = record old { main = record old.main { waiting = None }; definition = Some d } in
-    rw (seen-outside old there, advance-start (main_of old) (map depth_kept old.table.items) old.main.depth n a b is.few, no-symbol n old.table.items none)
+    rw (seen-outside old there, advance-start (main_of old) old.table.depths old.main.depth n a b is.few, none)
     (record {
       is_seen = seen-inside new d refl ∙ rw (h.number, h.name, h.items, h.a_is, h.b_is, h.layer, h.depth) refl;
-      is = record { table = is.table; places = is.places; few = is.few; definition_is = opened-kept (symbols_of old.table.items) n a b d h first second };
+      is = record { few = is.few; definition_is = opened-kept old.table.symbols n a b d h };
       is_open = refl;
     })
 
@@ -153,18 +134,13 @@ start-behind old n a b d is there first second none h =
 pub finish-behind : (old new : Standing) (d : Open) → IsStanding old → old.definition ≡ Some d → IsFinished old new d
     → IsOkAnd (advance (seen old) commands.Finish) (IsBehind new false)
 finish-behind old new d is there h =
-    let symbols : List Symbol = symbols_of old.table.items in
-    let depths : List ℕ = map depth_kept old.table.items in
+    let symbols : List Symbol = old.table.symbols in
+    let depths : List ℕ = old.table.depths in
     let open_is : IsOpen symbols d = some-is (IsOpen symbols) old.definition d is.definition_is there in
-    let table_is : symbols_of new.table.items ≡ symbols ++ (symbol_kept symbols d.kept ∷ []) = ap symbols_of h.table_is ∙ behind-push [] old.table.items d.kept in
-    let depths_are : map depth_kept new.table.items ≡ depths ++ (d.kept.depth ∷ []) =
-    ap (map depth_kept) h.table_is ∙ map-append depth_kept old.table.items (d.kept ∷ []) in
     rw (seen-inside old d there, advance-finish (main_of old) depths d.kept.depth (definition_seen symbols d) (few-inside symbols d open_is))
     (record {
-      is_seen = seen-outside new h.outside ∙ rw (table_is, depths_are, h.main_is) refl;
+      is_seen = seen-outside new h.outside ∙ rw (h.table_is, h.main_is) refl;
       is = record {
-        table = rw h.table_is (kept-push [] old.table.items d.kept is.table open_is.kept);
-        places = rw h.table_is (places-push old.places new.places old.table.items d.kept is.places h.places_are);
         few = rw h.main_is is.few;
         definition_is = rw h.outside tt;
       };

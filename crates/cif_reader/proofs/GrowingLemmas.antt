@@ -1,10 +1,10 @@
-use Rattle.std.proofs.Common.{◌≡◌, refl, ap, sym, ◌∙◌, subst, ℕ, suc, ◌+◌, ◌≤◌, List, [], ◌∷◌, ◌++◌, length, length-append, append-nil, take, ◌<◌, Bool, true, false, Option, Some, None, Result, Ok, Err, arith}
+use Rattle.std.proofs.Common.{◌≡◌, refl, ap, sym, ◌∙◌, subst, ℕ, suc, ◌+◌, ◌≤◌, List, [], ◌∷◌, ◌++◌, length, length-append, append-nil, ◌<◌, Bool, true, false, Option, Some, None, Result, Ok, Err, arith}
 use Rattle.std.proofs.lemmas.Bool.Decides.{nat_tests}
 use Rattle.std.proofs.lemmas.Int.{ints}
 use Rattle.std.proofs.lemmas.List.{length-map}
 use Rattle.std.specs.List.{AllByRecursion}
 use Rattle.std.specs.Option.{ForSome}
-use Rattle.std.specs.Prelude.{if◌then◌else◌, max, nat_lt, option_map}
+use Rattle.std.specs.Prelude.{if◌then◌else◌, max, nat_lt, option_map, IsOkAnd}
 use Rattle.list_facts.proofs.Every.{every-append}
 use Rattle.geom_core.specs.declared.layout.Shape.{Shape}
 use Rattle.geom_core.specs.Extent.{Extent}
@@ -22,15 +22,15 @@ use Rattle.cif_reader.specs.Growing.{HasItem, Grows}
 use Rattle.cif_reader.specs.Levels.{boxed, layered, more_than_most, call_of, far_call, call_inside, depth_above}
 use Rattle.cif_reader.specs.Limits.{deepest, most_shapes, first_far, sides_of, far_or_many, coordinates_of, depth_of}
 use Rattle.cif_reader.specs.Sides.{IsProper, IsNearTurn}
-use Rattle.cif_reader.specs.Table.{items_drawn, symbols_behind, symbol_at, IsItem, IsKeptBehind, AreAround, ReachesWithin}
+use Rattle.cif_reader.specs.Table.{items_drawn, symbol_at, IsItem, IsKeptBehind, AreAround, ReachesWithin}
+use Rattle.cif_reader.specs.Tabled.{Tabled, IsKeptAt, IsPlaceOf}
 use Rattle.cif_reader.specs.Within.{IsShapeWithin}
 use Rattle.cif_reader.proofs.BoundLemmas.{around-moved, reaches-moved, around-joined, reach-joined, reach-most}
-use Rattle.cif_reader.proofs.TableLemmas.{IsCopied, behind-length, drawn-push}
-use Rattle.cif_reader.proofs.CallLemmas.{shapes-at}
+use Rattle.cif_reader.proofs.TableLemmas.{drawn-push}
 use Rattle.cif_reader.proofs.WithinLaws.{near-first, near-shape, near-shapes, far-none, few-none}
 
 -- an item more of some shapes
-pub item-grows : (symbols : List Symbol) (old new : Kept) (item : Item) (count : ℕ) (bounds : Option Extent) (depth : ℕ) (shapes : List Shape)
+item-grows : (symbols : List Symbol) (old new : Kept) (item : Item) (count : ℕ) (bounds : Option Extent) (depth : ℕ) (shapes : List Shape)
     → HasItem old new item count bounds depth → IsKeptBehind symbols old → items_drawn symbols (item ∷ []) ≡ shapes → count ≡ length shapes
     → IsItem (length symbols) item → AllByRecursion IsShapeWithin shapes → AreAround bounds shapes → ForSome bounds (ReachesWithin depth) → depth ≤ deepest
     → old.count + count ≤ most_shapes → Grows symbols old new shapes depth
@@ -81,7 +81,7 @@ own-reach shape near = λ e is.
     let same : shape.rect ≡ e = cc in
     subst (ReachesWithin 1) same (record { x0 = omega (arith, near.x0); y0 = omega (arith, near.y0); x1 = omega (arith, near.x1); y1 = omega (arith, near.y1) })
 
-pub own-grows : (symbols : List Symbol) (old new : Kept) (shape : Shape) → HasItem old new (items.Own shape) 1 (Some shape.rect) 1 → IsKeptBehind symbols old
+own-grows : (symbols : List Symbol) (old new : Kept) (shape : Shape) → HasItem old new (items.Own shape) 1 (Some shape.rect) 1 → IsKeptBehind symbols old
     → IsShapeWithin shape → IsProper shape.rect → old.count + 1 ≤ most_shapes → Grows symbols old new (shape ∷ []) 1
 unfolding items_drawn
 own-grows symbols old new shape has kept near proper few =
@@ -95,7 +95,6 @@ unless-ok None r a is = (refl, is)
 
 pub record IsBoxed (before : ℕ) (shape : Shape) : Type 0 where
   pub near : IsShapeWithin shape
-  pub proper : IsProper shape.rect
   pub few : before + 1 ≤ most_shapes
 
 layered-ok : (layer : Option (List ℕ)) (rect : Extent) (shape : Shape) → layered layer rect ≡ Ok shape → (name : List ℕ) × (record { layer = name; rect = rect } ≡ shape)
@@ -106,16 +105,16 @@ few-given : (before given : ℕ) → more_than_most before given ≡ None → be
 few-given before given none =
     let few : nat_lt most_shapes (before + given) ≡ false = few-none (nat_lt most_shapes (before + given)) _ none in grind (arith, nat_tests)
 
-pub boxed-ok : (layer : Option (List ℕ)) (before : ℕ) (rect : Option Extent) (shape : Shape) → ForSome rect IsProper → boxed layer before rect ≡ Ok shape
+pub boxed-ok : (layer : Option (List ℕ)) (before : ℕ) (rect : Option Extent) (shape : Shape) → boxed layer before rect ≡ Ok shape
     → IsBoxed before shape
 unfolding boxed
-boxed-ok layer before None shape proper is = cc
-boxed-ok layer before (Some rect) shape proper is =
+boxed-ok layer before None shape is = cc
+boxed-ok layer before (Some rect) shape is =
     let parts = unless-ok (far_or_many (first_far (sides_of rect)) (more_than_most before 1)) (layered layer rect) shape is in
     let none = far-none (first_far (sides_of rect)) (more_than_most before 1) parts.0 in
     let name = layered-ok layer rect shape parts.1 in
     let near = near-shape name.0 rect [] none.0 in
-    subst (IsBoxed before) name.1 (record { near = near.0; proper = proper rect refl; few = few-given before 1 none.1 })
+    subst (IsBoxed before) name.1 (record { near = near.0; few = few-given before 1 none.1 })
 
 -- a call that is not refused
 pub record IsAllowed (before : ℕ) (call : Symbol × Turning) : Type 0 where
@@ -134,64 +133,76 @@ call-ok n before (Some symbol) (Some turn) call is =
     let same : (symbol, turn) ≡ call = cc (parts.1) in
     subst (IsAllowed before) same (record { near = near-shapes (moved_shapes turn symbol.shapes) up.1; few = few-given before (length symbol.shapes) none.1 })
 
+-- a call of a symbol of a table that is not refused
+pub record IsCalled (t : Tabled) (n before : ℕ) (turn : Option Turning) (place : ℕ) (near : Turning) (kept : Kept) : Type 0 where
+  pub below : place < length t.symbols
+  pub given : call_of n before (symbol_of n t.symbols) turn ≡ Ok (symbol_at t.symbols place, near)
+  pub kept_is : IsKeptAt t place kept
+  pub depth_is : depth_of n t.symbols t.depths ≡ kept.depth
+  pub allowed : IsAllowed before (symbol_at t.symbols place, near)
+
+pub called-kept : (t u : Tabled) (n before : ℕ) (turn : Option Turning) (place : ℕ) (near : Turning) (kept : Kept)
+    → call_of n before (symbol_of n t.symbols) turn ≡ Ok (symbol_at t.symbols place, near) → u ≡ t → IsPlaceOf n t place → place < length u.symbols
+    → IsKeptAt u place kept → IsCalled t n before turn place near kept
+called-kept t u n before turn place near kept given same at below there =
+    let kept_is : IsKeptAt t place kept = subst (λ (v : Tabled). IsKeptAt v place kept) same there in
+    record {
+      below = subst (λ (v : Tabled). place < length v.symbols) same below;
+      given = given;
+      kept_is = kept_is;
+      depth_is = at.depth ∙ kept_is.depth;
+      allowed = call-ok n before (symbol_of n t.symbols) turn (symbol_at t.symbols place, near) given;
+    }
+
 -- a copy of a symbol of the table
-pub copy-grows : (table : List Kept) (of : ℕ) (kept old new : Kept) (turn : Turning) (bounds : Option Extent) (depth : ℕ) → IsCopied table of kept → IsNearTurn turn
-    → HasItem old new (items.Copied of turn) kept.count bounds depth → bounds ≡ option_map (moved turn) kept.bounds → depth ≡ suc kept.depth
-    → IsKeptBehind (symbols_behind [] table) old → IsAllowed old.count (symbol_at (symbols_behind [] table) of, turn) → suc kept.depth ≤ deepest
-    → Grows (symbols_behind [] table) old new (moved_shapes turn (symbol_at (symbols_behind [] table) of).shapes) depth
+copy-grows : (t : Tabled) (n before : ℕ) (called : Option Turning) (place : ℕ) (turn : Turning) (kept old new : Kept) (depth : ℕ)
+    → IsCalled t n before called place turn kept → before ≡ old.count → IsNearTurn turn
+    → HasItem old new (items.Copied place turn) kept.count (option_map (moved turn) kept.bounds) depth → depth ≡ suc kept.depth
+    → IsKeptBehind t.symbols old → suc kept.depth ≤ deepest → Grows t.symbols old new (moved_shapes turn (symbol_at t.symbols place).shapes) depth
 unfolding items_drawn
-copy-grows table of kept old new turn bounds depth there near has bounds_are depth_is is allowed deep =
-    let symbols : List Symbol = symbols_behind [] table in
-    let shapes : List Shape = (symbol_at symbols of).shapes in
-    let drawn : shapes ≡ items_drawn (symbols_behind [] (take of table)) kept.items.items = shapes-at table of kept there in
-    let count : kept.count ≡ length shapes = there.is.count ∙ ap length (sym drawn) in
-    let places : length symbols ≡ 0 + length table = behind-length [] table in
-    let below : of < length table = there.below in
-    let few : old.count + length shapes ≤ most_shapes = allowed.few in
-    item-grows symbols old new (items.Copied of turn) kept.count bounds depth (moved_shapes turn shapes) has is
-    (append-nil (moved_shapes turn shapes)) (count ∙ sym (length-map shapes (moved_shape turn))) (omega arith, near.across, near.up) allowed.near
-    (rw (bounds_are, drawn) (around-moved turn kept.bounds (items_drawn (symbols_behind [] (take of table)) kept.items.items) there.is.around))
-    (rw (bounds_are, depth_is) (reaches-moved kept.depth turn kept.bounds near.across near.up there.is.reach)) (rw depth_is deep) (omega arith)
+copy-grows t n before called place turn kept old new depth call same near has depth_is is deep =
+    let shapes : List Shape = (symbol_at t.symbols place).shapes in
+    let count : kept.count ≡ length shapes = sym call.kept_is.count in
+    let few : before + length shapes ≤ most_shapes = call.allowed.few in
+    item-grows t.symbols old new (items.Copied place turn) kept.count (option_map (moved turn) kept.bounds) depth (moved_shapes turn shapes) has is
+    (append-nil (moved_shapes turn shapes)) (count ∙ sym (length-map shapes (moved_shape turn))) (call.below, near.across, near.up) call.allowed.near
+    (around-moved turn kept.bounds shapes call.kept_is.around)
+    (rw depth_is (reaches-moved kept.depth turn kept.bounds near.across near.up call.kept_is.reach)) (rw depth_is deep) (omega arith)
 
--- a call inside a definition, by the depth of its symbol
-pub inside-call : (n before : ℕ) (symbols : List Symbol) (depths : List ℕ) (turn : Option Turning) (call : Symbol × Turning) (depth : ℕ)
-    → call_of n before (symbol_of n symbols) turn ≡ Ok call → depth_of n symbols depths ≡ depth
-    → call_inside n before symbols depths turn ≡ (depth_above depth >>= λ d. Ok (call, d))
-inside-call n before symbols depths turn call depth is deep = rw (is, deep) refl
-
-pub above-ok : (depth given : ℕ) → depth_above depth ≡ Ok given → (given ≡ suc depth) × (suc depth ≤ deepest)
+above-ok : (depth given : ℕ) → depth_above depth ≡ Ok given → (given ≡ suc depth) × (suc depth ≤ deepest)
 above-ok depth given is = by (nat_lt deepest (suc depth)) refl is
   where
     by : (b : Bool) → nat_lt deepest (suc depth) ≡ b → (if b then Err kinds.TooDeep else Ok (suc depth)) ≡ Ok given → (given ≡ suc depth) × (suc depth ≤ deepest)
     by true test is = cc
     by false test is = (cc, grind (arith, nat_tests))
 
-none-of : {A : Type 0} (xs : List A) → length xs ≡ 0 → xs ≡ []
-none-of [] h = refl
-none-of (x ∷ xs) h = absurd (omega arith)
+-- a call inside a definition, by the depth of its symbol
+abbrev pub call_drawn : Tabled → Kept → ℕ → Option Turning → Result ((Symbol × Turning) × ℕ) ExpandKind
+call_drawn t old n turn = call_inside n (length (items_drawn t.symbols old.items.items)) t.symbols t.depths turn
 
--- a copy of a symbol without shapes
-pub empty-grows : (table : List Kept) (of : ℕ) (kept old : Kept) (turn : Turning) (depth : ℕ) → IsCopied table of kept → kept.count ≡ 0
-    → depth ≡ suc kept.depth → IsKeptBehind (symbols_behind [] table) old → suc kept.depth ≤ deepest
-    → Grows (symbols_behind [] table) old (record old { depth = max old.depth depth }) (moved_shapes turn (symbol_at (symbols_behind [] table) of).shapes) depth
-empty-grows table of kept old turn depth there none depth_is is deep =
-    let symbols : List Symbol = symbols_behind [] table in
-    let shapes : List Shape = (symbol_at symbols of).shapes in
-    let count : kept.count ≡ length shapes = there.is.count ∙ ap length (sym (shapes-at table of kept there)) in
-    let nothing : shapes ≡ [] = none-of shapes (sym count ∙ none) in
-    let old_deep : old.depth ≤ deepest = is.deep in
-    record {
-      number = refl;
-      name = refl;
-      drawn = sym (append-nil (items_drawn symbols old.items.items)) ∙ ap (λ (ss : List Shape). items_drawn symbols old.items.items ++ moved_shapes turn ss) (sym nothing);
-      depth_is = refl;
-      is = record {
-        items = is.items;
-        count = is.count;
-        few = is.few;
-        near = is.near;
-        around = is.around;
-        reach = reach-most old.depth (max old.depth depth) old.bounds (omega arith) is.reach;
-        deep = omega arith;
-      };
-    }
+pub call-inside : (t : Tabled) (n : ℕ) (called : Option Turning) (place : ℕ) (turn : Turning) (kept old : Kept) (above : Result ℕ ExpandKind)
+    → IsCalled t n old.count called place turn kept → IsKeptBehind t.symbols old → above ≡ depth_above kept.depth
+    → call_drawn t old n called ≡ (above >>= λ d. Ok ((symbol_at t.symbols place, turn), d))
+call-inside t n called place turn kept old above call is deep =
+    let given : call_of n (length (items_drawn t.symbols old.items.items)) (symbol_of n t.symbols) called ≡ Ok (symbol_at t.symbols place, turn) =
+    ap (λ (k : ℕ). call_of n k (symbol_of n t.symbols) called) (sym is.count) ∙ call.given in
+    rw (given, call.depth_is, deep) refl
+
+-- what is kept of a symbol behind a call
+pub copied-behind : (t : Tabled) (n : ℕ) (called : Option Turning) (place : ℕ) (turn : Turning) (kept old new : Kept) (depth : ℕ)
+    → IsCalled t n old.count called place turn kept → IsKeptBehind t.symbols old → Ok depth ≡ depth_above kept.depth → IsNearTurn turn
+    → HasItem old new (items.Copied place turn) kept.count (option_map (moved turn) kept.bounds) depth
+    → IsOkAnd (call_drawn t old n called) (λ call. Grows t.symbols old new (moved_shapes call.0.1 call.0.0.shapes) call.1)
+copied-behind t n called place turn kept old new depth call is deep near has =
+    let above = above-ok kept.depth depth (sym deep) in
+    rw (call-inside t n called place turn kept old (Ok depth) call is deep)
+    (copy-grows t n old.count called place turn kept old new depth call refl near has above.0 is above.1)
+
+-- what is kept of a symbol behind a box
+pub boxed-behind : (symbols : List Symbol) (layer : Option (List ℕ)) (sides : Option Extent) (shape : Shape) (old new : Kept) → Ok shape ≡ boxed layer old.count sides
+    → IsProper shape.rect → HasItem old new (items.Own shape) 1 (Some shape.rect) 1 → IsKeptBehind symbols old
+    → IsOkAnd (boxed layer (length (items_drawn symbols old.items.items)) sides) (λ shape. Grows symbols old new (shape ∷ []) 1)
+boxed-behind symbols layer sides shape old new is proper has kept =
+    let b = boxed-ok layer old.count sides shape (sym is) in
+    let given : Ok shape ≡ boxed layer (length (items_drawn symbols old.items.items)) sides = is ∙ ap (λ (n : ℕ). boxed layer n sides) kept.count in
+    subst (λ (r : Result Shape ExpandKind). IsOkAnd r (λ shape. Grows symbols old new (shape ∷ []) 1)) given (own-grows symbols old new shape has kept b.near proper b.few)

@@ -10,6 +10,8 @@ pub mod LevelLaws
 pub mod ScaleLemmas
 -- tables of symbols
 pub mod TableLemmas
+-- tables as contracts see them
+pub mod TabledLemmas
 -- the place of a symbol
 pub mod PlaceLemmas
 -- rectangles around shapes

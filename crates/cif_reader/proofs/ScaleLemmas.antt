@@ -3,9 +3,6 @@ use Rattle.std.proofs.lemmas.Int.{to_z-of_z, ints}
 use Rattle.std.proofs.lemmas.Bool.Decides.{nat_tests}
 use Rattle.std.proofs.Math.Nat.{mul-lt-mul_of_pos_right, lt_of_mul-lt-mul_right}
 use Rattle.std.specs.Prelude.{if◌then◌else◌, ◌==◌, option_map}
-use Rattle.geom_core.specs.Extent.{Extent}
-use Rattle.cif_text.specs.Printable.{IsPart}
-use Rattle.cif_reader.specs.Sides.{IsProper}
 use Rattle.cif_text.specs.Scales.{scaled_natural, scaled}
 
 -- a signed number that is written and read back is the same
@@ -65,11 +62,3 @@ scaled-less a b (negsuc n) (negsuc k) u v one some first second below =
     let v_is : neg_ℤ (pos l.0) ≡ v = l.2 in
     omega (arith, ints)
 scaled-less a b (pos n) (negsuc k) u v one some first second below = absurd (omega (arith, ints))
-
--- a proper rectangle stays one
-pub scaled-proper : (a b : ℕ) (e : Extent) (x0 y0 x1 y1 : ℤ) → IsPart a → IsPart b → IsProper e → Some x0 ≡ scaled a b e.x0 → Some y0 ≡ scaled a b e.y0
-    → Some x1 ≡ scaled a b e.x1 → Some y1 ≡ scaled a b e.y1 → IsProper (record { x0 = x0; y0 = y0; x1 = x1; y1 = y1 })
-scaled-proper a b e x0 y0 x1 y1 one some proper left low right high = record {
-  across = scaled-less a b e.x0 e.x1 x0 x1 one.low some.low left right proper.across;
-  up = scaled-less a b e.y0 e.y1 y0 y1 one.low some.low low high proper.up;
-}

@@ -1,36 +1,24 @@
-use Rattle.std.proofs.Common.{◌≡◌, refl, ap, sym, ◌∙◌, subst, ℕ, ◌+◌, ◌≤◌, List, [], ◌∷◌, length, length-append, Option, Some, None, Result, Ok, Err, arith}
-use Rattle.std.specs.Prelude.{max, IsOkAnd, IfSome, Bool, ℤ}
+use Rattle.std.proofs.Common.{◌≡◌, refl, ap, subst, ℕ, ◌≤◌, List, [], ◌∷◌, length, length-append, Option, Some, None, Result, Ok, Err}
 use Rattle.std.proofs.lemmas.List.{length-map}
-use Rattle.std.specs.Option.{ForSome}
 use Rattle.geom_core.specs.Moving.{moved_shape}
-use Rattle.geom_core.specs.Extent.{Extent}
 use Rattle.geom_core.specs.Turning.{Turning}
 use Rattle.cif_text.specs.declared.command.Command.{Command}
 use Rattle.cif_text.specs.declared.command.Command.TheVariants as commands
-use Rattle.cif_text.specs.Scales.{box_around, scaled_extent}
+use Rattle.cif_text.specs.Scales.{box_around, scaled_extent, scaled_turning}
 use Rattle.geom_core.specs.declared.layout.Shape.{Shape}
 use Rattle.geom_core.specs.declared.layout.Cell.{Cell}
 use Rattle.cif_text.specs.InOrder.{◌>>=◌}
-use Rattle.cif_text.specs.Meaning.{drawn_inside, drawn}
+use Rattle.cif_text.specs.Meaning.{drawn}
 use Rattle.cif_text.specs.Symbols.{Symbol, State, symbol_of, moved_shapes}
 use Rattle.cif_reader.specs.declared.fault.ExpandKind.{ExpandKind}
 use Rattle.cif_reader.specs.declared.refusal.Refusal.{Refusal}
 use Rattle.cif_reader.specs.declared.refusal.Refusal.TheVariants as refusals
-use Rattle.cif_reader.specs.declared.table.Kept.{Kept}
-use Rattle.cif_reader.specs.declared.inside.Open.{Open}
-use Rattle.cif_reader.specs.declared.outside.Main.{Main}
-use Rattle.cif_reader.specs.Growing.{Grows}
-use Rattle.cif_reader.specs.Levels.{boxed, call_of, cells_given, depth_above, given_inside, given_outside}
+use Rattle.cif_reader.specs.Levels.{boxed, call_of, cells_given, depth_above, given_outside}
 use Rattle.cif_reader.specs.Limits.{most_shapes, depth_of}
-use Rattle.cif_reader.specs.Refusals.{Takes, Gives}
-use Rattle.cif_reader.specs.Sides.{IsProper}
-use Rattle.cif_reader.specs.Table.{items_drawn}
-use Rattle.cif_reader.specs.Standing.{definition_seen, IsOpen, IsInsideBehind, main_seen, IsDrawn, IsOutsideBehind, call_outside}
-use Rattle.cif_reader.proofs.GrowingLemmas.{IsAllowed, boxed-ok}
-
-for-some : {A : Type 0} (o : Option A) (P : A → Type 0) → IfSome o P → ForSome o P
-for-some None P h = λ x is. cc
-for-some (Some y) P h = λ x is. (let same : y ≡ x = cc in subst P same h)
+use Rattle.cif_reader.specs.Refusals.{Takes}
+use Rattle.cif_text.specs.declared.command.UserKind.TheVariants as users
+use Rattle.cif_text.proofs.BodyLaws.{given}
+use Rattle.cif_reader.proofs.GrowingLemmas.{IsAllowed, IsBoxed, boxed-ok, call-ok}
 
 -- what is taken gives more
 pub takes-next : {X Y Z : Type 0} (result : Result X Refusal) (given : Result Y ExpandKind) (f : Y → Z) (P : Y → Type 0) (Q : Z → Type 0)
@@ -40,83 +28,50 @@ takes-next (Ok x) (Err kind) f P Q more h = absurd h
 takes-next (Err (refusals.Because kind)) given f P Q more h = ap (λ g. g >>= λ y. Ok (f y)) h
 takes-next (Err refusals.Memory) given f P Q more h = tt
 
-abbrev pub with_kept : Open → Kept → Open
-with_kept old kept = record old { kept = kept }
-
--- a definition whose symbol draws more
-pub grows-inside : (symbols : List Symbol) (old : Open) (kept : Kept) (shapes : List Shape) (depth : ℕ) → IsOpen symbols old
-    → Grows symbols old.kept kept shapes depth
-    → IsInsideBehind symbols old (with_kept old kept) (drawn_inside (definition_seen symbols old) shapes, depth)
-grows-inside symbols old kept shapes depth is more =
-    let deep : kept.depth ≡ max old.kept.depth depth = more.depth_is in
-    let some : 1 ≤ old.kept.depth = is.some in
-    record {
-      seen = rw (more.number, more.name, more.drawn) refl;
-      depth_is = more.depth_is;
-      is = record { kept = more.is; some = omega arith; a = is.a; b = is.b };
-    }
-
--- the main level with more cells and shapes
-pub drawn-outside : (symbols : List Symbol) (old new : Main) (cells : List Cell) (shapes : List Shape) (depth : ℕ) → IsDrawn old new cells shapes depth
-    → length old.shapes.items + length shapes ≤ most_shapes → IsOutsideBehind symbols old new (drawn (main_seen symbols old) cells shapes, depth)
-drawn-outside symbols old new cells shapes depth h few = record {
-  seen = rw (h.cells_are, h.shapes_are, h.layer_is, h.waits) refl;
-  depth_is = h.depth_is;
-  few = rw (h.shapes_are, length-append) few;
-}
-
--- a box inside a definition, and one of the main level
-pub box-inside : (symbols : List Symbol) (depths : List ℕ) (old : Open) (kept : Kept) (long wide cx cy : ℤ) (upright : Bool) (sides : Option Extent) (box : Extent)
-    → (drawing : Command) (result : Result (Unit {0}) Refusal) → drawing ≡ commands.Box long wide cx cy upright → box ≡ box_around long wide cx cy upright
-    → sides ≡ scaled_extent old.a old.b box → IsOpen symbols old
-    → Takes result (boxed old.layer (length (items_drawn symbols old.kept.items.items)) sides) (λ shape. Grows symbols old.kept kept (shape ∷ []) 1)
-    → Takes result (given_inside symbols depths (definition_seen symbols old) drawing) (IsInsideBehind symbols old (with_kept old kept))
-unfolding given_inside
-box-inside symbols depths old kept long wide cx cy upright sides box drawing result is around scaled is_open taken =
-    let whole : sides ≡ scaled_extent old.a old.b (box_around long wide cx cy upright) = scaled ∙ ap (scaled_extent old.a old.b) around in
-    rw (is, ← whole) (takes-next result (boxed old.layer (length (items_drawn symbols old.kept.items.items)) sides)
-    (λ shape. (drawn_inside (definition_seen symbols old) (shape ∷ []), 1)) (λ shape. Grows symbols old.kept kept (shape ∷ []) 1)
-    (IsInsideBehind symbols old (with_kept old kept)) (λ shape given more. grows-inside symbols old kept (shape ∷ []) 1 is_open more) taken)
-
-pub box-outside : (symbols : List Symbol) (depths : List ℕ) (old new : Main) (long wide cx cy : ℤ) (upright : Bool) (sides : Option Extent) (box : Extent)
-    → (drawing : Command) (result : Result (Unit {0}) Refusal) → drawing ≡ commands.Box long wide cx cy upright → box ≡ box_around long wide cx cy upright
-    → sides ≡ scaled_extent 1 1 box → IfSome sides IsProper
-    → Takes result (boxed old.layer (length old.shapes.items) sides) (λ shape. IsDrawn old new [] (shape ∷ []) 1)
-    → Takes result (given_outside depths (main_seen symbols old) drawing) (IsOutsideBehind symbols old new)
-unfolding given_outside
-box-outside symbols depths old new long wide cx cy upright sides box drawing result is around scaled proper taken =
-    let whole : sides ≡ scaled_extent 1 1 (box_around long wide cx cy upright) = scaled ∙ ap (scaled_extent 1 1) around in
-    rw (is, ← whole) (takes-next result (boxed old.layer (length old.shapes.items) sides)
-    (λ shape. (drawn (main_seen symbols old) [] (shape ∷ []), 1)) (λ shape. IsDrawn old new [] (shape ∷ []) 1) (IsOutsideBehind symbols old new)
-    (λ shape given more. drawn-outside symbols old new [] (shape ∷ []) 1 more
-    (boxed-ok old.layer (length old.shapes.items) sides shape (for-some sides IsProper proper) given).few) taken)
-
--- a call of the main level, by what is called and the depth of its symbol
-pub outside-call : (n : ℕ) (s : State) (depths : List ℕ) (turn : Option Turning) (call : Symbol × Turning) (depth : ℕ)
-    → call_of n (length s.shapes) (symbol_of n s.symbols) turn ≡ Ok call → depth_of n s.symbols depths ≡ depth
-    → call_outside depths s n turn ≡ (cells_given s.waiting call.0 call.1 (length s.shapes) >>= λ cells. depth_above depth
-    >>= λ d. Ok (drawn s cells (moved_shapes call.1 call.0.shapes), d))
-outside-call n s depths turn call depth is deep = rw (is, deep) refl
-
--- a refusal before other steps
-pub err-next : {X Y Z W : Type 0} (v : X → Y) (r : Refusal) (given : Result Y ExpandKind) (next : Y → Result Z ExpandKind) (whole : Result Z ExpandKind)
-    → (P : Z → Type 0) (answer : Result W Refusal) → answer ≡ Err r → whole ≡ (given >>= next) → Gives v (Err r) given → Takes answer whole P
-err-next v (refusals.Because kind) given next whole P answer is same h = rw is (same ∙ ap (λ g. g >>= next) h)
-err-next v refusals.Memory given next whole P answer is same h = rw is tt
-
 -- the end of a call of the main level
-abbrev pub after_cells : State → Symbol × Turning → ℕ → List Cell → Result (State × ℕ) ExpandKind
+abbrev after_cells : State → Symbol × Turning → ℕ → List Cell → Result (State × ℕ) ExpandKind
 after_cells s call depth cells = depth_above depth >>= λ d. Ok (drawn s cells (moved_shapes call.1 call.0.shapes), d)
 
-pub with-cells : (s : State) (call : Symbol × Turning) (depth : ℕ) (given : Result (List Cell) ExpandKind) (cells : List Cell) (whole : Result (State × ℕ) ExpandKind)
-    → (deep : Result ℕ ExpandKind) → whole ≡ (given >>= after_cells s call depth) → given ≡ Ok cells → deep ≡ depth_above depth
-    → whole ≡ (deep >>= λ d. Ok (drawn s cells (moved_shapes call.1 call.0.shapes), d))
-with-cells s call depth given cells whole deep is found above =
-    is ∙ ap (λ g. g >>= after_cells s call depth) found ∙ ap (λ e. e >>= λ d. Ok (drawn s cells (moved_shapes call.1 call.0.shapes), d)) (sym above)
+abbrev taken : State × ℕ → Result (State × ℕ) ExpandKind
+taken r = Ok r
 
-pub call-drawn : (symbols : List Symbol) (old new : Main) (call : Symbol × Turning) (cells : List Cell) (depth : ℕ) (whole : Result (State × ℕ) ExpandKind)
-    → whole ≡ Ok (drawn (main_seen symbols old) cells (moved_shapes call.1 call.0.shapes), depth) → IsAllowed (length old.shapes.items) call
-    → IsDrawn old new cells (moved_shapes call.1 call.0.shapes) depth → IsOkAnd whole (IsOutsideBehind symbols old new)
-call-drawn symbols old new call cells depth whole is allowed h =
+-- the main level gets no more shapes than it may have
+few-box : (s : State) (shape : Shape) (r : State × ℕ) → IsBoxed (length s.shapes) shape → taken (drawn s [] (shape ∷ []), 1) ≡ taken r
+    → length r.0.shapes ≤ most_shapes
+few-box s shape r box is =
+    let same : (drawn s [] (shape ∷ []), 1) ≡ r = cc in
+    subst (λ (q : State × ℕ). length q.0.shapes ≤ most_shapes) same (rw length-append box.few)
+
+few-call : (s : State) (call : Symbol × Turning) (cells : List Cell) (depth : ℕ) (r : State × ℕ) → IsAllowed (length s.shapes) call
+    → taken (drawn s cells (moved_shapes call.1 call.0.shapes), depth) ≡ taken r → length r.0.shapes ≤ most_shapes
+few-call s call cells depth r allowed is =
+    let same : (drawn s cells (moved_shapes call.1 call.0.shapes), depth) ≡ r = cc in
     let count : length (moved_shapes call.1 call.0.shapes) ≡ length call.0.shapes = length-map call.0.shapes (moved_shape call.1) in
-    rw is (drawn-outside symbols old new cells (moved_shapes call.1 call.0.shapes) depth h (rw count allowed.few))
+    subst (λ (q : State × ℕ). length q.0.shapes ≤ most_shapes) same (rw (length-append, count) allowed.few)
+
+few-still : (s t : State) (r : State × ℕ) → length s.shapes ≤ most_shapes → t.shapes ≡ s.shapes → taken (t, 1) ≡ taken r → length r.0.shapes ≤ most_shapes
+few-still s t r few still is =
+    let same : (t, 1) ≡ r = cc in
+    subst (λ (q : State × ℕ). length q.0.shapes ≤ most_shapes) same (rw still few)
+
+pub few-outside : (depths : List ℕ) (s : State) (c : Command) (r : State × ℕ) → length s.shapes ≤ most_shapes → given_outside depths s c ≡ Ok r
+    → length r.0.shapes ≤ most_shapes
+unfolding given_outside
+few-outside depths s (commands.Box long wide cx cy upright) r few is =
+    let shape = given (boxed s.layer (length s.shapes) (scaled_extent 1 1 (box_around long wide cx cy upright))) (λ shape. Ok (drawn s [] (shape ∷ []), 1)) r is in
+    few-box s shape.0 r (boxed-ok s.layer (length s.shapes) (scaled_extent 1 1 (box_around long wide cx cy upright)) shape.0 shape.1) shape.2
+few-outside depths s (commands.Call n flip quarters dx dy) r few is =
+    let turn : Option Turning = scaled_turning 1 1 flip quarters dx dy in
+    let call = given (call_of n (length s.shapes) (symbol_of n s.symbols) turn) (λ call. cells_given s.waiting call.0 call.1 (length s.shapes)
+    >>= λ cells. after_cells s call (depth_of n s.symbols depths) cells) r is in
+    let cells = given (cells_given s.waiting call.0.0 call.0.1 (length s.shapes)) (after_cells s call.0 (depth_of n s.symbols depths)) r call.2 in
+    let depth = given (depth_above (depth_of n s.symbols depths)) (λ d. Ok (drawn s cells.0 (moved_shapes call.0.1 call.0.0.shapes), d)) r cells.2 in
+    few-call s call.0 cells.0 depth.0 r (call-ok n (length s.shapes) (symbol_of n s.symbols) turn call.0 call.1) depth.2
+few-outside depths s (commands.Layer name) r few is = few-still s (record s { layer = Some name; waiting = None }) r few refl is
+few-outside depths s (commands.User users.SymbolName name) r few is = few-still s (record s { waiting = None }) r few refl is
+few-outside depths s (commands.User users.InstanceName name) r few is = few-still s (record s { waiting = Some name }) r few refl is
+few-outside depths s (commands.User users.Other name) r few is = few-still s s r few refl is
+few-outside depths s commands.Comment r few is = few-still s s r few refl is
+few-outside depths s commands.End r few is = few-still s s r few refl is
+few-outside depths s commands.Finish r few is = few-still s s r few refl is
+few-outside depths s (commands.Start n a b) r few is = few-still s s r few refl is

@@ -1,4 +1,5 @@
 use Rattle.std.proofs.Common.{◌≡◌, refl, ap, sym, ◌∙◌, subst, ℕ, zero, suc, ◌+◌, ◌<◌, List, [], ◌∷◌, ◌++◌, length, get_or, take, append_assoc, length-append, append-nil, zero-add, arith}
+use Rattle.std.proofs.lemmas.List.{length-take-le}
 use Rattle.std.specs.List.{AllByRecursion}
 use Rattle.geom_core.specs.declared.layout.Shape.{Shape}
 use Rattle.cif_text.specs.Symbols.{Symbol, moved_shapes}
@@ -8,6 +9,7 @@ use Rattle.cif_reader.specs.declared.table.Item.TheVariants as items
 use Rattle.cif_reader.specs.declared.table.Kept.{Kept}
 use Rattle.geom_core.specs.Turning.{Turning}
 use Rattle.cif_reader.specs.Table.{IsItem, symbol_at, items_drawn, symbol_kept, symbols_behind, IsKeptBehind, AreKeptBehind}
+use Rattle.cif_reader.specs.Within.{IsShapeWithin}
 
 pub behind-length : (symbols : List Symbol) (table : List Kept) → length (symbols_behind symbols table) ≡ length symbols + length table
 unfolding symbols_behind
@@ -115,49 +117,69 @@ copied-at table of kept all below is =
       symbol = symbol-at table of kept below is;
     }
 
--- the item that copies a symbol of the table
-pub copied-first : (table : List Kept) (rest after : List Item) (of : ℕ) (turn : Turning) (kept : Kept) → AreKeptBehind [] table
-    → AllByRecursion (IsItem (length table)) rest → rest ≡ items.Copied of turn ∷ after → kept ≡ get_or table of kept → IsCopied table of kept
-copied-first table rest after of turn kept all fits is at =
-    let parts = subst (AllByRecursion (IsItem (length table))) is fits in copied-at table of kept all parts.0.0 at
+-- what is known of the items of a symbol of the table
+pub record AreCopied (table : List Kept) (of : ℕ) (copied : List Item) : Type 0 where
+  pub fewer : length (take of table) < length table
+  pub front : AreKeptBehind [] (take of table)
+  pub fit : AllByRecursion (IsItem (length (take of table))) copied
+  pub near : AllByRecursion IsShapeWithin (items_drawn (symbols_behind [] (take of table)) copied)
+  pub shapes : (symbol_at (symbols_behind [] table) of).shapes ≡ items_drawn (symbols_behind [] (take of table)) copied
 
-pub drawn-copied : (table : List Kept) (of : ℕ) (turn : Turning) (kept : Kept) (more : List Item) (shapes : List Shape) → IsCopied table of kept
-    → shapes ≡ items_drawn (symbols_behind [] (take of table)) kept.items.items
+pub copied-items : (table : List Kept) (of : ℕ) (kept : Kept) (copied : List Item) → AreKeptBehind [] table → of < length table → kept ≡ get_or table of kept
+    → copied ≡ kept.items.items → AreCopied table of copied
+copied-items table of kept copied all below at is =
+    let there = copied-at table of kept all below at in
+    let count : length (take of table) ≡ of = length-take-le of table (omega arith) in
+    subst (AreCopied table of) (sym is) (record {
+      fewer = omega arith;
+      front = there.front;
+      fit = there.items;
+      near = there.is.near;
+      shapes = ap (λ (s : Symbol). s.shapes) there.symbol;
+    })
+
+-- the item that copies a symbol of the table
+pub copied-first : (table : List Kept) (rest after : List Item) (of : ℕ) (turn : Turning) (kept : Kept) (copied : List Item) → AreKeptBehind [] table
+    → AllByRecursion (IsItem (length table)) rest → rest ≡ items.Copied of turn ∷ after → kept ≡ get_or table of kept
+    → copied ≡ (get_or table of kept).items.items → AreCopied table of copied
+copied-first table rest after of turn kept copied all fits is at copied_is =
+    let parts = subst (AllByRecursion (IsItem (length table))) is fits in
+    copied-items table of kept copied all parts.0.0 at (copied_is ∙ ap (λ (k : Kept). k.items.items) (sym at))
+
+drawn-copied : (table : List Kept) (of : ℕ) (turn : Turning) (copied more : List Item) (shapes : List Shape) → AreCopied table of copied
+    → shapes ≡ items_drawn (symbols_behind [] (take of table)) copied
     → items_drawn (symbols_behind [] table) (items.Copied of turn ∷ more) ≡ moved_shapes turn shapes ++ items_drawn (symbols_behind [] table) more
 unfolding items_drawn
-drawn-copied table of turn kept more shapes there is =
-    ap (λ (s : Symbol). moved_shapes turn s.shapes ++ items_drawn (symbols_behind [] table) more) there.symbol
-    ∙ ap (λ (ss : List Shape). moved_shapes turn ss ++ items_drawn (symbols_behind [] table) more) (sym is)
+drawn-copied table of turn copied more shapes there is =
+    ap (λ (ss : List Shape). moved_shapes turn ss ++ items_drawn (symbols_behind [] table) more) (there.shapes ∙ sym is)
 
 -- the first item that is left, and the others behind it
 pub record IsDone (table : List Kept) (all rest : List Item) (shapes : List Shape) : Type 0 where
   pub items : AllByRecursion (IsItem (length table)) rest
   pub done : items_drawn (symbols_behind [] table) all ≡ shapes ++ items_drawn (symbols_behind [] table) rest
 
-pub own-first : (table : List Kept) (all rest after : List Item) (shape : Shape) (before shapes : List Shape) → AllByRecursion (IsItem (length table)) rest
-    → items_drawn (symbols_behind [] table) all ≡ before ++ items_drawn (symbols_behind [] table) rest → rest ≡ items.Own shape ∷ after
+pub own-first : (table : List Kept) (all rest after : List Item) (shape : Shape) (before shapes : List Shape) → IsDone table all rest before → rest ≡ items.Own shape ∷ after
     → shapes ≡ before ++ (shape ∷ []) → IsDone table all after shapes
 unfolding items_drawn
-own-first table all rest after shape before shapes fits done is more =
-    let parts = subst (AllByRecursion (IsItem (length table))) is fits in
+own-first table all rest after shape before shapes so_far is more =
+    let parts = subst (AllByRecursion (IsItem (length table))) is so_far.items in
     record {
       items = parts.1;
-      done = done ∙ ap (λ (is : List Item). before ++ items_drawn (symbols_behind [] table) is) is
+      done = so_far.done ∙ ap (λ (is : List Item). before ++ items_drawn (symbols_behind [] table) is) is
           ∙ sym (append_assoc before (shape ∷ []) (items_drawn (symbols_behind [] table) after))
           ∙ ap (λ (ss : List Shape). ss ++ items_drawn (symbols_behind [] table) after) (sym more);
     }
 
-pub copied-next : (table : List Kept) (all rest after : List Item) (of : ℕ) (turn : Turning) (kept : Kept) (copied before shapes : List Shape)
-    → IsCopied table of kept → AllByRecursion (IsItem (length table)) rest
-    → items_drawn (symbols_behind [] table) all ≡ before ++ items_drawn (symbols_behind [] table) rest → rest ≡ items.Copied of turn ∷ after
-    → copied ≡ items_drawn (symbols_behind [] (take of table)) kept.items.items → shapes ≡ before ++ moved_shapes turn copied → IsDone table all after shapes
-copied-next table all rest after of turn kept copied before shapes there fits done is drawn more =
-    let parts = subst (AllByRecursion (IsItem (length table))) is fits in
+pub copied-next : (table : List Kept) (all rest after : List Item) (of : ℕ) (turn : Turning) (copied : List Item) (drawn before shapes : List Shape)
+    → AreCopied table of copied → IsDone table all rest before → rest ≡ items.Copied of turn ∷ after
+    → drawn ≡ items_drawn (symbols_behind [] (take of table)) copied → shapes ≡ before ++ moved_shapes turn drawn → IsDone table all after shapes
+copied-next table all rest after of turn copied drawn before shapes there so_far is drawn_is more =
+    let parts = subst (AllByRecursion (IsItem (length table))) is so_far.items in
     record {
       items = parts.1;
-      done = done ∙ ap (λ (is : List Item). before ++ items_drawn (symbols_behind [] table) is) is
-          ∙ ap (λ (ss : List Shape). before ++ ss) (drawn-copied table of turn kept after copied there drawn)
-          ∙ sym (append_assoc before (moved_shapes turn copied) (items_drawn (symbols_behind [] table) after))
+      done = so_far.done ∙ ap (λ (is : List Item). before ++ items_drawn (symbols_behind [] table) is) is
+          ∙ ap (λ (ss : List Shape). before ++ ss) (drawn-copied table of turn copied after drawn there drawn_is)
+          ∙ sym (append_assoc before (moved_shapes turn drawn) (items_drawn (symbols_behind [] table) after))
           ∙ ap (λ (ss : List Shape). ss ++ items_drawn (symbols_behind [] table) after) (sym more);
     }
 

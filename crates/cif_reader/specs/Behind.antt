@@ -1,13 +1,12 @@
-use Rattle.std.specs.Prelude.{◌≡◌, ◌≤◌, ℕ, [], ◌∷◌, ◌++◌, length, map, Bool, is_some, Option, Some, None, option_map, IfSome}
+use Rattle.std.specs.Prelude.{◌≡◌, ◌≤◌, ℕ, [], length, Bool, is_some, Option, Some, None, option_map, IfSome}
 use Rattle.cif_text.specs.Symbols.{Definition, State}
 use Rattle.cif_reader.specs.declared.inside.Open.{Open}
 use Rattle.cif_reader.specs.declared.outside.Main.{Main}
 use Rattle.cif_reader.specs.declared.standing.Standing.{Standing}
 use Rattle.cif_reader.specs.Expansion.{Progress}
 use Rattle.cif_reader.specs.Limits.{most_shapes}
-use Rattle.cif_reader.specs.Places.{ArePlaces, IsEntered}
 use Rattle.cif_reader.specs.Standing.{definition_seen, main_seen, IsOpen}
-use Rattle.cif_reader.specs.Table.{AreKept, depth_kept, symbols_of}
+use Rattle.cif_reader.specs.Tabled.{table_with}
 
 -- the depth so far of the definition that is open, or of the main level
 abbrev pub depth_seen : Main → Option Open → ℕ
@@ -20,17 +19,15 @@ with_definition s definition = record s { inside = definition }
 -- what stands behind some commands
 unfoldable pub seen : Standing → Progress
 seen s = record {
-  state = with_definition (main_seen (symbols_of s.table.items) s.main) (option_map (definition_seen (symbols_of s.table.items)) s.definition);
-  depths = map depth_kept s.table.items;
+  state = with_definition (main_seen s.table.symbols s.main) (option_map (definition_seen s.table.symbols) s.definition);
+  depths = s.table.depths;
   depth = depth_seen s.main s.definition;
 }
 
--- what is kept is so, and the main level has not too many shapes
+-- the definition that is open is so, and the main level has not too many shapes
 pub record IsStanding (s : Standing) : Type 0 where
-  pub table : AreKept s.table.items
-  pub places : ArePlaces s.places s.table.items
   pub few : length s.main.shapes.items ≤ most_shapes
-  pub definition_is : IfSome s.definition (IsOpen (symbols_of s.table.items))
+  pub definition_is : IfSome s.definition (IsOpen s.table.symbols)
 
 -- this stands behind a command, with a definition open or not
 pub record IsBehind (s : Standing) (inside : Bool) (p : Progress) : Type 0 where
@@ -41,8 +38,7 @@ pub record IsBehind (s : Standing) (inside : Bool) (p : Progress) : Type 0 where
 -- the definition that was open has finished
 pub record IsFinished (old new : Standing) (definition : Open) : Type 0 where
   pub main_is : new.main ≡ record old.main { depth = definition.kept.depth }
-  pub table_is : new.table.items ≡ old.table.items ++ (definition.kept ∷ [])
-  pub places_are : IsEntered old.places new.places definition.kept.number (length old.table.items)
+  pub table_is : new.table ≡ table_with old.table definition.kept
   pub outside : new.definition ≡ None
 
 -- a definition of this number and this scale that has just started
@@ -53,6 +49,6 @@ pub record IsOpened (n a b : ℕ) (definition : Open) : Type 0 where
   pub count : definition.kept.count ≡ 0
   pub bounds : definition.kept.bounds ≡ None
   pub depth : definition.kept.depth ≡ 1
-  pub a_is : definition.a ≡ a
-  pub b_is : definition.b ≡ b
+  pub a_is : definition.scale.a ≡ a
+  pub b_is : definition.scale.b ≡ b
   pub layer : definition.layer ≡ None

@@ -12,6 +12,10 @@ pub mod Sides
 pub mod Refusals
 -- the table of symbols, which keeps what each draws, and not its shapes
 pub mod Table
+-- symbols with their depths
+pub mod Tabled
+-- how a table keeps them
+pub mod SymbolTables
 -- the places of symbols in the table
 pub mod Places
 -- rectangles around others
@@ -24,3 +28,5 @@ pub mod Standing
 pub mod Behind
 -- how commands are expanded
 pub mod Expanding
+-- sound commands
+pub mod SoundCommands

@@ -1,14 +1,8 @@
-use Rattle.std.specs.Prelude.{◌≤◌, ◌<ℤ◌, ◌^◌, nat_abs}
+use Rattle.std.specs.Prelude.{◌<ℤ◌, ℤ, List, Option, Some, None, Result, Ok, Err}
 use Rattle.geom_core.specs.Extent.{Extent}
 use Rattle.geom_core.specs.Turning.{Turning}
+use Rattle.cif_reader.specs.Limits.{first_far}
 use Rattle.cif_reader.specs.Within.{IsNotFar}
-
--- a rectangle whose sides have a magnitude of at most 2^42
-pub record AreSmall (e : Extent) : Type 0 where
-  pub x0 : nat_abs e.x0 ≤ 2 ^ 42
-  pub y0 : nat_abs e.y0 ≤ 2 ^ 42
-  pub x1 : nat_abs e.x1 ≤ 2 ^ 42
-  pub y1 : nat_abs e.y1 ≤ 2 ^ 42
 
 -- a rectangle whose right side is right of the left one, and whose upper side is above the lower one
 pub record IsProper (e : Extent) : Type 0 where
@@ -26,3 +20,11 @@ pub record IsNear (e : Extent) : Type 0 where
 pub record IsNearTurn (t : Turning) : Type 0 where
   pub across : IsNotFar t.dx
   pub up : IsNotFar t.dy
+
+abbrev pub ok_unless : {A : Type 0} → Option ℤ → A → Result A ℤ
+ok_unless (Some z) x = Err z
+ok_unless None x = Ok x
+
+-- a value with these numbers, or the first of them that is too far
+abbrev pub unless_far : {A : Type 0} → List ℤ → A → Result A ℤ
+unless_far zs x = ok_unless (first_far zs) x

@@ -4,25 +4,22 @@ use Rattle.geom_core.specs.declared.layout.Cell.{Cell}
 use Rattle.geom_core.specs.Turning.{Turning}
 use Rattle.cif_text.specs.InOrder.{◌>>=◌}
 use Rattle.cif_text.specs.Meaning.{drawn}
-use Rattle.cif_text.specs.Printable.{IsPart}
 use Rattle.cif_text.specs.Symbols.{Symbol, Definition, State, symbol_of, moved_shapes}
 use Rattle.cif_reader.specs.declared.fault.ExpandKind.{ExpandKind}
 use Rattle.cif_reader.specs.declared.inside.Open.{Open}
 use Rattle.cif_reader.specs.declared.outside.Main.{Main}
 use Rattle.cif_reader.specs.Levels.{call_of, cells_given, depth_above}
-use Rattle.cif_reader.specs.Limits.{most_shapes, depth_of}
+use Rattle.cif_reader.specs.Limits.{depth_of}
 use Rattle.cif_reader.specs.Table.{symbol_kept, IsKeptBehind}
 
 -- the definition that is open, behind these symbols
 abbrev pub definition_seen : List Symbol → Open → Definition
-definition_seen symbols open_one = record { symbol = symbol_kept symbols open_one.kept; a = open_one.a; b = open_one.b; layer = open_one.layer }
+definition_seen symbols open_one = record { symbol = symbol_kept symbols open_one.kept; a = open_one.scale.a; b = open_one.scale.b; layer = open_one.layer }
 
--- what is kept of the definition that is open is so, and its scale is one that a text can give
+-- what is kept of the definition that is open is so
 pub record IsOpen (symbols : List Symbol) (open_one : Open) : Type 0 where
   pub kept : IsKeptBehind symbols open_one.kept
   pub some : 1 ≤ open_one.kept.depth
-  pub a : IsPart open_one.a
-  pub b : IsPart open_one.b
 
 -- the definition is what is given, and so is its depth
 pub record IsInsideBehind (symbols : List Symbol) (old new : Open) (given : Definition × ℕ) : Type 0 where
@@ -43,11 +40,10 @@ pub record IsDrawn (old new : Main) (cells : List Cell) (shapes : List Shape) (d
   pub waits : new.waiting ≡ None
   pub depth_is : new.depth ≡ max old.depth depth
 
--- the main level is what is given, and so is its depth; it has not too many shapes
+-- the main level is what is given, and so is its depth
 pub record IsOutsideBehind (symbols : List Symbol) (old new : Main) (given : State × ℕ) : Type 0 where
   pub seen : main_seen symbols new ≡ given.0
   pub depth_is : new.depth ≡ max old.depth given.1
-  pub few : length new.shapes.items ≤ most_shapes
 
 -- what a call gives the main level
 abbrev pub call_outside : List ℕ → State → ℕ → Option Turning → Result (State × ℕ) ExpandKind

@@ -1,15 +1,15 @@
 ghost use Rattle.cif_reader.specs.Bounds.{around_both, joined};
 ghost use Rattle.cif_reader.specs.Sides.{IsNear};
 ghost use Rattle.cif_reader.specs.Table.{ReachesWithin};
-ghost use Rattle.cif_reader.specs.Within.{IsNotFar};
 ghost use Rattle.geom_core.specs.Turning.{moved};
 ghost use Rattle.std.specs.Bool.{OnTrue};
 ghost use Rattle.std.specs.Int.{int_max, int_min};
 ghost use Rattle.std.specs.Option.{ForSome};
-ghost use Rattle.std.specs.Prelude.{◌≡◌, ◌≤ℤ◌, ◌<ℤ◌, option_map};
+ghost use Rattle.std.specs.Prelude.{◌≡◌, ◌≤ℤ◌, option_map};
 
 use crate::limit_passing::{far_side, wide};
-use geom_core::{Rect, Turn, moved};
+use crate::near_turn::NearTurn;
+use geom_core::{Rect, moved};
 
 #[tactic(auto, using(crate::proofs::ScaleLemmas::read_back))]
 fn lesser(a: i64, b: i64) -> i64
@@ -30,24 +30,15 @@ fn greater(a: i64, b: i64) -> i64
 }
 
 #[tactic(auto, using(crate::proofs::ScaleLemmas::read_back))]
-fn rect_of(x0: i64, y0: i64, x1: i64, y1: i64) -> Rect
-    requires across { x0 <ℤ x1 }
-    requires up { y0 <ℤ y1 }
-    ensures { result ≡ record { x0 = x0; y0 = y0; x1 = x1; y1 = y1 } }
-{
-    Rect { x0, y0, x1, y1 }
-}
-
-#[tactic(auto, using(crate::proofs::ScaleLemmas::read_back))]
 fn around_both(a: Rect, b: Rect) -> Rect
     ensures { result ≡ around_both a b }
 {
-    rect_of(
-        lesser(a.x0, b.x0),
-        lesser(a.y0, b.y0),
-        greater(a.x1, b.x1),
-        greater(a.y1, b.y1),
-    )
+    Rect {
+        x0: lesser(a.x0, b.x0),
+        y0: lesser(a.y0, b.y0),
+        x1: greater(a.x1, b.x1),
+        y1: greater(a.y1, b.y1),
+    }
 }
 
 /// The rectangle around two, where there are such.
@@ -64,14 +55,12 @@ pub fn joined(a: Option<Rect>, b: Option<Rect>) -> Option<Rect>
 }
 
 /// The rectangle under a turn, where there is one.
-pub fn moved_bounds(bounds: Option<Rect>, turn: &Turn) -> Option<Rect>
-    requires reach { ForSome bounds (ReachesWithin 64) }
-    requires across { IsNotFar turn.now.dx }
-    requires up { IsNotFar turn.now.dy }
+pub fn moved_bounds(bounds: Option<Rect>, turn: &NearTurn) -> Option<Rect>
+    requires { ForSome bounds (ReachesWithin 64) }
     ensures { result ≡ option_map (moved turn.now) bounds }
 {
     match bounds {
-        Some(rect) => Some(moved(&rect, turn)),
+        Some(rect) => Some(moved(&rect, turn.turn())),
         None => None,
     }
 }

@@ -1,17 +1,16 @@
 ghost use Rattle.cif_reader.specs.Levels.{given_inside};
-ghost use Rattle.cif_reader.specs.Places.{ArePlaces};
 ghost use Rattle.cif_reader.specs.Refusals.{Takes};
 ghost use Rattle.cif_reader.specs.Standing.{IsInsideBehind, IsOpen, definition_seen};
-ghost use Rattle.cif_reader.specs.Table.{AreKept, depth_kept, symbols_of};
-ghost use Rattle.cif_text.specs.Sound.{IsSound};
 ghost use Rattle.cif_text.specs.Symbols.{Symbol};
-ghost use Rattle.std.specs.Prelude.{◌≡◌, ℕ, List, map, OnOk};
+ghost use Rattle.std.specs.Prelude.{◌≡◌, ℕ, List, OnOk};
 
+use crate::drawing_command::DrawingCommand;
 use crate::growing::{push_box, push_call};
-use crate::places::Places;
 use crate::refusal::Refusal;
-use crate::scales::{box_around, scaled_extent, scaled_turning};
+use crate::scales::Scale;
+use crate::symbol_table::SymbolTable;
 use crate::table::Kept;
+use crate::unscaled::{UnscaledBox, UnscaledTurn};
 use cif_text::{Command, UserKind};
 use geom_core::{LayerName, Name};
 use std::alloc::{AllocError, Global};
@@ -20,8 +19,7 @@ use std::alloc::{AllocError, Global};
 #[derive(Debug, Drop)]
 pub struct Open {
     pub kept: Kept,
-    pub a: u64,
-    pub b: u64,
+    pub scale: Scale,
     pub layer: Option<LayerName>,
 }
 
@@ -58,20 +56,15 @@ fn user_inside(
 #[tactic(auto, unfolding(crate::specs::Levels::given_inside))]
 pub fn step_inside(
     alloc: Global,
-    table: &[Kept],
-    places: &Places,
+    table: &SymbolTable,
     definition: &mut Open,
-    command: &Command,
+    command: DrawingCommand,
 ) -> Result<(), Refusal>
-    requires table { AreKept table.now }
-    requires places { ArePlaces places.now table.now }
-    requires definition { IsOpen (symbols_of table.now) definition.old }
-    requires sound { IsSound command.now }
-    ensures { Takes result
-        (given_inside (symbols_of table.now) (map depth_kept table.now) (definition_seen (symbols_of table.now) definition.old) command.now)
-        (IsInsideBehind (symbols_of table.now) definition.old definition.new) }
+    ensures { IsOpen table.now.symbols definition.old → Takes result
+        (given_inside table.now.symbols table.now.depths (definition_seen table.now.symbols definition.old) command.entry.command.now)
+        (IsInsideBehind table.now.symbols definition.old definition.new) }
 {
-    match command {
+    match command.command {
         Command::Box {
             length,
             width,
@@ -79,12 +72,15 @@ pub fn step_inside(
             cy,
             upright,
         } => {
-            let sides = box_around(*length, *width, *cx, *cy, *upright);
-            push_box(
-                &mut definition.kept,
-                definition.layer,
-                scaled_extent(definition.a, definition.b, sides),
-            )
+            let numbers = UnscaledBox {
+                length: *length,
+                width: *width,
+                cx: *cx,
+                cy: *cy,
+                upright: *upright,
+            };
+            let sides = definition.scale.scaled_sides(numbers.sides());
+            push_box(&mut definition.kept, definition.layer, sides)
         }
         Command::Layer(layer) => {
             definition.layer = Some(*layer);
@@ -97,8 +93,14 @@ pub fn step_inside(
             dx,
             dy,
         } => {
-            let turn = scaled_turning(definition.a, definition.b, *flip, *quarters, *dx, *dy);
-            push_call(alloc, table, places, &mut definition.kept, *n, turn)
+            let turn = UnscaledTurn {
+                flip: *flip,
+                quarters: *quarters,
+                dx: *dx,
+                dy: *dy,
+            };
+            let turn = definition.scale.scaled_turn(turn);
+            push_call(alloc, table, &mut definition.kept, *n, turn)
         }
         Command::User { kind, text } => user_inside(alloc, definition, *kind, text),
         Command::Start { .. } | Command::Finish | Command::Comment | Command::End => Ok(()),

@@ -7,17 +7,22 @@
 
 mod bounds;
 mod calls;
+mod drawing_command;
 mod expanding;
 mod fault;
+mod found;
 mod growing;
 mod inside;
 mod limit_passing;
+mod near_turn;
 mod outside;
 mod places;
 mod refusal;
 mod scales;
 mod standing;
+mod symbol_table;
 mod table;
+mod unscaled;
 
 pub use expanding::expand;
 pub use fault::{ExpandFault, ExpandKind};

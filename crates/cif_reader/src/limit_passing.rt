@@ -1,17 +1,15 @@
 ghost use Rattle.cif_reader.specs.Expansion.{unless_refused};
 ghost use Rattle.cif_reader.specs.Levels.{boxed, layered, more_than_most};
 ghost use Rattle.cif_reader.specs.Limits.{coordinates_of, far_or_many, farthest, first_far, most_shapes, sides_of};
-ghost use Rattle.cif_reader.specs.Sides.{IsNear, IsProper};
-ghost use Rattle.cif_reader.specs.Within.{IsNotFar};
-ghost use Rattle.std.specs.Option.{ForSome};
-ghost use Rattle.std.specs.Prelude.{◌≡◌, ◌≤◌, nat_abs, nat_lt};
+ghost use Rattle.cif_reader.specs.Sides.{IsProper, unless_far};
+ghost use Rattle.std.specs.Prelude.{◌≡◌, Some, None, nat_abs, nat_lt, if◌then◌else◌, IfOk, IfSome};
 
 use crate::fault::ExpandKind;
 use crate::scales::WideSides;
 use geom_core::{LayerName, Rect, Shape};
 use limits::{FARTHEST, MOST_SHAPES};
 
-pub fn is_far(z: i128) -> bool
+fn is_far(z: i128) -> bool
     ensures { result ≡ nat_lt farthest (nat_abs z) }
 {
     z.unsigned_abs() > u128::from(FARTHEST)
@@ -60,17 +58,45 @@ pub fn first_far(shapes: &[Shape]) -> Option<i128>
     None
 }
 
+/// A number as a coordinate, where it is not too far.
+#[tactic(auto, using(std::proofs::lemmas::Int::ints))]
+pub fn near(z: i128) -> Option<i64>
+    ensures is { result ≡ (if nat_lt farthest (nat_abs z) then None else Some z) }
+    ensures same { IfSome result (λ c. c ≡ z) }
+{
+    if is_far(z) { None } else { Some(z as i64) }
+}
+
+/// A rectangle, or its first side that is too far.
+#[tactic(auto, using(crate::proofs::ScaleLemmas::read_back))]
+fn near_rect(sides: &WideSides) -> Result<Rect, i128>
+    ensures is { result ≡ unless_far (sides_of sides.now) sides.now }
+    ensures proper { IfOk result IsProper }
+{
+    let Some(x0) = near(sides.x0) else {
+        return Err(sides.x0);
+    };
+    let Some(y0) = near(sides.y0) else {
+        return Err(sides.y0);
+    };
+    let Some(x1) = near(sides.x1) else {
+        return Err(sides.x1);
+    };
+    let Some(y1) = near(sides.y1) else {
+        return Err(sides.y1);
+    };
+    Ok(Rect { x0, y0, x1, y1 })
+}
+
 /// The limit that a command passes by what it gives its level, which has so many shapes before it: the first number that is too
 /// far, if there is one, or too many shapes.
-pub fn limit_passed(far: Option<i128>, before: u32, given: u32) -> Option<ExpandKind>
-    requires before { before ≤ most_shapes }
-    requires given { given ≤ most_shapes }
+pub fn limit_passed(far: Option<i128>, before: usize, given: u32) -> Option<ExpandKind>
     ensures { result ≡ far_or_many far (more_than_most before given) }
 {
     match far {
         Some(z) => Some(ExpandKind::TooFar(z)),
         None => {
-            if before + given > MOST_SHAPES {
+            if before.saturating_add(given as usize) > MOST_SHAPES as usize {
                 Some(ExpandKind::TooMany)
             } else {
                 None
@@ -79,50 +105,30 @@ pub fn limit_passed(far: Option<i128>, before: u32, given: u32) -> Option<Expand
     }
 }
 
-#[tactic(auto, using(std::proofs::lemmas::Int::ints))]
-pub fn narrow(z: i128) -> i64
-    requires { IsNotFar z }
-    ensures { result ≡ z }
-{
-    z as i64
-}
-
-#[tactic(auto, using(crate::proofs::ScaleLemmas::read_back))]
-fn narrow_sides(sides: WideSides) -> Rect
-    requires near { IsNear sides }
-    requires proper { IsProper sides }
-    ensures { result ≡ sides }
-{
-    Rect {
-        x0: narrow(sides.x0),
-        y0: narrow(sides.y0),
-        x1: narrow(sides.x1),
-        y1: narrow(sides.y1),
-    }
-}
-
-fn layered(layer: Option<LayerName>, sides: WideSides) -> Result<Shape, ExpandKind>
-    requires near { IsNear sides }
-    requires proper { IsProper sides }
-    ensures { result ≡ layered layer sides }
+fn layered(layer: Option<LayerName>, rect: Rect) -> Result<Shape, ExpandKind>
+    ensures { result ≡ layered layer rect }
 {
     match layer {
-        Some(layer) => Ok(Shape {
-            layer,
-            rect: narrow_sides(sides),
-        }),
+        Some(layer) => Ok(Shape { layer, rect }),
         None => Err(ExpandKind::NoLayer),
     }
 }
 
-fn boxed_near(layer: Option<LayerName>, before: u32, sides: WideSides) -> Result<Shape, ExpandKind>
-    requires before { before ≤ most_shapes }
-    requires proper { IsProper sides }
-    ensures { result ≡ unless_refused (far_or_many (first_far (sides_of sides)) (more_than_most before 1)) (layered layer sides) }
+fn boxed_near(
+    layer: Option<LayerName>,
+    before: usize,
+    sides: &WideSides,
+) -> Result<Shape, ExpandKind>
+    ensures is { result ≡ unless_refused (far_or_many (first_far (sides_of sides.now)) (more_than_most before 1)) (layered layer sides.now) }
+    ensures proper { IfOk result (λ shape. IsProper shape.rect) }
 {
-    match limit_passed(far_side(&sides), before, 1) {
+    let rect = match near_rect(sides) {
+        Ok(rect) => rect,
+        Err(z) => return Err(ExpandKind::TooFar(z)),
+    };
+    match limit_passed(None, before, 1) {
         Some(kind) => Err(kind),
-        None => layered(layer, sides),
+        None => layered(layer, rect),
     }
 }
 
@@ -130,15 +136,14 @@ fn boxed_near(layer: Option<LayerName>, before: u32, sides: WideSides) -> Result
 #[tactic(auto, unfolding(crate::specs::Levels::boxed))]
 pub fn boxed(
     layer: Option<LayerName>,
-    before: u32,
+    before: usize,
     sides: Option<WideSides>,
 ) -> Result<Shape, ExpandKind>
-    requires before { before ≤ most_shapes }
-    requires proper { ForSome sides (λ e. IsProper e) }
-    ensures { result ≡ boxed layer before sides }
+    ensures is { result ≡ boxed layer before sides }
+    ensures proper { IfOk result (λ shape. IsProper shape.rect) }
 {
     match sides {
-        Some(sides) => boxed_near(layer, before, sides),
+        Some(sides) => boxed_near(layer, before, &sides),
         None => Err(ExpandKind::Inexact),
     }
 }

@@ -1,22 +1,21 @@
 ghost use Rattle.cif_reader.specs.Levels.{boxed, call_of, cells_given, given_outside};
-ghost use Rattle.cif_reader.specs.Limits.{deepest, most_shapes};
-ghost use Rattle.cif_reader.specs.Places.{ArePlaces};
 ghost use Rattle.cif_reader.specs.Refusals.{Gives, Takes};
-ghost use Rattle.cif_reader.specs.Sides.{IsNearTurn, IsProper};
 ghost use Rattle.cif_reader.specs.Standing.{IsDrawn, IsOutsideBehind, call_outside, main_seen};
-ghost use Rattle.cif_reader.specs.Table.{AreKept, depth_kept, symbol_at, symbols_of};
-ghost use Rattle.cif_text.specs.Sound.{IsSound};
+ghost use Rattle.cif_reader.specs.Table.{symbol_at};
 ghost use Rattle.cif_text.specs.Symbols.{Symbol, moved_shapes};
-ghost use Rattle.std.specs.Option.{ForSome, option_to_list};
-ghost use Rattle.std.specs.Prelude.{◌≡◌, ◌≤◌, ◌<◌, ◌∷◌, [], length, map, max, ℕ, List, IfOk, OnOk, ◌++◌};
+ghost use Rattle.std.specs.Option.{option_to_list};
+ghost use Rattle.std.specs.Prelude.{◌≡◌, ◌∷◌, [], length, max, ℕ, List, IfOk, OnOk, ◌++◌};
 
-use crate::calls::{Call, called, depth_above, push_copy};
+use crate::calls::{Call, called, depth_above};
+use crate::drawing_command::DrawingCommand;
 use crate::fault::ExpandKind;
 use crate::limit_passing::boxed;
-use crate::places::Places;
+use crate::near_turn::NearTurn;
 use crate::refusal::Refusal;
-use crate::scales::{WideSides, WideTurn, box_around, scaled_extent, scaled_turning};
+use crate::scales::{Scale, WideSides, WideTurn};
+use crate::symbol_table::SymbolTable;
 use crate::table::Kept;
+use crate::unscaled::{UnscaledBox, UnscaledTurn};
 use cif_text::{Command, UserKind};
 use geom_core::{Cell, LayerName, Name, Shape, Turn};
 use std::alloc::{AllocError, Global};
@@ -57,11 +56,11 @@ fn cell_of(
     alloc: Global,
     waiting: &Option<Name>,
     kept: &Kept,
-    turn: Turn,
+    turn: &NearTurn,
     first: u32,
 ) -> Result<Option<Cell>, Refusal>
     ensures { (symbol : Symbol) → symbol.name ≡ kept.now.name → length symbol.shapes ≡ kept.now.count
-        → Gives option_to_list result (cells_given waiting.now symbol turn first) }
+        → Gives option_to_list result (cells_given waiting.now symbol turn.now first) }
 {
     let Some(name) = waiting else {
         return Ok(None);
@@ -69,7 +68,7 @@ fn cell_of(
     let Some(symbol) = &kept.name else {
         return Err(Refusal::Because(ExpandKind::NoSymbolName));
     };
-    match named_cell(alloc, name, symbol, turn, first, kept.count) {
+    match named_cell(alloc, name, symbol, *turn.turn(), first, kept.count) {
         Ok(cell) => Ok(Some(cell)),
         Err(_) => Err(Refusal::Memory),
     }
@@ -86,19 +85,15 @@ fn push_cell(cells: &mut Vec<Cell>, cell: Option<Cell>) -> Result<(), AllocError
 
 fn draw_call(
     alloc: Global,
-    table: &[Kept],
     main: &mut Main,
-    call: Call,
+    call: &Call,
     cell: Option<Cell>,
     depth: u32,
 ) -> Result<(), AllocError>
-    requires table { AreKept table.now }
-    requires of { call.of < length table.now }
-    requires near { IsNearTurn call.turn }
     ensures { OnOk result (IsDrawn main.old main.new (option_to_list cell)
-        (moved_shapes call.turn (symbol_at (symbols_of table.now) call.of).shapes) depth) }
+        (moved_shapes call.now.turn (symbol_at call.now.symbol.table.now.symbols call.now.symbol.place).shapes) depth) }
 {
-    push_copy(alloc, table, call.of, &call.turn, &mut main.shapes)?;
+    call.symbol.push_copy(alloc, &call.turn, &mut main.shapes)?;
     push_cell(&mut main.cells, cell)?;
     main.waiting = None;
     main.depth = main.depth.max(depth);
@@ -107,25 +102,21 @@ fn draw_call(
 
 fn step_call(
     alloc: Global,
-    table: &[Kept],
-    places: &Places,
+    table: &SymbolTable,
     main: &mut Main,
     n: u64,
     turn: Option<WideTurn>,
 ) -> Result<(), Refusal>
-    requires table { AreKept table.now }
-    requires places { ArePlaces places.now table.now }
-    requires few { length main.old.shapes.items ≤ most_shapes }
-    ensures { Takes result (call_outside (map depth_kept table.now) (main_seen (symbols_of table.now) main.old) n turn)
-        (IsOutsideBehind (symbols_of table.now) main.old main.new) }
+    ensures { Takes result (call_outside table.now.depths (main_seen table.now.symbols main.old) n turn)
+        (IsOutsideBehind table.now.symbols main.old main.new) }
 {
-    let before = main.shapes.len() as u32;
-    let call = match called(alloc, table, places, before, n, turn) {
+    let before = main.shapes.len();
+    let call = match called(alloc, table, before, n, turn) {
         Ok(call) => call,
         Err(refusal) => return Err(refusal),
     };
-    let symbol = &table[call.of];
-    let cell = match cell_of(alloc, &main.waiting, symbol, call.turn, before) {
+    let symbol = call.symbol.kept();
+    let cell = match cell_of(alloc, &main.waiting, symbol, &call.turn, before as u32) {
         Ok(cell) => cell,
         Err(refusal) => return Err(refusal),
     };
@@ -133,7 +124,7 @@ fn step_call(
         Ok(depth) => depth,
         Err(kind) => return Err(Refusal::Because(kind)),
     };
-    match draw_call(alloc, table, main, call, cell, depth) {
+    match draw_call(alloc, main, &call, cell, depth) {
         Ok(()) => Ok(()),
         Err(_) => Err(Refusal::Memory),
     }
@@ -149,11 +140,9 @@ fn draw_shape(main: &mut Main, shape: Shape) -> Result<(), AllocError>
 }
 
 fn step_box(main: &mut Main, sides: Option<WideSides>) -> Result<(), Refusal>
-    requires few { length main.old.shapes.items ≤ most_shapes }
-    requires proper { ForSome sides (λ e. IsProper e) }
     ensures { Takes result (boxed main.old.layer (length main.old.shapes.items) sides) (λ shape. IsDrawn main.old main.new [] (shape ∷ []) 1) }
 {
-    match boxed(main.layer, main.shapes.len() as u32, sides) {
+    match boxed(main.layer, main.shapes.len(), sides) {
         Ok(shape) => match draw_shape(main, shape) {
             Ok(()) => Ok(()),
             Err(_) => Err(Refusal::Memory),
@@ -172,7 +161,6 @@ fn wait(alloc: Global, main: &mut Main, text: &Name) -> Result<(), AllocError>
 
 #[tactic(auto, unfolding(crate::specs::Levels::given_outside))]
 fn user_outside(alloc: Global, main: &mut Main, kind: UserKind, text: &Name) -> Result<(), Refusal>
-    requires { length main.old.shapes.items ≤ most_shapes }
     ensures { (symbols : List Symbol) → (depths : List ℕ)
         → Takes result (given_outside depths (main_seen symbols main.old) (Command.User kind text.now))
         (IsOutsideBehind symbols main.old main.new) }
@@ -198,19 +186,14 @@ fn user_outside(alloc: Global, main: &mut Main, kind: UserKind, text: &Name) -> 
 #[tactic(auto, unfolding(crate::specs::Levels::given_outside))]
 pub fn step_outside(
     alloc: Global,
-    table: &[Kept],
-    places: &Places,
+    table: &SymbolTable,
     main: &mut Main,
-    command: &Command,
+    command: DrawingCommand,
 ) -> Result<(), Refusal>
-    requires table { AreKept table.now }
-    requires places { ArePlaces places.now table.now }
-    requires few { length main.old.shapes.items ≤ most_shapes }
-    requires sound { IsSound command.now }
-    ensures { Takes result (given_outside (map depth_kept table.now) (main_seen (symbols_of table.now) main.old) command.now)
-        (IsOutsideBehind (symbols_of table.now) main.old main.new) }
+    ensures { Takes result (given_outside table.now.depths (main_seen table.now.symbols main.old) command.entry.command.now)
+        (IsOutsideBehind table.now.symbols main.old main.new) }
 {
-    match command {
+    match command.command {
         Command::Box {
             length,
             width,
@@ -218,8 +201,14 @@ pub fn step_outside(
             cy,
             upright,
         } => {
-            let sides = box_around(*length, *width, *cx, *cy, *upright);
-            step_box(main, scaled_extent(1, 1, sides))
+            let numbers = UnscaledBox {
+                length: *length,
+                width: *width,
+                cx: *cx,
+                cy: *cy,
+                upright: *upright,
+            };
+            step_box(main, Scale::whole().scaled_sides(numbers.sides()))
         }
         Command::Layer(layer) => {
             main.layer = Some(*layer);
@@ -234,8 +223,14 @@ pub fn step_outside(
             dx,
             dy,
         } => {
-            let turn = scaled_turning(1, 1, *flip, *quarters, *dx, *dy);
-            step_call(alloc, table, places, main, *n, turn)
+            let turn = UnscaledTurn {
+                flip: *flip,
+                quarters: *quarters,
+                dx: *dx,
+                dy: *dy,
+            };
+            let turn = Scale::whole().scaled_turn(turn);
+            step_call(alloc, table, main, *n, turn)
         }
         Command::User { kind, text } => user_outside(alloc, main, *kind, text),
         Command::Start { .. } | Command::Finish | Command::Comment | Command::End => {

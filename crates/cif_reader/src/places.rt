@@ -1,7 +1,7 @@
 ghost use Rattle.cif_reader.specs.Places.{IsEntered};
-ghost use Rattle.std.specs.BTreeMap.{get};
+ghost use Rattle.std.specs.BTreeMap.{IsUnchanged, get};
 ghost use Rattle.std.specs.Ordering.{nat_cmp};
-ghost use Rattle.std.specs.Prelude.{◌≡◌, OnOk};
+ghost use Rattle.std.specs.Prelude.{◌≡◌, OnErr, OnOk};
 
 use std::alloc::AllocError;
 use std::collections::BTreeMap;
@@ -18,7 +18,8 @@ pub fn place_of(places: &Places, n: u64) -> Option<usize>
 
 /// Enters the place of a symbol of this number, unless there is an earlier one.
 pub fn enter(places: &mut Places, n: u64, place: usize) -> Result<(), AllocError>
-    ensures { OnOk result (IsEntered places.old places.new n place) }
+    ensures ok { OnOk result (IsEntered places.old places.new n place) }
+    ensures err { OnErr result (IsUnchanged places.old places.new) }
 {
     if places.contains_key(&n) {
         return Ok(());

@@ -1,28 +1,28 @@
 ghost use Rattle.cif_reader.specs.Behind.{IsBehind, IsFinished, IsOpened, IsStanding, seen};
 ghost use Rattle.cif_reader.specs.Expansion.{advance, at_first};
-ghost use Rattle.cif_reader.specs.Levels.{is_drawing};
 ghost use Rattle.cif_reader.specs.Refusals.{Takes};
+ghost use Rattle.cif_reader.specs.Table.{IsKeptBehind};
 ghost use Rattle.cif_text.specs.CifReads.{is_open_behind};
-ghost use Rattle.cif_text.specs.Printable.{IsPart};
-ghost use Rattle.cif_text.specs.Sound.{IsSound, IsInPlace};
+ghost use Rattle.cif_text.specs.Sound.{IsInPlace};
 ghost use Rattle.std.specs.Prelude.{◌≡◌, true, false, is_some, OnOk};
 
+use crate::drawing_command::DrawingCommand;
 use crate::fault::ExpandKind;
+use crate::found::Found;
 use crate::inside::{Open, step_inside};
 use crate::outside::{Main, step_outside};
-use crate::places::{Places, enter, place_of};
 use crate::refusal::Refusal;
+use crate::scales::Scale;
+use crate::symbol_table::SymbolTable;
 use crate::table::Kept;
 use cif_text::Command;
 use std::alloc::{AllocError, Global};
 
-/// What stands behind some commands: the main level, the symbols whose definitions have ended, with their places there by
-/// their numbers, and the definition that is open.
+/// What stands behind some commands: the main level, the symbols whose definitions have ended, and the definition that is open.
 #[derive(Debug, Drop)]
 pub struct Standing {
     pub main: Main,
-    pub table: Vec<Kept>,
-    pub places: Places,
+    pub table: SymbolTable,
     pub definition: Option<Open>,
 }
 
@@ -40,21 +40,18 @@ pub fn at_first(alloc: Global) -> Standing
             waiting: None,
             depth: 1,
         },
-        table: Vec::new(alloc),
-        places: Places::new(alloc),
+        table: SymbolTable::new(alloc),
         definition: None,
     }
 }
 
 fn finished(standing: &mut Standing, definition: Open) -> Result<(), AllocError>
+    requires { IsKeptBehind standing.old.table.symbols definition.kept }
     ensures { OnOk result (IsFinished standing.old standing.new definition) }
 {
     standing.main.depth = definition.kept.depth;
     standing.definition = None;
-    let number = definition.kept.number;
-    let place = standing.table.len();
-    standing.table.push(definition.kept)?;
-    enter(&mut standing.places, number, place)
+    standing.table.push(definition.kept)
 }
 
 fn step_finish(standing: &mut Standing) -> Result<(), Refusal>
@@ -71,8 +68,8 @@ fn step_finish(standing: &mut Standing) -> Result<(), Refusal>
     }
 }
 
-fn opened(alloc: Global, n: u64, a: u64, b: u64) -> Open
-    ensures { IsOpened n a b result }
+fn opened(alloc: Global, n: u64, scale: Scale) -> Open
+    ensures { IsOpened n scale.a scale.b result }
 {
     Open {
         kept: Kept {
@@ -83,50 +80,37 @@ fn opened(alloc: Global, n: u64, a: u64, b: u64) -> Open
             bounds: None,
             depth: 1,
         },
-        a,
-        b,
+        scale,
         layer: None,
     }
 }
 
-fn step_start(alloc: Global, standing: &mut Standing, n: u64, a: u64, b: u64) -> Result<(), Refusal>
+fn step_start(alloc: Global, standing: &mut Standing, n: u64, scale: Scale) -> Result<(), Refusal>
     requires is { IsStanding standing.old }
     requires outside { standing.old.definition ≡ None }
-    requires a { IsPart a }
-    requires b { IsPart b }
-    ensures { Takes result (advance (seen standing.old) (Command.Start n a b)) (IsBehind standing.new true) }
+    ensures { Takes result (advance (seen standing.old) (Command.Start n scale.a scale.b)) (IsBehind standing.new true) }
 {
-    match place_of(&standing.places, n) {
+    match Found::by_number(&standing.table, n) {
         Some(_) => Err(Refusal::Because(ExpandKind::Twice(n))),
         None => {
             standing.main.waiting = None;
-            standing.definition = Some(opened(alloc, n, a, b));
+            standing.definition = Some(opened(alloc, n, scale));
             Ok(())
         }
     }
 }
 
-fn step_drawing(alloc: Global, standing: &mut Standing, command: &Command) -> Result<(), Refusal>
-    requires is { IsStanding standing.old }
-    requires sound { IsSound command.now }
-    requires drawing { is_drawing command.now ≡ true }
-    ensures { Takes result (advance (seen standing.old) command.now) (IsBehind standing.new (is_some standing.old.definition)) }
+fn step_drawing(
+    alloc: Global,
+    standing: &mut Standing,
+    command: DrawingCommand,
+) -> Result<(), Refusal>
+    requires { IsStanding standing.old }
+    ensures { Takes result (advance (seen standing.old) command.entry.command.now) (IsBehind standing.new (is_some standing.old.definition)) }
 {
     match &mut standing.definition {
-        Some(definition) => step_inside(
-            alloc,
-            standing.table.as_slice(),
-            &standing.places,
-            definition,
-            command,
-        ),
-        None => step_outside(
-            alloc,
-            standing.table.as_slice(),
-            &standing.places,
-            &mut standing.main,
-            command,
-        ),
+        Some(definition) => step_inside(alloc, &standing.table, definition, command),
+        None => step_outside(alloc, &standing.table, &mut standing.main, command),
     }
 }
 
@@ -138,8 +122,8 @@ pub fn step(alloc: Global, standing: &mut Standing, command: &Command) -> Result
         (IsBehind standing.new (is_open_behind (is_some standing.old.definition) command.now)) }
 {
     match command {
-        Command::Start { n, a, b } => step_start(alloc, standing, *n, *a, *b),
+        Command::Start { n, a, b } => step_start(alloc, standing, *n, Scale { a: *a, b: *b }),
         Command::Finish => step_finish(standing),
-        _ => step_drawing(alloc, standing, command),
+        _ => step_drawing(alloc, standing, DrawingCommand { command }),
     }
 }

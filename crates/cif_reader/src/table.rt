@@ -1,18 +1,19 @@
 ghost use Rattle.cif_reader.specs.Table.{AreKept, IsItem, items_drawn, symbols_of};
-ghost use Rattle.cif_reader.specs.Within.{IsNotFar, IsShapeWithin};
+ghost use Rattle.cif_reader.specs.Within.{IsShapeWithin};
 ghost use Rattle.cif_text.specs.Symbols.{moved_shapes};
 ghost use Rattle.geom_core.specs.Moving.{moved_shape};
 ghost use Rattle.std.specs.List.{AllByRecursion};
 ghost use Rattle.std.specs.Prelude.{◌≡◌, ◌++◌, length, IfOk, OnOk};
 
-use geom_core::{Name, Rect, Shape, Turn, moved};
+use crate::near_turn::NearTurn;
+use geom_core::{Name, Rect, Shape, moved};
 use std::alloc::{AllocError, Global};
 
 /// What a definition draws: a shape of its own, or the shapes of an earlier symbol, by its place in the table, under a turn.
 #[derive(Clone, Copy, Debug)]
 pub enum Item {
     Own(Shape),
-    Copied { of: usize, turn: Turn },
+    Copied { of: usize, turn: NearTurn },
 }
 
 /// A symbol as it is kept: what it draws, how many shapes that is, a rectangle around them if there are any, and its depth.
@@ -26,23 +27,23 @@ pub struct Kept {
     pub depth: u32,
 }
 
-fn moved_shape(shape: &Shape, turn: &Turn) -> Shape
-    requires shape { IsShapeWithin shape.now }
-    requires across { IsNotFar turn.now.dx }
-    requires up { IsNotFar turn.now.dy }
+fn moved_shape(shape: &Shape, turn: &NearTurn) -> Shape
+    requires { IsShapeWithin shape.now }
     ensures { result ≡ moved_shape turn.now shape.now }
 {
     Shape {
         layer: shape.layer,
-        rect: moved(&shape.rect, turn),
+        rect: moved(&shape.rect, turn.turn()),
     }
 }
 
 /// Puts shapes under a turn behind others.
-pub fn push_moved(into: &mut Vec<Shape>, shapes: &[Shape], turn: &Turn) -> Result<(), AllocError>
-    requires shapes { AllByRecursion IsShapeWithin shapes.now }
-    requires across { IsNotFar turn.now.dx }
-    requires up { IsNotFar turn.now.dy }
+pub fn push_moved(
+    into: &mut Vec<Shape>,
+    shapes: &[Shape],
+    turn: &NearTurn,
+) -> Result<(), AllocError>
+    requires { AllByRecursion IsShapeWithin shapes.now }
     ensures { OnOk result (into.new.items ≡ into.old.items ++ moved_shapes turn.now shapes.now) }
 {
     let mut rest = shapes;

@@ -35,3 +35,5 @@ pub mod WrittenLayout
 pub mod PrintableTexts
 -- steps of a call as moves, one after another
 pub mod Moves
+-- lines that are written piece by piece
+pub mod LineLemmas

@@ -1,6 +1,5 @@
 use Rattle.std.specs.Prelude.{ℕ, List, length, Result, Ok}
 use Rattle.geom_core.specs.Turning.{Turning}
-use Rattle.cif_text.specs.declared.transform.Step.TheVariants as moves
 use Rattle.cif_text.specs.declared.fault.CifKind.{CifKind}
 use Rattle.cif_text.specs.Bytes.{is_blank, is_separator, skip}
 use Rattle.cif_text.specs.Calls.{steps_of, after_all}

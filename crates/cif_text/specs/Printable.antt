@@ -1,7 +1,5 @@
-use Rattle.std.specs.Prelude.{ℕ, ◌≤◌, ℤ, pos, negsuc, ◌≤ℤ◌, length}
+use Rattle.std.specs.Prelude.{ℕ, ◌≤◌, ℤ, pos, negsuc, ◌≤ℤ◌}
 use Rattle.limits.specs.declared.TheConstants.{MOST_NUMBER}
-use Rattle.cif_text.specs.declared.command.Command.TheVariants as commands
-use Rattle.cif_text.specs.declared.command.UserKind.TheVariants as users
 use Rattle.cif_text.specs.Numbers.{greatest}
 
 -- a number that can be read

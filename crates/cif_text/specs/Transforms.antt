@@ -7,21 +7,13 @@ use Rattle.cif_text.specs.declared.fault.CifKind.{CifKind}
 use Rattle.cif_text.specs.Calls.{Step, translate, mirror_x, mirror_y, rotate, steps_of, after, after_all, at_rest, call_of}
 use Rattle.cif_text.specs.InOrder.{◌>>=◌}
 use Rattle.cif_text.specs.Numbers.{Wrong}
-use Rattle.cif_text.specs.Printable.{IsNear}
 
 -- a step, as a program has it
 abbrev pub step_seen : Move → Step
-step_seen (moves.Translate x y) = translate x y
+step_seen (moves.Translate x y) = translate x.value y.value
 step_seen moves.MirrorX = mirror_x
 step_seen moves.MirrorY = mirror_y
-step_seen (moves.Rotate a b) = rotate a b
-
--- the numbers of a step can be read
-abbrev pub IsNearStep : Move → Type 0
-IsNearStep (moves.Translate x y) = IsNear x × IsNear y
-IsNearStep moves.MirrorX = Unit {0}
-IsNearStep moves.MirrorY = Unit {0}
-IsNearStep (moves.Rotate a b) = IsNear a × IsNear b
+step_seen (moves.Rotate a b) = rotate a.value b.value
 
 -- an offset has at most this magnitude
 pub record IsWithin (most : ℕ) (t : Turning) : Type 0 where

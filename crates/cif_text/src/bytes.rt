@@ -135,12 +135,19 @@ fn digits_len(bytes: &[u8]) -> usize
         .count()
 }
 
+/// Digits alone.
+#[derive(Clone, Copy)]
+pub struct Digits<'a> {
+    pub bytes: &'a [u8],
+    ghost are_digits: { list_all is_digit_byte bytes.now ≡ true },
+}
+
 /// The digits that come first, and what stands behind them.
-pub fn split_digits(bytes: &[u8]) -> (&[u8], &[u8])
-    ensures parts { (result.0.now, result.1.now) ≡ span is_digit_byte bytes.now }
-    ensures digits { list_all is_digit_byte result.0.now ≡ true }
+pub fn split_digits(bytes: &[u8]) -> (Digits<'_>, &[u8])
+    ensures { (result.0.bytes.now, result.1.now) ≡ span is_digit_byte bytes.now }
 {
-    bytes.split_at(digits_len(bytes))
+    let (digits, rest) = bytes.split_at(digits_len(bytes));
+    (Digits { bytes: digits }, rest)
 }
 
 fn is_layer_byte(byte: u8) -> bool

@@ -1,35 +1,31 @@
 ghost use Rattle.cif_text.specs.Answers.{Finds, form_seen};
 ghost use Rattle.cif_text.specs.Calls.{Step as SpecStep, call_form, call_of, mirror_of, point_of, rotate, step_of, translate};
 ghost use Rattle.cif_text.specs.Numbers.{greatest};
-ghost use Rattle.cif_text.specs.Printable.{IsNear};
 ghost use Rattle.cif_text.specs.Sound.{FormIsSound, IsFormed};
-ghost use Rattle.cif_text.specs.Transforms.{IsNearStep, IsWithin, call_under, followed, moves_of, step_seen};
+ghost use Rattle.cif_text.specs.Transforms.{IsWithin, call_under, followed, moves_of, step_seen};
 ghost use Rattle.std.specs.Prelude.{◌≡◌, ◌≤◌, ◌+◌, ◌^◌, ℕ, ℤ, IfOk};
 
 use crate::bytes::{after_blanks, after_separators};
 use crate::command::Command;
 use crate::fault::CifKind;
 use crate::forms::Form;
-use crate::numbers::{natural_at, next_among_blanks, number_at};
+use crate::numbers::{Number, natural_at, next_among_blanks, number_at};
 use crate::stop::Misfit;
 use crate::transform::{Step, Transform, after, at_rest};
 use limits::MOST_NUMBER;
 
 /// Two numbers among blanks, and what stands behind them. Takes no memory.
-fn point_at(bytes: &[u8]) -> Result<((i64, i64), &[u8]), Misfit>
-    ensures gives { (step : ℤ → ℤ → SpecStep) → Finds (λ x. (step x.0.0 x.0.1, x.1.now)) result (point_of step bytes.now) }
-    ensures across { IfOk result (λ x. IsNear x.0.0) }
-    ensures up { IfOk result (λ x. IsNear x.0.1) }
+fn point_at(bytes: &[u8]) -> Result<((Number, Number), &[u8]), Misfit>
+    ensures { (step : ℤ → ℤ → SpecStep) → Finds (λ x. (step x.0.0.value x.0.1.value, x.1.now)) result (point_of step bytes.now) }
 {
     let (x, rest) = number_at(after_blanks(bytes))?;
     let (y, rest) = next_among_blanks(rest)?;
-    Ok(((x, y), rest))
+    Ok(((Number { value: x }, Number { value: y }), rest))
 }
 
 /// The axis that a mirroring negates, and what stands behind it. Takes no memory.
 fn mirror_at(bytes: &[u8]) -> Result<(Step, &[u8]), Misfit>
-    ensures gives { Finds (λ x. (step_seen x.0, x.1.now)) result (mirror_of bytes.now) }
-    ensures near { IfOk result (λ x. IsNearStep x.0) }
+    ensures { Finds (λ x. (step_seen x.0, x.1.now)) result (mirror_of bytes.now) }
 {
     let Some((letter, rest)) = bytes.split_first() else {
         return Err(Misfit::Malformed);
@@ -44,8 +40,7 @@ fn mirror_at(bytes: &[u8]) -> Result<(Step, &[u8]), Misfit>
 /// The step that begins with this letter, and what stands behind it. Takes no memory.
 #[tactic(auto, unfolding(crate::specs::Calls::step_of))]
 fn step_at(letter: u8, bytes: &[u8]) -> Result<(Step, &[u8]), Misfit>
-    ensures gives { Finds (λ x. (step_seen x.0, x.1.now)) result (step_of letter bytes.now) }
-    ensures near { IfOk result (λ x. IsNearStep x.0) }
+    ensures { Finds (λ x. (step_seen x.0, x.1.now)) result (step_of letter bytes.now) }
 {
     if letter == b'T' {
         let ((x, y), rest) = point_at(bytes)?;
@@ -63,8 +58,7 @@ fn step_at(letter: u8, bytes: &[u8]) -> Result<(Step, &[u8]), Misfit>
 
 /// What a step does behind others, where none of their directions was at fault.
 fn followed(so_far: Result<Transform, CifKind>, step: Step) -> Result<Transform, CifKind>
-    requires near { IsNearStep step }
-    requires reach { IfOk so_far (IsWithin (2 ^ 120)) }
+    requires { IfOk so_far (IsWithin (2 ^ 119)) }
     ensures is { result ≡ followed so_far (step_seen step) }
     ensures within { (most : ℕ) → IfOk so_far (IsWithin most) → IfOk result (IsWithin (most + greatest)) }
 {
@@ -88,10 +82,16 @@ fn moves_at(bytes: &[u8]) -> Result<Result<Transform, CifKind>, Misfit>
     Ok(whole)
 }
 
+/// The number of a symbol.
+#[derive(Clone, Copy)]
+struct SymbolNumber {
+    value: u64,
+    ghost near: { value ≤ greatest },
+}
+
 /// The call of a symbol, where its whole offset has the magnitude of a number.
-fn call_of(n: u64, t: Transform) -> Result<Command, CifKind>
-    requires { n ≤ greatest }
-    ensures is { result ≡ call_of n t }
+fn call_of(n: SymbolNumber, t: Transform) -> Result<Command, CifKind>
+    ensures is { result ≡ call_of n.value t }
     ensures sound { IfOk result IsFormed }
 {
     if t.dx.unsigned_abs() > u128::from(MOST_NUMBER)
@@ -100,7 +100,7 @@ fn call_of(n: u64, t: Transform) -> Result<Command, CifKind>
         return Err(CifKind::Number);
     }
     Ok(Command::Call {
-        n,
+        n: n.value,
         flip: t.flip,
         quarters: t.quarters,
         dx: t.dx as i64,
@@ -109,9 +109,8 @@ fn call_of(n: u64, t: Transform) -> Result<Command, CifKind>
 }
 
 /// The call of a symbol under what its steps do together.
-fn call_under(n: u64, whole: Result<Transform, CifKind>) -> Result<Command, CifKind>
-    requires { n ≤ greatest }
-    ensures is { result ≡ call_under n whole }
+fn call_under(n: SymbolNumber, whole: Result<Transform, CifKind>) -> Result<Command, CifKind>
+    ensures is { result ≡ call_under n.value whole }
     ensures sound { IfOk result IsFormed }
 {
     match whole {
@@ -127,5 +126,5 @@ pub fn call_form(body: &[u8]) -> Form
 {
     let (n, rest) = natural_at(after_separators(body))?;
     let whole = moves_at(after_blanks(rest))?;
-    Ok(call_under(n, whole))
+    Ok(call_under(SymbolNumber { value: n }, whole))
 }

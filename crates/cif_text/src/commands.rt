@@ -138,18 +138,17 @@ fn from_form(inside: bool, left: usize, rest: &[u8], form: Form) -> Result<Comma
     }
 }
 
-/// A command that begins with this byte, where so many bytes are left: it goes up to the semicolon that comes next.
-fn cut_command<'a>(
+/// A command that begins with this byte, which these follow: it goes up to the semicolon that comes next.
+fn cut_command(
     alloc: Global,
     inside: bool,
-    left: usize,
     first: u8,
-    bytes: &'a [u8],
-) -> Result<(Command, &'a [u8]), Stop>
-    requires { left ≡ length bytes.now + 1 }
+    bytes: &[u8],
+) -> Result<(Command, &[u8]), Stop>
     ensures stands { IfOk result (λ x. IsInPlace inside x.0) }
-    ensures gives { Gives (λ x. (x.0, x.1.now)) result (cut_of inside left first (span not_semicolon bytes.entry.now).0 (span not_semicolon bytes.entry.now).1) }
+    ensures gives { Gives (λ x. (x.0, x.1.now)) result (cut_of inside (length bytes.now + 1) first (span not_semicolon bytes.now).0 (span not_semicolon bytes.now).1) }
 {
+    let left = bytes.len() + 1;
     let (body, tail) = split_body(bytes);
     let Some((_, rest)) = tail.split_first() else {
         return Err(Stop::At(Flaw {
@@ -183,7 +182,7 @@ pub fn command_at(alloc: Global, inside: bool, bytes: &[u8]) -> Result<(Command,
         return Ok(comment(bytes.len(), after)?);
     }
     if *first != b'E' {
-        return cut_command(alloc, inside, bytes.len(), *first, after);
+        return cut_command(alloc, inside, *first, after);
     }
     if inside {
         return Err(Stop::At(Flaw {

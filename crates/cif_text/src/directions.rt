@@ -1,7 +1,7 @@
 ghost use Rattle.cif_text.specs.Answers.{quarters_along, upright_of};
 ghost use Rattle.cif_text.specs.Calls.{quarters_to};
 ghost use Rattle.cif_text.specs.Forms.{axis_of};
-ghost use Rattle.std.specs.Prelude.{◌≡◌, ◌<◌, IfSome};
+ghost use Rattle.std.specs.Prelude.{◌≡◌, ◌<◌, IfSome, if◌then◌else◌};
 
 /// How many quarter turns, counter-clockwise, bring the x axis to a direction; None where that is not along an axis.
 pub fn quarters_to(a: i64, b: i64) -> Option<u8>
@@ -9,19 +9,19 @@ pub fn quarters_to(a: i64, b: i64) -> Option<u8>
     ensures few { IfSome result (λ quarters. quarters < 4) }
 {
     if b == 0 {
-        return quarters_along(a, 0);
+        return quarters_along(a, false);
     }
     if a == 0 {
-        return quarters_along(b, 1);
+        return quarters_along(b, true);
     }
     None
 }
 
-/// The quarter turns to the positive side of an axis, or two more to its negative side.
-fn quarters_along(z: i64, quarters: u8) -> Option<u8>
-    requires { quarters < 2 }
-    ensures { result ≡ quarters_along z quarters }
+/// The quarter turns to the positive side of the x axis, or of the y axis where `upright` is set, or two more to its negative side.
+fn quarters_along(z: i64, upright: bool) -> Option<u8>
+    ensures { result ≡ quarters_along z (if upright then 1 else 0) }
 {
+    let quarters = if upright { 1 } else { 0 };
     if z > 0 {
         return Some(quarters);
     }

@@ -21,53 +21,51 @@ use std::alloc::{AllocError, Global};
 /// What the bytes of a command read as: none of its forms, or a form, which is a command or has a fault of its own.
 pub type Form = Result<Result<Command, CifKind>, Misfit>;
 
-/// A box whose length lies along a direction.
-fn box_along(
+/// The numbers of a box, but for its direction.
+#[derive(Clone, Copy)]
+struct BoxNumbers {
     length: u64,
     width: u64,
     cx: i64,
     cy: i64,
-    dx: i64,
-    dy: i64,
-) -> Result<Command, CifKind>
-    requires length { IsPart length }
-    requires width { IsPart width }
-    requires across { IsNear cx }
-    requires up { IsNear cy }
-    ensures is { result ≡ box_along length width cx cy (axis_of dx dy) }
+    ghost length_is: { IsPart length },
+    ghost width_is: { IsPart width },
+    ghost cx_near: { IsNear cx },
+    ghost cy_near: { IsNear cy },
+}
+
+/// A box whose length lies along a direction.
+fn box_along(numbers: BoxNumbers, dx: i64, dy: i64) -> Result<Command, CifKind>
+    ensures is { result ≡ box_along numbers.length numbers.width numbers.cx numbers.cy (axis_of dx dy) }
     ensures sound { IfOk result IsFormed }
 {
     let Some(upright) = is_upright(dx, dy) else {
         return Err(CifKind::Turned);
     };
     Ok(Command::Box {
-        length: length as i64,
-        width: width as i64,
-        cx,
-        cy,
+        length: numbers.length as i64,
+        width: numbers.width as i64,
+        cx: numbers.cx,
+        cy: numbers.cy,
         upright,
     })
 }
 
 /// What stands behind a box's centre: perhaps a direction, else the length lies along x.
 #[tactic(auto, unfolding(crate::specs::Forms::box_end))]
-fn box_end(length: u64, width: u64, cx: i64, cy: i64, bytes: &[u8]) -> Form
-    requires length { IsPart length }
-    requires width { IsPart width }
-    requires across { IsNear cx }
-    requires up { IsNear cy }
-    ensures is { box_end length width cx cy bytes.now ≡ form_seen result }
+fn box_end(numbers: BoxNumbers, bytes: &[u8]) -> Form
+    ensures is { box_end numbers.length numbers.width numbers.cx numbers.cy bytes.now ≡ form_seen result }
     ensures sound { FormIsSound result }
 {
     if are_separators(bytes) {
-        return Ok(box_along(length, width, cx, cy, 1, 0));
+        return Ok(box_along(numbers, 1, 0));
     }
     let (dx, rest) = next_number(bytes)?;
     let (dy, rest) = next_number(rest)?;
     if !are_separators(rest) {
         return Err(Misfit::Malformed);
     }
-    Ok(box_along(length, width, cx, cy, dx, dy))
+    Ok(box_along(numbers, dx, dy))
 }
 
 /// The form of a box: length, width, centre, and perhaps a direction.
@@ -80,7 +78,13 @@ pub fn box_form(body: &[u8]) -> Form
     let (width, rest) = next_positive(rest)?;
     let (cx, rest) = next_number(rest)?;
     let (cy, rest) = next_number(rest)?;
-    box_end(length, width, cx, cy, rest)
+    let numbers = BoxNumbers {
+        length,
+        width,
+        cx,
+        cy,
+    };
+    box_end(numbers, rest)
 }
 
 /// The form of a layer: its short name.
@@ -186,7 +190,7 @@ pub fn user_form(alloc: Global, first: u8, body: &[u8]) -> Result<Form, AllocErr
 {
     let (digits, rest) = split_digits(body);
     let text = without_white(rest);
-    match user_kind(first, digits) {
+    match user_kind(first, digits.bytes) {
         UserKind::Other => {
             let command = user_command(alloc, UserKind::Other, text)?;
             Ok(Ok(Ok(command)))

@@ -2,25 +2,29 @@ ghost use Rattle.cif_text.specs.Answers.{Finds};
 ghost use Rattle.cif_text.specs.Bytes.{is_blank, is_separator};
 ghost use Rattle.cif_text.specs.Numbers.{apart, greatest, natural, number, positive, value_of};
 ghost use Rattle.cif_text.specs.Printable.{IsNear, IsPart};
-ghost use Rattle.std.specs.Char.{is_ascii_digit};
-ghost use Rattle.std.specs.List.{list_all};
-ghost use Rattle.std.specs.Prelude.{◌≡◌, ◌<◌, ◌≤◌, if◌then◌else◌, None, Some, length, nat_le, true, IfOk, IfSome};
+ghost use Rattle.std.specs.Prelude.{◌≡◌, ◌<◌, ◌≤◌, if◌then◌else◌, None, Some, length, nat_le, IfOk, IfSome};
 ghost use Rattle.std.specs.Str.Parse.{digits_value};
 
 use crate::bytes::{
-    after_blanks, after_separators, begins_with_blank, begins_with_separator, split_digits,
+    Digits, after_blanks, after_separators, begins_with_blank, begins_with_separator, split_digits,
 };
 use crate::stop::Misfit;
 use limits::MOST_NUMBER;
 
+/// A number that can be read.
+#[derive(Clone, Copy, Debug)]
+pub struct Number {
+    pub value: i64,
+    ghost near: { IsNear value },
+}
+
 /// What these digits make, or None where it is above the greatest.
-fn value_within(digits: &[u8]) -> Option<u64>
-    requires { list_all is_ascii_digit digits.now ≡ true }
-    ensures value { result ≡ (if nat_le (digits_value 10 digits.now) greatest then Some (digits_value 10 digits.now) else None) }
+fn value_within(digits: &Digits) -> Option<u64>
+    ensures value { result ≡ (if nat_le (digits_value 10 digits.now.bytes.now) greatest then Some (digits_value 10 digits.now.bytes.now) else None) }
     ensures near { IfSome result (λ n. n ≤ greatest) }
 {
     let mut n: u64 = 0;
-    let mut rest = digits;
+    let mut rest = digits.bytes;
     while let Some((byte, after)) = rest.split_first() {
         n = 10 * n + u64::from(*byte - b'0');
         if n > MOST_NUMBER {
@@ -32,13 +36,12 @@ fn value_within(digits: &[u8]) -> Option<u64>
 }
 
 /// The number of some digits that begin at a place, and what stands behind them.
-fn value_at<'a>(place: usize, digits: &'a [u8], rest: &'a [u8]) -> Result<(u64, &'a [u8]), Misfit>
-    requires { list_all is_ascii_digit digits.now ≡ true }
-    ensures gives { Finds (λ x. (x.0, x.1.now)) result (value_of place digits.entry.now rest.entry.now) }
+fn value_at<'a>(place: usize, digits: &Digits, rest: &'a [u8]) -> Result<(u64, &'a [u8]), Misfit>
+    ensures gives { Finds (λ x. (x.0, x.1.now)) result (value_of place digits.now.bytes.now rest.entry.now) }
     ensures near { IfOk result (λ x. x.0 ≤ greatest) }
     ensures rest { IfOk result (λ x. x.1.now ≡ rest.entry.now) }
 {
-    if digits.is_empty() {
+    if digits.bytes.is_empty() {
         return Err(Misfit::Malformed);
     }
     match value_within(digits) {
@@ -54,7 +57,7 @@ pub fn natural_at(bytes: &[u8]) -> Result<(u64, &[u8]), Misfit>
     ensures near { IfOk result (λ x. x.0 ≤ greatest) }
 {
     let (digits, rest) = split_digits(bytes);
-    value_at(bytes.len(), digits, rest)
+    value_at(bytes.len(), &digits, rest)
 }
 
 /// The number above 0 that stands first, and what stands behind it. Takes no memory.
@@ -81,7 +84,7 @@ pub fn number_at(bytes: &[u8]) -> Result<(i64, &[u8]), Misfit>
     };
     if *first == b'-' {
         let (digits, rest) = split_digits(after);
-        let (n, rest) = value_at(bytes.len(), digits, rest)?;
+        let (n, rest) = value_at(bytes.len(), &digits, rest)?;
         return Ok((-(n as i64), rest));
     }
     let (n, rest) = natural_at(bytes)?;

@@ -4,6 +4,7 @@ ghost use Rattle.std.specs.Fmt.{signed_decimal};
 ghost use Rattle.std.specs.Prelude.{◌≡◌, ◌+◌, ◌≤◌, ◌++◌, ◌∷◌, [], length, take, decimal};
 
 use crate::command::Command;
+use geom_core::LayerName;
 use itoa::Buffer;
 
 /// Writes the command's line to the front of `into`, and gives the length of the line. Takes no memory.
@@ -22,7 +23,7 @@ pub fn print_command(command: &Command, into: &mut [u8; 160]) -> usize
             cy,
             upright,
         } => print_box(*length, *width, *cx, *cy, *upright, into),
-        Command::Layer(layer) => print_layer(layer.text(), into),
+        Command::Layer(layer) => print_layer(layer, into),
         Command::Start { n, a, b } => print_start(*n, *a, *b, into),
         Command::Finish => put(into, 0, b"DF;\n"),
         Command::Call {
@@ -54,17 +55,16 @@ fn print_box(
     let end = put_number(into, end, width);
     let end = put_number(into, end, cx);
     let end = put_number(into, end, cy);
-    let end = put_upright(into, end, upright);
+    let end = put(into, end, upright_text(upright));
     put(into, end, b";\n")
 }
 
-fn print_layer(text: &[u8], into: &mut [u8; 160]) -> usize
-    requires { length text.now ≤ 4 }
-    ensures line { take result into.new ≡ line (commands.Layer text.now) }
+fn print_layer(layer: &LayerName, into: &mut [u8; 160]) -> usize
+    ensures line { take result into.new ≡ line (commands.Layer layer.now) }
     ensures fits { result ≤ 160 }
 {
     let end = put(into, 0, b"L ");
-    let end = put(into, end, text);
+    let end = put(into, end, layer.text());
     put(into, end, b";\n")
 }
 
@@ -80,47 +80,45 @@ fn print_start(n: u64, a: u64, b: u64, into: &mut [u8; 160]) -> usize
 }
 
 fn print_call(n: u64, flip: bool, quarters: u8, dx: i64, dy: i64, into: &mut [u8; 160]) -> usize
-    requires { quarters ≤ 3 }
     ensures line { take result into.new ≡ line (commands.Call n flip quarters dx dy) }
     ensures fits { result ≤ 160 }
 {
     let end = put(into, 0, b"C");
     let end = put_natural(into, end, n);
-    let end = put_flip(into, end, flip);
-    let end = put_quarters(into, end, quarters);
+    let end = put(into, end, flip_text(flip));
+    let end = put(into, end, quarters_text(quarters));
     let end = put(into, end, b" T");
     let end = put_number(into, end, dx);
     let end = put_number(into, end, dy);
     put(into, end, b";\n")
 }
 
-fn put_upright(into: &mut [u8; 160], at: usize, upright: bool) -> usize
-    requires { at + 4 ≤ 160 }
-    ensures text { take result into.new ≡ take at into.old ++ blanked (upright_parts upright) }
-    ensures short { result ≤ at + 4 }
+// The direction of a box whose length lies along y.
+fn upright_text(upright: bool) -> &'static [u8]
+    ensures text { result.now ≡ blanked (upright_parts upright) }
+    ensures short { length result.now ≤ 4 }
 {
-    if upright { put(into, at, b" 0 1") } else { at }
+    if upright { b" 0 1" } else { b"" }
 }
 
-fn put_flip(into: &mut [u8; 160], at: usize, flip: bool) -> usize
-    requires { at + 4 ≤ 160 }
-    ensures text { take result into.new ≡ take at into.old ++ blanked (flip_parts flip []) }
-    ensures short { result ≤ at + 4 }
+// The mirroring of a call.
+fn flip_text(flip: bool) -> &'static [u8]
+    ensures text { result.now ≡ blanked (flip_parts flip []) }
+    ensures short { length result.now ≤ 4 }
 {
-    if flip { put(into, at, b" M X") } else { at }
+    if flip { b" M X" } else { b"" }
 }
 
-fn put_quarters(into: &mut [u8; 160], at: usize, quarters: u8) -> usize
-    requires few { quarters ≤ 3 }
-    requires room { at + 7 ≤ 160 }
-    ensures text { take result into.new ≡ take at into.old ++ blanked (quarter_parts quarters []) }
-    ensures short { result ≤ at + 7 }
+// The rotation of a call.
+fn quarters_text(quarters: u8) -> &'static [u8]
+    ensures text { result.now ≡ blanked (quarter_parts quarters []) }
+    ensures short { length result.now ≤ 7 }
 {
     match quarters {
-        0 => at,
-        1 => put(into, at, b" R 0 1"),
-        2 => put(into, at, b" R -1 0"),
-        _ => put(into, at, b" R 0 -1"),
+        0 => b"",
+        1 => b" R 0 1",
+        2 => b" R -1 0",
+        _ => b" R 0 -1",
     }
 }
 

@@ -1,24 +1,24 @@
 ghost use Rattle.cif_text.specs.Calls.{after, at_rest, mirrored, quarter_turned, translated, turned};
 ghost use Rattle.cif_text.specs.Numbers.{greatest};
-ghost use Rattle.cif_text.specs.Printable.{IsNear};
-ghost use Rattle.cif_text.specs.Transforms.{IsNearStep, IsWithin, step_seen};
+ghost use Rattle.cif_text.specs.Transforms.{IsWithin, step_seen};
 ghost use Rattle.std.specs.Prelude.{◌≡◌, ◌<◌, ◌≤◌, ◌+◌, ◌+ℤ◌, ◌^◌, ℕ, IfOk, nat_abs};
 
 use crate::directions::quarters_to;
 use crate::fault::CifKind;
+use crate::numbers::Number;
 use std::marker::Model;
 
 /// A step of a call's transformation.
 #[derive(Clone, Copy, Debug)]
 pub enum Step {
     /// Adds to x and y.
-    Translate(i64, i64),
+    Translate(Number, Number),
     /// Negates x.
     MirrorX,
     /// Negates y.
     MirrorY,
     /// Turns the x axis to this direction.
-    Rotate(i64, i64),
+    Rotate(Number, Number),
 }
 
 /// What some steps of a call do together: x is negated where `flip` is set, then come `quarters` quarter turns,
@@ -32,14 +32,14 @@ pub struct Transform {
 }
 
 impl Model for Transform {
-    ghost use Rattle.std.specs.Prelude.{◌<◌};
+    ghost use Rattle.std.specs.Prelude.{◌<◌, ◌≤◌, ◌^◌, nat_abs};
     ghost use Rattle.geom_core.specs.Turning.{Turning};
 
     ghost Value = { Turning };
 
     ghost view = { λ t. record { flip = t.flip; quarters = t.quarters; dx = t.dx; dy = t.dy } };
 
-    ghost invariant = { λ t. t.quarters < 4 };
+    ghost invariant = { λ t. (t.quarters < 4) × (nat_abs t.dx ≤ 2 ^ 120) × (nat_abs t.dy ≤ 2 ^ 120) };
 
     ghost inverse = { λ t. record { flip = t.flip; quarters = t.quarters; dx = t.dx; dy = t.dy } };
 }
@@ -57,7 +57,6 @@ pub fn at_rest() -> Transform
 }
 
 fn mirrored(t: Transform) -> Transform
-    requires { IsWithin (2 ^ 120) t }
     ensures is { result ≡ mirrored t }
     ensures within { (most : ℕ) → IsWithin most t → IsWithin most result }
 {
@@ -70,7 +69,6 @@ fn mirrored(t: Transform) -> Transform
 }
 
 fn quarter_turned(t: Transform) -> Transform
-    requires { IsWithin (2 ^ 120) t }
     ensures is { result ≡ quarter_turned t }
     ensures within { (most : ℕ) → IsWithin most t → IsWithin most result }
 {
@@ -83,8 +81,7 @@ fn quarter_turned(t: Transform) -> Transform
 }
 
 fn turned(quarters: u8, t: Transform) -> Transform
-    requires few { quarters < 4 }
-    requires reach { IsWithin (2 ^ 120) t }
+    requires { quarters < 4 }
     ensures is { result ≡ turned quarters t }
     ensures within { (most : ℕ) → IsWithin most t → IsWithin most result }
 {
@@ -97,20 +94,17 @@ fn turned(quarters: u8, t: Transform) -> Transform
 }
 
 #[tactic(auto, using(std::proofs::lemmas::Int::ints))]
-fn plus(a: i128, b: i64) -> i128
-    requires near { IsNear b }
-    requires reach { nat_abs a ≤ 2 ^ 120 }
-    ensures is { result ≡ a +ℤ b }
+fn plus(a: i128, b: Number) -> i128
+    requires { nat_abs a ≤ 2 ^ 119 }
+    ensures is { result ≡ a +ℤ b.value }
     ensures within { (most : ℕ) → nat_abs a ≤ most → nat_abs result ≤ most + greatest }
 {
-    a + i128::from(b)
+    a + i128::from(b.value)
 }
 
-fn translated(x: i64, y: i64, t: Transform) -> Transform
-    requires across { IsNear x }
-    requires up { IsNear y }
-    requires reach { IsWithin (2 ^ 120) t }
-    ensures is { result ≡ translated x y t }
+fn translated(x: Number, y: Number, t: Transform) -> Transform
+    requires { IsWithin (2 ^ 119) t }
+    ensures is { result ≡ translated x.value y.value t }
     ensures within { (most : ℕ) → IsWithin most t → IsWithin (most + greatest) result }
 {
     Transform {
@@ -123,8 +117,7 @@ fn translated(x: i64, y: i64, t: Transform) -> Transform
 
 /// What a step does behind others; Turned where it has a direction that is not along an axis.
 pub fn after(step: Step, t: Transform) -> Result<Transform, CifKind>
-    requires near { IsNearStep step }
-    requires reach { IsWithin (2 ^ 120) t }
+    requires { IsWithin (2 ^ 119) t }
     ensures is { result ≡ after (step_seen step) t }
     ensures within { (most : ℕ) → IsWithin most t → IfOk result (IsWithin (most + greatest)) }
 {
@@ -132,7 +125,7 @@ pub fn after(step: Step, t: Transform) -> Result<Transform, CifKind>
         Step::Translate(x, y) => Ok(translated(x, y, t)),
         Step::MirrorX => Ok(mirrored(t)),
         Step::MirrorY => Ok(turned(2, mirrored(t))),
-        Step::Rotate(a, b) => match quarters_to(a, b) {
+        Step::Rotate(a, b) => match quarters_to(a.value, b.value) {
             Some(quarters) => Ok(turned(quarters, t)),
             None => Err(CifKind::Turned),
         },

@@ -6,4 +6,4 @@ pub returns-in-Ok : goal.returns-in-Ok
 returns-in-Ok c =
     let h = c.in-Ok.ensures in
     finish-behind c.args.standing.now c.finished.new.standing c.in-Some.definition c.requires.is (sym c.in-Some.ensures.value)
-    (record { main_is = h.main_is; table_is = h.table_is; places_are = h.places_are; outside = h.outside })
+    (record { main_is = h.main_is; table_is = h.table_is; outside = h.outside })

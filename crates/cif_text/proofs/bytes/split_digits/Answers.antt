@@ -7,8 +7,8 @@ use Rattle.cif_text.proofs.bytes.split_digits.Goals as goal
 pub split_at-requires : goal.split_at-requires
 split_at-requires c = rw c.digits_len.ensures (prefix_len-le-length is_ascii_digit c.args.bytes.now)
 
-pub returns-clause-parts : goal.returns-clause-parts
-returns-clause-parts c = rw (c.split_at.ensures.front, c.split_at.ensures.back, c.digits_len.ensures) (sym (span-parts is_ascii_digit c.args.bytes.now))
+pub returns : goal.returns
+returns c = rw (c.split_at.ensures.front, c.split_at.ensures.back, c.digits_len.ensures) (sym (span-parts is_ascii_digit c.args.bytes.now))
 
-pub returns-clause-digits : goal.returns-clause-digits
-returns-clause-digits c = rw (c.split_at.ensures.front, c.digits_len.ensures) (front-all is_ascii_digit c.args.bytes.now)
+pub invariant_of-result : goal.invariant_of-result
+invariant_of-result c = record { are_digits = rw (c.split_at.ensures.front, c.digits_len.ensures) (front-all is_ascii_digit c.args.bytes.now) }

@@ -12,6 +12,6 @@ returns-then-n-gt-MOST_NUMBER-clause-value c =
     let digits = rw c.in-Some.ensures.cases.0 at c.loop-byte.invariant.2 in
     let is = rw c.in-Some.ensures.cases.0 at c.loop-byte.invariant.0 in
     let digit : is_ascii_digit c.in-Some.byte.now ≡ true = (and-both _ _ digits).0 in
-    let over : nat_le (digits_value 10 c.args.digits.now) greatest ≡ false =
+    let over : nat_le (digits_value 10 c.args.digits.now.bytes.now) greatest ≡ false =
     value-over c.loop-byte.n c.in-Some.byte.now _ c.in-Some.after.now digit is (omega (arith, c.if-n-gt-MOST_NUMBER.true, c.from.ensures)) in
     rw over refl
