@@ -19,7 +19,6 @@ use Rattle.geom_extract.specs.Extracts.{IsExtract}
 use Rattle.geom_extract.proofs.Ties.{DrawOne}
 use Rattle.geom_extract.specs.Touching.{Connected}
 use Rattle.geom_extract.specs.declared.joined.Extract.{Extract}
-use Rattle.geom_extract.specs.declared.places.Places.{Places}
 use Rattle.geom_extract.proofs.CellJoins.{are-ties, drawn-first, drawn-within, inst-room, inst-stands, place-drawn, whole}
 use Rattle.geom_extract.proofs.FirstPlaces.{IsFirst, first-there}
 use Rattle.geom_extract.proofs.JoinedShapes.{connected-is-joined}
@@ -30,14 +29,14 @@ BothWithin n t = (t.0 < n) × (t.1 < n)
 
 module _ (r : RuleValues) (d : Netlist) (l : Layout) (good : IsNetlist d) (cells : CellsMatch r d l) where
   -- the tables are those of the design and its layout
-  pub are-places : (places : Places) → length l.shapes < 2 ^ 32 → places.firsts.items ≡ map first_places d.kinds → places.starts.items ≡ starts_of l d
-      → ArePlaces d places
-  are-places places few firsts starts = record {
+  pub are-places : (table : List (List ℕ)) (list : List ℕ) → length l.shapes < 2 ^ 32 → table ≡ map first_places d.kinds → list ≡ starts_of l d
+      → ArePlaces (record { design = d; firsts = table; starts = list })
+  are-places table list few firsts starts = record {
     firsts = firsts;
     long = ap (λ (s : List ℕ). length s) starts ∙ length-map (instance_names d) (start_of l) ∙ length-map d.instances (λ (i : Inst). i.name);
     room = λ n below.
         let room : slice_index (starts_of l d) n + length (positions_at d n) ≤ length l.shapes = inst-room r d l good cells n below in
-        let same : slice_index places.starts.items n ≡ slice_index (starts_of l d) n = ap (λ (s : List ℕ). slice_index s n) starts in
+        let same : slice_index list n ≡ slice_index (starts_of l d) n = ap (λ (s : List ℕ). slice_index s n) starts in
         omega arith;
   }
 

@@ -15,8 +15,7 @@ use Rattle.design_model.specs.declared.design.Position.{Position}
 use Rattle.design_model.specs.declared.design.Terminal.{Terminal}
 use Rattle.design_model.proofs.DesignPins.{pin-within}
 use Rattle.design_model.proofs.PinsInOrder.{pin-free}
-use Rattle.geom_extract.specs.CellTies.{ArePlaces, first_place, first_places, positions_at, positions_of_inst, positions_of_kind}
-use Rattle.geom_extract.specs.declared.places.Places.{Places}
+use Rattle.geom_extract.specs.CellTies.{ArePlaces, Placing, first_place, first_places, positions_at, positions_of_inst, positions_of_kind}
 use Rattle.geom_extract.proofs.FirstPlaces.{IsFirst, first-long, first-read, first-there}
 
 -- an instance of a design, and its kind
@@ -85,17 +84,18 @@ pin-read d p pin table tabled =
     }
 
 -- what is read in the tables of places on the way to a pin's shape
-pub record PinLookup (d : Netlist) (places : Places) (p : Pin) (i : Inst) : Type 0 where
-  pub kind : i.kind < length places.firsts.items
-  pub table : (table : List ℕ) → table ≡ get_or places.firsts.items i.kind table → PinRead (positions_at d p.instance) table p.terminal
-  pub room : slice_index places.starts.items p.instance + length (positions_at d p.instance) < 2 ^ 32
+pub record PinLookup (places : Placing) (p : Pin) (i : Inst) : Type 0 where
+  pub kind : i.kind < length places.firsts
+  pub table : (table : List ℕ) → table ≡ get_or places.firsts i.kind table → PinRead (positions_at places.design p.instance) table p.terminal
+  pub room : slice_index places.starts p.instance + length (positions_at places.design p.instance) < 2 ^ 32
 
 pub pin-instance : (d : Netlist) (p : Pin) → IsNetlist d → Contains d.pins p → p.instance < length d.instances
 pin-instance d p good listed = pin-within d good listed.0 p (contains-get d.pins p listed)
 
-pub pin-lookup : (d : Netlist) (places : Places) (p : Pin) (insts : List Inst) (i : Inst) → IsNetlist d → ArePlaces d places → Contains d.pins p
-    → insts ≡ d.instances → i ≡ get_or insts p.instance i → PinLookup d places p i
-pin-lookup d places p insts i good are listed same read =
+pub pin-lookup : (places : Placing) (p : Pin) (insts : List Inst) (i : Inst) → IsNetlist places.design → ArePlaces places → Contains places.design.pins p
+    → insts ≡ places.design.instances → i ≡ get_or insts p.instance i → PinLookup places p i
+pin-lookup places p insts i good are listed same read =
+    let d : Netlist = places.design in
     let pin : IsPinOf d p = pin-of d listed.0 p good (contains-get d.pins p listed) in
     let below : p.instance < length d.instances = pin-instance d p good listed in
     let at : slice_get d.instances p.instance ≡ Some (get_or d.instances p.instance i) = slice_get-get_or d.instances p.instance i below in
@@ -103,12 +103,12 @@ pin-lookup d places p insts i good are listed same read =
     let one : pin.of.inst ≡ i = cc (pin.of.is_instance, at, is) in
     let is_kind : slice_get d.kinds i.kind ≡ Some pin.of.kind = ap (λ (j : Inst). slice_get d.kinds j.kind) (sym one) ∙ pin.of.is_kind in
     let within : i.kind < length d.kinds = slice_get_within d.kinds i.kind pin.of.kind is_kind in
-    let long : length places.firsts.items ≡ length d.kinds = ap (λ (l : List (List ℕ)). length l) are.firsts ∙ length-map d.kinds first_places in
-    let there : slice_get places.firsts.items i.kind ≡ Some (first_places pin.of.kind) =
+    let long : length places.firsts ≡ length d.kinds = ap (λ (l : List (List ℕ)). length l) are.firsts ∙ length-map d.kinds first_places in
+    let there : slice_get places.firsts i.kind ≡ Some (first_places pin.of.kind) =
     ap (λ (l : List (List ℕ)). slice_get l i.kind) are.firsts ∙ slice_get-map first_places d.kinds i.kind ∙ ap (option_map first_places) is_kind in
     record {
       kind = omega arith;
       table = λ table reads.
-          pin-read d p pin table (reads ∙ get_or_from_slice_get places.firsts.items i.kind (first_places pin.of.kind) table there);
+          pin-read d p pin table (reads ∙ get_or_from_slice_get places.firsts i.kind (first_places pin.of.kind) table there);
       room = are.room p.instance below;
     }

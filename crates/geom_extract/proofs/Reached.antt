@@ -192,15 +192,3 @@ pub start-given : (web : Web) (start : ℕ) (classes : List ℕ) → IsWeb web �
 start-given web start classes is shape len free =
     let within : start < length classes = omega arith in
     start_is_class web start is shape (sym (get_or-set_same classes start start 0 within) ∙ free)
-
-pub rest-begun : (web : Web) (start : ℕ) (classes : List ℕ) (stock : List (ℕ × Extent)) → IsWeb web → start < length web.asks
-    → IsFree classes start → IsRest web classes stock → IsRest web (set classes start start) stock
-rest-begun web start classes stock is shape free rest =
-    let grown : IsGrown classes (set classes start start) =
-    reached-grown start start classes (set classes start start) [] ([] ++ start ∷ []) (found free refl refl) in
-    record {
-      len = length-set classes start start ∙ rest.len;
-      from = rest.from;
-      free = λ number other rect is_rect is_end none. rest.free number other rect is_rect is_end
-          (grown-free classes (set classes start start) other grown none);
-    }

@@ -9,7 +9,6 @@ use Rattle.design_model.specs.declared.design.CellKind.{CellKind}
 use Rattle.design_model.specs.declared.design.Inst.{Inst}
 use Rattle.design_model.specs.declared.design.Pin.{Pin}
 use Rattle.design_model.specs.declared.design.Position.{Position}
-use Rattle.geom_extract.specs.declared.places.Places.{Places}
 
 -- the first place at which a position of this terminal stands, or the number of positions where none does
 abbrev pub first_place : List Position → ℕ → ℕ
@@ -68,8 +67,14 @@ ties_among d starts (suc n) = ties_among d starts n ++ cell_ties (slice_index st
 abbrev pub pin_shape : Netlist → List ℕ → Pin → ℕ
 pin_shape d starts p = slice_index starts p.instance + first_place (positions_at d p.instance) p.terminal
 
--- tables of where the positions of a design stand in kinds and in a layout of fewer than 2^32 shapes
-pub record ArePlaces (d : Netlist) (p : Places) : Type 0 where
-  pub firsts : p.firsts.items ≡ map first_places d.kinds
-  pub long : length p.starts.items ≡ length d.instances
-  pub room : (n : ℕ) → n < length d.instances → slice_index p.starts.items n + length (positions_at d n) < 2 ^ 32
+-- a design, and tables of where its positions stand in kinds and in a layout
+pub record Placing : Type 0 where
+  pub design : Netlist
+  pub firsts : List (List ℕ)
+  pub starts : List ℕ
+
+-- the tables are those of the design, in a layout of fewer than 2^32 shapes
+pub record ArePlaces (p : Placing) : Type 0 where
+  pub firsts : p.firsts ≡ map first_places p.design.kinds
+  pub long : length p.starts ≡ length p.design.instances
+  pub room : (n : ℕ) → n < length p.design.instances → slice_index p.starts n + length (positions_at p.design n) < 2 ^ 32

@@ -13,5 +13,6 @@ pub mod Touching
 pub mod TiedView
 -- where positions are drawn, and the ties in cells
 pub mod CellTies
+pub mod PlacesView
 -- numbers of shapes and pins
 pub mod Extracts

@@ -1,33 +1,12 @@
 ghost use Rattle.design_model.specs.Netlist.{IsKind};
-ghost use Rattle.geom_extract.specs.CellTies.{ArePlaces, cell_ties, first_places, ties_among};
-ghost use Rattle.std.specs.Prelude.{◌≡◌, ◌<◌, ◌+◌, ◌++◌, ◌^◌, length, IfOk, OnOk};
+ghost use Rattle.geom_extract.specs.CellTies.{cell_ties, first_places};
+ghost use Rattle.std.specs.Prelude.{◌≡◌, ◌<◌, ◌+◌, ◌++◌, ◌^◌, length, OnOk};
 
-use crate::places::Places;
-use design_model::{CellKind, Design};
-use std::alloc::{AllocError, Global};
-
-// The ties in the cells of all instances.
-pub fn all_ties(
-    alloc: Global,
-    design: &Design,
-    places: &Places,
-) -> Result<Vec<(u32, u32)>, AllocError>
-    requires { ArePlaces design.now places.now }
-    ensures { IfOk result (λ v. v.items ≡ ties_among design.now places.now.starts.items (length design.now.instances)) }
-{
-    let kinds = design.kinds.items();
-    let instances = design.instances.items();
-    let mut ties = Vec::new(alloc);
-    for n in 0..instances.len() {
-        let kind = instances[n].kind as usize;
-        let firsts = places.firsts[kind].items();
-        push_ties(&mut ties, places.starts[n], &kinds[kind], firsts)?;
-    }
-    Ok(ties)
-}
+use design_model::CellKind;
+use std::alloc::AllocError;
 
 // Puts the ties in a cell of this kind behind others: each position is tied with the first of its terminal.
-fn push_ties(
+pub fn push_ties(
     ties: &mut Vec<(u32, u32)>,
     start: usize,
     kind: &CellKind,

@@ -1,11 +1,9 @@
 ghost use Rattle.design_model.specs.CellsMatch.{CellsMatch};
 ghost use Rattle.geom_core.specs.Reach.{IsShapeInReach};
-ghost use Rattle.geom_extract.specs.CellTies.{ArePlaces, pin_shape};
 ghost use Rattle.geom_extract.specs.Extracts.{IsExtract};
-ghost use Rattle.std.specs.Prelude.{◌≡◌, ◌<◌, ◌^◌, length, map, slice_index, All, IfOk};
+ghost use Rattle.std.specs.Prelude.{◌<◌, ◌^◌, length, All, IfOk};
 
-use crate::cell_ties::all_ties;
-use crate::places::{Places, all_first_places, pin_shape};
+use crate::places::{Places, all_first_places};
 use crate::shapes::shape_classes;
 use crate::starts::starts_of;
 use design_model::Design;
@@ -34,30 +32,12 @@ pub fn classes(
     ensures { IfOk result (IsExtract rules.now design.now layout.now) }
 {
     let places = Places {
+        design,
         firsts: all_first_places(alloc, design.kinds.items())?,
         starts: starts_of(alloc, layout, design)?,
     };
-    let ties = all_ties(alloc, design, &places)?;
+    let ties = places.ties(alloc)?;
     let shapes = shape_classes(alloc, layout.shapes.items(), ties.as_slice(), rules)?;
-    let pins = pin_classes(alloc, design, &places, shapes.as_slice())?;
+    let pins = places.pin_classes(alloc, shapes.as_slice())?;
     Ok(Extract { pins, shapes })
-}
-
-// The numbers of the shapes of the first positions of all pins.
-fn pin_classes(
-    alloc: Global,
-    design: &Design,
-    places: &Places,
-    classes: &[u32],
-) -> Result<Vec<u32>, AllocError>
-    requires places { ArePlaces design.now places.now }
-    requires within { All (λ p. pin_shape design.now places.now.starts.items p < length classes.now) design.now.pins }
-    ensures { IfOk result (λ v. v.items ≡ map (λ p. slice_index classes.now (pin_shape design.now places.now.starts.items p)) design.now.pins) }
-{
-    let pins = design.pins.items();
-    let mut numbers = Vec::with_capacity(alloc, pins.len())?;
-    for pin in pins {
-        numbers.push(classes[pin_shape(design, places, *pin)])?;
-    }
-    Ok(numbers)
 }

@@ -1,16 +1,77 @@
-ghost use Rattle.geom_extract.specs.CellTies.{ArePlaces, first_places, pin_shape};
-ghost use Rattle.std.specs.Prelude.{◌≡◌, map, Contains, IfOk};
+ghost use Rattle.geom_extract.specs.CellTies.{first_places};
+ghost use Rattle.std.specs.Prelude.{◌≡◌, map, IfOk};
 
+use crate::cell_ties::push_ties;
 use design_model::{CellKind, Design, Pin};
 use geom_core::Items;
 use std::alloc::{AllocError, Global};
+use std::marker::Model;
 
-// Where positions stand: for each kind the first place of the positions of each of its terminals, and for each instance the number of the shape
-// of the first position of its cell.
+// Where the positions of a design stand: for each kind the first place of the positions of each of its terminals, and for each
+// instance the number of the shape of the first position of its cell.
 #[derive(Drop)]
-pub struct Places {
+pub struct Places<'d> {
+    pub design: &'d Design,
     pub firsts: Vec<Items<usize>>,
     pub starts: Vec<usize>,
+}
+
+impl<'d> Model for Places<'d> {
+    ghost use Rattle.geom_extract.specs.CellTies.{Placing};
+
+    ghost Value = { Placing };
+
+    ghost use Rattle.geom_extract.specs.PlacesView.{placing_in, StandThere};
+
+    ghost view = { placing_in };
+
+    ghost invariant = { StandThere };
+}
+
+impl<'d> Places<'d> {
+    ghost use Rattle.geom_extract.specs.CellTies.{pin_shape, ties_among};
+    ghost use Rattle.std.specs.Prelude.{◌≡◌, ◌<◌, length, map, slice_index, All, Contains, IfOk};
+
+    // The ties in the cells of all instances. The one error is want of memory.
+    pub fn ties(&self, alloc: Global) -> Result<Vec<(u32, u32)>, AllocError>
+        ensures { IfOk result (λ v. v.items ≡ ties_among self.now.design self.now.starts (length self.now.design.instances)) }
+    {
+        let design = self.design;
+        let kinds = design.kinds.items();
+        let instances = design.instances.items();
+        let mut ties = Vec::new(alloc);
+        for n in 0..instances.len() {
+            let kind = instances[n].kind as usize;
+            let firsts = self.firsts[kind].items();
+            push_ties(&mut ties, self.starts[n], &kinds[kind], firsts)?;
+        }
+        Ok(ties)
+    }
+
+    // The numbers of the shapes of the first positions of all pins. The one error is want of memory.
+    pub fn pin_classes(&self, alloc: Global, classes: &[u32]) -> Result<Vec<u32>, AllocError>
+        requires { All (λ p. pin_shape self.now.design self.now.starts p < length classes.now) self.now.design.pins }
+        ensures { IfOk result (λ v. v.items ≡ map (λ p. slice_index classes.now (pin_shape self.now.design self.now.starts p)) self.now.design.pins) }
+    {
+        let design = self.design;
+        let pins = design.pins.items();
+        let mut numbers = Vec::with_capacity(alloc, pins.len())?;
+        for pin in pins {
+            numbers.push(classes[self.pin_shape(*pin)])?;
+        }
+        Ok(numbers)
+    }
+
+    // The number of the shape of the first position of a pin of the design.
+    fn pin_shape(&self, pin: Pin) -> usize
+        requires { Contains self.now.design.pins pin }
+        ensures { result ≡ pin_shape self.now.design self.now.starts pin }
+    {
+        let design = self.design;
+        let instance = pin.instance as usize;
+        let kind = design.instances.items()[instance].kind as usize;
+        self.starts[instance] + self.firsts[kind].items()[pin.terminal as usize]
+    }
 }
 
 // For each kind, the first place at which a position of each of its terminals stands.
@@ -39,15 +100,4 @@ fn first_places(alloc: Global, kind: &CellKind) -> Result<Items<usize>, AllocErr
         }
     }
     Ok(Items::new(table))
-}
-
-// The number of the shape of the first position of a pin of the design.
-pub fn pin_shape(design: &Design, places: &Places, pin: Pin) -> usize
-    requires pin { Contains design.now.pins pin }
-    requires places { ArePlaces design.now places.now }
-    ensures { result ≡ pin_shape design.now places.now.starts.items pin }
-{
-    let instance = pin.instance as usize;
-    let kind = design.instances.items()[instance].kind as usize;
-    places.starts[instance] + places.firsts[kind].items()[pin.terminal as usize]
 }

@@ -6,14 +6,14 @@ use Rattle.geom_extract.proofs.CellJoins.{whole}
 use Rattle.geom_extract.proofs.Extracting.{are-places, extracted, pins-within, ties-within}
 use Rattle.geom_extract.proofs.joined.classes.Goals as goal
 
-pub all_ties-requires : goal.all_ties-requires
-all_ties-requires c =
-    are-places c.args.rules.now c.args.design.now c.args.layout.now (rw (← c.design.view_is) c.design.invariant.netlist) c.requires.cells _ c.requires.few
+pub invariant_of-places : goal.invariant_of-places
+invariant_of-places c =
+    are-places c.args.rules.now c.args.design.now c.args.layout.now (rw (← c.design.view_is) c.design.invariant.netlist) c.requires.cells _ _ c.requires.few
     (c.in_ok-all_first_places.ensures ∙ ap (map first_places) (c.items.ensures ∙ ap (λ (d : Netlist). d.kinds) c.design.view_is)) c.in_ok-starts_of.ensures
 
-pub pin_classes-requires-clause-places : goal.pin_classes-requires-clause-places
-pin_classes-requires-clause-places c =
-    are-places c.args.rules.now c.args.design.now c.args.layout.now (rw (← c.design.view_is) c.design.invariant.netlist) c.requires.cells _ c.requires.few
+pub invariant_of-places-2 : goal.invariant_of-places-2
+invariant_of-places-2 c =
+    are-places c.args.rules.now c.args.design.now c.args.layout.now (rw (← c.design.view_is) c.design.invariant.netlist) c.requires.cells _ _ c.requires.few
     (c.in_ok-all_first_places.ensures ∙ ap (map first_places) (c.items.ensures ∙ ap (λ (d : Netlist). d.kinds) c.design.view_is)) c.in_ok-starts_of.ensures
 
 pub shape_classes-requires-clause-ties : goal.shape_classes-requires-clause-ties
@@ -24,8 +24,8 @@ shape_classes-requires-clause-ties c =
     rw c.items-2.ensures
     (ties-within c.args.rules.now c.args.design.now c.args.layout.now (rw (← c.design.view_is) c.design.invariant.netlist) c.requires.cells c.as_slice.result.now ties)
 
-pub pin_classes-requires-clause-within : goal.pin_classes-requires-clause-within
-pin_classes-requires-clause-within c =
+pub pin_classes-requires : goal.pin_classes-requires
+pin_classes-requires c =
     let long : length c.as_slice-2.result.now ≡ length c.args.layout.now.shapes =
     ap (λ (list : List ℕ). length list) c.as_slice-2.ensures.value ∙ c.in_ok-shapes.ensures.len ∙ ap (λ (list : List Shape). length list) c.items-2.ensures in
     pins-within c.args.rules.now c.args.design.now c.args.layout.now (rw (← c.design.view_is) c.design.invariant.netlist) c.requires.cells

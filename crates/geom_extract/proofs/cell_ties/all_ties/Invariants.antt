@@ -1,6 +1,0 @@
-use Rattle.std.proofs.Common.{◌≡◌}
-use Rattle.geom_extract.specs.CellTies.{ties_among}
-use Rattle.geom_extract.proofs.cell_ties.all_ties.Given as goal
-
-abbrev pub invariant-loop-n : goal.invariant-loop-n
-invariant-loop-n l = l.ties.items ≡ ties_among l.design l.places.starts.items l.n
