@@ -1,4 +1,4 @@
-use Rattle.std.proofs.Common.{◌≡◌, ◌≢◌, ◌<◌, ◌≤◌, ℕ, ◌+◌, ◌*◌, List, length, map, set, sum, Bool, true, false, Option, None, Some, refl, ap, sym, ◌∙◌, subst, arith}
+use Rattle.std.proofs.Common.{◌≡◌, ◌≢◌, ◌<◌, ◌≤◌, ℕ, ◌+◌, ◌-◌, ◌*◌, List, length, map, set, sum, Bool, true, false, Option, None, Some, refl, ap, sym, ◌∙◌, subst, arith}
 use Rattle.std.proofs.Math.Nat.{mul-le-mul_left}
 use Rattle.std.proofs.lemmas.Bool.Decides.{nat_tests}
 use Rattle.std.proofs.lemmas.List.{length-set}
@@ -25,7 +25,7 @@ use Rattle.row_board.proofs.PutLaws.{list-same, swap-puts}
 use Rattle.row_board.proofs.RemeasureLaws.{none-past}
 use Rattle.row_board.proofs.StandingLaws.{get-set-other, get-set-same}
 use Rattle.row_model.proofs.SwapLaws.{swapped-length}
-use Rattle.row_board.proofs.TotalLaws.{nets-sum}
+use Rattle.row_board.proofs.TotalLaws.{cost-told, nets-sum}
 use Rattle.row_board.proofs.TrialLaws.{trial-costs}
 use Rattle.row_board.proofs.UnevenLaws.{uneven-near}
 
@@ -108,3 +108,11 @@ trial-total d rows w standings lengths a b good board apart in_a in_b =
   where
     all : (x y z m u : ℕ) → x ≤ y + 2 * u → y ≡ z → m ≡ x → m ≤ z + 2 * u
     all x y z m u one two three = omega (arith, one, two, three)
+
+-- so the rows surely cost more where the traded table tells that they cost far more
+pub dear-told : (d : Netlist) (rows : List (List Seat)) (w : Weighing) (standings : List Spot) (lengths : Lengths) (a b : ℕ) → IsNetlist d → IsBoard d rows standings lengths → a ≢ b
+    → a < length d.instances → b < length d.instances → (before less trial most : ℕ) → before ≡ sum (table_costs d w standings) + w.length_cost * sum (misses_of lengths)
+    → less ≡ slack d rows w standings a b → trial ≡ sum (table_costs d w (traded a b standings)) + w.length_cost * sum (misses_of lengths)
+    → before < trial - most - less → cost_of d rows w + most < cost_of d (swapped a b rows) w
+dear-told d rows w standings lengths a b good board apart in_a in_b before less trial most is_before is_less is_trial above =
+    omega (arith, above, is_before, is_less, is_trial, cost-told d rows w standings lengths good board, trial-total d rows w standings lengths a b good board apart in_a in_b)
