@@ -1,4 +1,4 @@
-use Rattle.std.proofs.Common.{◌≡◌, ◌≢◌, ◌<◌, ◌≤◌, ℕ, ◌+◌, ◌-◌, ◌*◌, List, length, map, set, sum, Bool, true, false, Option, None, Some, refl, ap, sym, ◌∙◌, subst, arith}
+use Rattle.std.proofs.Common.{◌≡◌, ◌≢◌, ◌<◌, ◌≤◌, ℕ, ◌+◌, ◌-◌, ◌*◌, List, length, map, set, sum, Bool, true, false, Option, None, Some, refl, ap, ap₂, sym, ◌∙◌, subst, arith}
 use Rattle.std.proofs.Math.Nat.{mul-le-mul_left}
 use Rattle.std.proofs.lemmas.Bool.Decides.{nat_tests}
 use Rattle.std.proofs.lemmas.List.{length-set}
@@ -9,7 +9,7 @@ use Rattle.list_facts.proofs.Ranges.{map-map}
 use Rattle.design_model.specs.Netlist.{IsNetlist, Netlist}
 use Rattle.row_board.specs.Board.{IsBoard}
 use Rattle.row_board.specs.Cost.{cost_of, difference, target_of}
-use Rattle.row_board.specs.NetCosts.{table_costs}
+use Rattle.row_board.specs.NetCosts.{table_costs, Tabled}
 use Rattle.row_board.specs.RowLengths.{Lengths}
 use Rattle.row_board.specs.RowLengthsView.{misses_of}
 use Rattle.row_board.specs.Spot.{Spot}
@@ -71,7 +71,7 @@ set-there s x i long = by (slice_get s i) refl (slice_get (set x i (standing_of 
         get-set-same x i (standing_of s i) (omega (arith, within, long)) ∙ sym (there s i within)
 
 -- two instances are put back where they stood
-pub traded-back : (a b : ℕ) (s : List Spot) → set (set (traded a b s) a (standing_of s a)) b (standing_of s b) ≡ s
+traded-back : (a b : ℕ) (s : List Spot) → set (set (traded a b s) a (standing_of s a)) b (standing_of s b) ≡ s
 traded-back a b s = list-same (set (set (traded a b s) a (standing_of s a)) b (standing_of s b)) s (λ i. by i (nat_eq i b) refl (nat_eq i a) refl)
   where
     by : (i : ℕ) (x : Bool) → nat_eq i b ≡ x → (y : Bool) → nat_eq i a ≡ y → slice_get (set (set (traded a b s) a (standing_of s a)) b (standing_of s b)) i ≡ slice_get s i
@@ -84,6 +84,13 @@ traded-back a b s = list-same (set (set (traded a b s) a (standing_of s a)) b (s
     by i false last false is =
         get-set-other (set (traded a b s) a (standing_of s a)) b i (standing_of s b) (differ i b last)
         ∙ get-set-other (traded a b s) a i (standing_of s a) (differ i a is) ∙ traded-other a b s i (differ i a is) (differ i b last)
+
+pub put-back : (t once twice back : Tabled) (a b : ℕ) (one other : Spot) → one ≡ standing_of t.standings a → other ≡ standing_of t.standings b
+    → once ≡ record t { standings = traded a b t.standings } → twice ≡ record once { standings = set once.standings a one } → back ≡ record twice { standings = set twice.standings b other } → back ≡ t
+put-back t once twice back a b one other is_one is_other first second third =
+    third ∙ ap (λ (t : Tabled). record t { standings = set t.standings b other }) second ∙ ap (λ (t : Tabled). record t { standings = set (set t.standings a one) b other }) first
+    ∙ ap₂ (λ (one other : Spot). record t { standings = set (set (traded a b t.standings) a one) b other }) is_one is_other
+    ∙ ap (λ (l : List Spot). record t { standings = l }) (traded-back a b t.standings)
 
 -- rows cost after a swap at least what they do by the traded table, but for the slack
 pub trial-total : (d : Netlist) (rows : List (List Seat)) (w : Weighing) (standings : List Spot) (lengths : Lengths) (a b : ℕ) → IsNetlist d → IsBoard d rows standings lengths → a ≢ b
