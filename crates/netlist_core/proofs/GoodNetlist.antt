@@ -14,7 +14,7 @@ use Rattle.list_facts.proofs.Every.{every-map, every-weaker}
 use Rattle.list_facts.proofs.Mentioned.{place-below}
 use Rattle.netlist_core.specs.Answers.{◌>>=◌}
 use Rattle.netlist_core.specs.Cells.{terminals_of}
-use Rattle.netlist_core.specs.Checked.{IsChecked, pin_place}
+use Rattle.netlist_core.specs.Checked.{CheckedCalls, IsChecked, pin_place}
 use Rattle.design_model.specs.Netlist.{IsKind, IsNetlist, Netlist}
 use Rattle.netlist_core.specs.OnGrid.{design_of, height_of, inst_in, kind_for, kinds_for, used_design, used_names}
 use Rattle.netlist_core.specs.Signals.{PinWord, nets_of, pin_in, words_of}
@@ -126,3 +126,23 @@ pub used-said : (rules : RuleValues) (used : List (ℕ × Module)) (signals : Li
 unfolding used_design
 used-said rules used signals calls kinds d good is =
     ap (λ (all : Result (List CellKind) DesignFault). all >>= (λ kinds. Ok (design_of used signals calls kinds))) good ∙ ap (λ (n : Netlist). Ok n) (sym is)
+
+-- what a design made of checked calls has
+pub record IsMade (rules : RuleValues) (k : CheckedCalls) (d : Netlist) : Type 0 where
+  pub netlist : IsNetlist d
+  pub said : used_design rules k.used k.signals k.calls ≡ Ok d
+
+pub made : (rules : RuleValues) → ValidRules rules → (v k : CheckedCalls) → v ≡ k → IsChecked v.used v.signals v.calls → (kinds : List CellKind) → kinds_for rules v.used ≡ Ok kinds → (d : Netlist)
+    → d.kinds ≡ kinds → d.height ≡ height_of v.used → (names : List (List ℕ)) → names ≡ used_names k.used → d.instances ≡ map (inst_in names) v.calls
+    → d.pins ≡ map (pin_in (nets_of k.signals)) k.signals → d.nets ≡ nets_of k.signals → IsMade rules k d
+made rules valid v k same checked kinds good d is_kinds is_height names is_names is_instances is_pins is_nets =
+    subst (λ (v : CheckedCalls). IsChecked v.used v.signals v.calls → kinds_for rules v.used ≡ Ok kinds → d.height ≡ height_of v.used → d.instances ≡ map (inst_in names) v.calls → IsMade rules k d)
+    (sym same) by checked good is_height is_instances
+  where
+    by : IsChecked k.used k.signals k.calls → kinds_for rules k.used ≡ Ok kinds → d.height ≡ height_of k.used → d.instances ≡ map (inst_in names) k.calls → IsMade rules k d
+    by checked good is_height is_instances =
+        let is = same-design k.used k.signals k.calls kinds d is_kinds is_height (is_instances ∙ ap (λ (names : List (List ℕ)). map (inst_in names) k.calls) is_names) is_pins is_nets in
+        record {
+          netlist = subst (λ (d : Netlist). IsNetlist d) (sym is) (good-netlist rules valid k.used k.signals k.calls kinds checked good);
+          said = used-said rules k.used k.signals k.calls kinds d good is;
+        }

@@ -1,6 +1,3 @@
-ghost use Rattle.list_facts.specs.Names.{place_among};
-ghost use Rattle.std.specs.Prelude.{◌≡◌};
-
 use indexmap::IndexSet;
 use list_facts::place_of;
 use std::marker::Model;

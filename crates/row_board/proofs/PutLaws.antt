@@ -9,6 +9,7 @@ use Rattle.std.specs.Option.{option_map}
 use Rattle.std.specs.Prelude.{nat_eq, nat_lt}
 use Rattle.design_model.specs.Netlist.{Netlist}
 use Rattle.row_model.specs.Changes.{exchanged, seat_of, swapped, with_exchanged}
+use Rattle.row_board.specs.Spot.{Spot}
 use Rattle.row_board.specs.Moving.{ArePut, IsAt}
 use Rattle.row_model.specs.Rows.{AreRows}
 use Rattle.row_board.specs.Standings.{put_in}
@@ -225,6 +226,23 @@ pub puts-are : (rows rows1 rows2 : List (List Seat)) (ra pa rb pb : ℕ) (a b : 
 puts-are rows rows1 rows2 ra pa rb pb a b first second = record {
   each = λ r. second r ∙ ap (option_map (put_in rb pb a r)) (first r) ∙ twice (put_in ra pa b r) (put_in rb pb a r) (slice_get rows r);
 }
+
+-- the seats of two instances that stand there are exchanged one after the other
+pub seats-exchanged : (rows once new : List (List Seat)) (one other : Spot) (a b : ℕ) (s t : Seat) → AreRows rows
+    → IsAt rows one.row one.place (record { instance = a; mirror = one.mirror }) → IsAt rows other.row other.place (record { instance = b; mirror = other.mirror })
+    → s ≡ record { instance = b; mirror = other.mirror } → ((r : ℕ) → slice_get once r ≡ option_map (put_in one.row one.place s r) (slice_get rows r))
+    → t ≡ record { instance = a; mirror = one.mirror } → ((r : ℕ) → slice_get new r ≡ option_map (put_in other.row other.place t r) (slice_get once r))
+    → (new ≡ swapped a b rows) × ArePut one.row one.place (record { instance = b; mirror = other.mirror }) other.row other.place (record { instance = a; mirror = one.mirror }) rows new
+seats-exchanged rows once new one other a b s t different at_a at_b is_s first is_t second = (
+  puts-swap rows once new one.row one.place other.row other.place (record { instance = a; mirror = one.mirror }) (record { instance = b; mirror = other.mirror }) different at_a at_b put_b put_a,
+  puts-are rows once new one.row one.place other.row other.place (record { instance = a; mirror = one.mirror }) (record { instance = b; mirror = other.mirror }) put_b put_a,
+)
+  where
+    put_b : (r : ℕ) → slice_get once r ≡ option_map (put_in one.row one.place (record { instance = b; mirror = other.mirror }) r) (slice_get rows r)
+    put_b r = first r ∙ ap (λ (s : Seat). option_map (put_in one.row one.place s r) (slice_get rows r)) is_s
+
+    put_a : (r : ℕ) → slice_get new r ≡ option_map (put_in other.row other.place (record { instance = a; mirror = one.mirror }) r) (slice_get once r)
+    put_a r = second r ∙ ap (λ (s : Seat). option_map (put_in other.row other.place s r) (slice_get once r)) is_t
 
 -- where two instances stand in rows, the rows after their swap have each other's seats there
 pub swap-puts : (rows : List (List Seat)) (ra pa rb pb : ℕ) (a b : Seat) → AreRows rows → IsAt rows ra pa a → IsAt rows rb pb b

@@ -74,6 +74,17 @@ pub record AreEnteredTo (d : Netlist) (row from place : ℕ) (seats : List Seat)
   pub entered : HasEntered d row from place seats now
   pub others : KeepsOthers from place seats old now
 
+-- at first no seat is entered
+pub entered-none : (d : Netlist) (row from : ℕ) (seats : List Seat) (left : ℕ) (table : List Spot) → left ≡ row_width d (take from seats) → left ≤ 100000000 * from
+    → AreEnteredTo d row from from seats left table table
+entered-none d row from seats left table begins near = record {
+  count = refl;
+  begins = begins;
+  near = near;
+  entered = record { each = λ k s low high. absurd (omega (arith, low, high)) };
+  others = record { each = λ i off. refl };
+}
+
 pub entered-step : (d : Netlist) (row from place : ℕ) (seats : List Seat) (left width : ℕ) (old now new : List Spot) (z : Seat) → AreEnteredTo d row from place seats left old now → AreApart (length old) seats
     → from ≤ place → place < length seats → width ≡ columns_of d (get_or seats place z).instance → width ≤ 100000000
     → new ≡ set now (get_or seats place z).instance (record { row = row; mirror = (get_or seats place z).mirror; place = place; left = left })

@@ -1,4 +1,4 @@
-use Rattle.std.proofs.Common.{◌≡◌, ◌≢◌, ◌<◌, ◌≤◌, ℕ, ◌+◌, ◌*◌, List, length, map, set, sum, Bool, true, false, Option, None, Some, refl, ap, sym, ◌∙◌, subst, arith}
+use Rattle.std.proofs.Common.{◌≡◌, ◌≢◌, ◌<◌, ◌≤◌, ℕ, ◌+◌, ◌-◌, ◌*◌, List, length, map, set, sum, Bool, true, false, Option, None, Some, refl, ap, ap₂, sym, ◌∙◌, subst, arith}
 use Rattle.std.proofs.Math.Nat.{mul-le-mul_left}
 use Rattle.std.proofs.lemmas.Bool.Decides.{nat_tests}
 use Rattle.std.proofs.lemmas.List.{length-set}
@@ -9,7 +9,7 @@ use Rattle.list_facts.proofs.Ranges.{map-map}
 use Rattle.design_model.specs.Netlist.{IsNetlist, Netlist}
 use Rattle.row_board.specs.Board.{IsBoard}
 use Rattle.row_board.specs.Cost.{cost_of, difference, target_of}
-use Rattle.row_board.specs.NetCosts.{table_costs}
+use Rattle.row_board.specs.NetCosts.{table_costs, Tabled}
 use Rattle.row_board.specs.RowLengths.{Lengths}
 use Rattle.row_board.specs.RowLengthsView.{misses_of}
 use Rattle.row_board.specs.Spot.{Spot}
@@ -25,7 +25,7 @@ use Rattle.row_board.proofs.PutLaws.{list-same, swap-puts}
 use Rattle.row_board.proofs.RemeasureLaws.{none-past}
 use Rattle.row_board.proofs.StandingLaws.{get-set-other, get-set-same}
 use Rattle.row_model.proofs.SwapLaws.{swapped-length}
-use Rattle.row_board.proofs.TotalLaws.{nets-sum}
+use Rattle.row_board.proofs.TotalLaws.{cost-told, nets-sum}
 use Rattle.row_board.proofs.TrialLaws.{trial-costs}
 use Rattle.row_board.proofs.UnevenLaws.{uneven-near}
 
@@ -71,7 +71,7 @@ set-there s x i long = by (slice_get s i) refl (slice_get (set x i (standing_of 
         get-set-same x i (standing_of s i) (omega (arith, within, long)) ∙ sym (there s i within)
 
 -- two instances are put back where they stood
-pub traded-back : (a b : ℕ) (s : List Spot) → set (set (traded a b s) a (standing_of s a)) b (standing_of s b) ≡ s
+traded-back : (a b : ℕ) (s : List Spot) → set (set (traded a b s) a (standing_of s a)) b (standing_of s b) ≡ s
 traded-back a b s = list-same (set (set (traded a b s) a (standing_of s a)) b (standing_of s b)) s (λ i. by i (nat_eq i b) refl (nat_eq i a) refl)
   where
     by : (i : ℕ) (x : Bool) → nat_eq i b ≡ x → (y : Bool) → nat_eq i a ≡ y → slice_get (set (set (traded a b s) a (standing_of s a)) b (standing_of s b)) i ≡ slice_get s i
@@ -84,6 +84,13 @@ traded-back a b s = list-same (set (set (traded a b s) a (standing_of s a)) b (s
     by i false last false is =
         get-set-other (set (traded a b s) a (standing_of s a)) b i (standing_of s b) (differ i b last)
         ∙ get-set-other (traded a b s) a i (standing_of s a) (differ i a is) ∙ traded-other a b s i (differ i a is) (differ i b last)
+
+pub put-back : (t once twice back : Tabled) (a b : ℕ) (one other : Spot) → one ≡ standing_of t.standings a → other ≡ standing_of t.standings b
+    → once ≡ record t { standings = traded a b t.standings } → twice ≡ record once { standings = set once.standings a one } → back ≡ record twice { standings = set twice.standings b other } → back ≡ t
+put-back t once twice back a b one other is_one is_other first second third =
+    third ∙ ap (λ (t : Tabled). record t { standings = set t.standings b other }) second ∙ ap (λ (t : Tabled). record t { standings = set (set t.standings a one) b other }) first
+    ∙ ap₂ (λ (one other : Spot). record t { standings = set (set (traded a b t.standings) a one) b other }) is_one is_other
+    ∙ ap (λ (l : List Spot). record t { standings = l }) (traded-back a b t.standings)
 
 -- rows cost after a swap at least what they do by the traded table, but for the slack
 pub trial-total : (d : Netlist) (rows : List (List Seat)) (w : Weighing) (standings : List Spot) (lengths : Lengths) (a b : ℕ) → IsNetlist d → IsBoard d rows standings lengths → a ≢ b
@@ -108,3 +115,11 @@ trial-total d rows w standings lengths a b good board apart in_a in_b =
   where
     all : (x y z m u : ℕ) → x ≤ y + 2 * u → y ≡ z → m ≡ x → m ≤ z + 2 * u
     all x y z m u one two three = omega (arith, one, two, three)
+
+-- so the rows surely cost more where the traded table tells that they cost far more
+pub dear-told : (d : Netlist) (rows : List (List Seat)) (w : Weighing) (standings : List Spot) (lengths : Lengths) (a b : ℕ) → IsNetlist d → IsBoard d rows standings lengths → a ≢ b
+    → a < length d.instances → b < length d.instances → (before less trial most : ℕ) → before ≡ sum (table_costs d w standings) + w.length_cost * sum (misses_of lengths)
+    → less ≡ slack d rows w standings a b → trial ≡ sum (table_costs d w (traded a b standings)) + w.length_cost * sum (misses_of lengths)
+    → before < trial - most - less → cost_of d rows w + most < cost_of d (swapped a b rows) w
+dear-told d rows w standings lengths a b good board apart in_a in_b before less trial most is_before is_less is_trial above =
+    omega (arith, above, is_before, is_less, is_trial, cost-told d rows w standings lengths good board, trial-total d rows w standings lengths a b good board apart in_a in_b)

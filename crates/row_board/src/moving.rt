@@ -1,12 +1,10 @@
 ghost use Rattle.row_board.specs.Board.{AreSeated};
-ghost use Rattle.row_board.specs.Moving.{ArePut, AreExchanged, AreUnmoved, IsAt, IsReach, in_order, left_of, reach_end, row_length};
+ghost use Rattle.row_board.specs.Moving.{AreExchanged, AreUnmoved, IsReach, in_order, left_of, reach_end, row_length};
 ghost use Rattle.row_board.specs.NetCosts.{Tabled};
-ghost use Rattle.row_board.specs.Standings.{AreApart, HasEntered, IsEntered, KeepsOthers, standing_at};
+ghost use Rattle.row_board.specs.Standings.{IsEntered};
 ghost use Rattle.row_model.specs.Changes.{mirrored, swapped};
-ghost use Rattle.row_model.specs.Rows.{ArePlaced, AreRows};
-ghost use Rattle.row_model.specs.Widths.{row_width};
-ghost use Rattle.row_model.specs.declared.rows.Seat.{Seat as Placed};
-ghost use Rattle.std.specs.Prelude.{◌≡◌, ◌≢◌, ◌==◌, ◌<◌, ◌≤◌, ◌+◌, ◌*◌, ℕ, Some, length, slice_get, take};
+ghost use Rattle.row_model.specs.Rows.{ArePlaced};
+ghost use Rattle.std.specs.Prelude.{◌≡◌, ◌≢◌, ◌==◌, ◌<◌, ◌≤◌, ◌+◌, ℕ, length, slice_get};
 
 use crate::net_costs::NetCosts;
 use crate::seats::{put, row_at};

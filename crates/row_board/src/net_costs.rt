@@ -79,7 +79,7 @@ impl<'d> NetCosts<'d> {
     ghost use Rattle.row_board.specs.NetPins.{nets_of};
     ghost use Rattle.row_board.specs.Standings.{standing_of, traded};
     ghost use Rattle.row_board.specs.Weights.{AreFew};
-    ghost use Rattle.std.specs.Prelude.{◌≡◌, ◌<◌, ◌≤◌, ◌*◌, ◌^◌, length, slice_set, sum, IfOk};
+    ghost use Rattle.std.specs.Prelude.{◌≡◌, ◌<◌, ◌≤◌, ◌*◌, length, slice_set, sum, IfOk};
 
     /// What the nets of a design cost by this table. The one error is want of memory.
     pub fn new(

@@ -1,12 +1,8 @@
-ghost use Rattle.row_board.specs.Board.{IsBoard};
-ghost use Rattle.row_board.specs.Cost.{cost_of};
-ghost use Rattle.row_board.specs.NetCosts.{Tabled, table_costs};
+ghost use Rattle.row_board.specs.NetCosts.{table_costs};
 ghost use Rattle.row_board.specs.RowLengthsView.{misses_of};
 ghost use Rattle.row_board.specs.Standings.{standing_of, traded};
 ghost use Rattle.row_board.specs.Trial.{seats_between, shifted_pins, slack};
-ghost use Rattle.row_model.specs.Changes.{swapped};
-ghost use Rattle.std.specs.Bool.{OnTrue};
-ghost use Rattle.std.specs.Prelude.{◌≡◌, ◌≢◌, ◌<◌, ◌≤◌, ◌+◌, ◌*◌, ◌^◌, length, sum};
+ghost use Rattle.std.specs.Prelude.{◌≡◌, ◌<◌, ◌+◌, ◌*◌, ◌^◌, sum};
 
 use crate::moving::reach_of;
 use crate::net_costs::NetCosts;

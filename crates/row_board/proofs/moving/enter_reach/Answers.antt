@@ -7,7 +7,7 @@ use Rattle.row_model.specs.declared.rows.Seat.{Seat}
 use Rattle.row_board.proofs.MoveLaws.{entered-kept, entered-there, left-near, left-told}
 use Rattle.row_model.proofs.PlacedLaws.{placed-distinct}
 use Rattle.row_board.proofs.PlaceLaws.{row-here, there-apart, there-short}
-use Rattle.row_board.proofs.StandingLaws.{entered-step}
+use Rattle.row_board.proofs.StandingLaws.{entered-none, entered-step}
 use Rattle.row_board.proofs.moving.enter_reach.Goals as goal
 
 pub loop-place-init : goal.loop-place-init
@@ -24,13 +24,7 @@ loop-place-init c =
       apart = subst (λ (n : ℕ). AreApart n seats) (sym c.requires.count) (subst (AreApart (length d.instances)) (sym c.row_at-seats.ensures) (there-apart _ c.args.rows.now good c.requires.placed c.args.reach.row));
       short = omega (arith, there-short d c.args.rows.now good c.requires.placed c.args.reach.row, ap length c.row_at-seats.ensures);
       rest = refl;
-      so_far = record {
-        count = refl;
-        begins = left;
-        near = omega (arith, left, left-near d good from seats);
-        entered = record { each = λ k s low high. absurd (omega arith) };
-        others = record { each = λ i off. refl };
-      };
+      so_far = entered-none d c.args.reach.row from seats _ _ left (omega (arith, left, left-near d good from seats));
     }
 
 pub loop-place-preserved : goal.loop-place-preserved

@@ -13,8 +13,8 @@ use Rattle.row_model.specs.declared.rows.Seat.{Seat}
 use Rattle.row_model.proofs.ChangeLaws.{overwritten-same}
 use Rattle.row_model.proofs.PlacedLaws.{placed-distinct}
 use Rattle.row_model.proofs.TwiceLaws.{swap-same}
-use Rattle.row_board.proofs.ReachLaws.{all-entered, before-second}
-use Rattle.row_board.proofs.SpansLaws.{spans-kept}
+use Rattle.row_board.proofs.ReachLaws.{before-second}
+use Rattle.row_board.proofs.SpansLaws.{both-entered, spans-kept}
 use Rattle.row_board.proofs.BoardLaws.{lengths-changed, lengths-few, lengths-swapped}
 use Rattle.row_board.proofs.spans.Spans.swap.Goals as goal
 
@@ -55,21 +55,15 @@ invariant_of-self c =
     let exchanged = c.exchange_seats.ensures in
     let once = c.enter_reach.new.costs in
     let new = c.enter_reach-2.new.costs in
-    let same : once.design ≡ d = ap (λ (t : Tabled). t.design) c.enter_reach.ensures.rest in
     let rest = c.enter_reach-2.ensures.rest ∙ ap (λ (t : Tabled). record t { standings = new.standings }) c.enter_reach.ensures.rest in
     let old = c.items_mut-seats.ensures.value ∙ c.rows.view_is in
     let width : (n i : ℕ) → n ≡ columns_of c.design-design.result.now i → n ≡ columns_of d i = λ n i is. is ∙ ap (λ (d : Netlist). columns_of d i) c.design-design.ensures.is in
     let within = λ (n : ℕ) (is : n < length c.args.self.now.design.instances). subst (λ (v : WeighedRows). n < length v.design.instances) (sym c.self.view_is) is in
     spans-kept i c.self.invariant rows _ (overwritten-same rows _ (c.exchange_seats.auto.rows ∙ ap length c.items_mut-seats.ensures.value)) new rest c.change-2.new.self
     (record {
-      seated = record {
-        placed = exchanged.placed;
-        count = c.enter_reach-2.ensures.count ∙ c.enter_reach.ensures.count ∙ board.seated.count;
-        entered = all-entered d rows i.costs.standings once.standings new.standings c.exchange_seats.result.0 c.exchange_seats.result.1 exchanged.unmoved c.enter_reach.ensures.entered c.enter_reach.ensures.kept
-            (λ k low high. subst (λ (d : Netlist). IsEntered d rows new.standings c.exchange_seats.result.1.row k) same (c.enter_reach-2.ensures.entered k low high))
-            (λ r k was. subst (λ (d : Netlist). IsEntered d rows new.standings r k) same
-            (c.enter_reach-2.ensures.kept r k (subst (λ (d : Netlist). IsEntered d rows once.standings r k) (sym same) was)));
-      };
+      seated = both-entered d rows i.costs.standings once new c.exchange_seats.result.0 c.exchange_seats.result.1 exchanged.placed board.seated.count exchanged.unmoved
+          (ap (λ (t : Tabled). t.design) c.enter_reach.ensures.rest) c.enter_reach.ensures.count c.enter_reach.ensures.entered c.enter_reach.ensures.kept
+          c.enter_reach-2.ensures.count c.enter_reach-2.ensures.entered c.enter_reach-2.ensures.kept;
       are_lengths = lengths-swapped d i.rows rows i.costs.standings c.args.a c.args.b c.one.inside.row c.other.inside.row
           c.columns_of-width.result c.columns_of-other_width.result i.lengths c.change.new.self c.change-2.new.self c.self.invariant.good board.seated c.if-a-b.false
           (within c.args.a c.requires.a) (within c.args.b c.requires.b) (exchanged.swapped ∙ ap (swapped c.args.a c.args.b) old)
