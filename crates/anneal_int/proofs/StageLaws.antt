@@ -1,4 +1,4 @@
-use Rattle.std.proofs.Common.{◌≡◌, ℕ, zero, suc, ◌+◌, ◌*◌, ◌<◌, ◌≤◌, List, [], ◌∷◌, ◌++◌, length, Bool, true, false, refl, sym, ◌∙◌, ap, subst, add-one, arith}
+use Rattle.std.proofs.Common.{◌≡◌, ℕ, ◌+◌, ◌*◌, ◌<◌, ◌≤◌, List, ◌++◌, length, Bool, true, false, refl, sym, ◌∙◌, ap, subst, add-one, arith}
 use Rattle.std.proofs.Math.Nat.{mul-le-mul_right}
 use Rattle.std.specs.Prelude.{fold, nat_le}
 use Rattle.std.specs.List.{range_with_len}
@@ -17,6 +17,7 @@ use Rattle.anneal_int.specs.Stages.{after_stage}
 use Rattle.anneal_int.specs.Cooling.{cooler, temperature_of}
 use Rattle.anneal_int.specs.Judging.{is_taken}
 use Rattle.anneal_int.specs.declared.draws.Change.{Change}
+use Rattle.std_laws.proofs.Ranges.{range-append, fold-more, fold-same}
 
 -- a change is judged by making it where the cost rises by at most what is taken
 pub judged_within : (old new : WeighedRows) (t chance most : ℕ) (change : Change) (made : Bool)
@@ -31,36 +32,6 @@ judged_within old new t chance most change true rise is done left =
 judged_within old new t chance most change false rise is done left =
     let taken : is_taken t chance (cost_of old.design old.rows old.weights) (cost_of old.design (changed change old.rows) old.weights) ≡ false = rise _ _ ∙ sym is in
     rw taken left
-
--- so many numbers, and the one behind them
-range-more : (a n : ℕ) → range_with_len a (n + 1) ≡ range_with_len a n ++ (a + n) ∷ []
-range-more a zero = let e : a + 0 ≡ a = omega arith in rw e refl
-range-more a (suc n) =
-    let e : suc n + 1 ≡ suc (n + 1) = omega arith in
-    let f : a + 1 + n ≡ a + suc n = omega arith in
-    rw e (ap (λ (xs : List ℕ). a ∷ xs) (range-more (a + 1) n ∙ ap (λ (k : ℕ). range_with_len (a + 1) n ++ k ∷ []) f))
-
-range-append : (a n k : ℕ) → range_with_len a (n + k) ≡ range_with_len a n ++ range_with_len (a + n) k
-range-append a zero k =
-    let e : a + 0 ≡ a = omega arith in
-    let f : 0 + k ≡ k = omega arith in
-    rw (e, f) refl
-range-append a (suc n) k =
-    let e : suc n + k ≡ suc (n + k) = omega arith in
-    let f : a + 1 + n ≡ a + suc n = omega arith in
-    rw e (ap (λ (xs : List ℕ). a ∷ xs) (range-append (a + 1) n k ∙ ap (λ (j : ℕ). range_with_len (a + 1) n ++ range_with_len j k) f))
-
-fold-more : {B : Type 0} (f : B → ℕ → B) (x : B) (a n : ℕ) → fold f x (range_with_len a (n + 1)) ≡ f (fold f x (range_with_len a n)) (a + n)
-fold-more f x a n = ap (λ (xs : List ℕ). fold f x xs) (range-more a n) ∙ fold-append f x (range_with_len a n) ((a + n) ∷ [])
-
--- folds of functions that agree at so many numbers
-fold-same : {B : Type 0} (f g : B → ℕ → B) (x : B) (a n : ℕ) → ((y : B) (k : ℕ) → k < n → f y (a + k) ≡ g y (a + k)) → fold f x (range_with_len a n) ≡ fold g x (range_with_len a n)
-fold-same {B = B} f g x a zero same = refl
-fold-same {B = B} f g x a (suc n) same =
-    let e : a + 0 ≡ a = omega arith in
-    let here : f x a ≡ g x a = rw e at (same x 0 (omega arith)) in
-    let rest = λ (y : B) (k : ℕ) (less : k < n). (let shift : a + suc k ≡ a + 1 + k = omega arith in rw shift at (same y (suc k) (omega arith))) in
-    ap (λ (y : B). fold f y (range_with_len (a + 1) n)) here ∙ fold-same f g (g x a) (a + 1) n rest
 
 -- one more change of a stage
 pub stage_more : (d : Netlist) (w : Weighing) (seed t : ℕ) (rows : List (List Seat)) (first n : ℕ)

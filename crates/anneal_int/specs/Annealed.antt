@@ -1,3 +1,4 @@
+-- annealed rows
 use Rattle.std.specs.Prelude.{ℕ, ◌*◌, ◌/◌, List, length, fold, nat_le, if◌then◌else◌}
 use Rattle.std.specs.List.{range_with_len}
 use Rattle.design_model.specs.Netlist.{Netlist}

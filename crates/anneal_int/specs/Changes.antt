@@ -1,3 +1,4 @@
+-- which swap or mirroring two random words stand for, and the three words of each change of a seed
 use Rattle.std.specs.Prelude.{ℕ, ◌+◌, ◌*◌, ◌/◌, ◌%◌, ◌<◌, ◌==◌, if◌then◌else◌}
 use Rattle.anneal_int.specs.Words.{word}
 use Rattle.anneal_int.specs.declared.draws.Change.{Change}

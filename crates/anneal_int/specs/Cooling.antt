@@ -1,3 +1,4 @@
+-- the temperatures of the stages
 use Rattle.std.specs.Prelude.{ℕ, zero, suc, ◌*◌, ◌/◌, max}
 
 -- the temperature of the stage behind one of this temperature

@@ -1,3 +1,4 @@
+-- whether a change of the cost is taken, by the temperature and a random word
 use Rattle.std.specs.Prelude.{ℕ, ◌*◌, ◌/◌, ◌%◌, ◌-◌, Bool, ◌&&◌, ◌||◌, nat_lt, nat_le}
 use Rattle.anneal_int.specs.Threshold.{threshold}
 

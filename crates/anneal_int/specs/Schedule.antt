@@ -1,3 +1,4 @@
+-- how rows are annealed
 use Rattle.std.specs.Prelude.{ℕ, ◌≤◌}
 use Rattle.row_board.specs.Weights.{Weighing}
 use Rattle.limits.specs.declared.TheConstants.{MOST_MOVES, MOST_STAGES, MOST_TEMPERATURE}

@@ -1,3 +1,4 @@
+-- a schedule of annealing as contracts see it, and that its values are in their ranges
 use Rattle.anneal_int.specs.Schedule.{Annealing, IsSchedule}
 use Rattle.anneal_int.specs.declared.schedule.Schedule.TheInside.{Inside}
 

@@ -1,3 +1,4 @@
+-- the changes of a stage
 use Rattle.std.specs.Prelude.{ℕ, List, fold}
 use Rattle.std.specs.List.{range_with_len}
 use Rattle.design_model.specs.Netlist.{Netlist}

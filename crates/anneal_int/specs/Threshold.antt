@@ -1,3 +1,4 @@
+-- the table of thresholds, and which changes of the cost are taken by it
 use Rattle.std.specs.Prelude.{ℕ, zero, suc, ◌<◌, ◌≤◌, ◌*◌, ◌/◌}
 
 -- the thresholds: the first is 65,535, and each is 113 of 128 parts of the one before, rounded down

@@ -1,3 +1,5 @@
+//! Why rows are not annealed: there are too many changes, or memory ran out.
+
 use std::alloc::AllocError;
 use thiserror::Error;
 

@@ -1,3 +1,5 @@
+//! How rows are annealed: first temperature, stages, changes for each instance, and what the cost weighs.
+
 use row_board::Weights;
 use std::marker::Model;
 

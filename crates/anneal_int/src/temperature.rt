@@ -1,9 +1,11 @@
+//! The temperature of a stage and that of the next one, which is nine tenths of it, and at least 1.
+
 use crate::schedule::Schedule;
 use std::marker::Model;
 
 /// A temperature from 1 to 1,000,000,000, which every value keeps. Contracts see the number.
 #[derive(Clone, Copy, Debug)]
-pub struct Temperature {
+pub(crate) struct Temperature {
     degrees: u64,
 }
 
@@ -26,7 +28,7 @@ impl Temperature {
     ghost use Rattle.std.specs.Prelude.{◌≡◌, ◌<◌, ◌≤◌};
 
     /// The temperature of the first stage of a schedule.
-    pub fn first(schedule: &Schedule) -> Temperature
+    pub(crate) fn first(schedule: &Schedule) -> Temperature
         ensures { result ≡ schedule.now.temperature }
     {
         Temperature {
@@ -35,7 +37,7 @@ impl Temperature {
     }
 
     /// The temperature of the stage behind one of this temperature.
-    pub fn cooler(self) -> Temperature
+    pub(crate) fn cooler(self) -> Temperature
         ensures { result ≡ cooler self }
     {
         Temperature {
@@ -44,7 +46,7 @@ impl Temperature {
     }
 
     /// The number, from 1 to 1,000,000,000.
-    pub fn degrees(self) -> u64
+    pub(crate) fn degrees(self) -> u64
         ensures is { result ≡ self }
         ensures some { 0 < result }
         ensures few { result ≤ MOST_TEMPERATURE }

@@ -45,7 +45,7 @@ fn above(number: u16) -> u32
 
 /// The greatest rise of the cost that is taken at this temperature with this random word; a change without a rise is taken with each. Takes no memory.
 #[tactic(auto, using(crate::proofs::JudgingLaws::taken_within))]
-pub fn greatest_rise(temperature: Temperature, word: u32) -> u64
+pub(crate) fn greatest_rise(temperature: Temperature, word: u32) -> u64
     ensures { (old new : ℕ) → is_taken temperature word old new ≡ nat_le new (old + result) }
 {
     let count = above((word % 65536) as u16);

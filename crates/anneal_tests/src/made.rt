@@ -52,7 +52,7 @@ fn made_text(alloc: Global, seed: u64, cells: u32) -> Result<String, Fail>
 }
 
 /// The design that a seed makes of so many cells.
-pub fn made_design(alloc: Global, seed: u64, cells: u32) -> Result<Design, Fail>
+pub(crate) fn made_design(alloc: Global, seed: u64, cells: u32) -> Result<Design, Fail>
     requires { 0 < cells }
 {
     let text = made_text(alloc, seed, cells)?;
@@ -60,7 +60,7 @@ pub fn made_design(alloc: Global, seed: u64, cells: u32) -> Result<Design, Fail>
 }
 
 /// The rows that a design begins with.
-pub fn first_rows(alloc: Global, design: &Design, rows: u32) -> Result<Rows, AllocError>
+pub(crate) fn first_rows(alloc: Global, design: &Design, rows: u32) -> Result<Rows, AllocError>
     requires some { 0 < rows }
     requires few { rows ≤ 512 }
     ensures { IfOk result (λ made. ArePlaced design.now made) }

@@ -5,7 +5,7 @@ use row_board::Weights;
 use row_model::{Rows, Seat};
 
 /// The weights of the sample rules.
-pub fn weights() -> Weights {
+pub(crate) fn weights() -> Weights {
     Weights {
         row_cost: 4,
         length_cost: 1,
@@ -13,7 +13,7 @@ pub fn weights() -> Weights {
 }
 
 /// A schedule with the weights of the sample rules; None where a number is out of its range.
-pub fn schedule_of(temperature: u64, stages: u64, moves: u64) -> Option<Schedule> {
+pub(crate) fn schedule_of(temperature: u64, stages: u64, moves: u64) -> Option<Schedule> {
     if temperature == 0 || temperature > 1_000_000_000 || stages > 1000 || moves > 1000 {
         return None;
     }
@@ -26,7 +26,7 @@ pub fn schedule_of(temperature: u64, stages: u64, moves: u64) -> Option<Schedule
 }
 
 /// Whether two placements have the same seats.
-pub fn are_same(rows: &Rows, others: &Rows) -> bool {
+pub(crate) fn are_same(rows: &Rows, others: &Rows) -> bool {
     if rows.rows.items().len() != others.rows.items().len() {
         return false;
     }

@@ -1,9 +1,9 @@
-use Rattle.std.proofs.Common.{◌≡◌, ◌<◌, ◌≤◌, ◌+◌, ◌-◌, ◌&&◌, Bool, true, false, cond, eqb, leb, ltb, ℕ, suc, List, [], ◌∷◌, ◌++◌, Option, Some, None, inl, inr, refl, sym, ap, ◌∙◌, arith, All, length, get_or, map, take, set, count_by}
-use Rattle.std.proofs.lemmas.Bool.{cases_eq, eq-eqb, ne_eqb, ltb-true}
+use Rattle.std.proofs.Common.{◌≡◌, ◌<◌, ◌≤◌, ◌+◌, ◌-◌, ◌&&◌, Bool, true, false, cond, eqb, leb, ltb, ℕ, suc, List, [], ◌∷◌, ◌++◌, Option, Some, None, refl, sym, ap, ◌∙◌, arith, All, length, get_or, map, take, count_by}
+use Rattle.std.proofs.lemmas.Bool.{ltb-true}
 use Rattle.std.proofs.lemmas.Bool.Decides.{nat_tests}
 use Rattle.std.proofs.lemmas.List.Elements.{All-nil, All-cons, All-tail, All-head, filter_map-append}
-use Rattle.std.proofs.lemmas.List.{take_more, get_or-map, get_or-set_same, get_or-set_other}
-use Rattle.std.proofs.lemmas.List.Sums.{sum_by-cons, count_by_more_yes, count_by_more_no}
+use Rattle.std.proofs.lemmas.List.{take_more, get_or-map}
+use Rattle.std.proofs.lemmas.List.Sums.{sum_by-cons}
 use Rattle.std.specs.List.{cons_option, filter_map}
 use Rattle.std.specs.Option.{option_to_list}
 use Rattle.channel_model.specs.declared.reach.Reach.{Reach}
@@ -139,20 +139,3 @@ swept w c spans opened begins ends all was first last =
     let over = over_is w c spans all in
     let carried = carried_is w c spans all in
     (omega arith, omega arith, omega arith)
-
--- one more number is counted
-pub counted-more : (numbers counts : List ℕ) (i n was : ℕ) → i < length numbers → n ≡ get_or numbers i 0 → n < length counts → was ≡ get_or counts n 0
-    → ((k : ℕ) → k < length counts → get_or counts k 0 ≡ count_by (λ m. eqb m k) (take i numbers))
-    → (k : ℕ) → k < length counts → get_or (set counts n (was + 1)) k 0 ≡ count_by (λ m. eqb m k) (take (i + 1) numbers)
-counted-more numbers counts i n was within at below read counted k known =
-    elim (cases_eq k n) [
-      | inl e ↦
-          rw (e, get_or-set_same counts n (was + 1) 0 below, count_by_more_yes (λ m. eqb m n) numbers i 0 within (eq-eqb _ _ (sym at)))
-          (ap (λ m. m + 1) (read ∙ counted n below))
-      | inr ne ↦
-          rw (
-            get_or-set_other counts n k (was + 1) 0 ne,
-            count_by_more_no (λ m. eqb m k) numbers i 0 within (ne_eqb _ _ (λ same. ne (sym same ∙ sym at))),
-          )
-          (counted k known)
-    ]

@@ -1,5 +1,5 @@
-use Rattle.std.proofs.Common.{◌≡◌, ◌<◌, ◌++◌, Bool, true, eqb, ℕ, zero, suc, List, [], ◌∷◌, inl, inr, refl, subst, ◌∙◌, arith, Contains, length, get_or, filter}
-use Rattle.std.proofs.lemmas.Bool.{cond_both, both_ways, cases_lt}
+use Rattle.std.proofs.Common.{◌≡◌, ◌<◌, ◌++◌, true, eqb, ℕ, List, [], inl, inr, refl, subst, ◌∙◌, arith, Contains, length, get_or, filter}
+use Rattle.std.proofs.lemmas.Bool.{cases_lt}
 use Rattle.std.proofs.lemmas.Bool.Decides.{nat_tests}
 use Rattle.std.proofs.lemmas.List.{get_or_default, get_or_past}
 use Rattle.std.proofs.lemmas.List.Elements.{All-filter, All-contains_itself, All-contains, filter_passes, Contains-append_left, Contains-append_right, Contains-append_cases, Contains-get_or}
@@ -13,19 +13,7 @@ use Rattle.std.specs.List.Sorted.{IsPermutation, IsSorted}
 use Rattle.std.specs.Ordering.{nat_cmp}
 use Rattle.channel_model.specs.Pins.{Pins, is_pin}
 use Rattle.channel_model.specs.Nets.{AreNets, StandsIn}
-
--- a filter keeps what passes
-pub Contains-filter : (p : ℕ → Bool) (xs : List ℕ) (k : ℕ) → k < length xs → p (get_or xs k 0) ≡ true → Contains (filter p xs) (get_or xs k 0)
-Contains-filter p [] k within passes = absurd (omega arith)
-Contains-filter p (x ∷ xs) zero within passes =
-    cond_both (p x) (x ∷ filter p xs) (filter p xs) (λ l. Contains l x)
-    (λ t. (0, omega arith, refl))
-    (λ f. absurd (both_ways (p x) f passes))
-Contains-filter p (x ∷ xs) (suc k) within passes =
-    let tail = Contains-filter p xs k (omega arith) passes in
-    cond_both (p x) (x ∷ filter p xs) (filter p xs) (λ l. Contains l (get_or xs k 0))
-    (λ t. Contains-append_right (x ∷ []) (filter p xs) (get_or xs k 0) tail)
-    (λ f. tail)
+use Rattle.std_laws.proofs.Members.{filter-stands}
 
 is_pin-true : (net : ℕ) → 0 < net → is_pin net ≡ true
 is_pin-true net positive = grind (arith, nat_tests)
@@ -52,7 +40,7 @@ pins-contain pins net stands =
     let there : get_or (pins.top ++ pins.bottom) member.0 0 ≡ net =
     get_or_default (pins.top ++ pins.bottom) member.0 0 net member.1 ∙ member.2 in
     subst (λ n. Contains (filter is_pin (pins.top ++ pins.bottom)) n) there
-    (Contains-filter is_pin (pins.top ++ pins.bottom) member.0 member.1 (rw there (is_pin-true net positive)))
+    (filter-stands is_pin (pins.top ++ pins.bottom) member.0 member.1 (rw there (is_pin-true net positive)))
 
 stands_at : (side : List ℕ) (net : ℕ) → Contains side net → (column : ℕ) × (get_or side column 0 ≡ net)
 stands_at side net member = (member.0, get_or_default side member.0 0 net member.1 ∙ member.2)

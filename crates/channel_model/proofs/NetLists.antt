@@ -1,10 +1,11 @@
-use Rattle.std.proofs.Common.{◌≡◌, ◌⊎◌, refl, sym, ◌<◌, ◌≤◌, ◌+◌, ℕ, suc, List, [], ◌∷◌, ◌⊎◌, inl, inr, arith, Contains}
-use Rattle.std.proofs.lemmas.List.Elements.{Contains-append_right, Contains-append_cases, Contains-push_cases}
+use Rattle.std.proofs.Common.{◌≡◌, refl, sym, ◌<◌, ◌≤◌, ◌+◌, ℕ, suc, List, [], ◌∷◌, inl, inr, arith, Contains}
+use Rattle.std.proofs.lemmas.List.Elements.{Contains-append_right}
 use Rattle.std.proofs.lemmas.List.Kept.{AllPairs-from_increasing}
 use Rattle.std.specs.List.{AllPairs}
 use Rattle.std.specs.List.Sorted.{IsStrictlyIncreasing}
 use Rattle.channel_model.specs.Nets.{AreNets}
 use Rattle.channel_model.specs.Pins.{Pins}
+use Rattle.std_laws.proofs.Members.{member-head, member-cases}
 
 -- numbers that ascend, the first of which is at least m
 abbrev Ascend : ℕ → List ℕ → Type 0
@@ -26,24 +27,11 @@ begins-zero : (xs : List ℕ) → Begins 0 xs
 begins-zero [] = tt
 begins-zero (x ∷ xs) = omega arith
 
-in-first : (x : ℕ) (xs : List ℕ) → Contains (x ∷ xs) x
-in-first x xs = (0, omega arith, refl)
-
-in-cases : (x n : ℕ) (xs : List ℕ) → Contains (x ∷ xs) n → (x ≡ n) ⊎ Contains xs n
-in-cases x n xs member =
-    elim (Contains-append_cases (x ∷ []) xs n member) [
-      | inl here ↦ elim (Contains-push_cases [] x n here) [
-        | inl none ↦ absurd (omega (arith, none.1))
-        | inr same ↦ inl same
-      ]
-      | inr later ↦ inr later
-    ]
-
 -- no member is below the first
 ascend-member : (m n : ℕ) (xs : List ℕ) → Ascend m xs → Contains xs n → m ≤ n
 ascend-member m n [] ascend member = absurd (omega (arith, member.1))
 ascend-member m n (x ∷ xs) ascend member =
-    elim (in-cases x n xs member) [
+    elim (member-cases x xs n member) [
       | inl same ↦ let least = ascend.0 in omega (arith, same)
       | inr later ↦
           let least = ascend.0 in
@@ -57,9 +45,9 @@ Within xs ys = (n : ℕ) → Contains xs n → Contains ys n
 
 same-first : (x y m k : ℕ) (xs ys : List ℕ) → Ascend m (x ∷ xs) → Ascend k (y ∷ ys) → Within (x ∷ xs) (y ∷ ys) → Within (y ∷ ys) (x ∷ xs) → x ≡ y
 same-first x y m k xs ys first second into back =
-    elim (in-cases y x ys (into x (in-first x xs))) [
+    elim (member-cases y ys x (into x (member-head x xs))) [
       | inl same ↦ sym same
-      | inr later ↦ elim (in-cases x y xs (back y (in-first y ys))) [
+      | inr later ↦ elim (member-cases x xs y (back y (member-head y ys))) [
         | inl equal ↦ equal
         | inr further ↦
             let a : y + 1 ≤ x = ascend-member (y + 1) x ys second.1 later in
@@ -71,15 +59,15 @@ same-first x y m k xs ys first second into back =
 -- a list without its first, within the other without its first
 within-rest : (x y : ℕ) (xs ys : List ℕ) → x ≡ y → Ascend (x + 1) xs → Within (x ∷ xs) (y ∷ ys) → Within xs ys
 within-rest x y xs ys same ascend into n member =
-    elim (in-cases y n ys (into n (Contains-append_right (x ∷ []) xs n member))) [
+    elim (member-cases y ys n (into n (Contains-append_right (x ∷ []) xs n member))) [
       | inl equal ↦ let above : x + 1 ≤ n = ascend-member (x + 1) n xs ascend member in absurd (omega (arith, same, equal))
       | inr later ↦ later
     ]
 
 ascend-same : (m k : ℕ) (xs ys : List ℕ) → Ascend m xs → Ascend k ys → Within xs ys → Within ys xs → xs ≡ ys
 ascend-same m k [] [] first second into back = refl
-ascend-same m k [] (y ∷ ys) first second into back = absurd (omega (arith, (back y (in-first y ys)).1))
-ascend-same m k (x ∷ xs) [] first second into back = absurd (omega (arith, (into x (in-first x xs)).1))
+ascend-same m k [] (y ∷ ys) first second into back = absurd (omega (arith, (back y (member-head y ys)).1))
+ascend-same m k (x ∷ xs) [] first second into back = absurd (omega (arith, (into x (member-head x xs)).1))
 ascend-same m k (x ∷ xs) (y ∷ ys) first second into back =
     let same : x ≡ y = same-first x y m k xs ys first second into back in
     let rest : xs ≡ ys = ascend-same (x + 1) (y + 1) xs ys first.1 second.1

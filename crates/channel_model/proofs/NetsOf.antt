@@ -1,24 +1,18 @@
-use Rattle.std.proofs.Common.{◌≡◌, ◌<◌, ◌≤◌, ◌+◌, ◌-◌, ◌++◌, Bool, true, false, cond, eqb, not, ℕ, zero, suc, List, [], ◌∷◌, inl, inr, ap, subst, ◌∙◌, arith, Contains, length, get_or, filter, max}
+use Rattle.std.proofs.Common.{◌≡◌, ◌<◌, ◌≤◌, ◌+◌, ◌-◌, ◌++◌, true, false, cond, eqb, ℕ, zero, suc, List, [], ◌∷◌, inl, inr, subst, ◌∙◌, arith, Contains, length, get_or, filter, max}
 use Rattle.std.proofs.lemmas.Bool.{cases_eq, cases_lt, ne_eqb}
 use Rattle.std.proofs.lemmas.Bool.Decides.{nat_tests}
 use Rattle.std.proofs.lemmas.List.{get_or_default, get_or_past}
 use Rattle.std.proofs.lemmas.List.Elements.{All-filter, All-contains_itself, All-contains, filter_passes, Contains-append_left, Contains-append_right, Contains-get_or}
-use Rattle.std.proofs.lemmas.List.FromFn.{get_or-range_with_len, length-range_with_len}
 use Rattle.std.proofs.lemmas.List.Kept.{IsStrictlyIncreasing-filter}
 use Rattle.std.proofs.lemmas.List.Sums.{sum_by-cons}
 use Rattle.std.specs.List.{count_by, fold, range_with_len}
-use Rattle.std.specs.List.Sorted.{IsStrictlyIncreasing}
-use Rattle.list_facts.proofs.Greatest.{greatest-first}
-use Rattle.list_facts.proofs.Ranges.{range-increasing}
 use Rattle.channel_model.specs.Nets.{AreNets, StandsIn, has_pin, nets_of}
 use Rattle.channel_model.specs.Pins.{Pins, pin_count}
-use Rattle.channel_model.proofs.ListingLaws.{Contains-filter}
 use Rattle.channel_model.proofs.NetLists.{AreNets-one}
-
-each-most : (a : ℕ) (xs : List ℕ) (k : ℕ) → k < length xs → get_or xs k 0 ≤ fold max a xs
-each-most a [] k within = absurd (omega arith)
-each-most a (x ∷ xs) zero within = let more = greatest-first (max a x) xs in omega arith
-each-most a (x ∷ xs) (suc k) within = each-most (max a x) xs k (omega arith)
+use Rattle.std_laws.proofs.Ranges.{range-increasing, range-has-from-one, range-some}
+use Rattle.std_laws.proofs.Members.{filter-member}
+use Rattle.std_laws.proofs.Greatest.{greatest-stands}
+use Rattle.std_laws.proofs.Tests.{positive-test, test-positive}
 
 -- a number that stands in a list is counted, and one that is counted stands there
 counted-one : (net x n : ℕ) → x ≡ net → 0 < cond (eqb x net) 1 0 + n
@@ -54,25 +48,19 @@ within-list xs k net some at =
       | inr past ↦ let none = get_or_past xs k 0 past in absurd (omega arith)
     ]
 
-some-true : (n : ℕ) → 0 < n → not (eqb n 0) ≡ true
-some-true n some = grind (arith, nat_tests)
-
-true-some : (n : ℕ) → not (eqb n 0) ≡ true → 0 < n
-true-some n is = grind (arith, nat_tests)
-
 -- a net that stands in a channel has a pin, and one with a pin stands there
 pin-standing : (pins : Pins) (net : ℕ) → StandsIn pins net → has_pin pins net ≡ true
 pin-standing pins net stands =
     elim stands.1.1 [
-      | inl top ↦ some-true (pin_count pins net) (omega (arith, counted-standing net pins.top stands.1.0 (within-list pins.top stands.1.0 net stands.0 top) top))
+      | inl top ↦ positive-test (pin_count pins net) (omega (arith, counted-standing net pins.top stands.1.0 (within-list pins.top stands.1.0 net stands.0 top) top))
       | inr bottom ↦
-          some-true (pin_count pins net)
+          positive-test (pin_count pins net)
           (omega (arith, counted-standing net pins.bottom stands.1.0 (within-list pins.bottom stands.1.0 net stands.0 bottom) bottom))
     ]
 
 standing-pin : (pins : Pins) (net : ℕ) → 0 < net → has_pin pins net ≡ true → StandsIn pins net
 standing-pin pins net some has =
-    let counts : 0 < pin_count pins net = true-some (pin_count pins net) has in
+    let counts : 0 < pin_count pins net = test-positive (pin_count pins net) has in
     elim (cases_lt 0 (count_by (λ n. eqb n net) pins.top)) [
       | inl above ↦ let at = standing-counted net pins.top above in (some, (at.0, inl at.1))
       | inr none ↦ let at = standing-counted net pins.bottom (omega arith) in (some, (at.0, inr at.1))
@@ -90,26 +78,9 @@ most-standing pins net stands = grade (elim stands.1.1 [
 
     grade : Contains (pins.top ++ pins.bottom) net → net ≤ fold max 0 (pins.top ++ pins.bottom)
     grade member =
-        let most = each-most 0 (pins.top ++ pins.bottom) member.0 member.1 in
+        let most = greatest-stands 0 (pins.top ++ pins.bottom) member.0 member.1 in
         let there : get_or (pins.top ++ pins.bottom) member.0 0 ≡ net = get_or_default (pins.top ++ pins.bottom) member.0 0 net member.1 ∙ member.2 in
         omega arith
-
-range-has : (n net : ℕ) → 0 < net → net ≤ n → Contains (range_with_len 1 n) net
-range-has n net some few =
-    let at : get_or (range_with_len 1 n) (net - 1) 0 ≡ net = (let here = get_or-range_with_len 1 n (net - 1) 0 (omega arith) in omega arith) in
-    subst (Contains (range_with_len 1 n)) at (Contains-get_or (range_with_len 1 n) (net - 1) 0 (let many = length-range_with_len 1 n in omega arith))
-
-range-some : (n net : ℕ) → Contains (range_with_len 1 n) net → 0 < net
-range-some n net member =
-    let many = length-range_with_len 1 n in
-    let there : get_or (range_with_len 1 n) member.0 0 ≡ net = get_or_default (range_with_len 1 n) member.0 0 net member.1 ∙ member.2 in
-    let here = get_or-range_with_len 1 n member.0 0 (let less = member.1 in omega arith) in omega arith
-
--- a list keeps what passes a test
-kept-passing : (p : ℕ → Bool) (xs : List ℕ) (n : ℕ) → Contains xs n → p n ≡ true → Contains (filter p xs) n
-kept-passing p xs n member passes =
-    let there : get_or xs member.0 0 ≡ n = get_or_default xs member.0 0 n member.1 ∙ member.2 in
-    subst (Contains (filter p xs)) there (Contains-filter p xs member.0 member.1 (ap p there ∙ passes))
 
 -- the nets of a channel are its nets
 pub nets-are : (pins : Pins) → AreNets pins (nets_of pins)
@@ -124,7 +95,7 @@ nets-are pins =
           (All-contains (Contains all) (filter (has_pin pins) all) net (All-filter (has_pin pins) (Contains all) all (All-contains_itself all)) member))
           (All-contains (λ n. has_pin pins n ≡ true) (filter (has_pin pins) all) net (filter_passes (has_pin pins) all) member);
       listed = λ net stands.
-          kept-passing (has_pin pins) all net (range-has (fold max 0 (pins.top ++ pins.bottom)) net stands.0 (most-standing pins net stands)) (pin-standing pins net stands);
+          filter-member (has_pin pins) all net (range-has-from-one (fold max 0 (pins.top ++ pins.bottom)) net stands.0 (most-standing pins net stands)) (pin-standing pins net stands);
     }
 
 -- and no other list is

@@ -6,7 +6,7 @@ use Rattle.std.specs.List.Sorted.{IsStrictlyIncreasing}
 use Rattle.channel_model.specs.declared.reach.Reach.{Reach}
 use Rattle.channel_model.specs.Pins.{Pins}
 use Rattle.channel_model.specs.Reach.{reach_to, reach_of, joined, span_of, IsReach}
-use Rattle.channel_model.proofs.PlaceLaws.{same_place}
+use Rattle.std_laws.proofs.Increasing.{increasing-same}
 
 -- a reach has all pins of a net among the first columns of an edge, and pins at both ends
 pub record Reaches (side : List ℕ) (net columns : ℕ) (reach : Reach) : Type 0 where
@@ -106,7 +106,7 @@ reaches-set side nets n i was ascending there at read =
           (reach_of-here side (get_or nets i 0) n (sym at))
       | inr ne ↦
           let apart : get_or side n 0 ≢ get_or nets k 0 =
-          λ same. ne (same_place nets k i ascending within there (sym same ∙ sym at)) in
+          λ same. ne (increasing-same nets k i ascending within there (sym same ∙ sym at)) in
           rw (add-one, get_or-set_other before i k (Some (reach_to was n)) d ne)
           (reach_of-other side (get_or nets k 0) n apart ∙ sym (get_or-map (λ net. reach_of side net n) nets k 0 d within))
     ])

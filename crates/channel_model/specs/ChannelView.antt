@@ -1,3 +1,4 @@
+-- the two edges of a channel as contracts see them, and that they make a channel
 use Rattle.channel_model.specs.Pins.{Pins, IsChannel}
 use Rattle.channel_model.specs.declared.channel.Channel.TheInside.{Inside}
 

@@ -1,3 +1,4 @@
+-- how many nets lie over a column at most, and how many cross from a column to the next at most
 use Rattle.std.specs.Prelude.{◌&&◌, ◌-◌, if◌then◌else◌, nat_lt, Option, Some, None, ℕ, zero, suc, List, length, Bool, nat_le, count_by, max}
 use Rattle.std.specs.List.{filter_map}
 use Rattle.channel_model.specs.declared.reach.Reach.{Reach}

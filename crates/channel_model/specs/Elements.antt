@@ -1,3 +1,4 @@
+-- wirings, and when one connects a channel
 use Rattle.std.specs.Prelude.{◌≡◌, ◌≤◌, ◌++◌, ℕ, List, map}
 use Rattle.channel_model.specs.declared.wiring.Segment.{Segment}
 use Rattle.channel_model.specs.declared.wiring.Segment.TheVariants.{Across, Along}

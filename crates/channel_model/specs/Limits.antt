@@ -1,3 +1,4 @@
+-- how many tracks and columns a router may take
 use Rattle.std.specs.Prelude.{ℕ, ◌*◌}
 
 -- the most tracks that a router may take for a channel of so many nets

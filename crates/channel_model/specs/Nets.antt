@@ -1,3 +1,4 @@
+-- the nets of a channel, from where to where a net has pins, and the density
 use Rattle.std.specs.Prelude.{◌≡◌, ◌⊎◌, ◌<◌, ◌==◌, ◌++◌, not, if◌then◌else◌, Bool, ℕ, suc, List, [], ◌∷◌, Contains, slice_index, filter, fold, max}
 use Rattle.std.specs.List.{range_with_len}
 use Rattle.std.specs.List.Sorted.{IsStrictlyIncreasing}

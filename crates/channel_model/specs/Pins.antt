@@ -1,3 +1,4 @@
+-- the pins of a channel, and what makes two lists of pins a channel
 use Rattle.std.specs.Prelude.{◌≡◌, ◌≢◌, ◌<◌, ◌≤◌, ◌+◌, ◌==◌, ◌&&◌, ◌||◌, not, Bool, ℕ, List, length, count_by}
 use Rattle.std.specs.List.{list_all}
 use Rattle.limits.specs.declared.TheConstants.{MOST_COLUMNS}

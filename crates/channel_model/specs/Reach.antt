@@ -1,3 +1,4 @@
+-- from where to where a net has pins, along one edge of a channel and along both
 use Rattle.std.specs.Prelude.{◌==◌, ◌<◌, ◌≤◌, if◌then◌else◌, ℕ, zero, suc, List, length, slice_index, Option, Some, None, min, max}
 use Rattle.channel_model.specs.declared.reach.Reach.{Reach}
 use Rattle.channel_model.specs.Pins.{Pins}

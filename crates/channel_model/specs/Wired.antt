@@ -1,3 +1,4 @@
+-- when a wiring connects the pins of each net of a channel, and no two nets
 use Rattle.std.specs.Prelude.{◌≡◌, ◌<◌, ◌≤◌, ◌+◌, ℕ, length, Contains, slice_index}
 use Rattle.channel_model.specs.declared.wiring.Segment.TheVariants.{Across, Along}
 use Rattle.channel_model.specs.declared.wiring.Wiring.{Wiring}

@@ -1,3 +1,5 @@
+//! A channel: for each column the nets of the pins at its upper and its lower edge.
+
 ghost use Rattle.channel_model.specs.Pins.{IsChannel, are_matched, is_matched};
 ghost use Rattle.std.specs.List.{list_all};
 ghost use Rattle.std.specs.Prelude.{◌≡◌, ◌<◌, ◌+◌, ◌^◌, ◌↔◌, ◌==◌, IsSome, IfSome, length, count_by};

@@ -1,3 +1,5 @@
+//! The nets that have pins in a channel, in number order, and the place of a net among them.
+
 ghost use Rattle.channel_model.specs.Nets.{AreNets, nets_of, place_of};
 ghost use Rattle.channel_model.specs.Pins.{is_pin};
 ghost use Rattle.std.specs.List.Sorted.{IsStrictlyIncreasing};

@@ -1,3 +1,5 @@
+//! From its first to its last pin column: how far each net reaches along one edge of a channel.
+
 ghost use Rattle.channel_model.specs.Reach.{reach_to, reach_of};
 ghost use Rattle.std.specs.List.Sorted.{IsStrictlyIncreasing};
 ghost use Rattle.std.specs.Prelude.{◌≡◌, ◌<◌, ◌≤◌, ◌^◌, ℕ, IfOk, Contains, length, slice_index, map};

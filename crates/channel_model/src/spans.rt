@@ -1,3 +1,5 @@
+//! The span of each net of a channel, and the density and the cut density that these give.
+
 ghost use Rattle.channel_model.specs.Density.{crossing_of, cut_density_of, density_of, most_over, spans_of};
 ghost use Rattle.channel_model.specs.Nets.{AreNets};
 ghost use Rattle.channel_model.specs.Reach.{IsReach, joined};

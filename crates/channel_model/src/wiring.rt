@@ -1,3 +1,5 @@
+//! What a wiring is made of: vertical and horizontal pieces of wire, vias, tracks and columns.
+
 use geom_core::Items;
 
 /// A straight piece of wire in a channel, of one net. Columns are numbered from 0 at the left; tracks are 1 to T from the bottom,

@@ -1,5 +1,5 @@
-use Rattle.std.proofs.Common.{◌≡◌, refl, ap, sym, ◌∙◌, subst, ℕ, suc, ◌+◌, List, [], ◌∷◌, ◌++◌, length, map, Bool, true, false, Some, None, Option, arith}
-use Rattle.std.proofs.lemmas.Bool.{both_ways}
+use Rattle.geom_core.specs.declared.layout.Cell as layouts
+use Rattle.std.proofs.Common.{◌≡◌, refl, ap, sym, ◌∙◌, subst, ℕ, suc, ◌+◌, List, [], ◌∷◌, ◌++◌, length, map, Some, None, Option, arith}
 use Rattle.std.proofs.lemmas.List.{map-append}
 use Rattle.std.proofs.lemmas.List.Sorted.{IsPermutation-map}
 use Rattle.std.proofs.lemmas.Map.Keys.{IsDistinct-IsPermutation}
@@ -7,21 +7,18 @@ use Rattle.std.specs.List.{AllByRecursion, range_with_len}
 use Rattle.std.specs.List.Sorted.{IsPermutation}
 use Rattle.std.specs.Prelude.{slice_get}
 use Rattle.std.specs.Str.{bytes_eq}
-use Rattle.geom_core.specs.declared.layout.Cell as layouts
 use Rattle.geom_core.specs.declared.turn.Place.{Place}
 use Rattle.tech_rules.specs.Rules.{RuleValues}
 use Rattle.design_model.specs.CellsMatch.{cell_names, instance_names}
 use Rattle.design_model.specs.Netlist.{Netlist, IsNetlist}
 use Rattle.design_model.specs.declared.design.Inst.{Inst}
 use Rattle.list_facts.proofs.Different.{place-get}
-use Rattle.list_facts.proofs.Mentioned.{bytes_one, bytes_same, names-flip}
 use Rattle.channel_model.specs.declared.wiring.Wiring.{Wiring}
 use Rattle.wire_geom.specs.Drawing.{drawing}
 use Rattle.row_model.specs.Rows.{ArePlaced, all_instances, instances_in}
 use Rattle.feed_cells.specs.Fed.{Fed, cells_in, item_width, seats_in}
 use Rattle.feed_cells.specs.declared.fed.Item.{Item}
 use Rattle.feed_cells.specs.declared.fed.Item.TheVariants.{Cell, Feed}
-use Rattle.wire_geom.proofs.ListLaws.{map-at}
 use Rattle.layout_laws.specs.Heights.{channel_height}
 use Rattle.channel_stack.specs.Layouts.{item_shapes, layout_of, row_cells, row_shapes, stacked_cells}
 use Rattle.channel_stack.specs.declared.placed.PlacedItem.{PlacedItem}
@@ -29,6 +26,8 @@ use Rattle.channel_stack.specs.Stack.{channel_bases, drawings, item_place, place
 use Rattle.channel_stack.proofs.KnownItems.{IsKnown, KnownCell, rows-known}
 use Rattle.channel_stack.proofs.LayoutCells.{one-cell}
 use Rattle.channel_stack.proofs.LayoutShapes.{stack_layout}
+use Rattle.std_laws.proofs.Bytes.{bytes-flips}
+use Rattle.std_laws.proofs.Places.{map-at}
 
 abbrev names_of : List layouts.Cell → List (List ℕ)
 names_of cells = map (λ (c : layouts.Cell). c.name) cells
@@ -109,7 +108,7 @@ module _ (r : RuleValues) (d : Netlist) (is : IsNetlist d) (fed : Fed) (placed :
   pub named-once : (n m : ℕ) (a b : layouts.Cell) → slice_get (stack_layout r d fed ws).cells n ≡ Some a → slice_get (stack_layout r d fed ws).cells m ≡ Some b → a.name ≡ b.name → n ≡ m
   named-once n m a b first second same =
       let names : List (List ℕ) = cell_names (stack_layout r d fed ws) in
-      let different = IsDistinct-IsPermutation bytes_eq names-flip (instance_names d) names stack-names is.different_instances in
+      let different = IsDistinct-IsPermutation bytes_eq bytes-flips (instance_names d) names stack-names is.different_instances in
       let one = place-get names n a.name different (map-at (λ (c : layouts.Cell). c.name) (stack_layout r d fed ws).cells n a first) in
       let other = place-get names m b.name different (map-at (λ (c : layouts.Cell). c.name) (stack_layout r d fed ws).cells m b second) in
       cc

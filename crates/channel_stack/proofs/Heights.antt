@@ -1,7 +1,6 @@
 use Rattle.std.proofs.Common.{◌≡◌, ◌<◌, ◌≤◌, ◌^◌, ℕ, ◌+◌, ◌*◌, List, ◌∷◌, length, ap, sym, subst, arith}
 use Rattle.std.proofs.Math.Nat.{mul-le-mul}
 use Rattle.std.specs.List.{AllByRecursion}
-use Rattle.list_facts.proofs.Every.{every-weaker}
 use Rattle.channel_model.specs.declared.wiring.Wiring.{Wiring}
 use Rattle.feed_cells.specs.Fed.{Fed, IsFed, items_width}
 use Rattle.feed_cells.specs.declared.fed.Item.{Item}
@@ -11,6 +10,7 @@ use Rattle.tech_rules.specs.Rules.{RuleValues, ValidRules}
 use Rattle.channel_stack.specs.Routed.{IsRouted, IsWithin}
 use Rattle.channel_stack.specs.Stack.{stack_of, stack_top}
 use Rattle.channel_stack.proofs.StackBounds.{channel-below, grid-bounded, rows-narrow, top-bounded, top-small, width-bounded, width-small}
+use Rattle.std_laws.proofs.Every.{every-weaker}
 
 -- the upper edge of the first of the channels that are left
 pub first-top : (r : RuleValues) (height base : ℕ) (rest : List Wiring) (w : Wiring) (above : List Wiring) → rest ≡ w ∷ above

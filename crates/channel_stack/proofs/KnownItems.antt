@@ -1,12 +1,9 @@
-use Rattle.std.proofs.Common.{◌≡◌, refl, ap, sym, ◌∙◌, subst, ℕ, zero, suc, ◌+◌, ◌<◌, ◌≤◌, List, [], ◌∷◌, ◌++◌, length, map, Option, Some, None, Contains, arith, inl, inr}
+use Rattle.std.proofs.Common.{◌≡◌, ap, sym, ◌∙◌, subst, ℕ, ◌+◌, ◌<◌, ◌≤◌, List, [], ◌∷◌, ◌++◌, length, map, Option, Some, None, Contains, arith, inl, inr}
 use Rattle.std.proofs.lemmas.List.Elements.{All-contains, All-weaker}
-use Rattle.std.proofs.lemmas.List.FromFn.{get_or-range_with_len, length-range_with_len}
 use Rattle.std.proofs.lemmas.List.Sorted.{Contains-permutation, IsPermutation-sym}
 use Rattle.std.proofs.lemmas.Option.{slice_get_within}
 use Rattle.std.specs.List.{AllByRecursion, range_with_len}
 use Rattle.std.specs.Prelude.{slice_get}
-use Rattle.list_facts.proofs.Places.{at-place}
-use Rattle.list_facts.proofs.Members.{map-cases, map-member, member-cases, member-head, member-tail, get-contains, member-place}
 use Rattle.tech_rules.specs.Rules.{RuleValues, ValidRules}
 use Rattle.design_model.specs.Netlist.{Netlist, IsNetlist, IsKind, IsPosition}
 use Rattle.design_model.specs.Drawing.{drawing_of}
@@ -15,8 +12,6 @@ use Rattle.design_model.specs.declared.design.Inst.{Inst}
 use Rattle.design_model.specs.declared.design.Position.{Position}
 use Rattle.design_model.specs.Room.{HasRoom}
 use Rattle.geom_core.specs.Moving.{moved_shape, turn_at}
-use Rattle.list_facts.proofs.Every.{every-from-get}
-use Rattle.wire_geom.proofs.ListLaws.{Contains-flat_map, Contains-flat_map_cases}
 use Rattle.wire_geom.specs.declared.drawn.Drawn.{Drawn}
 use Rattle.row_model.specs.Rows.{ArePlaced, all_instances, instances_in}
 use Rattle.row_model.specs.Widths.{kind_of}
@@ -28,6 +23,10 @@ use Rattle.channel_stack.specs.Layouts.{item_shapes, kind_drawing}
 use Rattle.channel_stack.proofs.Planned.{seat_drawn, seat_of}
 use Rattle.channel_stack.specs.Stack.{item_place}
 use Rattle.channel_stack.proofs.PlacedShapes.{cell-drawn, feed-drawn}
+use Rattle.std_laws.proofs.Places.{at-place}
+use Rattle.std_laws.proofs.Members.{map-cases, map-member, member-cases, member-head, member-tail, get-contains, member-place, Contains-flat_map, Contains-flat_map_cases}
+use Rattle.std_laws.proofs.Every.{every-from-get}
+use Rattle.std_laws.proofs.Ranges.{range-has, range-below}
 
 -- the instance and the kind of a seat, which are of the design
 pub record KnownCell (d : Netlist) (s : Seat) : Type 0 where
@@ -112,18 +111,6 @@ seated-in rows items s instance row member own =
       at = subst (λ (l : List Item). slice_get rows place.0 ≡ Some l) split.is place.1;
       own = own;
     }
-
--- the numbers below a bound are those of its range
-range-has : (n k : ℕ) → k < n → Contains (range_with_len 0 n) k
-range-has n k within = (k, omega (arith, length-range_with_len 0 n), get_or-range_with_len 0 n k k within ∙ omega arith)
-
-range-below : (n k : ℕ) → Contains (range_with_len 0 n) k → k < n
-range-below n k member =
-    let place : ℕ = member.0 in
-    let below : place < length (range_with_len 0 n) = member.1 in
-    let inside : place < n = omega (arith, length-range_with_len 0 n) in
-    let at : 0 + place ≡ k = sym (get_or-range_with_len 0 n place k inside) ∙ member.2 in
-    omega arith
 
 module _ (d : Netlist) (fed : Fed) (placed : ArePlaced d (cells_in fed.rows)) where
   -- each instance of the design is seated

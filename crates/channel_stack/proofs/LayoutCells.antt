@@ -1,10 +1,10 @@
+use Rattle.geom_core.specs.declared.layout.Cell as layouts
 use Rattle.std.proofs.Common.{◌≡◌, refl, ap, sym, ◌∙◌, subst, ℕ, zero, suc, ◌+◌, List, [], ◌∷◌, ◌++◌, length, map, Some, arith}
 use Rattle.std.proofs.lemmas.List.{length-map}
 use Rattle.std.proofs.lemmas.List.Sums.{sum_by-cons}
 use Rattle.std.proofs.lemmas.Option.{none-some, same_Some}
 use Rattle.std.specs.List.{AllByRecursion}
 use Rattle.std.specs.Prelude.{slice_get}
-use Rattle.geom_core.specs.declared.layout.Cell as layouts
 use Rattle.geom_core.specs.declared.layout.Shape.{Shape}
 use Rattle.geom_core.specs.declared.turn.Place.{Place}
 use Rattle.tech_rules.specs.Rules.{RuleValues, ValidRules}
@@ -28,8 +28,8 @@ use Rattle.channel_stack.specs.declared.placed.PlacedItem.{PlacedItem}
 use Rattle.channel_stack.specs.Stack.{channel_bases, drawings, item_place, placed_from, placed_rows, row_bases, stack_of}
 use Rattle.channel_stack.proofs.KnownItems.{IsKnown, KnownCell, item-drawn, rows-known}
 use Rattle.channel_stack.proofs.LayoutShapes.{levels, plan-levels, row-shapes, row_floor, stack_layout}
-use Rattle.channel_stack.proofs.ListParts.{Part, part-before, part-behind}
-use Rattle.wire_geom.proofs.ListLaws.{get-before, get-behind}
+use Rattle.std_laws.proofs.Parts.{Part, part-before, part-behind}
+use Rattle.std_laws.proofs.Places.{get-before, get-behind}
 
 -- among cells whose first shape has this number: a cell, and its own rectangles among those that are drawn for all of them
 pub record Stood (cells : List layouts.Cell) (first : ℕ) (drawn : List Drawn) (cell : ℕ → layouts.Cell) (own : List Drawn) : Type 0 where

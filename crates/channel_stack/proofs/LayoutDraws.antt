@@ -1,7 +1,6 @@
 use Rattle.std.proofs.Common.{◌≡◌, refl, ap, sym, ◌∙◌, ℕ, suc, ◌+◌, List, ◌∷◌, ◌++◌, length, map, Some, Option, arith}
 use Rattle.std.proofs.lemmas.List.Elements.{Contains-append_right}
 use Rattle.std.specs.Prelude.{slice_get}
-use Rattle.list_facts.proofs.Members.{member-head, get-contains}
 use Rattle.tech_rules.specs.Rules.{RuleValues, ValidRules}
 use Rattle.design_model.specs.Netlist.{Netlist, IsNetlist}
 use Rattle.design_model.specs.declared.design.CellKind.{CellKind}
@@ -14,7 +13,6 @@ use Rattle.row_model.specs.declared.rows.Seat.{Seat}
 use Rattle.feed_cells.specs.Fed.{Fed, cells_in, items_width}
 use Rattle.feed_cells.specs.declared.fed.Item.{Item}
 use Rattle.feed_cells.specs.declared.fed.Item.TheVariants.{Cell}
-use Rattle.wire_geom.proofs.ListLaws.{map-at}
 use Rattle.layout_laws.proofs.Plans.{plan_drawn, row_base}
 use Rattle.channel_stack.specs.Layouts.{cell_at}
 use Rattle.channel_stack.proofs.Planned.{plan_of, seat_drawn, seat_of, upright_drawn, upright_of}
@@ -22,8 +20,10 @@ use Rattle.channel_stack.proofs.Shown.{DrawsSeat, DrawsSeats}
 use Rattle.channel_stack.specs.Stack.{item_place}
 use Rattle.channel_stack.proofs.KnownItems.{KnownCell, item-known}
 use Rattle.channel_stack.proofs.LayoutCells.{CellStands, cell-stands}
-use Rattle.channel_stack.proofs.ListParts.{part-get}
 use Rattle.channel_stack.proofs.LayoutShapes.{stack_layout}
+use Rattle.std_laws.proofs.Members.{member-head, get-contains}
+use Rattle.std_laws.proofs.Places.{map-at}
+use Rattle.std_laws.proofs.Parts.{part-get}
 
 -- a position of a seat stands behind the seat's outline
 pub upright-at : (r : RuleValues) (d : Netlist) (base left : ℕ) (s : Seat) (i : ℕ) (p : Position) → slice_get (positions_of d s.instance) i ≡ Some p

@@ -4,7 +4,6 @@ use Rattle.std.proofs.lemmas.Bool.{cases_lt}
 use Rattle.std.proofs.lemmas.Int.{ints}
 use Rattle.std.proofs.lemmas.Option.{none-some, same_Some, slice_get_within}
 use Rattle.std.specs.Prelude.{pos, slice_get, ◌⊎◌, ◌≤ℤ◌}
-use Rattle.list_facts.proofs.Members.{get-contains, map-cases}
 use Rattle.geom_core.specs.Extent.{Extent}
 use Rattle.geom_core.specs.declared.layout.Shape.{Shape}
 use Rattle.tech_rules.specs.InRows.{InRows, SameRow, IsBelow}
@@ -14,20 +13,19 @@ use Rattle.design_model.specs.Netlist.{Netlist, IsNetlist}
 use Rattle.design_model.specs.Room.{HasRoom}
 use Rattle.channel_model.specs.Elements.{elements}
 use Rattle.channel_model.specs.declared.wiring.Wiring.{Wiring}
-use Rattle.wire_geom.proofs.ListLaws.{Contains-flat_map_cases}
 use Rattle.wire_geom.specs.Drawing.{Mask, on_horizontal, on_vertical, on_cut, name_of, drawn_by, drawn_of, drawing, pieces_of}
 use Rattle.wire_geom.specs.Grid.{scaled}
 use Rattle.wire_geom.specs.declared.drawn.Drawn.{Drawn}
 use Rattle.row_model.specs.Rows.{ArePlaced}
 use Rattle.feed_cells.specs.Fed.{Fed, cells_in}
 use Rattle.feed_cells.specs.declared.fed.Item.{Item}
-use Rattle.layout_laws.proofs.ListPlaces.{at-map}
 use Rattle.layout_laws.specs.Heights.{channel_height}
 use Rattle.layout_laws.proofs.Plans.{plan_drawn}
 use Rattle.layout_laws.proofs.Seats.{Seat, Upright}
 use Rattle.channel_stack.proofs.Planned.{outline_drawn, plan_of, row_drawn, seat_drawn, seat_of, upright_drawn}
 use Rattle.channel_stack.proofs.LayoutShapes.{levels, plan-levels, stack-shapes, stack_layout}
-use Rattle.channel_stack.proofs.ListParts.{in-either}
+use Rattle.std_laws.proofs.Members.{get-contains, map-cases, Contains-flat_map_cases}
+use Rattle.std_laws.proofs.Places.{map-get, get-either}
 
 -- a rectangle and a later one: they stand side by side in one row, or the later one lies above
 data Follows (a b : Extent) : Type 0 where
@@ -61,12 +59,12 @@ order-append : (r : RuleValues) (xs ys : List Drawn) → InOrder r xs → InOrde
     → ((i j : ℕ) (a b : Drawn) → slice_get xs i ≡ Some a → slice_get ys j ≡ Some b → IsOutline r a → IsOutline r b → Follows a.shape.rect b.shape.rect)
     → InOrder r (xs ++ ys)
 order-append r xs ys first second across i j a b before at_a at_b out other =
-    elim (in-either xs ys i a at_a) [
-      | inl here ↦ elim (in-either xs ys j b at_b) [
+    elim (get-either xs ys i a at_a) [
+      | inl here ↦ elim (get-either xs ys j b at_b) [
         | inl there ↦ first i j a b before here there out other
         | inr there ↦ across i there.0 a b here there.2 out other
       ]
-      | inr here ↦ elim (in-either xs ys j b at_b) [
+      | inr here ↦ elim (get-either xs ys j b at_b) [
         | inl there ↦ absurd (let w = slice_get_within xs j b there in let e = here.1 in omega arith)
         | inr there ↦ second here.0 there.0 a b (let e = here.1 in let f = there.1 in omega arith) here.2 there.2 out other
       ]
@@ -92,7 +90,7 @@ module _ (r : RuleValues) (valid : ValidRules r) where
   -- uprights are no outlines
   uprights-wires : (base left : ℕ) (uprights : List Upright) → AreWires r (map (upright_drawn r base left) uprights)
   uprights-wires base left uprights i a at out =
-      let upright = at-map (upright_drawn r base left) uprights i a at in
+      let upright = map-get (upright_drawn r base left) uprights i a at in
       valid.layers.vertical_outline (ap (λ (x : Drawn). x.shape.layer) upright.2 ∙ out)
 
   -- the one outline of a seat
@@ -116,7 +114,7 @@ module _ (r : RuleValues) (valid : ValidRules r) where
   row-in : (base height left : ℕ) (seats : List Seat) → AreInRow r base height left (row_drawn r base height left seats)
   row-in base height left [] i a at out = absurd (none-some a at)
   row-in base height left (seat ∷ seats) i a at out =
-      elim (in-either (seat_drawn r base height left seat) (row_drawn r base height (left + seat.width) seats) i a at) [
+      elim (get-either (seat_drawn r base height left seat) (row_drawn r base height (left + seat.width) seats) i a at) [
         | inl here ↦ subst (InRow r base height left) (sym (seat-outline base height left seat i a here out))
             (record { low = refl; high = refl; from = scaled-up r (2 * (left * r.grid.column)) (2 * (left * r.grid.column)) (omega arith) })
         | inr there ↦ row-nearer base height left (left + seat.width) a (omega arith) (row-in base height (left + seat.width) seats there.0 a there.2 out)
@@ -142,9 +140,9 @@ module _ (r : RuleValues) (valid : ValidRules r) where
         let floor : ℕ = base + channel_height r w in
         let next : ℕ = floor + d.height in
         let row : List Drawn = row_drawn r floor d.height 0 (map (seat_of r d) items) in
-        elim (in-either (drawing r base w) (row ++ levels r d next ws rows) i a at) [
+        elim (get-either (drawing r base w) (row ++ levels r d next ws rows) i a at) [
           | inl here ↦ absurd (drawing-wires base w i a here out)
-          | inr there ↦ elim (in-either row (levels r d next ws rows) there.0 a there.2) [
+          | inr there ↦ elim (get-either row (levels r d next ws rows) there.0 a there.2) [
             | inl low ↦ (let e = (row-in floor d.height 0 (map (seat_of r d) items) there.0 a low out).low in
                 let up = scaled-up r (2 * base) (2 * floor) (omega arith) in omega (arith, ints))
             | inr high ↦ (let e = levels-above next ws rows high.0 a high.2 out in
@@ -200,8 +198,8 @@ module _ (r : RuleValues) (valid : ValidRules r) (d : Netlist) (is : IsNetlist d
   shapes-follow i j s t before at_s at_t out other =
       let shapes = stack-shapes r valid d is room fed placed ws each in
       let plan : List Drawn = plan_drawn r (plan_of r d fed ws) in
-      let a = at-map (λ (x : Drawn). x.shape) plan i s (subst (λ (l : List Shape). slice_get l i ≡ Some s) shapes at_s) in
-      let b = at-map (λ (x : Drawn). x.shape) plan j t (subst (λ (l : List Shape). slice_get l j ≡ Some t) shapes at_t) in
+      let a = map-get (λ (x : Drawn). x.shape) plan i s (subst (λ (l : List Shape). slice_get l i ≡ Some s) shapes at_s) in
+      let b = map-get (λ (x : Drawn). x.shape) plan j t (subst (λ (l : List Shape). slice_get l j ≡ Some t) shapes at_t) in
       subst (λ (x : Shape). Follows x.rect t.rect) a.2
       (subst (λ (x : Shape). Follows a.0.shape.rect x.rect) b.2
       (plan-order r valid d fed ws each i j a.0 b.0 before a.1 b.1 (ap (λ (x : Shape). x.layer) a.2 ∙ out) (ap (λ (x : Shape). x.layer) b.2 ∙ other)))

@@ -1,17 +1,15 @@
+use Rattle.geom_core.specs.declared.layout.Cell as layouts
 use Rattle.std.proofs.Common.{◌≡◌, refl, ap, sym, ◌∙◌, subst, inl, inr, ℕ, suc, ◌+◌, ◌<◌, List, length, map, take, drop, Bool, true, false, Some, None, Option, Contains, arith}
 use Rattle.std.proofs.lemmas.Bool.{both_ways}
 use Rattle.std.proofs.lemmas.List.{length-map}
-use Rattle.std.proofs.lemmas.List.Sorted.{Contains-permutation, IsPermutation-sym}
 use Rattle.std.proofs.lemmas.Option.{none-some, same_Some, slice_get_within}
 use Rattle.std.specs.Option.{is_some}
 use Rattle.std.specs.Prelude.{slice_get}
-use Rattle.geom_core.specs.declared.layout.Cell as layouts
 use Rattle.design_model.proofs.DesignPins.{pin-found}
-use Rattle.list_facts.proofs.Members.{map-cases, get-contains, member-place}
 use Rattle.geom_core.specs.declared.layout.Shape.{Shape}
 use Rattle.tech_rules.specs.Rules.{RuleValues, ValidRules}
-use Rattle.geom_core.specs.Moving.{moved_shape}
-use Rattle.design_model.specs.CellsMatch.{CellsMatch, IsCopyOf, cell_names, instance_names}
+use Rattle.geom_core.specs.Moving.{moved_shape, turn_at}
+use Rattle.design_model.specs.CellsMatch.{CellsMatch, IsCopyOf}
 use Rattle.design_model.specs.Drawing.{drawing_of}
 use Rattle.design_model.specs.Joined.{Draws, DrawsPin}
 use Rattle.design_model.specs.Netlist.{Netlist, IsNetlist}
@@ -19,7 +17,6 @@ use Rattle.design_model.specs.declared.design.CellKind.{CellKind}
 use Rattle.design_model.specs.declared.design.Inst.{Inst}
 use Rattle.design_model.specs.declared.design.Pin.{Pin}
 use Rattle.design_model.specs.Room.{HasRoom}
-use Rattle.geom_core.specs.Moving.{turn_at}
 use Rattle.channel_model.specs.declared.wiring.Wiring.{Wiring}
 use Rattle.wire_geom.specs.declared.drawn.Drawn.{Drawn}
 use Rattle.row_model.specs.Rows.{ArePlaced}
@@ -31,7 +28,6 @@ use Rattle.feed_cells.specs.Fed.{Fed, cells_in, items_width}
 use Rattle.feed_cells.specs.declared.fed.Item.{Item}
 use Rattle.feed_cells.specs.declared.fed.Item.TheVariants.{Cell}
 use Rattle.pin_assign.proofs.EdgeLaws.{EdgePosition, edge-position}
-use Rattle.wire_geom.proofs.ListLaws.{map-at}
 use Rattle.layout_laws.proofs.Labels.{ShowsPins}
 use Rattle.layout_laws.proofs.Plans.{plan_drawn, row_base}
 use Rattle.channel_stack.specs.Layouts.{cell_at, channel_shapes}
@@ -43,7 +39,8 @@ use Rattle.channel_stack.proofs.KnownItems.{KnownCell, SeatedAt, known-drawn, se
 use Rattle.channel_stack.proofs.LayoutCells.{CellStands, cell-stands}
 use Rattle.channel_stack.proofs.LayoutDraws.{cell-known, seat-draws, upright-at}
 use Rattle.channel_stack.proofs.LayoutShapes.{stack-shapes, stack_layout}
-use Rattle.channel_stack.proofs.ListParts.{part-get, part-map, part-taken}
+use Rattle.std_laws.proofs.Members.{member-place}
+use Rattle.std_laws.proofs.Parts.{part-get, part-map, part-taken}
 
 -- a cell of the layout is that of an instance's seat
 pub record IsCellOf (r : RuleValues) (d : Netlist) (fed : Fed) (ws : List Wiring) (number instance : ℕ) (copy : layouts.Cell) (inst : Inst) : Type 0 where

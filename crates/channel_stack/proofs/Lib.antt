@@ -22,8 +22,6 @@ pub mod RowWires
 pub mod RowPins
 -- how the nets of a wired design thread its channels
 pub mod PlanThreads
--- parts of lists, and where they stand
-pub mod ListParts
 -- a symbol that is copied to its place
 pub mod PlacedShapes
 -- where instances are seated, and that each item has a drawing, which at its place is that of its seat

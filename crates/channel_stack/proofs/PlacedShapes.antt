@@ -1,8 +1,8 @@
+use Rattle.row_model.specs.declared.rows.Seat as seats
 use Rattle.std.proofs.Common.{◌≡◌, refl, ap, sym, ◌∙◌, subst, ℕ, ◌+◌, ◌*◌, ◌-◌, ◌<◌, ◌≤◌, List, [], ◌∷◌, map, Bool, true, false, Some, All, arith}
 use Rattle.std.proofs.Math.Nat.{add-mul}
-use Rattle.std.proofs.lemmas.Int.{ints}
 use Rattle.std.proofs.lemmas.List.Elements.{All-head, All-tail}
-use Rattle.std.specs.Prelude.{ℤ, pos, neg_ℤ, ◌+ℤ◌, if◌then◌else◌}
+use Rattle.std.specs.Prelude.{ℤ, if◌then◌else◌}
 use Rattle.geom_core.specs.Extent.{Extent}
 use Rattle.geom_core.specs.Turning.{moved}
 use Rattle.geom_core.specs.declared.layout.Shape.{Shape}
@@ -11,11 +11,9 @@ use Rattle.design_model.specs.Drawing.{extent_of, middle_of, pin_low, pin_high, 
 use Rattle.design_model.specs.Netlist.{Netlist}
 use Rattle.design_model.specs.declared.design.CellKind.{CellKind}
 use Rattle.design_model.specs.declared.design.Position.{Position}
-use Rattle.geom_core.specs.Moving.{moved_shape}
-use Rattle.geom_core.specs.Moving.{turn_at}
+use Rattle.geom_core.specs.Moving.{moved_shape, turn_at}
 use Rattle.row_model.specs.Stands.{turned_column, positions_in}
 use Rattle.row_model.specs.Widths.{kind_of, columns_of, width_of}
-use Rattle.row_model.specs.declared.rows.Seat as seats
 use Rattle.feed_cells.specs.declared.fed.Item.TheVariants.{Cell, Feed}
 use Rattle.layout_laws.proofs.Seats.{Upright}
 use Rattle.layout_laws.proofs.Uprights.{upright_rect}
@@ -23,18 +21,7 @@ use Rattle.wire_geom.specs.declared.drawn.Drawn.{Drawn}
 use Rattle.channel_stack.specs.Stack.{corner_column, place_at, item_place}
 use Rattle.channel_stack.specs.Layouts.{feed_outline, feed_wire, feed_drawing}
 use Rattle.channel_stack.proofs.Planned.{feed_upright, upright_of, seat_of, outline_drawn, upright_drawn, seat_drawn}
-
--- the sum of scaled numbers
-scaled-sum : (a b n c : ℕ) → a + b ≡ n → pos (a * c) +ℤ pos (b * c) ≡ pos (n * c)
-scaled-sum a b n c e =
-    let product : n * c ≡ a * c + b * c = ap (λ (m : ℕ). m * c) (sym e) ∙ add-mul a b c in
-    omega (arith, ints)
-
--- the difference of scaled numbers
-scaled-difference : (a b n c : ℕ) → n + a ≡ b → neg_ℤ (pos (a * c)) +ℤ pos (b * c) ≡ pos (n * c)
-scaled-difference a b n c e =
-    let product : b * c ≡ n * c + a * c = ap (λ (m : ℕ). m * c) (sym e) ∙ add-mul n a c in
-    omega (arith, ints)
+use Rattle.std_laws.proofs.Integers.{scaled-sum, scaled-difference}
 
 -- rectangles with the same sides are one
 extent-same : (a b c d a' b' c' d' : ℤ) → a ≡ a' → b ≡ b' → c ≡ c' → d ≡ d'

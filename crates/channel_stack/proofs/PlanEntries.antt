@@ -1,16 +1,15 @@
+use Rattle.row_model.specs.declared.rows.Seat as seats
 use Rattle.std.proofs.Common.{◌≡◌, refl, sym, ap, ◌∙◌, subst, ℕ, ◌-◌, suc, ◌+◌, ◌<◌, List, [], ◌∷◌, ◌++◌, length, map, Bool, true, false, cond, Option, Some, Contains, arith}
 use Rattle.std.proofs.lemmas.Bool.{not-true}
 use Rattle.std.specs.Prelude.{slice_get, slice_index}
 use Rattle.design_model.proofs.DesignPins.{pin-found}
 use Rattle.feed_cells.proofs.FedWidths.{width-cons}
-use Rattle.list_facts.proofs.Members.{map-member, member-head}
 use Rattle.tech_rules.specs.Rules.{RuleValues}
 use Rattle.design_model.specs.Netlist.{Netlist, IsNetlist}
 use Rattle.design_model.specs.declared.design.Pin.{Pin}
 use Rattle.design_model.specs.declared.design.Position.{Position}
 use Rattle.row_model.specs.Stands.{is_on, positions_of, turned_column}
 use Rattle.row_model.specs.Widths.{columns_of}
-use Rattle.row_model.specs.declared.rows.Seat as seats
 use Rattle.feed_cells.specs.Fed.{Fed, cells_in, item_width, items_width}
 use Rattle.feed_cells.specs.declared.fed.Item.{Item}
 use Rattle.feed_cells.specs.declared.fed.Item.TheVariants.{Cell, Feed}
@@ -24,6 +23,7 @@ use Rattle.layout_laws.proofs.Seats.{ComesToLower, ComesToUpper, LowerNet, Upper
 use Rattle.wire_geom.specs.Edges.{bottom_entry, top_entry}
 use Rattle.channel_stack.proofs.Planned.{feed_upright, net_at, net_found, row_seats, seat_of, upright_of}
 use Rattle.channel_stack.proofs.RowItems.{row_at, row-there, upright-stands}
+use Rattle.std_laws.proofs.Members.{map-member, member-head}
 
 -- a wire comes to the upper edge where `top` holds, else to the lower one
 abbrev pub Comes : ℕ → Bool → Upright → Type 0

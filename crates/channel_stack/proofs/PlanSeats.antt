@@ -1,8 +1,8 @@
+use Rattle.row_model.specs.declared.rows.Seat as seats
 use Rattle.std.proofs.Common.{◌≡◌, inl, inr, refl, sym, ap, ◌∙◌, subst, ℕ, ◌+◌, ◌-◌, ◌<◌, ◌≤◌, ◌⊎◌, [], Bool, true, false, cond, Option, Some, None, Contains, arith}
 use Rattle.std.proofs.lemmas.List.Elements.{All-contains}
 use Rattle.std.proofs.lemmas.Option.{same_Some}
 use Rattle.std.specs.Prelude.{slice_get}
-use Rattle.list_facts.proofs.Members.{map-cases, member-cases, member-place}
 use Rattle.row_model.proofs.WidthLaws.{kind-good}
 use Rattle.tech_rules.specs.Rules.{RuleValues, ValidRules}
 use Rattle.design_model.specs.Room.{least_height}
@@ -11,12 +11,12 @@ use Rattle.design_model.specs.declared.design.CellKind.{CellKind}
 use Rattle.design_model.specs.declared.design.Position.{Position}
 use Rattle.row_model.specs.Stands.{positions_in, positions_of, turned_column}
 use Rattle.row_model.specs.Widths.{columns_of, kind_of, width_of}
-use Rattle.row_model.specs.declared.rows.Seat as seats
 use Rattle.feed_cells.specs.declared.fed.Item.{Item}
 use Rattle.feed_cells.specs.declared.fed.Item.TheVariants.{Cell, Feed}
 use Rattle.pin_assign.proofs.EdgeLaws.{turned-once, turned-within}
 use Rattle.layout_laws.proofs.Seats.{AreParted, FitsRow, IsSeat, Upright}
 use Rattle.channel_stack.proofs.Planned.{feed_upright, high_of, low_of, net_at, seat_of, upright_of}
+use Rattle.std_laws.proofs.Members.{map-cases, member-cases, member-place}
 
 module _ (d : Netlist) (good : IsNetlist d) where
   -- a position lies in its cell's columns

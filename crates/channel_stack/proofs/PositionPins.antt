@@ -5,7 +5,6 @@ use Rattle.std.proofs.lemmas.Option.{same_Some, slice_get-get_or}
 use Rattle.std.specs.List.{AllByRecursion, find}
 use Rattle.std.specs.Option.{option_and_then, option_map}
 use Rattle.std.specs.Prelude.{get_or, slice_get}
-use Rattle.list_facts.proofs.Members.{find-passes}
 use Rattle.row_model.proofs.WidthLaws.{kind-good}
 use Rattle.design_model.specs.Netlist.{Netlist, IsNetlist, IsPosition, terminals_of_kind}
 use Rattle.design_model.specs.PinOrder.{instance_terminals, kind_terminals, pin_pair, power_at}
@@ -17,6 +16,7 @@ use Rattle.design_model.specs.declared.design.Terminal.{Terminal}
 use Rattle.design_model.proofs.PinsInOrder.{no-pin-power}
 use Rattle.row_model.specs.Stands.{positions_in, positions_of}
 use Rattle.row_model.specs.Widths.{kind_of}
+use Rattle.std_laws.proofs.Members.{find-passes}
 
 -- the terminal of a position is one of its cell's, and no power terminal
 record IsFree (terminals : List Terminal) (terminal : ℕ) : Type 0 where

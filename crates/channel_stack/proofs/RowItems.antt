@@ -1,12 +1,11 @@
+use Rattle.row_model.specs.declared.rows.Seat as seats
 use Rattle.std.proofs.Common.{◌≡◌, inl, inr, refl, sym, ap, ◌∙◌, subst, ℕ, ◌+◌, ◌<◌, List, [], ◌∷◌, ◌++◌, length, map, Some, Contains, arith}
 use Rattle.std.proofs.lemmas.List.Elements.{Contains-append_cases, Contains-append_left, Contains-append_right}
 use Rattle.std.proofs.lemmas.Option.{slice_get-get_or, unwrap_or-slice_get}
 use Rattle.std.specs.Prelude.{slice_get, unwrap_or}
 use Rattle.feed_cells.proofs.FedWidths.{width-cons}
-use Rattle.list_facts.proofs.Members.{map-cases, map-member, member-cases, member-head, member-tail}
 use Rattle.tech_rules.specs.Rules.{RuleValues, ValidRules}
 use Rattle.design_model.specs.Netlist.{Netlist}
-use Rattle.row_model.specs.declared.rows.Seat as seats
 use Rattle.feed_cells.specs.Fed.{Fed, item_width, items_width, seats_in}
 use Rattle.feed_cells.specs.declared.fed.Item.{Item}
 use Rattle.feed_cells.specs.declared.fed.Item.TheVariants.{Cell, Feed}
@@ -14,6 +13,7 @@ use Rattle.layout_laws.proofs.Seats.{Upright, UprightAt, here, further}
 use Rattle.layout_laws.proofs.Uprights.{IsWired}
 use Rattle.wire_geom.specs.declared.drawn.Drawn.{Drawn}
 use Rattle.channel_stack.proofs.Planned.{outline_drawn, row_drawn, seat_drawn, seat_of, upright_drawn}
+use Rattle.std_laws.proofs.Members.{map-cases, map-member, member-cases, member-head, member-tail}
 
 -- the items of row k, none where there is no such row
 abbrev pub row_at : Fed → ℕ → List Item

@@ -2,7 +2,6 @@ use Rattle.std.proofs.Common.{◌≡◌, ◌⊎◌, inl, inr, sym, ap, subst, �
 use Rattle.std.proofs.lemmas.List.Elements.{Contains-append_right}
 use Rattle.std.specs.Prelude.{slice_get}
 use Rattle.design_model.proofs.DesignPins.{pin-within}
-use Rattle.list_facts.proofs.Members.{contains-get, member-head}
 use Rattle.design_model.specs.Netlist.{Netlist, IsNetlist}
 use Rattle.design_model.specs.declared.design.Pin.{Pin}
 use Rattle.row_model.specs.Rows.{ArePlaced}
@@ -27,6 +26,7 @@ use Rattle.pin_assign.proofs.StandLaws.{place-cause}
 use Rattle.wire_geom.specs.Edges.{bottom_entry, top_entry}
 use Rattle.channel_stack.proofs.PlanEntries.{over-of}
 use Rattle.channel_stack.proofs.RowItems.{among-split, at-split, seat-item, split-at}
+use Rattle.std_laws.proofs.Members.{contains-get, member-head}
 
 -- a pin that stands over an item is one of the design's
 over-pin : (d : Netlist) (top : Bool) (p : Pin) (item : Item) (left column : ℕ) → IsOver d top (of_pin p) item left column → Contains d.pins p

@@ -1,6 +1,6 @@
+use Rattle.row_model.specs.declared.rows.Seat as seats
 use Rattle.std.proofs.Common.{◌≡◌, refl, sym, ap, ◌∙◌, subst, ℕ, suc, ◌+◌, ◌*◌, ◌<◌, List, [], ◌∷◌, ◌++◌, length, map, true, false, Some, Contains, arith}
 use Rattle.std.specs.Prelude.{slice_get, slice_index}
-use Rattle.list_facts.proofs.Members.{map-cases, map-member, member-head, member-place}
 use Rattle.geom_core.specs.declared.layout.Layout.{Layout}
 use Rattle.tech_rules.specs.Rules.{RuleValues, ValidRules}
 use Rattle.design_model.specs.Joined.{Draws}
@@ -10,7 +10,6 @@ use Rattle.design_model.specs.declared.design.Position.{Position}
 use Rattle.channel_model.specs.declared.wiring.Wiring.{Wiring}
 use Rattle.row_model.specs.Stands.{positions_of, turned_column}
 use Rattle.row_model.specs.Widths.{columns_of}
-use Rattle.row_model.specs.declared.rows.Seat as seats
 use Rattle.feed_cells.specs.Crossings.{has_edge}
 use Rattle.feed_cells.specs.Fed.{Fed, cells_in, items_width}
 use Rattle.feed_cells.specs.declared.fed.Item.{Item}
@@ -31,6 +30,7 @@ use Rattle.channel_stack.proofs.Shown.{DrawsSeats}
 use Rattle.channel_stack.proofs.PlanEntries.{lower-entry, pin-wire, upper-entry}
 use Rattle.channel_stack.proofs.PlanSeats.{feed-only}
 use Rattle.channel_stack.proofs.RowItems.{row_at, row-is, row-there, wire-listed, wire-of}
+use Rattle.std_laws.proofs.Members.{map-cases, map-member, member-head, member-place}
 
 -- what comes to the lower edge begins there, and what comes to the upper edge ends there
 lower-edge : (base : ℕ) (u : Upright) → ComesToLower u → 2 * (base + u.low) ≡ 2 * base

@@ -1,11 +1,8 @@
-use Rattle.std.proofs.Common.{◌≡◌, refl, sym, ap, ◌∙◌, subst, ℕ, zero, suc, List, [], ◌∷◌, ◌++◌, false, Some, arith}
-use Rattle.std.proofs.lemmas.Bool.Decides.{nat_tests}
+use Rattle.std.proofs.Common.{◌≡◌, refl, sym, ap, ◌∙◌, subst, ℕ, zero, suc, List, [], ◌∷◌, ◌++◌, false, Some}
 use Rattle.std.proofs.lemmas.List.Elements.{filter_map-append}
 use Rattle.std.proofs.lemmas.Option.{none-some, same_Some}
 use Rattle.std.specs.List.{AllByRecursion, IsDistinct}
 use Rattle.std.specs.Prelude.{nat_eq, slice_get}
-use Rattle.list_facts.proofs.Distinct.{first-distinct, second-distinct}
-use Rattle.list_facts.proofs.Every.{every-left}
 use Rattle.design_model.specs.Netlist.{Netlist}
 use Rattle.row_model.specs.Rows.{all_instances, instances_in, ArePlaced}
 use Rattle.row_model.specs.Stands.{row_in, row_of}
@@ -17,6 +14,8 @@ use Rattle.feed_cells.specs.declared.fed.Item.{Item}
 use Rattle.feed_cells.specs.declared.fed.Item.TheVariants.{Cell, Feed}
 use Rattle.feed_cells.proofs.FedLaws.{cells-fed}
 use Rattle.pin_assign.proofs.BesideLaws.{row-cells}
+use Rattle.std_laws.proofs.Distinct.{first-distinct, second-distinct}
+use Rattle.std_laws.proofs.Tests.{nat_eq-differ}
 
 -- the seats of a row with feeds, of which one is this
 pub seats-split : (front back : List Item) (s : Seat) → seats_in (front ++ Cell s ∷ back) ≡ seats_in front ++ s ∷ seats_in back
@@ -34,9 +33,6 @@ at-seat : (P : ℕ → Type 0) (front : List Item) (s : Seat) (back : List Item)
 at-seat P [] s back all = all.0
 at-seat P (Cell t ∷ front) s back all = at-seat P front s back all.1
 at-seat P (Feed net ∷ front) s back all = at-seat P front s back all
-
-unequal : (a b : ℕ) → nat_eq a b ≡ false → a ≡ b → ⊥
-unequal a b test same = grind (arith, nat_tests)
 
 -- two places of a row with seats of one instance are one
 pub record IsSame (f g : List Item) (s t : Seat) : Type 0 where
@@ -64,12 +60,12 @@ unfolding IsDistinct
 seat-once [] [] s t a b different same instance = record { fronts = refl; seats = cell-is s t (head-is (Cell s) (Cell t) a b same) }
 seat-once [] (y ∷ g) s t a b different same instance =
     let rest : a ≡ g ++ Cell t ∷ b = tail-is (Cell s) y a (g ++ Cell t ∷ b) same in
-    absurd (unequal s.instance t.instance
+    absurd (nat_eq-differ s.instance t.instance
     (at-seat (λ (n : ℕ). nat_eq s.instance n ≡ false) g t b
     (subst (λ (xs : List Item). AllByRecursion (λ (n : ℕ). nat_eq s.instance n ≡ false) (instances_in (seats_in xs))) rest different.0)) instance)
 seat-once (Cell u ∷ f) [] s t a b different same instance =
     let first : u ≡ t = cell-is u t (head-is (Cell u) (Cell t) (f ++ Cell s ∷ a) b same) in
-    absurd (unequal u.instance s.instance (at-seat (λ (n : ℕ). nat_eq u.instance n ≡ false) f s a different.0)
+    absurd (nat_eq-differ u.instance s.instance (at-seat (λ (n : ℕ). nat_eq u.instance n ≡ false) f s a different.0)
     (ap (λ (x : Seat). x.instance) first ∙ sym instance))
 seat-once (Feed net ∷ f) [] s t a b different same instance = absurd (no-feed net t (head-is (Feed net) (Cell t) (f ++ Cell s ∷ a) b same))
 seat-once (Cell u ∷ f) (y ∷ g) s t a b different same instance =

@@ -1,14 +1,11 @@
 use Rattle.std.proofs.Common.{◌≡◌, ℕ, zero, suc, ◌+◌, ◌*◌, ◌<◌, ◌≤◌, max, List, [], ◌∷◌, length, map, fold, Some, sym, ap, subst, ◌∙◌, refl, arith}
-use Rattle.std.proofs.Math.Nat.{mul-le-mul_left, mul-le-mul_right, add-mul}
+use Rattle.std.proofs.Math.Nat.{mul-le-mul_left, mul-le-mul_right}
 use Rattle.std.proofs.lemmas.List.{length-map}
 use Rattle.std.proofs.lemmas.List.FromFn.{length-range_with_len}
 use Rattle.std.proofs.lemmas.List.Sums.{sum_by-cons}
-use Rattle.std.proofs.lemmas.Option.{same_Some, slice_get-map, slice_get_within}
+use Rattle.std.proofs.lemmas.Option.{slice_get-map, slice_get_within}
 use Rattle.std.specs.List.{AllByRecursion, range_with_len}
 use Rattle.std.specs.Prelude.{slice_get, option_map}
-use Rattle.list_facts.proofs.Greatest.{greatest-first}
-use Rattle.list_facts.proofs.Places.{at-place}
-use Rattle.list_facts.proofs.Every.{every-from-get}
 use Rattle.tech_rules.specs.Rules.{RuleValues, ValidRules}
 use Rattle.design_model.specs.Netlist.{Netlist}
 use Rattle.channel_model.specs.Limits.{most_tracks}
@@ -20,6 +17,10 @@ use Rattle.pin_assign.specs.Bounds.{bound_of, channels_height, channels_width, m
 use Rattle.layout_laws.specs.Heights.{channel_height}
 use Rattle.channel_stack.specs.Routed.{IsRouted}
 use Rattle.channel_stack.specs.Stack.{channel_bases, row_bases, stack_top, most_columns, total_columns}
+use Rattle.std_laws.proofs.Places.{at-place}
+use Rattle.std_laws.proofs.Every.{every-from-get}
+use Rattle.std_laws.proofs.Greatest.{greatest-at}
+use Rattle.std_laws.proofs.Numbers.{product-more}
 
 -- the lower edge of a stack is not above its upper one, and neither is the upper edge of its first channel
 pub base-below : (r : RuleValues) (height base : ℕ) (ws : List Wiring) → base ≤ stack_top r height base ws
@@ -63,13 +64,6 @@ heights-more r n ns = sum_by-cons (λ (x : ℕ). x) ((most_tracks n + 1) * r.gri
 channel-low : (r : RuleValues) (n : ℕ) (w : Wiring) → w.tracks ≤ most_tracks n → channel_height r w ≤ (most_tracks n + 1) * r.grid.track
 channel-low r n w few = let more : w.tracks + 1 ≤ most_tracks n + 1 = omega arith in mul-le-mul_right r.grid.track more
 
-next-row : (rows height : ℕ) → suc rows * height ≡ rows * height + height
-next-row rows height =
-    let same : suc rows ≡ rows + 1 = omega arith in
-    let parted : (rows + 1) * height ≡ rows * height + 1 * height = add-mul rows 1 height in
-    let moved : suc rows * height ≡ (rows + 1) * height = ap (λ (n : ℕ). n * height) same in
-    omega arith
-
 -- a stack whose channels have no more tracks than a router may take for so many nets
 top-bound : (r : RuleValues) (height base rows : ℕ) (ws : List Wiring) (ns : List ℕ) → length ws ≡ rows + 1 → length ns ≡ rows + 1
     → ((k n : ℕ) (w : Wiring) → slice_get ws k ≡ Some w → slice_get ns k ≡ Some n → w.tracks ≤ most_tracks n)
@@ -83,21 +77,13 @@ top-bound r height base (suc rows) (w ∷ (v ∷ ws)) (n ∷ ns) many each few =
     let others : stack_top r height (base + channel_height r w + height) (v ∷ ws) ≤ base + channel_height r w + height + (rows * height + channels_height r ns) =
     top-bound r height (base + channel_height r w + height) rows (v ∷ ws) ns (omega arith) (omega arith)
     (λ (k m : ℕ) (u : Wiring) (a : slice_get (v ∷ ws) k ≡ Some u) (b : slice_get ns k ≡ Some m). few (suc k) m u a b) in
-    omega (arith, heights-more r n ns, channel-low r n w (few 0 n w refl refl), next-row rows height)
+    omega (arith, heights-more r n ns, channel-low r n w (few 0 n w refl refl), product-more rows height)
 
 -- the greatest of numbers that do not pass a bound does not, and no number passes the greatest
 greatest-within : (bound first : ℕ) (ws : List Wiring) → first ≤ bound → AllByRecursion (λ (w : Wiring). w.columns ≤ bound) ws
     → fold max first (map (λ (w : Wiring). w.columns) ws) ≤ bound
 greatest-within bound first [] low all = low
 greatest-within bound first (w ∷ ws) low all = let here : w.columns ≤ bound = all.0 in greatest-within bound (max first w.columns) ws (omega arith) all.1
-
-number-within : (first : ℕ) (ns : List ℕ) (k n : ℕ) → slice_get ns k ≡ Some n → n ≤ fold max first ns
-number-within first [] k n at = cc
-number-within first (m ∷ ns) zero n at =
-    let same : m ≡ n = same_Some m n at in
-    let more : max first m ≤ fold max (max first m) ns = greatest-first (max first m) ns in
-    omega arith
-number-within first (m ∷ ns) (suc k) n at = number-within (max first m) ns k n at
 
 -- there is one number of nets for each channel
 nets-counted : (d : Netlist) (fed : Fed) → IsFed d fed → length fed.nets ≡ length fed.rows + 1
@@ -139,7 +125,7 @@ columns-narrow r d fed ws is routed = every-from-get (λ (w : Wiring). w.columns
         let each : length ws ≡ length fed.rows + 1 = routed.each in
         let counted : length fed.nets ≡ length fed.rows + 1 = nets-counted d fed is in
         let nets = at-place fed.nets k (omega arith) in
-        let most : nets.0 ≤ most_nets fed.nets = number-within 0 fed.nets k nets.0 nets.1 in
+        let most : nets.0 ≤ most_nets fed.nets = greatest-at 0 fed.nets k nets.0 nets.1 in
         omega (arith, routed.columns k nets.0 w at nets.1)
 
 columns-within : (r : RuleValues) (d : Netlist) (fed : Fed) (ws : List Wiring) → IsFed d fed → IsRouted r d fed ws → most_columns ws ≤ channels_width fed
@@ -191,7 +177,7 @@ total-within bound [] all = omega arith
 total-within bound (w ∷ ws) all =
     let here : w.columns ≤ bound = all.0 in
     let more : total_columns ws ≤ length ws * bound = total-within bound ws all.1 in
-    omega (arith, sum_by-cons (λ (n : ℕ). n) w.columns (map (λ (v : Wiring). v.columns) ws), next-row (length ws) bound)
+    omega (arith, sum_by-cons (λ (n : ℕ). n) w.columns (map (λ (v : Wiring). v.columns) ws), product-more (length ws) bound)
 
 pub grid-bounded : (r : RuleValues) (d : Netlist) (fed : Fed) (ws : List Wiring) → IsFed d fed → IsRouted r d fed ws → total_columns ws ≤ (bound_of r d fed).grid
 unfolding bound_of
@@ -241,5 +227,5 @@ height-within r d fed (w ∷ (v ∷ ws)) is each = omega (arith, row-below r d.h
 pub columns-most : (first : ℕ) (ws : List Wiring) → AllByRecursion (λ (w : Wiring). w.columns ≤ fold max first (map (λ (v : Wiring). v.columns) ws)) ws
 columns-most first ws = every-from-get (λ (w : Wiring). w.columns ≤ fold max first (map (λ (v : Wiring). v.columns) ws)) ws
     (λ (k : ℕ) (w : Wiring) (at : slice_get ws k ≡ Some w).
-    number-within first (map (λ (v : Wiring). v.columns) ws) k w.columns
+    greatest-at first (map (λ (v : Wiring). v.columns) ws) k w.columns
     (slice_get-map (λ (v : Wiring). v.columns) ws k ∙ ap (option_map (λ (v : Wiring). v.columns)) at))

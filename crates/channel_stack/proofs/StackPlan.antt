@@ -1,10 +1,8 @@
+use Rattle.row_model.specs.declared.rows.Seat as seats
 use Rattle.std.proofs.Common.{◌≡◌, ◌∙◌, sym, ap, subst, ℕ, ◌+◌, ◌<◌, List, [], length, get_or, map, Some, Contains, arith}
 use Rattle.std.proofs.lemmas.List.Elements.{All-contains, All-from_recursion}
 use Rattle.std.specs.Prelude.{◌==◌, slice_get}
 use Rattle.design_model.proofs.DesignPins.{pin-within}
-use Rattle.list_facts.proofs.Members.{find-member, map-cases, member-place}
-use Rattle.list_facts.proofs.Ranges.{image-at}
-use Rattle.list_facts.proofs.Every.{every-get}
 use Rattle.tech_rules.specs.Rules.{RuleValues, ValidRules}
 use Rattle.design_model.specs.Netlist.{Netlist, IsNetlist}
 use Rattle.design_model.specs.declared.design.Inst.{Inst}
@@ -12,7 +10,6 @@ use Rattle.design_model.specs.declared.design.Pin.{Pin}
 use Rattle.design_model.specs.Room.{HasRoom}
 use Rattle.channel_model.specs.declared.wiring.Wiring.{Wiring}
 use Rattle.row_model.specs.Rows.{ArePlaced}
-use Rattle.row_model.specs.declared.rows.Seat as seats
 use Rattle.row_model.proofs.PlacedLaws.{IsWithin, rows-within}
 use Rattle.feed_cells.specs.Fed.{Fed, fed_rows}
 use Rattle.feed_cells.proofs.Standing.{Stands, seated, feeding}
@@ -30,6 +27,9 @@ use Rattle.channel_stack.proofs.PlanBases.{bases-next, wiring-there}
 use Rattle.channel_stack.proofs.PlanEntries.{lower-net, upper-net}
 use Rattle.channel_stack.proofs.PlanSeats.{item-seat}
 use Rattle.channel_stack.proofs.RowItems.{row_at, row-there, upright-stands, wire-of}
+use Rattle.std_laws.proofs.Members.{find-member, map-cases, member-place}
+use Rattle.std_laws.proofs.Ranges.{image-at}
+use Rattle.std_laws.proofs.Every.{every-get}
 
 -- a design with an instance has a kind
 kinds-some : (d : Netlist) → IsNetlist d → (instance : ℕ) → instance < length d.instances → 0 < length d.kinds

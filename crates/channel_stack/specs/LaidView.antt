@@ -1,3 +1,4 @@
+-- a layout of rows and channels without rectangles, as contracts see it
 use Rattle.channel_stack.specs.Stack.{LaidOut}
 use Rattle.channel_stack.specs.declared.placed.Laid.TheInside.{Inside}
 

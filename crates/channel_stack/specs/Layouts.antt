@@ -1,3 +1,4 @@
+-- the layout that a stack is
 use Rattle.std.specs.Prelude.{ℕ, ◌+◌, ◌*◌, ◌-◌, List, [], ◌∷◌, ◌++◌, map, length, Option, None, Some, slice_get}
 use Rattle.std.specs.List.{flat_map}
 use Rattle.geom_core.specs.Moving.{moved_shape, turn_at}

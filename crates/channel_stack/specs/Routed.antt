@@ -1,3 +1,4 @@
+-- wirings for all channels, and stacks of them
 use Rattle.std.specs.Prelude.{◌≡◌, ◌≤◌, ℕ, ◌+◌, List, length, All, Some, slice_get}
 use Rattle.limits.specs.declared.TheConstants.{MOST_SIZE}
 use Rattle.channel_model.specs.Elements.{elements}

@@ -1,3 +1,4 @@
+-- rows and channels on one another
 use Rattle.std.specs.Prelude.{ℕ, pos, ◌+◌, ◌*◌, List, [], ◌∷◌, map, fold, max, sum, Bool, false, if◌then◌else◌}
 use Rattle.geom_core.specs.declared.turn.Place.{Place}
 use Rattle.tech_rules.specs.Rules.{RuleValues}

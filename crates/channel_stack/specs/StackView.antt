@@ -1,3 +1,4 @@
+-- a layout with the rectangles of its channels, as contracts see it
 use Rattle.channel_stack.specs.Stack.{Stacked}
 use Rattle.channel_stack.specs.declared.placed.Placed.TheInside.{Inside}
 

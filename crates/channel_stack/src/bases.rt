@@ -18,7 +18,7 @@ fn channel_height(wiring: &Wiring, rules: &Rules) -> u64
 }
 
 /// The lower edges of the channels in units, with rows of this height between them. The one error is want of memory.
-pub fn channel_bases(
+pub(crate) fn channel_bases(
     alloc: Global,
     wirings: &[Wiring],
     height: u32,
@@ -39,7 +39,7 @@ pub fn channel_bases(
 }
 
 /// The lower edges of the rows in units: each lies on its channel, and the last channel has none above it. The one error is want of memory.
-pub fn row_bases(
+pub(crate) fn row_bases(
     alloc: Global,
     wirings: &[Wiring],
     height: u32,
@@ -64,7 +64,7 @@ pub fn row_bases(
 }
 
 /// The upper edge of the last channel in units. Takes no memory.
-pub fn stack_top(wirings: &[Wiring], height: u32, rules: &Rules) -> u64
+pub(crate) fn stack_top(wirings: &[Wiring], height: u32, rules: &Rules) -> u64
     requires { stack_top rules.now height 0 wirings.now < 2 ^ 32 }
     ensures { result ≡ stack_top rules.now height 0 wirings.now }
 {
@@ -82,7 +82,7 @@ pub fn stack_top(wirings: &[Wiring], height: u32, rules: &Rules) -> u64
 }
 
 /// The columns of the widest wiring. Takes no memory.
-pub fn most_columns(wirings: &[Wiring]) -> u32
+pub(crate) fn most_columns(wirings: &[Wiring]) -> u32
     ensures { result ≡ most_columns wirings.now }
 {
     let mut most = 0;

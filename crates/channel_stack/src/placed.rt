@@ -1,3 +1,5 @@
+//! The layout of a routed design: where channels, rows, cells and feeds lie, with the rectangles of wires or without.
+
 use feed_cells::Item;
 use geom_core::{Items, Place};
 use std::marker::Model;

@@ -74,7 +74,7 @@ fn placed_row(
 }
 
 /// The items of all rows, each row on its base. The one error is want of memory.
-pub fn placed_rows(
+pub(crate) fn placed_rows(
     alloc: Global,
     design: &Design,
     rules: &Rules,

@@ -1,3 +1,4 @@
+-- worked wirings
 use Rattle.std.specs.Prelude.{ℕ, [], ◌∷◌}
 use Rattle.channel_model.specs.declared.wiring.Segment.TheVariants.{Across, Along}
 use Rattle.channel_model.specs.declared.wiring.Via.{Via}

@@ -5,7 +5,7 @@ use std::alloc::{AllocError, Global};
 use std::test::Fail;
 
 /// A channel of 4,000 columns and 1,500 nets.
-pub fn long_channel(alloc: Global) -> Result<Channel, Fail> {
+pub(crate) fn long_channel(alloc: Global) -> Result<Channel, Fail> {
     let mut top = Vec::new(alloc);
     let mut bottom = Vec::new(alloc);
     for column in 0..4000u32 {
@@ -16,7 +16,7 @@ pub fn long_channel(alloc: Global) -> Result<Channel, Fail> {
 }
 
 /// A channel with these pins, or None where they make none.
-pub fn channel_of(
+pub(crate) fn channel_of(
     alloc: Global,
     top: &[u32],
     bottom: &[u32],

@@ -14,19 +14,19 @@ use samples::{BUFFER, designed, sample_rules};
 use std::alloc::{AllocError, Global};
 
 /// The symbol of BUF.
-pub const SYMBOL: &str =
+pub(crate) const SYMBOL: &str =
     "DS 1 1 1; 9 BUF; L XP; B 800 4000 400 2000; L NP; B 300 400 400 3800; DF;";
 
 /// Two copies of it next to each other, `u1` and `u2`.
-pub const CELLS: &str = "91 u1; C 1 T 0 800; 91 u2; C 1 T 800 800;";
+pub(crate) const CELLS: &str = "91 u1; C 1 T 0 800; 91 u2; C 1 T 800 800;";
 
 /// The wire above them that joins their pins: two verticals, shapes 4 and 5, a horizontal, 6, and a pad of each layer with a cut where they
 /// cross, 7 to 9 and 10 to 12.
-pub const WIRE: &str =
+pub(crate) const WIRE: &str =
     "L NP; B 300 1000 400 5300; B 300 1000 1200 5300; L NM; B 1200 300 800 5600; B 400 400 400 5600; L NP; B 400 400 400 5600; L NC; B 200 200 400 5600; L NM; B 400 400 1200 5600; L NP; B 400 400 1200 5600; L NC; B 200 200 1200 5600;";
 
 /// Two buffers in one net.
-pub const ONE_NET: &str = "u1 BUF n1; u2 BUF n1;";
+pub(crate) const ONE_NET: &str = "u1 BUF n1; u2 BUF n1;";
 
 // The layout of a text of CIF, or None where it has none.
 fn layout_of(alloc: Global, text: &[u8]) -> Result<Option<Layout>, AllocError>
@@ -56,7 +56,7 @@ fn sampled(alloc: Global, modules: &str, calls: &str) -> Result<Option<Design>, 
 
 /// What is wrong with the layout of a text of CIF as that of a design of these modules and calls, under the sample rules; None where the
 /// texts are of no design or of no layout.
-pub fn findings_of(
+pub(crate) fn findings_of(
     alloc: Global,
     modules: &str,
     calls: &str,
@@ -73,7 +73,7 @@ pub fn findings_of(
 }
 
 /// A name, the calls of two buffers or more, the pieces of a text of CIF before its end, and what is wrong with its layout.
-pub type Case = (
+pub(crate) type Case = (
     &'static str,
     &'static str,
     &'static [&'static str],
@@ -81,7 +81,7 @@ pub type Case = (
 );
 
 /// Whether just this is wrong with the layout of a text of CIF in pieces as that of buffers with these calls.
-pub fn is_case(
+pub(crate) fn is_case(
     alloc: Global,
     calls: &str,
     pieces: &[&str],

@@ -1,3 +1,4 @@
+-- the lists that a choice may be asked, and its answers
 use Rattle.std.specs.Prelude.{◌≡◌, ◌<◌, ◌^◌, ℕ, List, length}
 use Rattle.std.specs.Borrow.{Bor}
 use Rattle.choose_core.specs.declared.candidate.Candidate.{Candidate}

@@ -1,3 +1,4 @@
+-- what the choices of each style answer
 use Rattle.std.specs.Prelude.{◌≡◌, ◌<◌, ◌≤◌, ◌==◌, nat_le, if◌then◌else◌, ℕ, zero, suc, Bool, true, false, List, [], ◌∷◌, slice_get, Some}
 use Rattle.std.specs.List.{list_any}
 use Rattle.choose_core.specs.declared.candidate.Ask.{Ask}

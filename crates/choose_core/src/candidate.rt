@@ -1,3 +1,5 @@
+//! What a chooser is asked, and the candidate tracks that it is shown.
+
 /// What is asked of a chooser.
 #[derive(Clone, Copy, Debug, PartialEq, Eq)]
 pub enum Ask {

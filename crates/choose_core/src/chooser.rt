@@ -1,3 +1,5 @@
+//! A named choice that is stored, and the trait of all that chooses among candidates.
+
 ghost use Rattle.choose_core.specs.Answers.{IsAsked, MayAnswer};
 ghost use Rattle.std.specs.Prelude.{◌≡◌, ◌<◌, ℕ, length};
 

@@ -1,3 +1,5 @@
+//! Two manners of taking a column, the sweeps of a channel that a style tries, and the style itself.
+
 use crate::chooser::Chooser;
 use geom_core::Items;
 use std::alloc::Global;

@@ -1,3 +1,5 @@
+//! Four ways of choosing among candidates: `near`, `lean`, `high` and `deft`.
+
 ghost use Rattle.choose_core.specs.Answers.{IsAsked};
 ghost use Rattle.choose_core.specs.Styles.{ComesNearer, EntersDeftly, IsDeft, IsFirstGreatest, IsFirstLeast, IsLastGreatest, IsLean, LeansTo, gap_of, is_own, pull_of, track_of};
 ghost use Rattle.std.specs.List.{list_any, position};

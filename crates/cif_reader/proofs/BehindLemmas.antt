@@ -1,10 +1,10 @@
-use Rattle.std.proofs.Common.{◌≡◌, refl, ap, sym, subst, ◌∙◌, ℕ, ◌≤◌, List, [], length, true, false, Option, Some, None, Result, Err, arith}
-use Rattle.std.specs.Prelude.{max, IsOkAnd, IfSome}
-use Rattle.cif_text.specs.declared.command.Command.{Command}
 use Rattle.cif_text.specs.declared.command.Command.TheVariants as commands
+use Rattle.cif_reader.specs.declared.fault.ExpandKind.TheVariants as kinds
+use Rattle.std.proofs.Common.{◌≡◌, refl, ap, sym, subst, ◌∙◌, ℕ, ◌≤◌, List, [], length, true, false, Some, None, Result, Err, arith}
+use Rattle.std.specs.Prelude.{max, IsOkAnd}
+use Rattle.cif_text.specs.declared.command.Command.{Command}
 use Rattle.cif_text.specs.Meaning.{with_inside}
 use Rattle.cif_text.specs.Symbols.{Symbol, Definition, State, symbol_of}
-use Rattle.cif_reader.specs.declared.fault.ExpandKind.TheVariants as kinds
 use Rattle.cif_reader.specs.declared.refusal.Refusal.{Refusal}
 use Rattle.cif_reader.specs.declared.inside.Open.{Open}
 use Rattle.cif_reader.specs.declared.outside.Main.{Main}
@@ -19,6 +19,7 @@ use Rattle.cif_reader.specs.Table.{items_drawn}
 use Rattle.cif_reader.specs.Tabled.{IsPlaceOf}
 use Rattle.cif_reader.proofs.LevelLaws.{advance-inside, advance-outside, advance-start, advance-finish}
 use Rattle.cif_reader.proofs.StandingLemmas.{takes-next, few-outside}
+use Rattle.std_laws.proofs.Options.{some-is}
 
 pub first-is : (s : Standing) → s.main.shapes.items ≡ [] → s.definition ≡ None → IsStanding s
 first-is s shapes definition = record { few = rw shapes (omega arith); definition_is = rw definition tt }
@@ -44,9 +45,6 @@ pub first-seen : (s : Standing) → s.main.cells.items ≡ [] → s.main.shapes.
     → s.table ≡ record { symbols = []; depths = [] } → s.definition ≡ None → seen s ≡ at_first
 first-seen s cells shapes layer waiting depth table definition =
     seen-outside s definition ∙ rw (cells, shapes, layer, waiting, depth, table) refl
-
-pub some-is : {A : Type 0} (P : A → Type 0) (o : Option A) (x : A) → IfSome o P → o ≡ Some x → P x
-some-is P o x h is = let g = rw is at h in g
 
 few-inside : (symbols : List Symbol) (d : Open) → IsOpen symbols d → length (definition_seen symbols d).symbol.shapes ≤ most_shapes
 few-inside symbols d h =

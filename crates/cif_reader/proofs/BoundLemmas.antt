@@ -4,7 +4,6 @@ use Rattle.std.proofs.lemmas.Bool.Decides.{nat_tests}
 use Rattle.std.specs.List.{AllByRecursion}
 use Rattle.std.specs.Option.{ForSome}
 use Rattle.std.specs.Prelude.{nat_lt, option_map}
-use Rattle.list_facts.proofs.Every.{every-append}
 use Rattle.geom_core.specs.declared.layout.Shape.{Shape}
 use Rattle.geom_core.specs.Extent.{Extent}
 use Rattle.geom_core.specs.Reach.{IsExtentInReach}
@@ -15,6 +14,7 @@ use Rattle.cif_reader.specs.Sides.{IsNear}
 use Rattle.cif_reader.specs.Bounds.{around_both, joined}
 use Rattle.cif_reader.specs.Table.{Spans, AreAround, ReachesWithin}
 use Rattle.cif_reader.specs.Within.{IsNotFar}
+use Rattle.std_laws.proofs.Every.{every-append}
 
 -- a rectangle around others is so under a turn
 spans-flipped : (flip : Bool) (e s : Extent) → Spans e s → Spans (flipped flip e) (flipped flip s)

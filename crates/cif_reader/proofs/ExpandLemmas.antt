@@ -1,16 +1,17 @@
-use Rattle.std.proofs.Common.{◌≡◌, refl, ap, sym, ◌∙◌, subst, ℕ, suc, ◌+◌, List, [], ◌∷◌, length, Bool, true, false, Result, Ok, Err, arith}
-use Rattle.std.specs.Prelude.{is_some, IsOkAnd, not}
-use Rattle.cif_text.specs.declared.command.Command.{Command}
 use Rattle.cif_text.specs.declared.command.Command.TheVariants as commands
+use Rattle.cif_reader.specs.declared.refusal.Refusal.TheVariants as refusals
+use Rattle.std.proofs.Common.{◌≡◌, refl, ap, sym, ◌∙◌, subst, ℕ, suc, ◌+◌, List, [], ◌∷◌, length, Bool, true, false, Ok, Err, arith}
+use Rattle.std.specs.Prelude.{is_some, not}
+use Rattle.cif_text.specs.declared.command.Command.{Command}
 use Rattle.cif_text.specs.CifReads.{is_open_behind}
 use Rattle.cif_text.specs.Sound.{AreSound, IsInPlace}
 use Rattle.cif_reader.specs.declared.refusal.Refusal.{Refusal}
-use Rattle.cif_reader.specs.declared.refusal.Refusal.TheVariants as refusals
 use Rattle.cif_reader.specs.declared.standing.Standing.{Standing}
 use Rattle.cif_reader.specs.Behind.{seen, IsStanding, IsBehind}
 use Rattle.cif_reader.specs.Expanding.{Expands, fault_of}
 use Rattle.cif_reader.specs.Expansion.{Progress, advance, progress, at_first, expansion}
 use Rattle.cif_reader.specs.Refusals.{Takes}
+use Rattle.std_laws.proofs.Options.{ok-and}
 
 -- sound commands, or none behind the end
 abbrev pub AreLeft : Bool → List Command → Type 0
@@ -49,11 +50,6 @@ pub record IsUpTo (all : List Command) (s : Standing) (at : ℕ) (rest : List Co
 pub next-left : (all : List Command) (s : Standing) (at : ℕ) (rest cs : List Command) (c : Command) → IsUpTo all s at rest → rest ≡ c ∷ cs
     → IsNext (is_some s.definition) c cs
 next-left all s at rest cs c h is = next-of (is_some s.definition) c cs (subst (AreLeft (is_some s.definition)) is h.left)
-
--- the progress behind a command that is taken
-ok-and : {A E : Type 0} (r : Result A E) (P : A → Type 0) → IsOkAnd r P → (x : A) × (r ≡ Ok x) × P x
-ok-and (Ok x) P h = (x, refl, h)
-ok-and (Err e) P h = absurd h
 
 pub up-to-next : (all : List Command) (s t : Standing) (at : ℕ) (rest cs : List Command) (c : Command) → IsUpTo all s at rest → rest ≡ c ∷ cs
     → Takes {X = Unit {0}} (Ok tt) (advance (seen s) c) (IsBehind t (is_open_behind (is_some s.definition) c)) → IsUpTo all t (at + 1) cs

@@ -1,3 +1,5 @@
+use Rattle.cif_reader.specs.declared.fault.ExpandKind.TheVariants as kinds
+use Rattle.cif_reader.specs.declared.table.Item.TheVariants as items
 use Rattle.std.proofs.Common.{◌≡◌, refl, ap, sym, ◌∙◌, subst, ℕ, suc, ◌+◌, ◌≤◌, List, [], ◌∷◌, ◌++◌, length, length-append, append-nil, ◌<◌, Bool, true, false, Option, Some, None, Result, Ok, Err, arith}
 use Rattle.std.proofs.lemmas.Bool.Decides.{nat_tests}
 use Rattle.std.proofs.lemmas.Int.{ints}
@@ -5,17 +7,14 @@ use Rattle.std.proofs.lemmas.List.{length-map}
 use Rattle.std.specs.List.{AllByRecursion}
 use Rattle.std.specs.Option.{ForSome}
 use Rattle.std.specs.Prelude.{if◌then◌else◌, max, nat_lt, option_map, IsOkAnd}
-use Rattle.list_facts.proofs.Every.{every-append}
 use Rattle.geom_core.specs.declared.layout.Shape.{Shape}
 use Rattle.geom_core.specs.Extent.{Extent}
 use Rattle.geom_core.specs.Moving.{moved_shape}
 use Rattle.geom_core.specs.Turning.{Turning, moved}
 use Rattle.cif_text.specs.InOrder.{◌>>=◌}
 use Rattle.cif_text.specs.Symbols.{Symbol, symbol_of, moved_shapes}
-use Rattle.cif_reader.specs.declared.fault.ExpandKind.TheVariants as kinds
 use Rattle.cif_reader.specs.declared.fault.ExpandKind.{ExpandKind}
 use Rattle.cif_reader.specs.declared.table.Item.{Item}
-use Rattle.cif_reader.specs.declared.table.Item.TheVariants as items
 use Rattle.cif_reader.specs.declared.table.Kept.{Kept}
 use Rattle.cif_reader.specs.Expansion.{unless_refused}
 use Rattle.cif_reader.specs.Growing.{HasItem, Grows}
@@ -28,6 +27,7 @@ use Rattle.cif_reader.specs.Within.{IsShapeWithin}
 use Rattle.cif_reader.proofs.BoundLemmas.{around-moved, reaches-moved, around-joined, reach-joined, reach-most}
 use Rattle.cif_reader.proofs.TableLemmas.{drawn-push}
 use Rattle.cif_reader.proofs.WithinLaws.{near-first, near-shape, near-shapes, far-none, few-none}
+use Rattle.std_laws.proofs.Every.{every-append}
 
 -- an item more of some shapes
 item-grows : (symbols : List Symbol) (old new : Kept) (item : Item) (count : ℕ) (bounds : Option Extent) (depth : ℕ) (shapes : List Shape)

@@ -1,15 +1,10 @@
-use Rattle.std.proofs.Common.{◌≡◌, refl, ap, sym, ◌∙◌, ℕ, suc, ◌*◌, ◌/◌, ◌%◌, ◌≤◌, ◌<◌, ℤ, pos, negsuc, neg_ℤ, ◌<ℤ◌, Bool, true, false, Option, Some, None, arith}
-use Rattle.std.proofs.lemmas.Int.{to_z-of_z, ints}
+use Rattle.std.proofs.Common.{◌≡◌, refl, ap, sym, ◌∙◌, ℕ, suc, ◌*◌, ◌/◌, ◌%◌, ◌≤◌, ◌<◌, ℤ, pos, negsuc, neg_ℤ, ◌<ℤ◌, Bool, true, false, Some, None, arith}
+use Rattle.std.proofs.lemmas.Int.{ints}
 use Rattle.std.proofs.lemmas.Bool.Decides.{nat_tests}
-use Rattle.std.proofs.Math.Nat.{mul-lt-mul_of_pos_right, lt_of_mul-lt-mul_right}
-use Rattle.std.specs.Prelude.{if◌then◌else◌, ◌==◌, option_map}
+use Rattle.std.specs.Prelude.{if◌then◌else◌, ◌==◌}
 use Rattle.cif_text.specs.Scales.{scaled_natural, scaled}
-
--- a signed number that is written and read back is the same
-pub ruleset read_back = (to_z-of_z)
-
-exact : (x b : ℕ) → 1 ≤ b → x % b ≡ 0 → x ≡ x / b * b
-exact x b some none = omega arith
+use Rattle.std_laws.proofs.Options.{mapped}
+use Rattle.std_laws.proofs.Numbers.{quotient-exact, ratio-less}
 
 -- what is scaled is a quotient without a remainder
 whole : (a b n m : ℕ) → 1 ≤ b → scaled_natural a b n ≡ Some m → n * a ≡ m * b
@@ -20,20 +15,10 @@ whole a b n m some is = by (n * a % b == 0) refl is
     by true test is =
         let same : n * a / b ≡ m = cc in
         let none : n * a % b ≡ 0 = grind (arith, nat_tests) in
-        exact (n * a) b some none ∙ ap (λ (q : ℕ). q * b) same
-
-less : (a b n m k l : ℕ) → 1 ≤ a → n * a ≡ m * b → k * a ≡ l * b → n < k → m < l
-less a b n m k l some first second below =
-    let more : n * a < k * a = mul-lt-mul_of_pos_right below some in
-    let both : m * b < l * b = omega (arith, more, first, second) in
-    lt_of_mul-lt-mul_right b both
+        quotient-exact (n * a) b some none ∙ ap (λ (q : ℕ). q * b) same
 
 less-natural : (a b n m k l : ℕ) → 1 ≤ a → 1 ≤ b → scaled_natural a b n ≡ Some m → scaled_natural a b k ≡ Some l → n < k → m < l
-less-natural a b n m k l one some first second below = less a b n m k l one (whole a b n m some first) (whole a b k l some second) below
-
-mapped : {A B : Type 0} (f : A → B) (o : Option A) (y : B) → option_map f o ≡ Some y → (x : A) × (o ≡ Some x) × (f x ≡ y)
-mapped f (Some x) y is = (x, refl, (let z : Some (f x) ≡ Some y = is in cc))
-mapped f None y is = cc
+less-natural a b n m k l one some first second below = ratio-less a b n m k l one (whole a b n m some first) (whole a b k l some second) below
 
 -- what is less stays less at a scale
 pub scaled-less : (a b : ℕ) (x y u v : ℤ) → 1 ≤ a → 1 ≤ b → Some u ≡ scaled a b x → Some v ≡ scaled a b y → x <ℤ y → u <ℤ v
@@ -49,7 +34,7 @@ scaled-less a b (negsuc n) (pos k) u v one some first second below =
     let m = mapped (λ (m : ℕ). neg_ℤ (pos m)) (scaled_natural a b (suc n)) u (sym first) in
     let l = mapped (λ (m : ℕ). pos m) (scaled_natural a b k) v (sym second) in
     let none : 0 * a ≡ 0 * b = omega arith in
-    let is : 0 < m.0 = less a b 0 0 (suc n) m.0 one none (whole a b (suc n) m.0 some m.1) (omega arith) in
+    let is : 0 < m.0 = ratio-less a b 0 0 (suc n) m.0 one none (whole a b (suc n) m.0 some m.1) (omega arith) in
     let u_is : neg_ℤ (pos m.0) ≡ u = m.2 in
     let v_is : pos l.0 ≡ v = l.2 in
     omega (arith, ints)

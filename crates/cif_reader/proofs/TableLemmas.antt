@@ -1,3 +1,4 @@
+use Rattle.cif_reader.specs.declared.table.Item.TheVariants as items
 use Rattle.std.proofs.Common.{◌≡◌, refl, ap, sym, ◌∙◌, subst, ℕ, zero, suc, ◌+◌, ◌<◌, List, [], ◌∷◌, ◌++◌, length, get_or, take, append_assoc, length-append, append-nil, zero-add, arith}
 use Rattle.std.proofs.lemmas.List.{length-take-le}
 use Rattle.std.specs.List.{AllByRecursion}
@@ -5,11 +6,11 @@ use Rattle.geom_core.specs.declared.layout.Shape.{Shape}
 use Rattle.cif_text.specs.Symbols.{Symbol, moved_shapes}
 use Rattle.cif_text.specs.Meaning.{empty_symbol}
 use Rattle.cif_reader.specs.declared.table.Item.{Item}
-use Rattle.cif_reader.specs.declared.table.Item.TheVariants as items
 use Rattle.cif_reader.specs.declared.table.Kept.{Kept}
 use Rattle.geom_core.specs.Turning.{Turning}
 use Rattle.cif_reader.specs.Table.{IsItem, symbol_at, items_drawn, symbol_kept, symbols_behind, IsKeptBehind, AreKeptBehind}
 use Rattle.cif_reader.specs.Within.{IsShapeWithin}
+use Rattle.std_laws.proofs.Places.{get_or-front, get_or-pushed}
 
 pub behind-length : (symbols : List Symbol) (table : List Kept) → length (symbols_behind symbols table) ≡ length symbols + length table
 unfolding symbols_behind
@@ -32,22 +33,13 @@ unfolding symbols_behind AreKeptBehind
 kept-push symbols [] kept all last = (last, tt)
 kept-push symbols (first ∷ more) kept all last = (all.0, kept-push (symbols ++ (symbol_kept symbols first ∷ [])) more kept all.1 last)
 
-get-front : {A : Type 0} (xs ys : List A) (i : ℕ) (d : A) → i < length xs → get_or (xs ++ ys) i d ≡ get_or xs i d
-get-front [] ys i d h = absurd (omega arith)
-get-front (x ∷ xs) ys zero d h = refl
-get-front (x ∷ xs) ys (suc i) d h = get-front xs ys i d (omega arith)
-
-get-last : {A : Type 0} (xs : List A) (x d : A) → get_or (xs ++ (x ∷ [])) (length xs) d ≡ x
-get-last [] x d = refl
-get-last (y ∷ xs) x d = get-last xs x d
-
 -- the symbols before stay
 front-stays : (symbols : List Symbol) (table : List Kept) (i : ℕ) (d : Symbol) → i < length symbols → get_or (symbols_behind symbols table) i d ≡ get_or symbols i d
 unfolding symbols_behind
 front-stays symbols [] i d h = refl
 front-stays symbols (kept ∷ more) i d h =
     let one : length (symbols ++ (symbol_kept symbols kept ∷ [])) ≡ length symbols + 1 = length-append symbols (symbol_kept symbols kept ∷ []) in
-    front-stays (symbols ++ (symbol_kept symbols kept ∷ [])) more i d (omega arith) ∙ get-front symbols (symbol_kept symbols kept ∷ []) i d h
+    front-stays (symbols ++ (symbol_kept symbols kept ∷ [])) more i d (omega arith) ∙ get_or-front symbols (symbol_kept symbols kept ∷ []) i d h
 
 -- the symbol at a place of the table
 symbol-behind : (symbols : List Symbol) (table : List Kept) (i : ℕ) (kept : Kept) (d : Symbol) → i < length table → kept ≡ get_or table i kept
@@ -58,7 +50,7 @@ symbol-behind symbols (first ∷ more) zero kept d below is =
     let one : length (symbols ++ (symbol_kept symbols first ∷ [])) ≡ length symbols + 1 = length-append symbols (symbol_kept symbols first ∷ []) in
     let at : length symbols + 0 ≡ length symbols = omega arith in
     rw at (front-stays (symbols ++ (symbol_kept symbols first ∷ [])) more (length symbols) d (omega arith)
-    ∙ get-last symbols (symbol_kept symbols first) d ∙ ap (λ (k : Kept). symbol_kept symbols k) (sym is))
+    ∙ get_or-pushed symbols (symbol_kept symbols first) d ∙ ap (λ (k : Kept). symbol_kept symbols k) (sym is))
 symbol-behind symbols (first ∷ more) (suc i) kept d below is =
     let one : length (symbols ++ (symbol_kept symbols first ∷ [])) ≡ length symbols + 1 = length-append symbols (symbol_kept symbols first ∷ []) in
     let at : length symbols + suc i ≡ length (symbols ++ (symbol_kept symbols first ∷ [])) + i = omega arith in

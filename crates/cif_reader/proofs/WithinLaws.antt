@@ -1,16 +1,15 @@
+use Rattle.cif_text.specs.declared.command.Command.TheVariants as commands
+use Rattle.cif_text.specs.declared.command.UserKind.TheVariants as users
 use Rattle.std.proofs.Common.{◌≡◌, refl, ap, sym, subst, ◌∙◌, ℕ, suc, ◌+◌, ◌≤◌, ℤ, List, [], ◌∷◌, ◌++◌, length, length-append, Bool, true, false, Option, Some, None, Result, Ok, Err, arith}
 use Rattle.std.proofs.lemmas.Bool.Decides.{nat_tests}
 use Rattle.std.specs.List.{AllByRecursion}
 use Rattle.std.specs.Prelude.{if◌then◌else◌, nat_lt, nat_abs}
-use Rattle.list_facts.proofs.Every.{every-append, every-weaker}
 use Rattle.geom_core.specs.declared.layout.Shape.{Shape}
 use Rattle.geom_core.specs.declared.layout.Cell.{Cell}
 use Rattle.geom_core.specs.declared.layout.Layout.{Layout}
 use Rattle.geom_core.specs.Extent.{Extent}
 use Rattle.geom_core.specs.Turning.{Turning}
 use Rattle.cif_text.specs.declared.command.Command.{Command}
-use Rattle.cif_text.specs.declared.command.Command.TheVariants as commands
-use Rattle.cif_text.specs.declared.command.UserKind.TheVariants as users
 use Rattle.cif_text.specs.InOrder.{◌>>=◌}
 use Rattle.cif_text.specs.Scales.{scaled, doubled, box_around, scaled_extent, turning_of, scaled_turning}
 use Rattle.cif_text.specs.Sound.{IsSound, AreSound}
@@ -22,6 +21,7 @@ use Rattle.cif_reader.specs.Limits.{farthest, most_shapes, first_far, coordinate
 use Rattle.cif_reader.specs.Expansion.{Progress, unless_refused, progress_to, deep, given_by, advance, refused_at, progress, at_first, expansion}
 use Rattle.cif_reader.specs.Within.{IsNotFar, IsShapeWithin, IsCellWithin, IsLayoutWithin}
 use Rattle.cif_reader.proofs.AgreementLaws.{progress-state}
+use Rattle.std_laws.proofs.Every.{every-append, every-weaker}
 
 -- numbers of which none is far
 pub near-first : (z : ℤ) (zs : List ℤ) → first_far (z ∷ zs) ≡ None → IsNotFar z × (first_far zs ≡ None)

@@ -1,3 +1,4 @@
+-- the progress that the program keeps
 use Rattle.std.specs.Prelude.{◌≡◌, ◌≤◌, ℕ, [], length, Bool, is_some, Option, Some, None, option_map, IfSome}
 use Rattle.cif_text.specs.Symbols.{Definition, State}
 use Rattle.cif_reader.specs.declared.inside.Open.{Open}

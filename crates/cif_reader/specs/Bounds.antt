@@ -1,3 +1,4 @@
+-- rectangles around others
 use Rattle.std.specs.Prelude.{Option, Some, None}
 use Rattle.std.specs.Int.{int_min, int_max}
 use Rattle.geom_core.specs.Extent.{Extent}

@@ -1,3 +1,4 @@
+-- how commands are expanded
 use Rattle.std.specs.Prelude.{◌≡◌, ℕ, Result, Ok, Err}
 use Rattle.geom_core.specs.declared.layout.Layout.{Layout}
 use Rattle.cif_reader.specs.declared.fault.ExpandFault.{ExpandFault}

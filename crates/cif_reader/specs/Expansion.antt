@@ -1,3 +1,4 @@
+-- the layout that commands give, or the first refusal
 use Rattle.std.specs.Prelude.{if◌then◌else◌, ℕ, suc, max, nat_lt, List, [], ◌∷◌, ◌++◌, Option, Some, None, Result, Ok, Err}
 use Rattle.geom_core.specs.declared.layout.Layout.{Layout}
 use Rattle.cif_text.specs.declared.command.Command.{Command}

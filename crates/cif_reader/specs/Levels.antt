@@ -1,3 +1,4 @@
+-- what a command gives the level in which it stands
 use Rattle.std.specs.Prelude.{if◌then◌else◌, ℕ, suc, ℤ, nat_lt, Bool, true, false, List, [], ◌∷◌, length, ◌+◌, Option, Some, None, Result, Ok, Err}
 use Rattle.geom_core.specs.declared.layout.Shape.{Shape}
 use Rattle.geom_core.specs.declared.layout.Cell.{Cell}

@@ -1,3 +1,4 @@
+-- what the reader's limits look at
 use Rattle.std.specs.Prelude.{if◌then◌else◌, ℕ, suc, ℤ, ◌==◌, nat_lt, nat_abs, List, [], ◌∷◌, ◌++◌, length, ◌+◌, Option, Some, None}
 use Rattle.limits.specs.declared.TheConstants.{DEEPEST, FARTHEST, MOST_SHAPES}
 use Rattle.geom_core.specs.declared.layout.Shape.{Shape}

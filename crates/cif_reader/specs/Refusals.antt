@@ -1,3 +1,4 @@
+-- how a program answers that refuses commands
 use Rattle.std.specs.Prelude.{◌≡◌, Result, Ok, Err, IsOkAnd}
 use Rattle.cif_reader.specs.declared.fault.ExpandKind.{ExpandKind}
 use Rattle.cif_reader.specs.declared.refusal.Refusal.{Refusal}

@@ -1,3 +1,4 @@
+-- rectangles that are small, proper or near
 use Rattle.std.specs.Prelude.{◌<ℤ◌, ℤ, List, Option, Some, None, Result, Ok, Err}
 use Rattle.geom_core.specs.Extent.{Extent}
 use Rattle.geom_core.specs.Turning.{Turning}

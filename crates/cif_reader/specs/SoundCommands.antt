@@ -1,3 +1,4 @@
+-- sound commands
 use Rattle.std.proofs.Props.{props}
 use Rattle.cif_text.specs.declared.command.Command.{Command}
 use Rattle.cif_text.specs.declared.command.Command.TheVariants as commands

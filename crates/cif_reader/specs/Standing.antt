@@ -1,3 +1,4 @@
+-- what stands behind some commands, as the program keeps it
 use Rattle.std.specs.Prelude.{◌≡◌, ◌≤◌, ℕ, max, List, ◌++◌, length, Option, None, Result, Ok}
 use Rattle.geom_core.specs.declared.layout.Shape.{Shape}
 use Rattle.geom_core.specs.declared.layout.Cell.{Cell}

@@ -1,3 +1,4 @@
+-- how a table keeps them
 use Rattle.std.specs.Prelude.{map}
 use Rattle.cif_reader.specs.declared.symbol_table.SymbolTable.TheInside.{Inside}
 use Rattle.cif_reader.specs.Places.{ArePlaces}

@@ -1,3 +1,4 @@
+-- symbols with their depths
 use Rattle.std.specs.Prelude.{◌≡◌, ◌≤◌, ℕ, List, [], ◌∷◌, ◌++◌, length, slice_index_or, Some}
 use Rattle.std.specs.Option.{ForSome}
 use Rattle.cif_text.specs.Symbols.{Symbol, symbol_of}

@@ -1,3 +1,4 @@
+-- what every layout keeps that commands give
 use Rattle.std.specs.Prelude.{ℕ, ◌+◌, ◌≤◌, ◌<◌, ℤ, nat_abs, length}
 use Rattle.std.specs.List.{AllByRecursion}
 use Rattle.geom_core.specs.declared.layout.Shape.{Shape}

@@ -1,3 +1,5 @@
+//! The rectangles around what symbols draw: joined, moved under a turn, and tested for sides that are too far.
+
 ghost use Rattle.cif_reader.specs.Bounds.{around_both, joined};
 ghost use Rattle.cif_reader.specs.Sides.{IsNear};
 ghost use Rattle.cif_reader.specs.Table.{ReachesWithin};
@@ -11,7 +13,7 @@ use crate::limit_passing::{far_side, wide};
 use crate::near_turn::NearTurn;
 use geom_core::{Rect, moved};
 
-#[tactic(auto, using(crate::proofs::ScaleLemmas::read_back))]
+#[tactic(auto, using(std_laws::proofs::Integers::read_back))]
 fn lesser(a: i64, b: i64) -> i64
     ensures is { result ≡ int_min a b }
     ensures first { result ≤ℤ a }
@@ -20,7 +22,7 @@ fn lesser(a: i64, b: i64) -> i64
     a.min(b)
 }
 
-#[tactic(auto, using(crate::proofs::ScaleLemmas::read_back))]
+#[tactic(auto, using(std_laws::proofs::Integers::read_back))]
 fn greater(a: i64, b: i64) -> i64
     ensures is { result ≡ int_max a b }
     ensures first { a ≤ℤ result }
@@ -29,7 +31,7 @@ fn greater(a: i64, b: i64) -> i64
     a.max(b)
 }
 
-#[tactic(auto, using(crate::proofs::ScaleLemmas::read_back))]
+#[tactic(auto, using(std_laws::proofs::Integers::read_back))]
 fn around_both(a: Rect, b: Rect) -> Rect
     ensures { result ≡ around_both a b }
 {
@@ -42,7 +44,7 @@ fn around_both(a: Rect, b: Rect) -> Rect
 }
 
 /// The rectangle around two, where there are such.
-pub fn joined(a: Option<Rect>, b: Option<Rect>) -> Option<Rect>
+pub(crate) fn joined(a: Option<Rect>, b: Option<Rect>) -> Option<Rect>
     ensures { result ≡ joined a b }
 {
     match a {
@@ -55,7 +57,7 @@ pub fn joined(a: Option<Rect>, b: Option<Rect>) -> Option<Rect>
 }
 
 /// The rectangle under a turn, where there is one.
-pub fn moved_bounds(bounds: Option<Rect>, turn: &NearTurn) -> Option<Rect>
+pub(crate) fn moved_bounds(bounds: Option<Rect>, turn: &NearTurn) -> Option<Rect>
     requires { ForSome bounds (ReachesWithin 64) }
     ensures { result ≡ option_map (moved turn.now) bounds }
 {
@@ -66,7 +68,7 @@ pub fn moved_bounds(bounds: Option<Rect>, turn: &NearTurn) -> Option<Rect>
 }
 
 /// Whether no side of the rectangle is too far, where there is one.
-pub fn are_near(bounds: Option<Rect>) -> bool
+pub(crate) fn are_near(bounds: Option<Rect>) -> bool
     ensures { OnTrue result (ForSome bounds IsNear) }
 {
     match bounds {

@@ -1,3 +1,5 @@
+//! The call of a symbol at a level: its turn, its depth, and the limits that its shapes may pass.
+
 ghost use Rattle.cif_reader.specs.Levels.{call_of, call_with, depth_above};
 ghost use Rattle.cif_reader.specs.Refusals.{Gives};
 ghost use Rattle.cif_reader.specs.Sides.{IsNearTurn};
@@ -18,9 +20,9 @@ use std::alloc::Global;
 
 /// A call that a level may have: its symbol, and its turn.
 #[derive(Clone, Copy)]
-pub struct Call<'t> {
-    pub symbol: Found<'t>,
-    pub turn: NearTurn,
+pub(crate) struct Call<'t> {
+    pub(crate) symbol: Found<'t>,
+    pub(crate) turn: NearTurn,
 }
 
 /// The turn of a call of a symbol, which gives its shapes to a level that has so many before it.
@@ -47,7 +49,7 @@ fn allowed_turn(
 
 /// The call of the symbol of this number.
 #[tactic(auto, unfolding(crate::specs::Levels::call_of))]
-pub fn called(
+pub(crate) fn called(
     alloc: Global,
     table: &SymbolTable,
     before: usize,
@@ -73,7 +75,7 @@ pub fn called(
 }
 
 /// The depth that a call of a symbol of this depth makes.
-pub fn depth_above(depth: u32) -> Result<u32, ExpandKind>
+pub(crate) fn depth_above(depth: u32) -> Result<u32, ExpandKind>
     ensures { result ≡ depth_above depth }
 {
     if depth >= DEEPEST {

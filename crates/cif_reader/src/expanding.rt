@@ -1,3 +1,5 @@
+//! The layout that a list of CIF commands gives, or the number of the first refused command and the reason.
+
 ghost use Rattle.cif_reader.specs.Expanding.{Expands, fault_of};
 ghost use Rattle.cif_reader.specs.Expansion.{expansion};
 ghost use Rattle.cif_reader.specs.Within.{IsLayoutWithin};

@@ -1,3 +1,5 @@
+//! The reasons for which a CIF command gives no layout, the one that is told first standing first.
+
 use thiserror::Error;
 
 /// Why a command of CIF gives no layout. Where several apply to one command, the first of this list is the refusal.

@@ -1,3 +1,5 @@
+//! A symbol found by its number: its shapes copied under a turn, and the first coordinate of these that is too far.
+
 ghost use Rattle.cif_reader.specs.Limits.{coordinates_of, first_far};
 ghost use Rattle.cif_reader.specs.Table.{symbol_at};
 ghost use Rattle.cif_reader.specs.Tabled.{IsKeptAt, IsPlaceOf};
@@ -17,15 +19,15 @@ use std::alloc::{AllocError, Global};
 
 /// A symbol of a table, by its place there.
 #[derive(Clone, Copy)]
-pub struct Found<'t> {
-    pub table: &'t SymbolTable,
-    pub place: usize,
+pub(crate) struct Found<'t> {
+    pub(crate) table: &'t SymbolTable,
+    pub(crate) place: usize,
     ghost below: { place < length table.now.symbols },
 }
 
 impl<'t> Found<'t> {
     /// The symbol of this number, where there is one.
-    pub fn by_number(table: &'t SymbolTable, n: u64) -> Option<Found<'t>>
+    pub(crate) fn by_number(table: &'t SymbolTable, n: u64) -> Option<Found<'t>>
         ensures none { IfNone result (symbol_of n table.now.symbols ≡ None) }
         ensures same { IfSome result (λ found. found.table.now ≡ table.now) }
         ensures place { IfSome result (λ found. IsPlaceOf n table.now found.place) }
@@ -37,7 +39,7 @@ impl<'t> Found<'t> {
     }
 
     /// What is kept of the symbol.
-    pub fn kept(&self) -> &'t Kept
+    pub(crate) fn kept(&self) -> &'t Kept
         ensures { IsKeptAt self.now.table.now self.now.place result.now }
     {
         let table = self.table;
@@ -58,7 +60,7 @@ impl<'t> Found<'t> {
     }
 
     /// Puts the shapes of the symbol under a turn behind others.
-    pub fn push_copy(
+    pub(crate) fn push_copy(
         &self,
         alloc: Global,
         turn: &NearTurn,
@@ -73,7 +75,11 @@ impl<'t> Found<'t> {
 
     /// The first coordinate of the symbol's shapes under a turn that is too far. They are drawn only where the rectangle around them
     /// reaches too far.
-    pub fn far_copy(&self, alloc: Global, turn: &NearTurn) -> Result<Option<i128>, AllocError>
+    pub(crate) fn far_copy(
+        &self,
+        alloc: Global,
+        turn: &NearTurn,
+    ) -> Result<Option<i128>, AllocError>
         ensures { IfOk result (λ far. far ≡ first_far (coordinates_of
             (moved_shapes turn.now (symbol_at self.now.table.now.symbols self.now.place).shapes))) }
     {

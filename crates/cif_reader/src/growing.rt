@@ -1,3 +1,5 @@
+//! A box or a call more for the symbol that is being defined, with its shape count, rectangle and depth kept up.
+
 ghost use Rattle.cif_reader.specs.Growing.{Grows, HasItem};
 ghost use Rattle.cif_reader.specs.Levels.{boxed, call_inside};
 ghost use Rattle.cif_reader.specs.Limits.{most_shapes};
@@ -35,7 +37,7 @@ fn push_item(
 }
 
 /// A box of a symbol.
-pub fn push_box(
+pub(crate) fn push_box(
     kept: &mut Kept,
     layer: Option<LayerName>,
     sides: Option<WideSides>,
@@ -63,7 +65,7 @@ fn deepen(kept: &mut Kept, depth: u32)
 
 /// A call of a symbol. One of a symbol without shapes is not kept, so that whatever is drawn later takes no more steps than it
 /// has shapes on each of its levels.
-pub fn push_call(
+pub(crate) fn push_call(
     alloc: Global,
     table: &SymbolTable,
     kept: &mut Kept,

@@ -1,3 +1,5 @@
+//! Commands inside an open definition: its boxes, calls, present layer and symbol name.
+
 ghost use Rattle.cif_reader.specs.Levels.{given_inside};
 ghost use Rattle.cif_reader.specs.Refusals.{Takes};
 ghost use Rattle.cif_reader.specs.Standing.{IsInsideBehind, IsOpen, definition_seen};
@@ -17,10 +19,10 @@ use std::alloc::{AllocError, Global};
 
 /// A definition that is open: its symbol so far, its scale, and its present layer.
 #[derive(Debug, Drop)]
-pub struct Open {
-    pub kept: Kept,
-    pub scale: Scale,
-    pub layer: Option<LayerName>,
+pub(crate) struct Open {
+    pub(crate) kept: Kept,
+    pub(crate) scale: Scale,
+    pub(crate) layer: Option<LayerName>,
 }
 
 fn rename(alloc: Global, definition: &mut Open, text: &Name) -> Result<(), AllocError>
@@ -54,7 +56,7 @@ fn user_inside(
 
 /// A command inside the definition that is open.
 #[tactic(auto, unfolding(crate::specs::Levels::given_inside))]
-pub fn step_inside(
+pub(crate) fn step_inside(
     alloc: Global,
     table: &SymbolTable,
     definition: &mut Open,

@@ -1,3 +1,5 @@
+//! The limits on coordinates and shape counts, and the shape of a box that keeps them.
+
 ghost use Rattle.cif_reader.specs.Expansion.{unless_refused};
 ghost use Rattle.cif_reader.specs.Levels.{boxed, layered, more_than_most};
 ghost use Rattle.cif_reader.specs.Limits.{coordinates_of, far_or_many, farthest, first_far, most_shapes, sides_of};
@@ -16,7 +18,7 @@ fn is_far(z: i128) -> bool
 }
 
 /// The first of four sides that is too far.
-pub fn far_side(sides: &WideSides) -> Option<i128>
+pub(crate) fn far_side(sides: &WideSides) -> Option<i128>
     ensures { result ≡ first_far (sides_of sides.now) }
 {
     if is_far(sides.x0) {
@@ -32,8 +34,8 @@ pub fn far_side(sides: &WideSides) -> Option<i128>
     }
 }
 
-#[tactic(auto, using(crate::proofs::ScaleLemmas::read_back))]
-pub fn wide(rect: &Rect) -> WideSides
+#[tactic(auto, using(std_laws::proofs::Integers::read_back))]
+pub(crate) fn wide(rect: &Rect) -> WideSides
     ensures { result ≡ rect.now }
 {
     WideSides {
@@ -45,7 +47,7 @@ pub fn wide(rect: &Rect) -> WideSides
 }
 
 /// The first coordinate of these shapes that is too far.
-pub fn first_far(shapes: &[Shape]) -> Option<i128>
+pub(crate) fn first_far(shapes: &[Shape]) -> Option<i128>
     ensures { result ≡ first_far (coordinates_of shapes.now) }
 {
     let mut rest = shapes;
@@ -60,7 +62,7 @@ pub fn first_far(shapes: &[Shape]) -> Option<i128>
 
 /// A number as a coordinate, where it is not too far.
 #[tactic(auto, using(std::proofs::lemmas::Int::ints))]
-pub fn near(z: i128) -> Option<i64>
+pub(crate) fn near(z: i128) -> Option<i64>
     ensures is { result ≡ (if nat_lt farthest (nat_abs z) then None else Some z) }
     ensures same { IfSome result (λ c. c ≡ z) }
 {
@@ -68,7 +70,7 @@ pub fn near(z: i128) -> Option<i64>
 }
 
 /// A rectangle, or its first side that is too far.
-#[tactic(auto, using(crate::proofs::ScaleLemmas::read_back))]
+#[tactic(auto, using(std_laws::proofs::Integers::read_back))]
 fn near_rect(sides: &WideSides) -> Result<Rect, i128>
     ensures is { result ≡ unless_far (sides_of sides.now) sides.now }
     ensures proper { IfOk result IsProper }
@@ -90,7 +92,7 @@ fn near_rect(sides: &WideSides) -> Result<Rect, i128>
 
 /// The limit that a command passes by what it gives its level, which has so many shapes before it: the first number that is too
 /// far, if there is one, or too many shapes.
-pub fn limit_passed(far: Option<i128>, before: usize, given: u32) -> Option<ExpandKind>
+pub(crate) fn limit_passed(far: Option<i128>, before: usize, given: u32) -> Option<ExpandKind>
     ensures { result ≡ far_or_many far (more_than_most before given) }
 {
     match far {
@@ -134,7 +136,7 @@ fn boxed_near(
 
 /// The shape that a box gives its level, which has so many shapes before it, and a layer or none.
 #[tactic(auto, unfolding(crate::specs::Levels::boxed))]
-pub fn boxed(
+pub(crate) fn boxed(
     layer: Option<LayerName>,
     before: usize,
     sides: Option<WideSides>,

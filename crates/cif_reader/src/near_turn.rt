@@ -1,3 +1,5 @@
+//! The turn of a call whose offset lies within 4,000,000,000 half centimicrons.
+
 ghost use Rattle.cif_reader.specs.Sides.{IsNearTurn, unless_far};
 ghost use Rattle.std.specs.Prelude.{◌≡◌, ◌∷◌, [], IfOk};
 
@@ -8,7 +10,7 @@ use std::marker::Model;
 
 /// A call's turn whose offset is not too far.
 #[derive(Clone, Copy, Debug)]
-pub struct NearTurn {
+pub(crate) struct NearTurn {
     turn: Turn,
 }
 
@@ -27,8 +29,8 @@ impl Model for NearTurn {
 
 impl NearTurn {
     /// The turn, or the first number of its offset that is too far.
-    #[tactic(auto, using(crate::proofs::ScaleLemmas::read_back))]
-    pub fn new(turn: &WideTurn) -> Result<NearTurn, i128>
+    #[tactic(auto, using(std_laws::proofs::Integers::read_back))]
+    pub(crate) fn new(turn: &WideTurn) -> Result<NearTurn, i128>
         ensures is { result ≡ unless_far (turn.now.dx ∷ turn.now.dy ∷ []) turn.now }
         ensures near { IfOk result IsNearTurn }
     {
@@ -48,7 +50,7 @@ impl NearTurn {
     }
 
     /// The turn.
-    pub fn turn(&self) -> &Turn
+    pub(crate) fn turn(&self) -> &Turn
         ensures is { result.now ≡ self.now }
         ensures near { IsNearTurn self.now }
     {

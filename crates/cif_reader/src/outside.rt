@@ -1,3 +1,5 @@
+//! Commands at the main level: its boxes and calls, and the named cells that the calls give.
+
 ghost use Rattle.cif_reader.specs.Levels.{boxed, call_of, cells_given, given_outside};
 ghost use Rattle.cif_reader.specs.Refusals.{Gives, Takes};
 ghost use Rattle.cif_reader.specs.Standing.{IsDrawn, IsOutsideBehind, call_outside, main_seen};
@@ -22,12 +24,12 @@ use std::alloc::{AllocError, Global};
 
 /// The main level: its cells and shapes so far, its present layer, the name that waits for a call, and its depth.
 #[derive(Debug, Drop)]
-pub struct Main {
-    pub cells: Vec<Cell>,
-    pub shapes: Vec<Shape>,
-    pub layer: Option<LayerName>,
-    pub waiting: Option<Name>,
-    pub depth: u32,
+pub(crate) struct Main {
+    pub(crate) cells: Vec<Cell>,
+    pub(crate) shapes: Vec<Shape>,
+    pub(crate) layer: Option<LayerName>,
+    pub(crate) waiting: Option<Name>,
+    pub(crate) depth: u32,
 }
 
 fn named_cell(
@@ -184,7 +186,7 @@ fn user_outside(alloc: Global, main: &mut Main, kind: UserKind, text: &Name) -> 
 
 /// A command of the main level that neither starts nor finishes a definition.
 #[tactic(auto, unfolding(crate::specs::Levels::given_outside))]
-pub fn step_outside(
+pub(crate) fn step_outside(
     alloc: Global,
     table: &SymbolTable,
     main: &mut Main,

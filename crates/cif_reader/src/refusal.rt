@@ -1,9 +1,11 @@
+//! Why a command is not taken: the reason of its refusal, or want of memory.
+
 use crate::fault::ExpandKind;
 use std::alloc::{AllocError, AllocFailed};
 
 /// Why a command is not taken: it is refused, or memory ran out.
 #[derive(Clone, Copy, Debug)]
-pub enum Refusal {
+pub(crate) enum Refusal {
     Because(ExpandKind),
     Memory,
 }

@@ -1,3 +1,5 @@
+//! The scale of a definition, and box sides and call offsets in half centimicrons, however far they are.
+
 ghost use Rattle.cif_text.specs.Printable.{IsPart};
 ghost use Rattle.cif_text.specs.Scales.{scaled, scaled_extent, scaled_natural, scaled_turning};
 ghost use Rattle.std.specs.Prelude.{◌≡◌, ◌≤◌, ◌^◌, nat_abs, option_map, pos, IfSome};
@@ -7,20 +9,20 @@ use std::marker::Model;
 
 /// The scale of a definition, whose numbers count as `a / b` centimicrons each.
 #[derive(Clone, Copy, Debug)]
-pub struct Scale {
-    pub a: u64,
-    pub b: u64,
+pub(crate) struct Scale {
+    pub(crate) a: u64,
+    pub(crate) b: u64,
     ghost a_is: { IsPart a },
     ghost b_is: { IsPart b },
 }
 
 /// The sides of a rectangle in half centimicrons, however far they are.
 #[derive(Clone, Copy, Debug)]
-pub struct WideSides {
-    pub x0: i128,
-    pub y0: i128,
-    pub x1: i128,
-    pub y1: i128,
+pub(crate) struct WideSides {
+    pub(crate) x0: i128,
+    pub(crate) y0: i128,
+    pub(crate) x1: i128,
+    pub(crate) y1: i128,
 }
 
 impl Model for WideSides {
@@ -38,11 +40,11 @@ impl Model for WideSides {
 
 /// A call's turn in half centimicrons, however far its offset is.
 #[derive(Clone, Copy, Debug)]
-pub struct WideTurn {
-    pub flip: bool,
-    pub quarters: u8,
-    pub dx: i128,
-    pub dy: i128,
+pub(crate) struct WideTurn {
+    pub(crate) flip: bool,
+    pub(crate) quarters: u8,
+    pub(crate) dx: i128,
+    pub(crate) dy: i128,
 }
 
 impl Model for WideTurn {
@@ -60,7 +62,7 @@ impl Model for WideTurn {
 
 impl Scale {
     /// The scale of the main level.
-    pub fn whole() -> Scale
+    pub(crate) fn whole() -> Scale
         ensures a { result.a ≡ 1 }
         ensures b { result.b ≡ 1 }
     {
@@ -90,8 +92,8 @@ impl Scale {
     }
 
     /// A rectangle at a scale, where its four sides are whole.
-    #[tactic(auto, using(crate::proofs::ScaleLemmas::read_back))]
-    pub fn scaled_sides(self, sides: Sides) -> Option<WideSides>
+    #[tactic(auto, using(std_laws::proofs::Integers::read_back))]
+    pub(crate) fn scaled_sides(self, sides: Sides) -> Option<WideSides>
         ensures { result ≡ scaled_extent self.a self.b sides }
     {
         let x0 = self.scaled(sides.x0)?;
@@ -102,8 +104,8 @@ impl Scale {
     }
 
     /// A call's turn at a scale, where its offset is whole in half centimicrons.
-    #[tactic(auto, using(crate::proofs::ScaleLemmas::read_back))]
-    pub fn scaled_turn(self, turn: UnscaledTurn) -> Option<WideTurn>
+    #[tactic(auto, using(std_laws::proofs::Integers::read_back))]
+    pub(crate) fn scaled_turn(self, turn: UnscaledTurn) -> Option<WideTurn>
         ensures { result ≡ scaled_turning self.a self.b turn.flip turn.quarters turn.dx turn.dy }
     {
         let dx = self.scaled(turn.across())?;

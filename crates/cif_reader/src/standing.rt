@@ -1,3 +1,5 @@
+//! The commands one after another, each at the main level or in the open definition, from its start to its finish.
+
 ghost use Rattle.cif_reader.specs.Behind.{IsBehind, IsFinished, IsOpened, IsStanding, seen};
 ghost use Rattle.cif_reader.specs.Expansion.{advance, at_first};
 ghost use Rattle.cif_reader.specs.Refusals.{Takes};
@@ -20,14 +22,14 @@ use std::alloc::{AllocError, Global};
 
 /// What stands behind some commands: the main level, the symbols whose definitions have ended, and the definition that is open.
 #[derive(Debug, Drop)]
-pub struct Standing {
-    pub main: Main,
-    pub table: SymbolTable,
-    pub definition: Option<Open>,
+pub(crate) struct Standing {
+    pub(crate) main: Main,
+    pub(crate) table: SymbolTable,
+    pub(crate) definition: Option<Open>,
 }
 
 /// What stands before the first command.
-pub fn at_first(alloc: Global) -> Standing
+pub(crate) fn at_first(alloc: Global) -> Standing
     ensures seen { seen result ≡ at_first }
     ensures is { IsStanding result }
     ensures outside { result.definition ≡ None }
@@ -115,7 +117,7 @@ fn step_drawing(
 }
 
 /// What stands behind a command.
-pub fn step(alloc: Global, standing: &mut Standing, command: &Command) -> Result<(), Refusal>
+pub(crate) fn step(alloc: Global, standing: &mut Standing, command: &Command) -> Result<(), Refusal>
     requires is { IsStanding standing.old }
     requires place { IsInPlace (is_some standing.old.definition) command.now }
     ensures { Takes result (advance (seen standing.old) command.now)

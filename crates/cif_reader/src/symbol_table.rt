@@ -1,3 +1,5 @@
+//! The symbols whose definitions have ended, in their order, with an index by number.
+
 ghost use Rattle.cif_reader.specs.Table.{IsKeptBehind};
 ghost use Rattle.cif_reader.specs.Tabled.{table_with};
 ghost use Rattle.std.specs.Prelude.{◌≡◌, [], OnOk};
@@ -10,9 +12,9 @@ use std::marker::Model;
 /// The symbols whose definitions have ended, as they are kept, with their places by their numbers. Contracts see the symbols and
 /// their depths.
 #[derive(Debug, Drop)]
-pub struct SymbolTable {
-    pub kept: Vec<Kept>,
-    pub places: Places,
+pub(crate) struct SymbolTable {
+    pub(crate) kept: Vec<Kept>,
+    pub(crate) places: Places,
 }
 
 impl Model for SymbolTable {
@@ -29,7 +31,7 @@ impl Model for SymbolTable {
 
 impl SymbolTable {
     /// A table without symbols.
-    pub fn new(alloc: Global) -> SymbolTable
+    pub(crate) fn new(alloc: Global) -> SymbolTable
         ensures { result ≡ record { symbols = []; depths = [] } }
     {
         SymbolTable {
@@ -39,7 +41,7 @@ impl SymbolTable {
     }
 
     /// Puts a symbol behind the others.
-    pub fn push(&mut self, kept: Kept) -> Result<(), AllocError>
+    pub(crate) fn push(&mut self, kept: Kept) -> Result<(), AllocError>
         requires { IsKeptBehind self.old.symbols kept }
         ensures { OnOk result (self.new ≡ table_with self.old kept) }
     {

@@ -1,3 +1,5 @@
+//! A symbol as it is kept: its own shapes and its calls of earlier symbols, and the shapes that these draw.
+
 ghost use Rattle.cif_reader.specs.Table.{AreKept, IsItem, items_drawn, symbols_of};
 ghost use Rattle.cif_reader.specs.Within.{IsShapeWithin};
 ghost use Rattle.cif_text.specs.Symbols.{moved_shapes};
@@ -11,20 +13,20 @@ use std::alloc::{AllocError, Global};
 
 /// What a definition draws: a shape of its own, or the shapes of an earlier symbol, by its place in the table, under a turn.
 #[derive(Clone, Copy, Debug)]
-pub enum Item {
+pub(crate) enum Item {
     Own(Shape),
     Copied { of: usize, turn: NearTurn },
 }
 
 /// A symbol as it is kept: what it draws, how many shapes that is, a rectangle around them if there are any, and its depth.
 #[derive(Debug, Drop)]
-pub struct Kept {
-    pub number: u64,
-    pub name: Option<Name>,
-    pub items: Vec<Item>,
-    pub count: u32,
-    pub bounds: Option<Rect>,
-    pub depth: u32,
+pub(crate) struct Kept {
+    pub(crate) number: u64,
+    pub(crate) name: Option<Name>,
+    pub(crate) items: Vec<Item>,
+    pub(crate) count: u32,
+    pub(crate) bounds: Option<Rect>,
+    pub(crate) depth: u32,
 }
 
 fn moved_shape(shape: &Shape, turn: &NearTurn) -> Shape
@@ -38,7 +40,7 @@ fn moved_shape(shape: &Shape, turn: &NearTurn) -> Shape
 }
 
 /// Puts shapes under a turn behind others.
-pub fn push_moved(
+pub(crate) fn push_moved(
     into: &mut Vec<Shape>,
     shapes: &[Shape],
     turn: &NearTurn,
@@ -55,7 +57,7 @@ pub fn push_moved(
 }
 
 /// The shapes that items draw, which copy the symbols of this table.
-pub fn drawn(alloc: Global, table: &[Kept], items: &[Item]) -> Result<Vec<Shape>, AllocError>
+pub(crate) fn drawn(alloc: Global, table: &[Kept], items: &[Item]) -> Result<Vec<Shape>, AllocError>
     requires table { AreKept table.now }
     requires items { AllByRecursion (IsItem (length table.now)) items.now }
     ensures { IfOk result (λ shapes. shapes.items ≡ items_drawn (symbols_of table.now) items.now) }

@@ -19,12 +19,12 @@ struct Size {
 
 /// The numbers of a box, which lies along y where `upright` is set.
 #[derive(Clone, Copy, Debug)]
-pub struct UnscaledBox {
-    pub length: i64,
-    pub width: i64,
-    pub cx: i64,
-    pub cy: i64,
-    pub upright: bool,
+pub(crate) struct UnscaledBox {
+    pub(crate) length: i64,
+    pub(crate) width: i64,
+    pub(crate) cx: i64,
+    pub(crate) cy: i64,
+    pub(crate) upright: bool,
     ghost length_is: { IsSize length },
     ghost width_is: { IsSize width },
     ghost cx_near: { IsNear cx },
@@ -33,11 +33,11 @@ pub struct UnscaledBox {
 
 /// The turn of a call.
 #[derive(Clone, Copy, Debug)]
-pub struct UnscaledTurn {
-    pub flip: bool,
-    pub quarters: u8,
-    pub dx: i64,
-    pub dy: i64,
+pub(crate) struct UnscaledTurn {
+    pub(crate) flip: bool,
+    pub(crate) quarters: u8,
+    pub(crate) dx: i64,
+    pub(crate) dy: i64,
     ghost turned: { quarters ≤ 3 },
     ghost across_near: { IsNear dx },
     ghost up_near: { IsNear dy },
@@ -45,11 +45,11 @@ pub struct UnscaledTurn {
 
 /// The sides of a rectangle in half of the unit.
 #[derive(Clone, Copy, Debug)]
-pub struct Sides {
-    pub x0: i64,
-    pub y0: i64,
-    pub x1: i64,
-    pub y1: i64,
+pub(crate) struct Sides {
+    pub(crate) x0: i64,
+    pub(crate) y0: i64,
+    pub(crate) x1: i64,
+    pub(crate) y1: i64,
 }
 
 impl Model for Sides {
@@ -89,7 +89,7 @@ impl Number {
     }
 }
 
-#[tactic(auto, using(crate::proofs::ScaleLemmas::read_back, std::proofs::lemmas::Int::ints))]
+#[tactic(auto, using(std_laws::proofs::Integers::read_back, std::proofs::lemmas::Int::ints))]
 fn around(across: Size, up: Size, cx: Number, cy: Number) -> Sides
     ensures { result ≡ around across.value up.value cx.value cy.value }
 {
@@ -103,7 +103,7 @@ fn around(across: Size, up: Size, cx: Number, cy: Number) -> Sides
 
 impl UnscaledBox {
     /// The rectangle of a box.
-    pub fn sides(&self) -> Sides
+    pub(crate) fn sides(&self) -> Sides
         ensures { result ≡ box_around self.now.length self.now.width self.now.cx self.now.cy self.now.upright }
     {
         let length = Size { value: self.length };
@@ -120,14 +120,14 @@ impl UnscaledBox {
 
 impl UnscaledTurn {
     /// The offset in x, in half of the unit.
-    pub fn across(&self) -> i64
+    pub(crate) fn across(&self) -> i64
         ensures { result ≡ doubled self.now.dx }
     {
         Number { value: self.dx }.doubled()
     }
 
     /// The offset in y, in half of the unit.
-    pub fn up(&self) -> i64
+    pub(crate) fn up(&self) -> i64
         ensures { result ≡ doubled self.now.dy }
     {
         Number { value: self.dy }.doubled()

@@ -116,7 +116,7 @@ fn shown_layout(alloc: Global, layout: &Layout) -> Result<Vec<u8>, AllocError> {
 }
 
 /// What the text gives, or None where it does not read as commands.
-pub fn expanded(
+pub(crate) fn expanded(
     alloc: Global,
     text: &[u8],
 ) -> Result<Option<Result<Layout, ExpandFault>>, AllocError> {

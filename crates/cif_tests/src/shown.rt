@@ -79,12 +79,12 @@ fn shown(alloc: Global, text: &[u8]) -> Result<Vec<u8>, AllocError> {
 }
 
 /// Whether a text reads so.
-pub fn is_shown(alloc: Global, text: &[u8], want: &[u8]) -> Result<bool, AllocError> {
+pub(crate) fn is_shown(alloc: Global, text: &[u8], want: &[u8]) -> Result<bool, AllocError> {
     Ok(shown(alloc, text)?.as_slice() == want)
 }
 
 /// Whether each of these texts reads as what stands beside it.
-pub fn are_shown(alloc: Global, texts: &[(&str, &str)]) -> Result<bool, AllocError> {
+pub(crate) fn are_shown(alloc: Global, texts: &[(&str, &str)]) -> Result<bool, AllocError> {
     for (text, want) in texts {
         if !is_shown(alloc, text.as_bytes(), want.as_bytes())? {
             return Ok(false);

@@ -1,3 +1,4 @@
+use Rattle.cif_text.specs.declared.command.Command.TheVariants as commands
 use Rattle.std.proofs.Common.{◌≡◌, refl, ap, sym, subst, arith, ◌+◌, length, ◌∙◌, append_assoc, ℕ, List, [], ◌∷◌, ◌++◌, Bool, true, false, Option, Some, None, Result, Ok, Err}
 use Rattle.std.proofs.lemmas.List.{length-append}
 use Rattle.std.specs.List.{list_all}
@@ -5,7 +6,6 @@ use Rattle.std.specs.Prelude.{◌==◌, ◌&&◌, if◌then◌else◌}
 use Rattle.geom_core.specs.declared.layout.Cell.{Cell}
 use Rattle.geom_core.specs.declared.layout.Shape.{Shape}
 use Rattle.cif_text.specs.declared.command.Command.{Command}
-use Rattle.cif_text.specs.declared.command.Command.TheVariants as commands
 use Rattle.cif_text.specs.InOrder.{◌>>=◌}
 use Rattle.cif_text.specs.Symbols.{Symbol, symbol_of}
 use Rattle.cif_text.specs.CifReads.{is_open_behind}
@@ -197,18 +197,3 @@ defined-push done c earlier y h = record {
   draws = h.draws;
   named = h.named;
 }
-
--- a list with one member more, in two parts
-pub snoc-parts : {A : Type 0} (xs earlier later : List A) (x y : A) → xs ++ (x ∷ []) ≡ earlier ++ (y ∷ later)
-    → (P : Type 0) → (xs ≡ earlier → x ≡ y → P) → ((fewer : List A) → xs ≡ earlier ++ (y ∷ fewer) → P) → P
-snoc-parts [] [] [] x y h p here there = here refl cc
-snoc-parts [] [] (z ∷ later) x y h p here there = cc
-snoc-parts [] (z ∷ []) later x y h p here there = cc
-snoc-parts [] (z ∷ w ∷ earlier) later x y h p here there = cc
-snoc-parts (v ∷ xs) [] later x y h p here there = there xs cc
-snoc-parts (v ∷ xs) (z ∷ earlier) later x y h p here there =
-    let first : v ≡ z = cc in
-    let rest : xs ++ (x ∷ []) ≡ earlier ++ (y ∷ later) = cc in
-    snoc-parts xs earlier later x y rest p
-    (λ same last. here (rw (first, same) refl) last)
-    (λ fewer same. there fewer (rw (first, same) refl))

@@ -1,3 +1,5 @@
+use Rattle.cif_text.specs.declared.command.Command.TheVariants as commands
+use Rattle.cif_text.specs.declared.command.UserKind.TheVariants as users
 use Rattle.std.proofs.Common.{◌≡◌, refl, ap, sym, subst, arith, ◌+◌, ◌∙◌, append_assoc, ℕ, suc, ℤ, List, [], ◌∷◌, ◌++◌, Bool, true, false, Option, Some, None, Result, Ok, Err}
 use Rattle.std.proofs.lemmas.List.{append-nil}
 use Rattle.std.specs.List.{list_all}
@@ -7,14 +9,13 @@ use Rattle.geom_core.specs.declared.layout.Shape.{Shape}
 use Rattle.geom_core.specs.declared.layout.Layout.{Layout}
 use Rattle.geom_core.specs.Turning.{Turning}
 use Rattle.cif_text.specs.declared.command.Command.{Command}
-use Rattle.cif_text.specs.declared.command.Command.TheVariants as commands
-use Rattle.cif_text.specs.declared.command.UserKind.TheVariants as users
 use Rattle.cif_text.specs.Scales.{box_around}
 use Rattle.cif_text.specs.Symbols.{Symbol, Definition, State, symbol_of, moved_shapes}
 use Rattle.cif_text.specs.CifReads.{is_open_behind}
 use Rattle.cif_text.specs.Meaning.{Unmeant, box_shape, called, cells_of, drawn, drawn_inside, named_inside, empty_symbol, started, finished, with_inside, at_command, step, step_in, step_outside, run, nothing, layout_of, meaning}
 use Rattle.cif_text.specs.Bodies.{layer_behind, name_behind, drawn_by, drawn_by_all, last_layer, last_name, last_waiting, cells_by_all, outside, finishes_none, IsDefined, IsDrawnBy}
-use Rattle.cif_text.proofs.BodyLaws.{given, layer-push, layer-join, name-push, closed-push, waiting-join, cells-join, cells-more, draws-join, draws-more, is_open, open-push, outside-push, defined-push, snoc-parts}
+use Rattle.cif_text.proofs.BodyLaws.{given, layer-push, layer-join, name-push, closed-push, waiting-join, cells-join, cells-more, draws-join, draws-more, is_open, open-push, outside-push, defined-push}
+use Rattle.std_laws.proofs.Slices.{snoc-parts}
 
 -- a definition is open behind commands: it has so far what the commands behind its start give it
 record IsOpened (done : List Command) (symbols : List Symbol) (d : Definition) : Type 0 where

@@ -1,5 +1,7 @@
+use Rattle.cif_text.specs.declared.command.Command.TheVariants as commands
+use Rattle.cif_text.specs.declared.command.UserKind.TheVariants as users
 use Rattle.std.proofs.Common.{◌≡◌, refl, ap, ◌∙◌, ℕ, zero, suc, ◌≤◌, List, [], ◌∷◌, ◌++◌, length, length-append, Bool, true, false, ℤ, pos, negsuc, arith, decimal}
-use Rattle.std.proofs.lemmas.Bool.{le-leb, leb-true}
+use Rattle.std.proofs.lemmas.Bool.{le-leb, leb-true, and_parts}
 use Rattle.std.proofs.lemmas.List.{append-nil}
 use Rattle.std.proofs.lemmas.Int.{ints}
 use Rattle.std.proofs.Math.IntN.{+ℤ_idl}
@@ -8,9 +10,7 @@ use Rattle.std.specs.Fmt.{signed_decimal}
 use Rattle.std.specs.List.{list_all}
 use Rattle.std.specs.Prelude.{codes, Ok, ◌+ℤ◌, nat_le, nat_abs, ◌&&◌}
 use Rattle.geom_core.specs.LayerText.{is_layer_code, is_layer_text}
-use Rattle.cif_text.specs.declared.command.Command.TheVariants as commands
 use Rattle.cif_text.specs.declared.command.UserKind.{UserKind}
-use Rattle.cif_text.specs.declared.command.UserKind.TheVariants as users
 use Rattle.cif_text.specs.Printing.{blanked, upright_parts, flip_parts, quarter_parts}
 use Rattle.cif_text.specs.Bytes.{is_blank, is_separator, span, skip, begins, ends, trimmed}
 use Rattle.cif_text.specs.InOrder.{◌>>=◌}
@@ -19,7 +19,7 @@ use Rattle.cif_text.specs.Forms.{box_end, box_form, layer_of, layer_form, start_
 use Rattle.cif_text.specs.Calls.{Step, translate, point_of, step_of, steps_of, after_all, at_rest, call_of, call_form}
 use Rattle.cif_text.specs.Printable.{IsNear, IsSize, IsNatural, IsPart}
 use Rattle.cif_text.proofs.PrintableTexts.{IsNameText}
-use Rattle.cif_text.proofs.SpanLemmas.{and-both, begins-other, ends-other, span-all, skip-blank}
+use Rattle.cif_text.proofs.SpanLemmas.{begins-other, ends-other, span-all, skip-blank}
 use Rattle.cif_text.proofs.NumberLemmas.{blank-gap, separator-gap, begins-decimal, number-apart, number-skipped, positive-apart, positive-skipped, natural-skipped}
 
 -- what a box's line holds behind the centre
@@ -58,8 +58,8 @@ layer-no-blank c code = rw code refl
 pub layer-is : (text : List ℕ) → is_layer_text text ≡ true → layer_form (blanked (text ∷ [])) ≡ Ok (Ok (commands.Layer text))
 unfolding layer_form
 layer-is text valid =
-    let parts = and-both (nat_le 1 (length text) && nat_le (length text) 4) (list_all is_layer_code text) valid in
-    let some : 1 ≤ length text = leb-true 1 (length text) (and-both (nat_le 1 (length text)) (nat_le (length text) 4) parts.0).0 in
+    let parts = and_parts (nat_le 1 (length text) && nat_le (length text) 4) (list_all is_layer_code text) valid in
+    let some : 1 ≤ length text = leb-true 1 (length text) (and_parts (nat_le 1 (length text)) (nat_le (length text) 4) parts.0).0 in
     let stop : begins is_blank text ≡ false =
     rw append-nil at (begins-other is_blank is_layer_code layer-no-blank text [] some parts.1) in
     ap (λ (bytes : List ℕ). layer_form (32 ∷ bytes)) (append-nil text)

@@ -36,10 +36,6 @@ pub moves-fail : (so_far : Result Turning CifKind) (c : ℕ) (cs : List ℕ) (e 
 unfolding steps_of
 moves-fail so_far c cs e is = rw is refl
 
-pub empty-is : (xs : List ℕ) → length xs ≡ 0 → xs ≡ []
-empty-is [] none = refl
-empty-is (x ∷ xs) none = absurd (omega arith)
-
 pub moves-end : (so_far : Result Turning CifKind) → moves_from so_far [] ≡ Ok so_far
 unfolding steps_of
 moves-end (Ok t) = refl

@@ -3,7 +3,7 @@ use Rattle.std.proofs.lemmas.Bool.Decides.{nat_tests}
 use Rattle.std.proofs.lemmas.Fmt.{decimal_is_IsNumeral}
 use Rattle.std.proofs.lemmas.Str.Parse.{digit_from_value}
 use Rattle.std.proofs.lemmas.Int.{ints}
-use Rattle.std.proofs.lemmas.Bool.{le-leb}
+use Rattle.std.proofs.lemmas.Bool.{le-leb, and_parts, and_from}
 use Rattle.std.specs.Char.{is_ascii_digit, is_ascii_uppercase}
 use Rattle.std.specs.Fmt.{signed_decimal}
 use Rattle.std.specs.List.{list_all}
@@ -13,14 +13,14 @@ use Rattle.cif_text.specs.Bytes.{is_blank, is_separator, span, skip, begins}
 use Rattle.cif_text.specs.InOrder.{◌>>=◌}
 use Rattle.cif_text.specs.Numbers.{greatest, value_of, value_at, natural, number, positive, apart}
 use Rattle.cif_text.specs.Printable.{IsNear, IsNatural, IsPart}
-use Rattle.cif_text.proofs.SpanLemmas.{span-append, begins-other, and-both, both-and, skip-blank, apart-blank}
+use Rattle.cif_text.proofs.SpanLemmas.{span-append, begins-other, skip-blank, apart-blank}
 
 -- digits, as the test of CIF has them
 digits-all : (ds : List ℕ) → AllDigits 10 ds → list_all is_ascii_digit ds ≡ true
 digits-all [] digits = refl
 digits-all (d ∷ ds) digits =
     let range = digit_from_value d digits.0 in
-    both-and (is_ascii_digit d) (list_all is_ascii_digit ds) (grind (arith, nat_tests, range)) (digits-all ds digits.1)
+    and_from (is_ascii_digit d) (list_all is_ascii_digit ds) (grind (arith, nat_tests, range)) (digits-all ds digits.1)
 
 pub decimal-all : (n : ℕ) → n ≤ greatest → list_all is_ascii_digit (decimal n) ≡ true
 decimal-all n small = digits-all (decimal n) (decimal_is_IsNumeral n (omega arith)).0.1
@@ -58,7 +58,7 @@ number-digits : (ds r : List ℕ) → 1 ≤ length ds → list_all is_ascii_digi
 unfolding number
 number-digits [] r some every = absurd (omega arith)
 number-digits (d ∷ ds) r some every =
-    rw (digit-no-minus d (and-both (is_ascii_digit d) (list_all is_ascii_digit ds) every).0) refl
+    rw (digit-no-minus d (and_parts (is_ascii_digit d) (list_all is_ascii_digit ds) every).0) refl
 
 pub number-signed : (z : ℤ) (r : List ℕ) → IsNear z → begins is_ascii_digit r ≡ false → number (signed_decimal z ++ r) ≡ Ok (z, r)
 unfolding number

@@ -1,3 +1,5 @@
+use Rattle.cif_text.specs.declared.command.Command.TheVariants as commands
+use Rattle.cif_text.specs.declared.command.UserKind.TheVariants as users
 use Rattle.std.proofs.Common.{◌≡◌, refl, ℕ, zero, suc, ◌≤◌, List, [], ◌∷◌, ◌++◌, length, Bool, true, false, ℤ, pos, negsuc, arith, decimal}
 use Rattle.std.proofs.lemmas.Bool.Decides.{nat_tests}
 use Rattle.std.proofs.lemmas.Int.{ints}
@@ -7,14 +9,13 @@ use Rattle.std.specs.List.{AllByRecursion, list_all}
 use Rattle.geom_core.specs.LayerText.{is_layer_code}
 use Rattle.std.specs.Prelude.{codes, nat_le, ◌&&◌}
 use Rattle.cif_text.specs.declared.command.Command.{Command}
-use Rattle.cif_text.specs.declared.command.Command.TheVariants as commands
-use Rattle.cif_text.specs.declared.command.UserKind.TheVariants as users
 use Rattle.cif_text.specs.Numbers.{greatest}
 use Rattle.cif_text.specs.Printing.{blanked, bytes_of, upright_parts, flip_parts, quarter_parts}
 use Rattle.cif_text.specs.Printable.{IsNear, IsSize}
 use Rattle.cif_text.proofs.PrintableTexts.{is_plain_byte, IsPrintable}
-use Rattle.cif_text.proofs.SpanLemmas.{and-both, list_all-weaker, list_all-joined}
 use Rattle.cif_text.proofs.NumberLemmas.{decimal-all}
+use Rattle.std.proofs.lemmas.Bool.{and_parts}
+use Rattle.std_laws.proofs.Searches.{list_all-weaker, list_all-joined}
 
 -- the bytes of a printed line before its semicolon are of ASCII and no semicolon
 abbrev Plain : List ℕ → Type 0
@@ -63,7 +64,7 @@ bytes-plain (commands.Box long wide cx cy upright) h =
     plain-blanked (signed_decimal long ∷ signed_decimal wide ∷ signed_decimal cx ∷ signed_decimal cy ∷ upright_parts upright)
     (plain-signed long (size-near long h.0), (plain-signed wide (size-near wide h.1), (plain-signed cx h.2, (plain-signed cy h.3, plain-upright upright))))
 bytes-plain (commands.Layer text) h =
-    let every : list_all is_layer_code text ≡ true = (and-both (nat_le 1 (length text) && nat_le (length text) 4) (list_all is_layer_code text) h).1 in
+    let every : list_all is_layer_code text ≡ true = (and_parts (nat_le 1 (length text) && nat_le (length text) 4) (list_all is_layer_code text) h).1 in
     plain-blanked (text ∷ []) (list_all-weaker is_layer_code is_plain_byte plain-layer text every, tt)
 bytes-plain (commands.Start n a b) h =
     plain-blanked (decimal n ∷ decimal a ∷ decimal b ∷ []) (plain-decimal n h.0.high, (plain-decimal a h.1.high, (plain-decimal b h.2.high, tt)))

@@ -1,23 +1,25 @@
+use Rattle.cif_text.specs.declared.command.Command.TheVariants as commands
+use Rattle.cif_text.specs.declared.command.UserKind.TheVariants as users
 use Rattle.std.proofs.Common.{◌≡◌, refl, ap, ◌∙◌, append_assoc, ℕ, zero, suc, ◌≤◌, List, [], ◌∷◌, ◌++◌, length, length-append, Bool, true, false, arith}
 use Rattle.std.specs.List.{list_all}
 use Rattle.std.specs.Prelude.{Ok}
 use Rattle.cif_text.specs.declared.command.Command.{Command}
-use Rattle.cif_text.specs.declared.command.Command.TheVariants as commands
-use Rattle.cif_text.specs.declared.command.UserKind.TheVariants as users
 use Rattle.cif_text.specs.Bytes.{is_ascii_byte, is_between, not_semicolon, span, skip}
 use Rattle.cif_text.specs.Commands.{after_comment, is_left_out, form_of, may_stand, cut_of, command_at}
 use Rattle.cif_text.specs.CifReads.{is_end, is_open_behind, commands_at, cif_reads}
 use Rattle.cif_text.specs.Printing.{bytes_of, end_of, line, text_of}
 use Rattle.cif_text.proofs.PrintableTexts.{is_plain_byte, IsPrintable, IsText}
-use Rattle.cif_text.proofs.SpanLemmas.{and-both, both-and, span-append, list_all-weaker, list_all-joined}
+use Rattle.cif_text.proofs.SpanLemmas.{span-append}
 use Rattle.cif_text.proofs.FormLemmas.{box-is, layer-is, start-is, finish-is, call-is, symbol-is, instance-is}
 use Rattle.cif_text.proofs.PlainLemmas.{bytes-plain}
+use Rattle.std.proofs.lemmas.Bool.{and_parts, and_from}
+use Rattle.std_laws.proofs.Searches.{list_all-weaker, list_all-joined}
 
 plain-other : (c : ℕ) → is_plain_byte c ≡ true → not_semicolon c ≡ true
-plain-other c plain = (and-both (is_ascii_byte c) (not_semicolon c) plain).1
+plain-other c plain = (and_parts (is_ascii_byte c) (not_semicolon c) plain).1
 
 plain-ascii : (c : ℕ) → is_plain_byte c ≡ true → is_ascii_byte c ≡ true
-plain-ascii c plain = (and-both (is_ascii_byte c) (not_semicolon c) plain).0
+plain-ascii c plain = (and_parts (is_ascii_byte c) (not_semicolon c) plain).0
 
 -- a printed command is cut at its own semicolon
 cut-is : (inside : Bool) (left first : ℕ) (body r : List ℕ) (c : Command) → list_all is_plain_byte body ≡ true
@@ -105,7 +107,7 @@ line-ascii : (c : Command) (r : List ℕ) → IsPrintable c → list_all is_asci
 line-ascii c r h others =
     let body : list_all is_ascii_byte (bytes_of c).1 ≡ true =
     list_all-weaker is_plain_byte is_ascii_byte plain-ascii (bytes_of c).1 (bytes-plain c h) in
-    both-and (is_ascii_byte (bytes_of c).0) (list_all is_ascii_byte (((bytes_of c).1 ++ end_of c) ++ r)) (first-ascii c)
+    and_from (is_ascii_byte (bytes_of c).0) (list_all is_ascii_byte (((bytes_of c).1 ++ end_of c) ++ r)) (first-ascii c)
     (list_all-joined is_ascii_byte ((bytes_of c).1 ++ end_of c) r (list_all-joined is_ascii_byte (bytes_of c).1 (end_of c) body (end-ascii c)) others)
 
 -- a printed text is of ASCII

@@ -1,4 +1,4 @@
-use Rattle.std.proofs.Common.{◌≡◌, ◌≢◌, refl, ap, length, ℕ, suc, ◌+◌, List, [], ◌∷◌, ◌++◌, take, drop, Bool, true, false, cond, arith}
+use Rattle.std.proofs.Common.{◌≡◌, refl, ap, length, ℕ, suc, ◌+◌, List, [], ◌∷◌, ◌++◌, take, drop, Bool, true, false, cond, arith}
 use Rattle.std.specs.List.{list_all, prefix_len}
 use Rattle.std.specs.Prelude.{◌&&◌, if◌then◌else◌}
 use Rattle.cif_text.specs.Bytes.{is_white, span, without_tail}
@@ -15,16 +15,6 @@ span-parts p (c ∷ cs) = by (p c) (span-parts p cs)
         let one : 1 + prefix_len p cs ≡ suc (prefix_len p cs) = omega arith in
         rw (one, others) refl
     by false others = refl
-
-pub front-all : (p : ℕ → Bool) (bytes : List ℕ) → list_all p (take (prefix_len p bytes) bytes) ≡ true
-front-all p [] = refl
-front-all p (c ∷ cs) = by (p c) refl (front-all p cs)
-  where
-    by : (b : Bool) → p c ≡ b → list_all p (take (prefix_len p cs) cs) ≡ true → list_all p (take (cond b (1 + prefix_len p cs) 0) (c ∷ cs)) ≡ true
-    by true here others =
-        let one : 1 + prefix_len p cs ≡ suc (prefix_len p cs) = omega arith in
-        rw (one, here, others) refl
-    by false here others = refl
 
 -- white at the end
 white-end : (xs : List ℕ) (c : ℕ) → is_white c ≡ true → list_all is_white (xs ++ c ∷ []) ≡ list_all is_white xs
@@ -60,19 +50,3 @@ span-length p (c ∷ cs) = by (p c) (span-length p cs)
         → length (if◌then◌else◌ {A = List ℕ × List ℕ} b (c ∷ (span p cs).0, (span p cs).1) ([], c ∷ cs)).0 ≡ cond b (1 + prefix_len p cs) 0
     by true others = omega (arith, others)
     by false others = refl
-
-pub all-reached : (p : ℕ → Bool) (bytes : List ℕ) → prefix_len p bytes ≡ length bytes → list_all p bytes ≡ true
-all-reached p [] reached = refl
-all-reached p (c ∷ cs) reached = by (p c) reached (all-reached p cs)
-  where
-    by : (b : Bool) → cond b (1 + prefix_len p cs) 0 ≡ length (c ∷ cs) → (prefix_len p cs ≡ length cs → list_all p cs ≡ true) → (b && list_all p cs) ≡ true
-    by true here others = others (omega arith)
-    by false here others = absurd (omega arith)
-
-pub not-all-reached : (p : ℕ → Bool) (bytes : List ℕ) → prefix_len p bytes ≢ length bytes → list_all p bytes ≡ false
-not-all-reached p [] reached = absurd (reached refl)
-not-all-reached p (c ∷ cs) reached = by (p c) reached (not-all-reached p cs)
-  where
-    by : (b : Bool) → cond b (1 + prefix_len p cs) 0 ≢ length (c ∷ cs) → (prefix_len p cs ≢ length cs → list_all p cs ≡ false) → (b && list_all p cs) ≡ false
-    by true here others = others (λ same. here (omega arith))
-    by false here others = refl

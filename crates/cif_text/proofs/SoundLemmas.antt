@@ -1,11 +1,12 @@
-use Rattle.std.proofs.Common.{◌≡◌, refl, ℕ, ℤ, List, [], ◌∷◌, Bool, true, false, not, Ok}
-use Rattle.cif_text.specs.declared.command.Command.{Command}
 use Rattle.cif_text.specs.declared.command.Command.TheVariants as commands
+use Rattle.std.proofs.Common.{◌≡◌, refl, ℕ, ℤ, List, [], ◌∷◌, Bool, true, false, Ok}
+use Rattle.cif_text.specs.declared.command.Command.{Command}
 use Rattle.cif_text.specs.Bytes.{is_separator, ends}
 use Rattle.cif_text.specs.CifReads.{is_end, is_open_behind}
 use Rattle.cif_text.specs.Forms.{axis_of, box_along, box_end}
 use Rattle.cif_text.specs.Numbers.{number, apart}
 use Rattle.cif_text.specs.Sound.{AreSound, IsInPlace}
+use Rattle.std.proofs.lemmas.Bool.{not-true}
 
 -- a box with a direction
 pub box_end-directed : (long wide : ℕ) (cx cy : ℤ) (bytes : List ℕ) (dx dy : ℤ × List ℕ) → ends is_separator bytes ≡ false
@@ -13,10 +14,6 @@ pub box_end-directed : (long wide : ℕ) (cx cy : ℤ) (bytes : List ℕ) (dx dy
     → box_end long wide cx cy bytes ≡ Ok (box_along long wide cx cy (axis_of dx.0 dy.0))
 unfolding box_end
 box_end-directed long wide cx cy bytes dx dy more first second last = rw (more, first, second, last) refl
-
-not-true : (b : Bool) → not b ≡ true → b ≡ false
-not-true true h = cc
-not-true false h = refl
 
 -- a command before others, and an end
 pub sound-on : (inside : Bool) (c : Command) (cs : List Command) → IsInPlace inside c → is_end c ≡ false → AreSound (is_open_behind inside c) cs

@@ -1,25 +1,18 @@
-use Rattle.std.proofs.Common.{◌≡◌, refl, ap, sym, subst, ℕ, ◌≤◌, List, [], ◌∷◌, ◌++◌, length, Bool, true, false, ◌&&◌, arith}
+use Rattle.std.proofs.Common.{◌≡◌, refl, ap, sym, subst, ℕ, ◌≤◌, List, [], ◌∷◌, ◌++◌, length, Bool, true, false, arith}
 use Rattle.std.proofs.lemmas.List.{append-nil}
 use Rattle.std.specs.List.{list_all}
 use Rattle.std.specs.Prelude.{Result, if◌then◌else◌}
 use Rattle.cif_text.specs.Bytes.{span, skip, begins, ends}
 use Rattle.cif_text.specs.Numbers.{Wrong, apart}
-
--- both parts of a test hold where the test does
-pub and-both : (a b : Bool) → (a && b) ≡ true → (a ≡ true) × (b ≡ true)
-and-both true b h = (refl, h)
-and-both false b h = cc
-
-pub both-and : (a b : Bool) → a ≡ true → b ≡ true → (a && b) ≡ true
-both-and a b first second = rw (first, second) refl
+use Rattle.std.proofs.lemmas.Bool.{and_parts}
 
 -- the front of a list is such bytes, and the rest begins with none
 pub span-append : (p : ℕ → Bool) (xs r : List ℕ) → list_all p xs ≡ true → begins p r ≡ false → span p (xs ++ r) ≡ (xs, r)
 span-append p [] [] every stop = refl
 span-append p [] (c ∷ cs) every stop = rw stop refl
 span-append p (x ∷ xs) r every stop =
-    let first : p x ≡ true = (and-both (p x) (list_all p xs) every).0 in
-    let others : list_all p xs ≡ true = (and-both (p x) (list_all p xs) every).1 in
+    let first : p x ≡ true = (and_parts (p x) (list_all p xs) every).0 in
+    let others : list_all p xs ≡ true = (and_parts (p x) (list_all p xs) every).1 in
     rw (first, span-append p xs r others stop) refl
 
 -- a list is such bytes alone
@@ -29,24 +22,11 @@ span-all p xs every = rw append-nil at (span-append p xs [] every refl)
 pub skip-stop : (p : ℕ → Bool) (r : List ℕ) → begins p r ≡ false → skip p r ≡ r
 skip-stop p r stop = ap (λ (found : List ℕ × List ℕ). found.1) (span-append p [] r refl stop)
 
--- a weaker test
-pub list_all-weaker : (p q : ℕ → Bool) → ((c : ℕ) → p c ≡ true → q c ≡ true) → (xs : List ℕ) → list_all p xs ≡ true → list_all q xs ≡ true
-list_all-weaker p q weaker [] every = refl
-list_all-weaker p q weaker (x ∷ xs) every =
-    let parts : (p x ≡ true) × (list_all p xs ≡ true) = and-both (p x) (list_all p xs) every in
-    both-and (q x) (list_all q xs) (weaker x parts.0) (list_all-weaker p q weaker xs parts.1)
-
-pub list_all-joined : (p : ℕ → Bool) (xs ys : List ℕ) → list_all p xs ≡ true → list_all p ys ≡ true → list_all p (xs ++ ys) ≡ true
-list_all-joined p [] ys first second = second
-list_all-joined p (x ∷ xs) ys first second =
-    let parts : (p x ≡ true) × (list_all p xs ≡ true) = and-both (p x) (list_all p xs) first in
-    both-and (p x) (list_all p (xs ++ ys)) parts.0 (list_all-joined p xs ys parts.1 second)
-
 -- a list that is not empty, of bytes that are none of these, begins with none of these
 pub begins-other : (p q : ℕ → Bool) → ((c : ℕ) → q c ≡ true → p c ≡ false) → (xs r : List ℕ) → 1 ≤ length xs → list_all q xs ≡ true
     → begins p (xs ++ r) ≡ false
 begins-other p q other [] r some every = absurd (omega arith)
-begins-other p q other (x ∷ xs) r some every = other x (and-both (q x) (list_all q xs) every).0
+begins-other p q other (x ∷ xs) r some every = other x (and_parts (q x) (list_all q xs) every).0
 
 -- a blank is passed over, where the bytes behind it begin with none
 pub skip-blank : (p : ℕ → Bool) (r : List ℕ) → p 32 ≡ true → begins p r ≡ false → skip p (32 ∷ r) ≡ r

@@ -9,7 +9,9 @@ use Rattle.cif_text.proofs.PrintableTexts.{is_plain_byte, IsNameText}
 use Rattle.cif_text.specs.Symbols.{symbol_of}
 use Rattle.cif_text.specs.Written.{WrittenSymbol, MainItem, alone, copy, shape_commands, copy_commands, items_commands, layer_after}
 use Rattle.cif_text.proofs.WrittenLayout.{symbol_at, symbols_from}
-use Rattle.cif_text.proofs.SpanLemmas.{and-both, skip-stop, list_all-weaker}
+use Rattle.cif_text.proofs.SpanLemmas.{skip-stop}
+use Rattle.std.proofs.lemmas.Bool.{and_parts}
+use Rattle.std_laws.proofs.Searches.{list_all-weaker}
 
 -- the text of commands in two parts
 pub text_of-append : (xs ys : List Command) → text_of (xs ++ ys) ≡ text_of xs ++ text_of ys
@@ -28,12 +30,12 @@ shown-bare c shown = grind (arith, nat_tests)
 
 shown-begins : (text : List ℕ) → list_all is_shown text ≡ true → begins is_white text ≡ false
 shown-begins [] shown = refl
-shown-begins (c ∷ cs) shown = shown-bare c (and-both (is_shown c) (list_all is_shown cs) shown).0
+shown-begins (c ∷ cs) shown = shown-bare c (and_parts (is_shown c) (list_all is_shown cs) shown).0
 
 shown-ends : (text : List ℕ) → list_all is_shown text ≡ true → without_tail text ≡ text
 shown-ends [] shown = refl
 shown-ends (c ∷ cs) shown =
-    let parts : (is_shown c ≡ true) × (list_all is_shown cs ≡ true) = and-both (is_shown c) (list_all is_shown cs) shown in
+    let parts : (is_shown c ≡ true) × (list_all is_shown cs ≡ true) = and_parts (is_shown c) (list_all is_shown cs) shown in
     rw (shown-bare c parts.0) (ap (λ (rest : List ℕ). c ∷ rest) (shown-ends cs parts.1))
 
 -- a word of bytes that show can be a name

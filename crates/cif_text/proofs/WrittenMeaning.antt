@@ -1,17 +1,16 @@
+use Rattle.cif_text.specs.declared.command.Command.TheVariants as commands
+use Rattle.cif_text.specs.declared.command.UserKind.TheVariants as users
 use Rattle.std.proofs.Common.{◌≡◌, refl, ap, sym, subst, ◌∙◌, append_assoc, ℕ, suc, ◌*◌, ◌/◌, ◌%◌, ◌≤◌, List, [], ◌∷◌, ◌++◌, length, length-append, Bool, true, false, ℤ, pos, negsuc, arith}
 use Rattle.std.proofs.lemmas.Bool.Decides.{nat_tests}
 use Rattle.std.proofs.lemmas.List.{append-nil}
 use Rattle.std.specs.List.{AllByRecursion}
 use Rattle.std.specs.Str.{bytes_eq}
 use Rattle.std.specs.Prelude.{Result, Ok, Option, Some, None, IsSome, if◌then◌else◌, ◌==◌, unwrap_or}
-use Rattle.list_facts.proofs.Mentioned.{bytes_one}
 use Rattle.geom_core.specs.declared.layout.Shape.{Shape}
 use Rattle.geom_core.specs.declared.layout.Cell.{Cell}
 use Rattle.geom_core.specs.declared.turn.Place.{Place}
 use Rattle.geom_core.specs.Extent.{Extent}
 use Rattle.cif_text.specs.declared.command.Command.{Command}
-use Rattle.cif_text.specs.declared.command.Command.TheVariants as commands
-use Rattle.cif_text.specs.declared.command.UserKind.TheVariants as users
 use Rattle.cif_text.specs.InOrder.{◌>>=◌}
 use Rattle.cif_text.specs.Scales.{scaled_natural, scaled, scaled_extent, scaled_turning, doubled, around}
 use Rattle.cif_text.specs.Symbols.{Symbol, State, symbol_of}
@@ -20,6 +19,7 @@ use Rattle.cif_text.specs.Written.{WrittenSymbol, MainItem, alone, copy, box_of,
 use Rattle.geom_core.specs.Moving.{turn_at}
 use Rattle.cif_text.proofs.WrittenLayout.{symbol_at, symbols_from, copied_shapes, cell_of, item_shapes, item_cells, items_shapes, items_cells, written_layout, IsBox, IsShape, IsWhole, IsDrawn, IsCopy, IsItem, IsWritable}
 use Rattle.cif_text.proofs.WrittenText.{box-drawn, call-whole}
+use Rattle.std_laws.proofs.Bytes.{bytes_one}
 
 -- some commands lead from a state to another, whatever comes before and behind them
 abbrev Leads : State → List Command → State → Type 0

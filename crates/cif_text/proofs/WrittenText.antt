@@ -1,15 +1,15 @@
+use Rattle.cif_text.specs.declared.command.Command.TheVariants as commands
+use Rattle.cif_text.specs.declared.command.UserKind.TheVariants as users
 use Rattle.std.proofs.Common.{◌≡◌, refl, ap, sym, subst, ◌∙◌, append_assoc, ℕ, suc, ◌+◌, ◌*◌, ◌/◌, ◌≤◌, List, [], ◌∷◌, ◌++◌, length, Bool, true, false, ℤ, pos, negsuc, arith}
 use Rattle.std.proofs.lemmas.Int.{ints}
 use Rattle.std.specs.List.{AllByRecursion}
 use Rattle.std.specs.Str.{bytes_eq}
-use Rattle.std.specs.Prelude.{Ok, Option, Some, None, int_div, ◌+ℤ◌, ◌-ℤ◌, ◌*ℤ◌, neg_ℤ, IfSome, if◌then◌else◌}
+use Rattle.std.specs.Prelude.{Ok, Option, Some, None, int_div, ◌+ℤ◌, ◌-ℤ◌, neg_ℤ, IfSome, if◌then◌else◌}
 use Rattle.geom_core.specs.declared.layout.Shape.{Shape}
 use Rattle.geom_core.specs.declared.turn.Place.{Place}
 use Rattle.geom_core.specs.Extent.{Extent}
 use Rattle.geom_core.specs.LayerText.{is_layer_text}
 use Rattle.cif_text.specs.declared.command.Command.{Command}
-use Rattle.cif_text.specs.declared.command.Command.TheVariants as commands
-use Rattle.cif_text.specs.declared.command.UserKind.TheVariants as users
 use Rattle.cif_text.specs.Numbers.{greatest}
 use Rattle.cif_text.specs.Printing.{text_of}
 use Rattle.cif_text.specs.Printable.{IsNatural, IsPart}
@@ -20,6 +20,7 @@ use Rattle.cif_text.specs.Symbols.{Symbol}
 use Rattle.cif_text.specs.Written.{WrittenSymbol, MainItem, alone, copy, box_of, call_to, change, name_commands, shape_commands, shapes_commands, symbol_commands, symbols_commands, copy_commands, items_commands, layout_commands}
 use Rattle.cif_text.proofs.WrittenLayout.{IsBox, IsShape, IsWhole, IsDrawn, IsItem, IsWritable, symbols_from}
 use Rattle.cif_text.proofs.ReadBack.{reads-text}
+use Rattle.std_laws.proofs.Integers.{quarter-of}
 
 -- half of twice a number, and a quarter of four times one
 pub half-doubled : (z : ℤ) → int_div (doubled z) (pos 2) ≡ z
@@ -29,18 +30,8 @@ half-doubled (negsuc n) =
     let count : suc (2 * n + 1) / 2 ≡ suc n = omega arith in
     rw whole (ap (λ (k : ℕ). neg_ℤ (pos k)) count)
 
-quarter-fourfold : (z : ℤ) → int_div (pos 4 *ℤ z) (pos 4) ≡ z
-quarter-fourfold (pos n) = ap pos (omega arith)
-quarter-fourfold (negsuc n) =
-    let whole : pos 4 *ℤ negsuc n ≡ negsuc (4 * n + 3) = omega (arith, ints) in
-    let count : suc (4 * n + 3) / 4 ≡ suc n = omega arith in
-    rw whole (ap (λ (k : ℕ). neg_ℤ (pos k)) count)
-
 half-of : (a z : ℤ) → a ≡ doubled z → int_div a (pos 2) ≡ z
 half-of a z twice = ap (λ (x : ℤ). int_div x (pos 2)) twice ∙ half-doubled z
-
-quarter-of : (a z : ℤ) → a ≡ pos 4 *ℤ z → int_div a (pos 4) ≡ z
-quarter-of a z fourfold = ap (λ (x : ℤ). int_div x (pos 4)) fourfold ∙ quarter-fourfold z
 
 pub box-around : (long wide cx cy : ℤ) → box_of (around long wide cx cy) ≡ commands.Box long wide cx cy false
 box-around long wide cx cy =

@@ -1,3 +1,4 @@
+-- what a program that reads answers
 use Rattle.std.specs.Prelude.{◌≡◌, if◌then◌else◌, ◌&&◌, ◌==◌, ◌+◌, ◌≤◌, codes, ℕ, zero, suc, ℤ, pos, negsuc, Bool, true, false, List, [], length, Option, Some, None, Result, Ok, Err}
 use Rattle.std.specs.Str.{byte, bytes_eq}
 use Rattle.cif_text.specs.declared.command.Command.{Command}

@@ -1,3 +1,4 @@
+-- the shapes that commands draw
 use Rattle.std.specs.Prelude.{◌≡◌, ℕ, ◌+◌, length, Bool, true, false, List, [], ◌∷◌, ◌++◌, Option, Some, None, Result, Ok}
 use Rattle.std.specs.List.{list_all}
 use Rattle.geom_core.specs.declared.layout.Shape.{Shape}

@@ -1,3 +1,4 @@
+-- the form of calls
 use Rattle.std.specs.Prelude.{if◌then◌else◌, ℕ, zero, suc, ◌+◌, ◌-◌, ◌%◌, ℤ, pos, negsuc, ◌+ℤ◌, neg_ℤ, List, [], ◌∷◌, length, false, not, ◌&&◌, ◌==◌, nat_le, nat_abs, Option, Some, None, Result, Ok, Err}
 use Rattle.std.specs.Str.{byte}
 use Rattle.geom_core.specs.Turning.{Turning}

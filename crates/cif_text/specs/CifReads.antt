@@ -1,3 +1,4 @@
+-- the reading of a whole text
 use Rattle.std.specs.Prelude.{if◌then◌else◌, ℕ, zero, suc, ◌-◌, List, [], ◌∷◌, length, Bool, true, false, Result, Ok, Err}
 use Rattle.std.specs.List.{list_all}
 use Rattle.cif_text.specs.declared.command.Command.{Command}

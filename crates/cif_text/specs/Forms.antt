@@ -1,3 +1,4 @@
+-- the forms of boxes, layers, definitions and user commands
 use Rattle.std.specs.Prelude.{if◌then◌else◌, ℕ, zero, suc, ℤ, pos, negsuc, List, [], ◌∷◌, Bool, true, false, ◌&&◌, ◌==◌, codes, Option, Some, None, Result, Ok, Err}
 use Rattle.std.specs.Str.{byte, bytes_eq}
 use Rattle.std.specs.Char.{is_ascii_digit}

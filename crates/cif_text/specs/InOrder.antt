@@ -1,3 +1,4 @@
+-- one step after another, and numbers
 use Rattle.std.specs.Prelude.{Result, Ok, Err}
 
 -- one step after another: the next gets what the first gave, and a fault ends all

@@ -1,3 +1,4 @@
+-- the integers of a CIF text: digits, signs, the greatest magnitude, and the separators between two of them
 use Rattle.std.specs.Prelude.{if◌then◌else◌, ℕ, zero, suc, ℤ, pos, neg_ℤ, List, [], ◌∷◌, length, Bool, ◌==◌, nat_le, Result, Ok, Err}
 use Rattle.std.specs.Str.{byte}
 use Rattle.std.specs.Char.{is_ascii_digit}

@@ -1,3 +1,4 @@
+-- the commands whose printed text reads as they are
 use Rattle.std.specs.Prelude.{ℕ, ◌≤◌, ℤ, pos, negsuc, ◌≤ℤ◌}
 use Rattle.limits.specs.declared.TheConstants.{MOST_NUMBER}
 use Rattle.cif_text.specs.Numbers.{greatest}

@@ -1,3 +1,4 @@
+-- the layout that a text reads as
 use Rattle.std.specs.Prelude.{◌≡◌, ℕ, List, Ok}
 use Rattle.geom_core.specs.declared.layout.Layout.{Layout}
 use Rattle.cif_text.specs.CifReads.{cif_reads}

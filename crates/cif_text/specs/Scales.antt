@@ -1,3 +1,4 @@
+-- the numbers of boxes and calls at a scale
 use Rattle.std.specs.Prelude.{if◌then◌else◌, ℕ, suc, ◌*◌, ◌/◌, ◌%◌, ℤ, pos, negsuc, ◌+ℤ◌, ◌-ℤ◌, ◌*ℤ◌, neg_ℤ, Bool, true, false, ◌==◌, Option, Some, None, option_map}
 use Rattle.geom_core.specs.Extent.{Extent}
 use Rattle.geom_core.specs.Turning.{Turning}

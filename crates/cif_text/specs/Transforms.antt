@@ -1,3 +1,4 @@
+-- the whole of a call's steps, as a program has it
 use Rattle.std.specs.Prelude.{ℕ, ◌≤◌, nat_abs, List, length, Result, Ok}
 use Rattle.geom_core.specs.Turning.{Turning}
 use Rattle.cif_text.specs.declared.transform.Step.{Step as Move}

@@ -1,3 +1,4 @@
+-- the commands of a written layout, and what they mean
 use Rattle.std.specs.Prelude.{if◌then◌else◌, ℕ, suc, pos, ◌+ℤ◌, ◌-ℤ◌, int_div, false, List, [], ◌∷◌, ◌++◌, Option, Some, None}
 use Rattle.std.specs.Str.{bytes_eq}
 use Rattle.geom_core.specs.declared.layout.Shape.{Shape}

@@ -1,3 +1,5 @@
+//! Blanks, separators, digits and layer letters at the front of a text, and a command's bytes up to its semicolon.
+
 ghost use Rattle.cif_text.specs.Bytes.{begins, is_between as is_between_byte, is_blank as is_blank_byte, is_separator as is_separator_byte, is_white as is_white_byte, not_semicolon, skip, span, trimmed, without_tail};
 ghost use Rattle.geom_core.specs.LayerText.{is_layer_code};
 ghost use Rattle.std.specs.Char.{is_ascii_digit as is_digit_byte};
@@ -38,21 +40,21 @@ fn is_white(byte: u8) -> bool
 }
 
 /// Whether there are blanks alone.
-pub fn are_blanks(bytes: &[u8]) -> bool
+pub(crate) fn are_blanks(bytes: &[u8]) -> bool
     ensures { result ≡ list_all is_blank_byte bytes.now }
 {
     bytes.iter().all(|byte| is_blank(*byte))
 }
 
 /// Whether there are separators alone.
-pub fn are_separators(bytes: &[u8]) -> bool
+pub(crate) fn are_separators(bytes: &[u8]) -> bool
     ensures { result ≡ list_all is_separator_byte bytes.now }
 {
     bytes.iter().all(|byte| is_separator(*byte))
 }
 
 /// Whether this byte stands first.
-pub fn begins_with(byte: u8, bytes: &[u8]) -> bool
+pub(crate) fn begins_with(byte: u8, bytes: &[u8]) -> bool
     ensures { result ≡ begins (λ c. c == byte) bytes.now }
 {
     match bytes.split_first() {
@@ -62,7 +64,7 @@ pub fn begins_with(byte: u8, bytes: &[u8]) -> bool
 }
 
 /// Whether a blank stands first.
-pub fn begins_with_blank(bytes: &[u8]) -> bool
+pub(crate) fn begins_with_blank(bytes: &[u8]) -> bool
     ensures { result ≡ begins is_blank_byte bytes.now }
 {
     match bytes.split_first() {
@@ -72,7 +74,7 @@ pub fn begins_with_blank(bytes: &[u8]) -> bool
 }
 
 /// Whether a separator stands first.
-pub fn begins_with_separator(bytes: &[u8]) -> bool
+pub(crate) fn begins_with_separator(bytes: &[u8]) -> bool
     ensures { result ≡ begins is_separator_byte bytes.now }
 {
     match bytes.split_first() {
@@ -82,7 +84,7 @@ pub fn begins_with_separator(bytes: &[u8]) -> bool
 }
 
 /// What stands behind the blanks that come first.
-pub fn after_blanks(bytes: &[u8]) -> &[u8]
+pub(crate) fn after_blanks(bytes: &[u8]) -> &[u8]
     ensures rest { result.now ≡ skip is_blank_byte bytes.now }
     ensures shorter { length result.now ≤ length bytes.now }
 {
@@ -97,7 +99,7 @@ pub fn after_blanks(bytes: &[u8]) -> &[u8]
 }
 
 /// What stands behind the separators that come first.
-pub fn after_separators(bytes: &[u8]) -> &[u8]
+pub(crate) fn after_separators(bytes: &[u8]) -> &[u8]
     ensures rest { result.now ≡ skip is_separator_byte bytes.now }
     ensures shorter { length result.now ≤ length bytes.now }
 {
@@ -112,7 +114,7 @@ pub fn after_separators(bytes: &[u8]) -> &[u8]
 }
 
 /// The command that comes next and all behind it: blanks and semicolons before it are passed over.
-pub fn after_between(bytes: &[u8]) -> &[u8]
+pub(crate) fn after_between(bytes: &[u8]) -> &[u8]
     ensures rest { result.now ≡ skip is_between_byte bytes.now }
     ensures shorter { length result.now ≤ length bytes.now }
 {
@@ -137,13 +139,13 @@ fn digits_len(bytes: &[u8]) -> usize
 
 /// Digits alone.
 #[derive(Clone, Copy)]
-pub struct Digits<'a> {
-    pub bytes: &'a [u8],
+pub(crate) struct Digits<'a> {
+    pub(crate) bytes: &'a [u8],
     ghost are_digits: { list_all is_digit_byte bytes.now ≡ true },
 }
 
 /// The digits that come first, and what stands behind them.
-pub fn split_digits(bytes: &[u8]) -> (Digits<'_>, &[u8])
+pub(crate) fn split_digits(bytes: &[u8]) -> (Digits<'_>, &[u8])
     ensures { (result.0.bytes.now, result.1.now) ≡ span is_digit_byte bytes.now }
 {
     let (digits, rest) = bytes.split_at(digits_len(bytes));
@@ -166,7 +168,7 @@ fn layer_len(bytes: &[u8]) -> usize
 }
 
 /// The digits and upper-case letters that come first, and what stands behind them.
-pub fn split_layer(bytes: &[u8]) -> (&[u8], &[u8])
+pub(crate) fn split_layer(bytes: &[u8]) -> (&[u8], &[u8])
     ensures { (result.0.now, result.1.now) ≡ span is_layer_code bytes.now }
 {
     bytes.split_at(layer_len(bytes))
@@ -179,7 +181,7 @@ fn body_len(bytes: &[u8]) -> usize
 }
 
 /// What stands before the semicolon that comes next, and what stands from it on.
-pub fn split_body(bytes: &[u8]) -> (&[u8], &[u8])
+pub(crate) fn split_body(bytes: &[u8]) -> (&[u8], &[u8])
     ensures parts { (result.0.now, result.1.now) ≡ span not_semicolon bytes.now }
     ensures whole { length result.0.now + length result.1.now ≡ length bytes.now }
 {
@@ -215,7 +217,7 @@ fn after_white(text: &[u8]) -> &[u8]
 }
 
 /// The text without the white at both ends.
-pub fn without_white(text: &[u8]) -> &[u8]
+pub(crate) fn without_white(text: &[u8]) -> &[u8]
     ensures { result.now ≡ trimmed text.now }
 {
     before_tail(after_white(text))

@@ -1,3 +1,5 @@
+//! The form of a call: a symbol's number, and translations, mirrorings and rotations in order.
+
 ghost use Rattle.cif_text.specs.Answers.{Finds, form_seen};
 ghost use Rattle.cif_text.specs.Calls.{Step as SpecStep, call_form, call_of, mirror_of, point_of, rotate, step_of, translate};
 ghost use Rattle.cif_text.specs.Numbers.{greatest};
@@ -120,7 +122,7 @@ fn call_under(n: SymbolNumber, whole: Result<Transform, CifKind>) -> Result<Comm
 }
 
 /// The form of a call: the symbol's number and the transformation.
-pub fn call_form(body: &[u8]) -> Form
+pub(crate) fn call_form(body: &[u8]) -> Form
     ensures is { call_form body.now ≡ form_seen result }
     ensures sound { FormIsSound result }
 {

@@ -1,3 +1,5 @@
+//! The commands of CIF: box, layer, start and finish of a definition, call, comment, user command and end.
+
 use geom_core::{LayerName, Name};
 
 /// What a user command of a CIF text is for (CIF 2.0 leaves these commands, which begin with a digit, to their users).

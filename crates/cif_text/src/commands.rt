@@ -1,3 +1,5 @@
+//! The next command of a text by its first byte, nested comments among them, and commands that are left out.
+
 ghost use Rattle.cif_text.specs.Answers.{Gives, HasPlaceWithin, Tells, form_seen};
 ghost use Rattle.cif_text.specs.Bytes.{not_semicolon, span};
 ghost use Rattle.cif_text.specs.Commands.{after_comment, command_at, comment_of, cut_of, form_of, is_left_out, may_stand, open_behind, reading_of};
@@ -168,7 +170,11 @@ fn cut_command(
 }
 
 /// The command that begins here, inside a definition or outside, and what stands behind it.
-pub fn command_at(alloc: Global, inside: bool, bytes: &[u8]) -> Result<(Command, &[u8]), Stop>
+pub(crate) fn command_at(
+    alloc: Global,
+    inside: bool,
+    bytes: &[u8],
+) -> Result<(Command, &[u8]), Stop>
     ensures stands { IfOk result (λ x. IsInPlace inside x.0) }
     ensures gives { Gives (λ x. (x.0, x.1.now)) result (command_at inside bytes.now) }
 {

@@ -1,3 +1,5 @@
+//! What is wrong with a text that has no reading as CIF, and at which byte.
+
 use thiserror::Error;
 
 /// What is wrong with a text that has no reading as CIF.

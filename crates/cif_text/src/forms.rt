@@ -1,3 +1,5 @@
+//! What the bytes of boxes, layers, definitions and user commands read as.
+
 ghost use Rattle.cif_text.specs.Answers.{form_seen, user_kind_of};
 ghost use Rattle.cif_text.specs.Bytes.{is_blank};
 ghost use Rattle.cif_text.specs.Forms.{axis_of, box_along, box_end, box_form, definition_form, finished, layer_form, naming, start_form, user_form};
@@ -19,7 +21,7 @@ use geom_core::{LayerName, Name};
 use std::alloc::{AllocError, Global};
 
 /// What the bytes of a command read as: none of its forms, or a form, which is a command or has a fault of its own.
-pub type Form = Result<Result<Command, CifKind>, Misfit>;
+pub(crate) type Form = Result<Result<Command, CifKind>, Misfit>;
 
 /// The numbers of a box, but for its direction.
 #[derive(Clone, Copy)]
@@ -70,7 +72,7 @@ fn box_end(numbers: BoxNumbers, bytes: &[u8]) -> Form
 
 /// The form of a box: length, width, centre, and perhaps a direction.
 #[tactic(auto, unfolding(crate::specs::Forms::box_form))]
-pub fn box_form(body: &[u8]) -> Form
+pub(crate) fn box_form(body: &[u8]) -> Form
     ensures is { box_form body.now ≡ form_seen result }
     ensures sound { FormIsSound result }
 {
@@ -89,7 +91,7 @@ pub fn box_form(body: &[u8]) -> Form
 
 /// The form of a layer: its short name.
 #[tactic(auto, unfolding(crate::specs::Forms::layer_form))]
-pub fn layer_form(body: &[u8]) -> Form
+pub(crate) fn layer_form(body: &[u8]) -> Form
     ensures is { layer_form body.now ≡ form_seen result }
     ensures sound { FormIsSound result }
 {
@@ -134,7 +136,7 @@ fn finish_form(body: &[u8]) -> Form
 
 /// The form of a definition's start or finish.
 #[tactic(auto, unfolding(crate::specs::Forms::definition_form))]
-pub fn definition_form(body: &[u8]) -> Form
+pub(crate) fn definition_form(body: &[u8]) -> Form
     ensures is { definition_form body.now ≡ form_seen result }
     ensures sound { FormIsSound result }
 {
@@ -184,7 +186,7 @@ fn user_kind(first: u8, digits: &[u8]) -> UserKind
 
 /// The form of a user command that begins with this digit. The one error is want of memory.
 #[tactic(auto, unfolding(crate::specs::Forms::user_form))]
-pub fn user_form(alloc: Global, first: u8, body: &[u8]) -> Result<Form, AllocError>
+pub(crate) fn user_form(alloc: Global, first: u8, body: &[u8]) -> Result<Form, AllocError>
     ensures is { IfOk result (λ form. user_form first body.now ≡ form_seen form) }
     ensures sound { IfOk result FormIsSound }
 {

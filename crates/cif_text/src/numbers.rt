@@ -1,3 +1,5 @@
+//! Integers of a text with a sign, without one, or above 0, of magnitude at most 1,000,000,000,000.
+
 ghost use Rattle.cif_text.specs.Answers.{Finds};
 ghost use Rattle.cif_text.specs.Bytes.{is_blank, is_separator};
 ghost use Rattle.cif_text.specs.Numbers.{apart, greatest, natural, number, positive, value_of};
@@ -13,8 +15,8 @@ use limits::MOST_NUMBER;
 
 /// A number that can be read.
 #[derive(Clone, Copy, Debug)]
-pub struct Number {
-    pub value: i64,
+pub(crate) struct Number {
+    pub(crate) value: i64,
     ghost near: { IsNear value },
 }
 
@@ -52,7 +54,7 @@ fn value_at<'a>(place: usize, digits: &Digits, rest: &'a [u8]) -> Result<(u64, &
 
 /// The number without a sign that stands first, and what stands behind it. Takes no memory.
 #[tactic(auto, unfolding(crate::specs::Numbers::natural))]
-pub fn natural_at(bytes: &[u8]) -> Result<(u64, &[u8]), Misfit>
+pub(crate) fn natural_at(bytes: &[u8]) -> Result<(u64, &[u8]), Misfit>
     ensures gives { Finds (λ x. (x.0, x.1.now)) result (natural bytes.now) }
     ensures near { IfOk result (λ x. x.0 ≤ greatest) }
 {
@@ -62,7 +64,7 @@ pub fn natural_at(bytes: &[u8]) -> Result<(u64, &[u8]), Misfit>
 
 /// The number above 0 that stands first, and what stands behind it. Takes no memory.
 #[tactic(auto, unfolding(crate::specs::Numbers::positive))]
-pub fn positive_at(bytes: &[u8]) -> Result<(u64, &[u8]), Misfit>
+pub(crate) fn positive_at(bytes: &[u8]) -> Result<(u64, &[u8]), Misfit>
     ensures gives { Finds (λ x. (x.0, x.1.now)) result (positive bytes.now) }
     ensures near { IfOk result (λ x. IsPart x.0) }
 {
@@ -75,7 +77,7 @@ pub fn positive_at(bytes: &[u8]) -> Result<(u64, &[u8]), Misfit>
 
 /// The number that stands first, perhaps behind a minus sign, and what stands behind it. Takes no memory.
 #[tactic(auto, unfolding(crate::specs::Numbers::number))]
-pub fn number_at(bytes: &[u8]) -> Result<(i64, &[u8]), Misfit>
+pub(crate) fn number_at(bytes: &[u8]) -> Result<(i64, &[u8]), Misfit>
     ensures gives { Finds (λ x. (x.0, x.1.now)) result (number bytes.now) }
     ensures near { IfOk result (λ x. IsNear x.0) }
 {
@@ -92,7 +94,7 @@ pub fn number_at(bytes: &[u8]) -> Result<(i64, &[u8]), Misfit>
 }
 
 /// The number above 0 behind one separator or more, and what stands behind it. Takes no memory.
-pub fn next_positive(bytes: &[u8]) -> Result<(u64, &[u8]), Misfit>
+pub(crate) fn next_positive(bytes: &[u8]) -> Result<(u64, &[u8]), Misfit>
     ensures gives { Finds (λ x. (x.0, x.1.now)) result (apart is_separator positive bytes.now) }
     ensures near { IfOk result (λ x. IsPart x.0) }
 {
@@ -103,7 +105,7 @@ pub fn next_positive(bytes: &[u8]) -> Result<(u64, &[u8]), Misfit>
 }
 
 /// The number behind one separator or more, and what stands behind it. Takes no memory.
-pub fn next_number(bytes: &[u8]) -> Result<(i64, &[u8]), Misfit>
+pub(crate) fn next_number(bytes: &[u8]) -> Result<(i64, &[u8]), Misfit>
     ensures gives { Finds (λ x. (x.0, x.1.now)) result (apart is_separator number bytes.now) }
     ensures near { IfOk result (λ x. IsNear x.0) }
 {
@@ -114,7 +116,7 @@ pub fn next_number(bytes: &[u8]) -> Result<(i64, &[u8]), Misfit>
 }
 
 /// The number behind one blank or more, and what stands behind it. Takes no memory.
-pub fn next_among_blanks(bytes: &[u8]) -> Result<(i64, &[u8]), Misfit>
+pub(crate) fn next_among_blanks(bytes: &[u8]) -> Result<(i64, &[u8]), Misfit>
     ensures gives { Finds (λ x. (x.0, x.1.now)) result (apart is_blank number bytes.now) }
     ensures near { IfOk result (λ x. IsNear x.0) }
 {

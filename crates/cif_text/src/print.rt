@@ -1,3 +1,5 @@
+//! The line of a command, printed to the front of a buffer of 160 bytes.
+
 ghost use Rattle.cif_text.specs.Printing.{blanked, line, flip_parts, quarter_parts, upright_parts, HasLine};
 ghost use Rattle.cif_text.specs.declared.command.Command.TheVariants as commands;
 ghost use Rattle.std.specs.Fmt.{signed_decimal};

@@ -1,3 +1,5 @@
+//! All commands of a text up to its end command, or the first byte that has no reading.
+
 ghost use Rattle.cif_text.specs.Answers.{Gives, Reads, commands_of};
 ghost use Rattle.cif_text.specs.Bytes.{is_ascii_byte, span};
 ghost use Rattle.cif_text.specs.CifReads.{cif_reads, is_end, is_open_behind};

@@ -1,3 +1,5 @@
+//! How reading a command ends early: bytes of no form, a flaw at a place of the text, or want of memory.
+
 ghost use Rattle.cif_text.specs.declared.stop.Stop.TheVariants as stops;
 ghost use Rattle.std.specs.Prelude.{◌≡◌};
 
@@ -6,7 +8,7 @@ use std::alloc::{AllocError, AllocFailed};
 
 /// Why the bytes of a command have none of its forms.
 #[derive(Clone, Copy, Debug)]
-pub enum Misfit {
+pub(crate) enum Misfit {
     /// The form calls for a number, and one that is too great begins so many bytes before the command's semicolon.
     TooGreat(usize),
     /// Anything else.
@@ -15,14 +17,14 @@ pub enum Misfit {
 
 /// What is wrong with a text: the kind, and how many bytes of the text are left from its place on.
 #[derive(Clone, Copy, Debug)]
-pub struct Flaw {
-    pub kind: CifKind,
-    pub left: usize,
+pub(crate) struct Flaw {
+    pub(crate) kind: CifKind,
+    pub(crate) left: usize,
 }
 
 /// Why reading ended early: the text is at fault, or memory ran out.
 #[derive(Debug, Drop)]
-pub enum Stop {
+pub(crate) enum Stop {
     At(Flaw),
     Memory,
 }

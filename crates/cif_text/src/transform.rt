@@ -1,3 +1,5 @@
+//! The steps of a call put together to one flip, quarter turns and an offset.
+
 ghost use Rattle.cif_text.specs.Calls.{after, at_rest, mirrored, quarter_turned, translated, turned};
 ghost use Rattle.cif_text.specs.Numbers.{greatest};
 ghost use Rattle.cif_text.specs.Transforms.{IsWithin, step_seen};
@@ -10,7 +12,7 @@ use std::marker::Model;
 
 /// A step of a call's transformation.
 #[derive(Clone, Copy, Debug)]
-pub enum Step {
+pub(crate) enum Step {
     /// Adds to x and y.
     Translate(Number, Number),
     /// Negates x.
@@ -24,11 +26,11 @@ pub enum Step {
 /// What some steps of a call do together: x is negated where `flip` is set, then come `quarters` quarter turns,
 /// counter-clockwise, 0 to 3 of them, and then the offset (`dx`, `dy`), which may pass what one number can be.
 #[derive(Clone, Copy, Debug)]
-pub struct Transform {
-    pub flip: bool,
-    pub quarters: u8,
-    pub dx: i128,
-    pub dy: i128,
+pub(crate) struct Transform {
+    pub(crate) flip: bool,
+    pub(crate) quarters: u8,
+    pub(crate) dx: i128,
+    pub(crate) dy: i128,
 }
 
 impl Model for Transform {
@@ -45,7 +47,7 @@ impl Model for Transform {
 }
 
 /// What no step does.
-pub fn at_rest() -> Transform
+pub(crate) fn at_rest() -> Transform
     ensures { result ≡ at_rest }
 {
     Transform {
@@ -116,7 +118,7 @@ fn translated(x: Number, y: Number, t: Transform) -> Transform
 }
 
 /// What a step does behind others; Turned where it has a direction that is not along an axis.
-pub fn after(step: Step, t: Transform) -> Result<Transform, CifKind>
+pub(crate) fn after(step: Step, t: Transform) -> Result<Transform, CifKind>
     requires { IsWithin (2 ^ 119) t }
     ensures is { result ≡ after (step_seen step) t }
     ensures within { (most : ℕ) → IsWithin most t → IfOk result (IsWithin (most + greatest)) }

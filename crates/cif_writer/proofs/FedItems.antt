@@ -1,5 +1,5 @@
-use Rattle.std.proofs.Common.{◌≡◌, ℕ, ◌<◌, ◌≤◌, ◌++◌, List, [], ◌∷◌, length, map, sum, Bool, true, false, ◌||◌, Some, Contains, ap, subst, ◌∙◌, refl, arith}
-use Rattle.std.proofs.lemmas.Bool.{both_ways}
+use Rattle.std.proofs.Common.{◌≡◌, ℕ, ◌<◌, ◌≤◌, ◌++◌, List, [], ◌∷◌, length, map, sum, Bool, true, Some, Contains, ap, subst, ◌∙◌, refl, arith}
+use Rattle.std.proofs.lemmas.Bool.{both_ways, or_left, or_right}
 use Rattle.std.proofs.lemmas.Bool.Decides.{nat_tests}
 use Rattle.std.proofs.lemmas.List.Elements.{Contains-append_right, recursion_from_All}
 use Rattle.std.proofs.lemmas.List.Sums.{get_or-le-sum_by}
@@ -9,9 +9,6 @@ use Rattle.std.specs.Prelude.{◌==◌, slice_get, option_map}
 use Rattle.std.specs.Option.{option_and_then}
 use Rattle.row_model.specs.declared.stands.Stand.{Stand}
 use Rattle.design_model.proofs.DesignPins.{pin-within}
-use Rattle.list_facts.proofs.Members.{find-member, map-member, member-head, member-place}
-use Rattle.list_facts.proofs.Places.{at-place}
-use Rattle.list_facts.proofs.Every.{every-from-get, every-get}
 use Rattle.design_model.specs.Netlist.{Netlist, IsNetlist}
 use Rattle.design_model.specs.declared.design.CellKind.{CellKind}
 use Rattle.design_model.specs.declared.design.Inst.{Inst}
@@ -27,6 +24,9 @@ use Rattle.feed_cells.specs.declared.fed.Item.{Item}
 use Rattle.feed_cells.specs.declared.fed.Item.TheVariants.{Cell, Feed}
 use Rattle.feed_cells.proofs.FedLaws.{fed-row, fed-row-some, fed-width, item-stands, seat-stands}
 use Rattle.cif_writer.specs.Symbols.{is_feed, has_feed}
+use Rattle.std_laws.proofs.Members.{find-member, map-member, member-head, member-place}
+use Rattle.std_laws.proofs.Places.{at-place}
+use Rattle.std_laws.proofs.Every.{every-from-get, every-get}
 
 -- an item is at most as wide as its row
 item-narrow : (d : Netlist) (items : List Item) (item : Item) → Contains items item → item_width d item ≤ items_width d items
@@ -101,14 +101,6 @@ abbrev pub IsThere : Netlist → Bool → Item → Type 0
 IsThere d feeds (Cell s) = s.instance < length d.instances
 IsThere d feeds (Feed net) = feeds ≡ true
 
-or-first : (a b : Bool) → a ≡ true → (a || b) ≡ true
-or-first true b is = refl
-or-first false b is = absurd (both_ways false refl is)
-
-or-second : (a b : Bool) → b ≡ true → (a || b) ≡ true
-or-second true b is = refl
-or-second false b is = is
-
 row-there : (d : Netlist) (feeds : Bool) (items : List Item) → AllByRecursion (λ (s : Seat). s.instance < length d.instances) (seats_in items)
     → (list_any is_feed items ≡ true → feeds ≡ true) → AllByRecursion (IsThere d feeds) items
 row-there d feeds [] all any = tt
@@ -119,8 +111,8 @@ rows-there : (d : Netlist) (feeds : Bool) (most : ℕ) (rows : List (List Item))
     → (has_feed rows ≡ true → feeds ≡ true) → AllByRecursion (AllByRecursion (IsThere d feeds)) rows
 rows-there d feeds most [] all any = tt
 rows-there d feeds most (items ∷ rows) all any = (
-  row-there d feeds items all.0.0 (λ (first : list_any is_feed items ≡ true). any (or-first (list_any is_feed items) (has_feed rows) first)),
-  rows-there d feeds most rows all.1 (λ (other : has_feed rows ≡ true). any (or-second (list_any is_feed items) (has_feed rows) other)),
+  row-there d feeds items all.0.0 (λ (first : list_any is_feed items ≡ true). any (or_left (list_any is_feed items) (has_feed rows) first)),
+  rows-there d feeds most rows all.1 (λ (other : has_feed rows ≡ true). any (or_right (list_any is_feed items) (has_feed rows) other)),
 )
 
 -- the items of rows with feeds are such

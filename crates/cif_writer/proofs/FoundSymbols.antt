@@ -1,18 +1,17 @@
+use Rattle.cif_text.specs.Written as written
 use Rattle.std.proofs.Common.{◌≡◌, ap, sym, ◌∙◌, subst, ℕ, ◌+◌, List, length, map, Bool, true, Some, None, arith, add-one}
 use Rattle.std.proofs.lemmas.List.{length-map}
 use Rattle.std.specs.Prelude.{slice_get}
 use Rattle.cif_text.proofs.TextLemmas.{symbol_of-written}
 use Rattle.cif_text.specs.Symbols.{Symbol, symbol_of}
-use Rattle.cif_text.specs.Written as written
 use Rattle.cif_text.proofs.WrittenLayout.{symbol_at, symbols_from}
 use Rattle.tech_rules.specs.Rules.{RuleValues}
 use Rattle.design_model.specs.Netlist.{Netlist}
 use Rattle.design_model.specs.declared.design.CellKind.{CellKind}
 use Rattle.feed_cells.specs.Fed.{Fed}
-use Rattle.wire_geom.proofs.ListLaws.{map-at}
 use Rattle.channel_stack.specs.Layouts.{feed_drawing}
 use Rattle.cif_writer.specs.Symbols.{symbol_for, feed_symbol, has_feed, symbols_of}
-use Rattle.wire_geom.proofs.ListLaws.{get-before, get-behind}
+use Rattle.std_laws.proofs.Places.{map-at, get-before, get-behind}
 
 -- the symbols of a layout, numbered from 1
 abbrev pub symbols_in : RuleValues → Netlist → Fed → List Symbol

@@ -1,13 +1,12 @@
+use Rattle.cif_text.specs.declared.command.Command.TheVariants as commands
+use Rattle.wire_geom.specs.declared.drawn.Drawn as wires
 use Rattle.std.proofs.Common.{◌≡◌, ℕ, suc, ◌+◌, List, [], ◌∷◌, ◌++◌, drop, length, refl, arith, add-one, ap, ap₂, sym, ◌∙◌, Option, Some, None}
-use Rattle.std.proofs.Math.Seq.{drop-cons}
 use Rattle.std.proofs.lemmas.List.{append-nil}
-use Rattle.std.proofs.lemmas.Option.{get_or_from_slice_get, slice_get_within}
 use Rattle.std.specs.List.{slice_get}
 use Rattle.cif_text.proofs.TextLemmas.{text_of-append, items-append}
 use Rattle.cif_text.specs.Printing.{line, text_of}
 use Rattle.cif_text.specs.Written.{MainItem, WrittenSymbol, copy_commands, items_commands, layer_after, layout_commands, shape_commands, symbol_commands, symbols_commands}
 use Rattle.cif_text.specs.declared.command.Command.{Command}
-use Rattle.cif_text.specs.declared.command.Command.TheVariants as commands
 use Rattle.cif_writer.specs.LayoutText.{text_behind}
 use Rattle.cif_writer.proofs.Lines.{text-last}
 use Rattle.cif_writer.specs.Symbols.{copies_of, copy_name, copy_number, items_of, kind_name, symbols_with, wires_of}
@@ -18,14 +17,7 @@ use Rattle.design_model.specs.Netlist.{Netlist}
 use Rattle.geom_core.specs.declared.layout.Shape.{Shape}
 use Rattle.tech_rules.specs.Rules.{RuleValues}
 use Rattle.wire_geom.specs.Drawing.{drawing}
-use Rattle.wire_geom.specs.declared.drawn.Drawn as wires
-
--- what is left of a list from a place on: the element there, and what is left behind it
-drop-get : {A : Type 0} (xs : List A) (k : ℕ) (x : A) → slice_get xs k ≡ Some x → drop k xs ≡ x ∷ drop (k + 1) xs
-drop-get {A = A} xs k x at =
-    drop-cons xs k x (slice_get_within xs k x at)
-    ∙ ap (λ (y : A). y ∷ drop (suc k) xs) (get_or_from_slice_get xs k x x at)
-    ∙ ap (λ (n : ℕ). x ∷ drop n xs) (sym (add-one k))
+use Rattle.std_laws.proofs.Slices.{drop-next}
 
 -- the items of a row leave the layer, whatever it is
 row-layer : (d : Netlist) (layer : Option (List ℕ)) (items : List PlacedItem) → layer_after layer (copies_of d items) ≡ layer
@@ -47,13 +39,13 @@ pub wires-parts : (last : Option (List ℕ)) (drawn : List wires.Drawn) (k : ℕ
     → text_of (items_commands last (wires_of (drop k drawn)))
     ≡ text_of (shape_commands last a.shape) ++ text_of (items_commands (Some a.shape.layer) (wires_of (drop (k + 1) drawn)))
 wires-parts last drawn k a at =
-    ap (λ (l : List wires.Drawn). text_of (items_commands last (wires_of l))) (drop-get drawn k a at)
+    ap (λ (l : List wires.Drawn). text_of (items_commands last (wires_of l))) (drop-next drawn k a at)
     ∙ text_of-append (shape_commands last a.shape) (items_commands (Some a.shape.layer) (wires_of (drop (k + 1) drawn)))
 
 -- and the layer behind it
 pub wires-layer : (last : Option (List ℕ)) (drawn : List wires.Drawn) (k : ℕ) (a : wires.Drawn) → slice_get drawn k ≡ Some a
     → layer_after last (wires_of (drop k drawn)) ≡ layer_after (Some a.shape.layer) (wires_of (drop (k + 1) drawn))
-wires-layer last drawn k a at = ap (λ (l : List wires.Drawn). layer_after last (wires_of l)) (drop-get drawn k a at)
+wires-layer last drawn k a at = ap (λ (l : List wires.Drawn). layer_after last (wires_of l)) (drop-next drawn k a at)
 
 -- the text of symbols: that of the first, and that of the others
 pub symbols-parts : (d : Netlist) (n : ℕ) (shapes : List Shape) (rest : List (List Shape))

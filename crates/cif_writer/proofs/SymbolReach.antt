@@ -1,9 +1,8 @@
+use Rattle.cif_text.specs.Written as written
 use Rattle.std.proofs.Common.{◌+◌, ◌*◌, ◌-◌, ◌≤◌, ◌∷◌, [], ℕ, List, Bool, true, false, map, arith, refl, subst, sym}
 use Rattle.std.proofs.lemmas.List.Elements.{recursion_from_All}
 use Rattle.std.specs.List.{AllByRecursion}
-use Rattle.list_facts.proofs.Every.{every-append}
 use Rattle.channel_stack.specs.Layouts.{feed_drawing}
-use Rattle.cif_text.specs.Written as written
 use Rattle.design_model.specs.Drawing.{drawing_of, middle_of}
 use Rattle.design_model.specs.Netlist.{IsKind, IsNetlist, Netlist}
 use Rattle.design_model.specs.declared.design.CellKind.{CellKind}
@@ -14,6 +13,7 @@ use Rattle.tech_rules.specs.Rules.{RuleValues, ValidRules}
 use Rattle.cif_writer.specs.Symbols.{feed_symbol, has_feed, symbol_drawings}
 use Rattle.cif_writer.proofs.DrawingReach.{drawing-in-reach, scaled-in-reach}
 use Rattle.cif_writer.proofs.SymbolDrawings.{parted}
+use Rattle.std_laws.proofs.Every.{every-append}
 
 -- all shapes of some drawings are in reach
 abbrev pub AreInReach : List (List Shape) → Type 0

@@ -3,7 +3,6 @@ use Rattle.std.proofs.Math.Nat.{mul-le-mul_right}
 use Rattle.std.proofs.lemmas.List.{length-map}
 use Rattle.std.proofs.lemmas.List.Elements.{recursion_from_All}
 use Rattle.std.specs.List.{AllByRecursion}
-use Rattle.list_facts.proofs.Every.{every-append, every-both, every-from-get, every-weaker}
 use Rattle.tech_rules.specs.Rules.{RuleValues, ValidRules}
 use Rattle.geom_core.specs.Reach.{IsShapeInReach}
 use Rattle.design_model.specs.Netlist.{Netlist, IsNetlist, IsKind}
@@ -25,6 +24,7 @@ use Rattle.channel_stack.proofs.StackBounds.{IsBounded, bases-within, channel-be
 use Rattle.cif_writer.proofs.WritableItems.{IsLaid, IsRow, items-are}
 use Rattle.cif_writer.proofs.WritableSymbols.{feed-are, kinds-are}
 use Rattle.cif_writer.proofs.WritableWires.{IsWire, drawing-is}
+use Rattle.std_laws.proofs.Every.{every-append, every-both, every-from-get, every-weaker}
 
 -- the wirings of a routed design, and its rows
 wirings-laid : (r : RuleValues) (d : Netlist) (fed : Fed) (ws : List Wiring) → IsRouted r d fed ws → AllByRecursion (IsLaid (most_columns ws)) ws

@@ -1,3 +1,5 @@
+use Rattle.feed_cells.specs.declared.fed.Item as items
+use Rattle.cif_text.specs.Written as written
 use Rattle.std.proofs.Common.{◌≡◌, ℕ, suc, pos, ◌+◌, ◌*◌, ◌<◌, ◌≤◌, ◌++◌, List, [], ◌∷◌, length, map, All, Bool, true, false, Option, Some, None, sym, ap, subst, ◌∙◌, refl, add-one, arith}
 use Rattle.std.proofs.Math.Nat.{mul-le-mul_right, mul_assoc}
 use Rattle.std.proofs.lemmas.List.{length-map}
@@ -6,8 +8,6 @@ use Rattle.std.proofs.lemmas.Option.{slice_get-map}
 use Rattle.std.specs.List.{AllByRecursion}
 use Rattle.std.specs.Prelude.{slice_get, option_map}
 use Rattle.feed_cells.proofs.FedWidths.{width-cons}
-use Rattle.list_facts.proofs.Places.{at-place}
-use Rattle.list_facts.proofs.Every.{every-append, every-get, every-map, every-weaker}
 use Rattle.tech_rules.specs.Rules.{RuleValues, ValidRules}
 use Rattle.geom_core.specs.Names.{IsName}
 use Rattle.design_model.specs.Netlist.{Netlist, IsNetlist}
@@ -19,11 +19,9 @@ use Rattle.channel_model.specs.declared.wiring.Wiring.{Wiring}
 use Rattle.wire_geom.specs.Drawing.{drawing}
 use Rattle.wire_geom.specs.declared.drawn.Drawn.{Drawn}
 use Rattle.feed_cells.specs.Fed.{item_width, items_width}
-use Rattle.feed_cells.specs.declared.fed.Item as items
 use Rattle.feed_cells.specs.declared.fed.Item.TheVariants.{Cell, Feed}
 use Rattle.geom_core.specs.declared.turn.Place.{Place}
 use Rattle.layout_laws.specs.Heights.{channel_height}
-use Rattle.cif_text.specs.Written as written
 use Rattle.cif_text.proofs.WrittenLayout.{IsWhole, IsCopy, IsItem, symbol_at, symbols_from}
 use Rattle.cif_text.specs.Symbols.{symbol_of}
 use Rattle.cif_text.proofs.TextLemmas.{symbol_of-written}
@@ -31,11 +29,12 @@ use Rattle.channel_stack.specs.Layouts.{feed_drawing}
 use Rattle.cif_writer.specs.Symbols.{symbol_for, feed_symbol, name_of, number_of, copy_of, copies_of, wires_of, items_of}
 use Rattle.channel_stack.specs.Stack.{channel_bases, row_bases, stack_top, drawings, placed_rows, placed_from, item_place, place_at, corner_column, is_mirrored}
 use Rattle.cif_writer.proofs.FedItems.{IsThere}
-use Rattle.wire_geom.proofs.ListLaws.{get-before, get-behind}
 use Rattle.channel_stack.proofs.StackBounds.{channel-below}
 use Rattle.cif_writer.proofs.WholeBoxes.{near-of}
 use Rattle.cif_writer.proofs.WritableSymbols.{name-is}
 use Rattle.cif_writer.proofs.WritableWires.{IsWire, drawing-is}
+use Rattle.std_laws.proofs.Places.{at-place, get-before, get-behind}
+use Rattle.std_laws.proofs.Every.{every-append, every-get, every-map, every-weaker}
 
 -- a wiring on its grid, of at most so many columns
 pub record IsLaid (columns : ℕ) (w : Wiring) : Type 0 where

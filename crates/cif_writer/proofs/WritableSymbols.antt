@@ -13,17 +13,17 @@ use Rattle.design_model.specs.declared.design.Position.{Position}
 use Rattle.design_model.specs.Room.{least_height}
 use Rattle.cif_text.proofs.PrintableTexts.{IsNameText}
 use Rattle.cif_text.proofs.WrittenLayout.{IsShape, IsDrawn}
-use Rattle.cif_text.proofs.SpanLemmas.{and-both}
 use Rattle.cif_text.proofs.TextLemmas.{name-shown}
 use Rattle.channel_stack.specs.Layouts.{feed_outline, feed_wire, feed_drawing}
 use Rattle.cif_writer.specs.Symbols.{symbol_for, feed_symbol}
 use Rattle.cif_writer.proofs.WholeBoxes.{box-whole, halves-near}
+use Rattle.std.proofs.lemmas.Bool.{and_parts}
 
 -- a word of YAL can be a name
 pub name-is : (text : List ℕ) → IsName text → IsNameText text
 name-is text named =
     let parts : (nat_le 1 (length text) ≡ true) × (list_all is_name_byte text ≡ true) =
-    and-both (nat_le 1 (length text)) (list_all is_name_byte text) named in
+    and_parts (nat_le 1 (length text)) (list_all is_name_byte text) named in
     let test : nat_le 1 (length text) ≡ true = parts.0 in
     let some : 1 ≤ length text = grind (arith, nat_tests) in
     name-shown text some parts.1

@@ -4,7 +4,6 @@ use Rattle.std.proofs.lemmas.List.Elements.{recursion_from_All}
 use Rattle.std.proofs.Math.Nat.{mul-le-mul_right}
 use Rattle.std.specs.List.{AllByRecursion, flat_map}
 use Rattle.std.specs.Prelude.{◌≡◌, true, pos}
-use Rattle.list_facts.proofs.Every.{every-append, every-map, every-weaker}
 use Rattle.tech_rules.specs.Rules.{RuleValues, ValidRules, pad}
 use Rattle.geom_core.specs.LayerText.{is_layer_text}
 use Rattle.geom_core.specs.Reach.{IsInReach, IsShapeInReach}
@@ -21,6 +20,7 @@ use Rattle.wire_geom.proofs.EndLaws.{LowerFacts, UpperFacts, lower_facts, upper_
 use Rattle.wire_geom.proofs.GridLaws.{centre-order, line-step}
 use Rattle.cif_text.proofs.WrittenLayout.{IsShape}
 use Rattle.cif_writer.proofs.WholeBoxes.{box-whole, halves-near}
+use Rattle.std_laws.proofs.Every.{every-append, every-map, every-weaker}
 
 -- a box with sides, whose upper right corner lies within a width and a height in half units
 pub record IsWithin (width height : ℕ) (b : Box) : Type 0 where

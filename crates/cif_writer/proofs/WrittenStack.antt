@@ -1,10 +1,11 @@
+use Rattle.geom_core.specs.declared.layout.Cell as layouts
+use Rattle.cif_text.specs.Written as written
+use Rattle.cif_text.proofs.WrittenLayout as layout
 use Rattle.std.proofs.Common.{◌≡◌, refl, ap, sym, ◌∙◌, append_assoc, ℕ, ◌+◌, ◌<◌, List, [], ◌∷◌, ◌++◌, length, map, Option, Some, Ok, arith}
 use Rattle.std.proofs.lemmas.List.{length-append, length-map}
 use Rattle.std.specs.List.{AllByRecursion}
 use Rattle.std.specs.Prelude.{slice_get}
-use Rattle.list_facts.proofs.Places.{at-place}
 use Rattle.geom_core.specs.Moving.{moved_shape, turn_at}
-use Rattle.geom_core.specs.declared.layout.Cell as layouts
 use Rattle.geom_core.specs.declared.layout.Shape.{Shape}
 use Rattle.geom_core.specs.declared.turn.Place.{Place}
 use Rattle.tech_rules.specs.Rules.{RuleValues, ValidRules}
@@ -22,8 +23,6 @@ use Rattle.cif_text.proofs.WrittenMeaning.{written-means}
 use Rattle.cif_text.proofs.WrittenText.{written-reads}
 use Rattle.cif_text.specs.ReadsAs.{ReadsAs}
 use Rattle.cif_text.specs.Symbols.{Symbol}
-use Rattle.cif_text.specs.Written as written
-use Rattle.cif_text.proofs.WrittenLayout as layout
 use Rattle.channel_stack.proofs.KnownItems.{KnownCell, instance-known}
 use Rattle.channel_stack.specs.Layouts.{channel_shapes, instance_cells, item_cells, item_shapes, kind_cells, kind_drawing, layout_of, row_cells, row_shapes, stacked_cells, stacked_shapes}
 use Rattle.channel_stack.specs.Routed.{IsRouted}
@@ -34,6 +33,7 @@ use Rattle.cif_writer.specs.Symbols.{copies_of, copy_of, has_feed, items_of, mai
 use Rattle.cif_writer.proofs.FedItems.{IsThere, items-there}
 use Rattle.cif_writer.proofs.FoundSymbols.{symbols_in, kind-found, feed-found}
 use Rattle.cif_writer.proofs.Writable.{stack-writable}
+use Rattle.std_laws.proofs.Places.{at-place}
 
 -- the shapes and the cells of the main level in two parts
 shapes-append : (symbols : List Symbol) (xs ys : List written.MainItem)

@@ -1,3 +1,4 @@
+-- bytes that go behind those that were buffered
 use Rattle.std.specs.Prelude.{◌≡◌, ◌++◌, ◌*◌, ℕ, List, length, Option}
 use Rattle.limits.specs.declared.TheConstants.{PIECE}
 use Rattle.shelf_io.specs.Told.{Refines, appended}

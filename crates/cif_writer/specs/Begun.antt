@@ -1,3 +1,4 @@
+-- a text that is begun
 use Rattle.std.specs.Prelude.{ℕ, List, Option}
 
 -- a text that is begun: what is not put yet, and the layer that was written last at this level

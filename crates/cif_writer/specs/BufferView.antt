@@ -1,3 +1,4 @@
+-- buffered bytes as contracts see them, always fewer than a whole piece
 use Rattle.std.specs.Prelude.{◌<◌, ◌≤◌, ℕ, List, length}
 use Rattle.std.specs.Vec.{vec_capacity}
 use Rattle.limits.specs.declared.TheConstants.{PIECE}

@@ -1,3 +1,4 @@
+-- the symbols of a placed design, and what stands at its main level
 use Rattle.std.specs.Prelude.{ℕ, suc, ◌+◌, List, [], ◌∷◌, ◌++◌, map, length, Bool, true, false, Option, None, Some, option_map, slice_get}
 use Rattle.std.specs.List.{list_any}
 use Rattle.geom_core.specs.declared.layout.Shape.{Shape}

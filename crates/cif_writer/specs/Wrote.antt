@@ -1,3 +1,4 @@
+-- a text that is written behind what is buffered, or not to its end
 use Rattle.std.specs.Prelude.{◌≡◌, ◌≢◌, ◌++◌, ℕ, List, Option}
 use Rattle.shelf_io.specs.Count.{Rose}
 use Rattle.shelf_io.specs.Told.{EndsWithin, Refines, appended}

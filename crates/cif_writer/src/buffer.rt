@@ -13,7 +13,7 @@ use std::marker::Model;
 
 /// Fewer than 4,096 bytes that are still to be put to a file. Contracts see the bytes.
 #[derive(Debug, Drop)]
-pub struct Buffer {
+pub(crate) struct Buffer {
     bytes: Vec<u8>,
 }
 
@@ -30,7 +30,7 @@ impl Model for Buffer {
 
 impl Buffer {
     /// A buffer with these bytes. The one error is want of memory; no later call takes any.
-    pub fn new(alloc: Global, bytes: &[u8]) -> Result<Buffer, AllocError>
+    pub(crate) fn new(alloc: Global, bytes: &[u8]) -> Result<Buffer, AllocError>
         requires { length bytes.now < PIECE }
         ensures { IfOk result (λ buffer. buffer ≡ bytes.now) }
     {
@@ -58,7 +58,7 @@ impl Buffer {
 
     /// Puts bytes behind those that are buffered. Whole pieces go to the file. After Failed, which comes only where the file's write count rose, a front of these
     /// bytes was put.
-    pub fn append<S: Shelf>(
+    pub(crate) fn append<S: Shelf>(
         &mut self,
         shelf: &mut S,
         file: &str,
@@ -81,7 +81,7 @@ impl Buffer {
     }
 
     /// Puts all that is buffered to the file; nothing is buffered then. After Failed, which comes only where the file's write count rose, a front of it was put.
-    pub fn finish<S: Shelf>(self, shelf: &mut S, file: &str) -> Result<(), Failed>
+    pub(crate) fn finish<S: Shelf>(self, shelf: &mut S, file: &str) -> Result<(), Failed>
         ensures put { OnOk result (Refines (S.holds shelf.new file.now) (appended (S.holds shelf.old file.now) self)) }
         ensures front { OnErr result (EndsWithin (S.holds shelf.old file.now) self (S.holds shelf.new file.now)) }
         ensures others { (other : List ℕ) → other ≢ file.now → S.holds shelf.new other ≡ S.holds shelf.old other }

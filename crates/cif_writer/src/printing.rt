@@ -17,7 +17,7 @@ use geom_core::{LayerName, Name, Place, Shape};
 use shelf_io::{Failed, Shelf};
 
 /// Puts the line of a command that is no user command.
-pub fn put_command<S: Shelf>(
+pub(crate) fn put_command<S: Shelf>(
     buffer: &mut Buffer,
     shelf: &mut S,
     file: &str,
@@ -183,7 +183,7 @@ fn put_layer<S: Shelf>(
 }
 
 /// Puts a shape as a box, with the line of its layer where it is not the layer written last.
-pub fn put_shape<S: Shelf>(
+pub(crate) fn put_shape<S: Shelf>(
     buffer: &mut Buffer,
     shelf: &mut S,
     file: &str,
@@ -228,7 +228,7 @@ fn put_shapes<S: Shelf>(
 }
 
 /// Puts a numbered symbol with its name, if it has one, and its shapes.
-pub fn put_symbol<S: Shelf>(
+pub(crate) fn put_symbol<S: Shelf>(
     buffer: &mut Buffer,
     shelf: &mut S,
     file: &str,
@@ -256,7 +256,7 @@ pub fn put_symbol<S: Shelf>(
 }
 
 /// Puts the call of a numbered symbol at a place, behind the copy's name, if it has one.
-pub fn put_copy<S: Shelf>(
+pub(crate) fn put_copy<S: Shelf>(
     buffer: &mut Buffer,
     shelf: &mut S,
     file: &str,

@@ -1,4 +1,4 @@
-use Rattle.std.proofs.Common.{◌≡◌, ◌+◌, ◌≤ℤ◌, ◌-ℤ◌, pos, ℕ, zero, suc, ℤ, List, [], ◌∷◌, Bool, true, false, length, map, Some, refl, ap, subst, ◌∙◌}
+use Rattle.std.proofs.Common.{◌≡◌, ◌+◌, ◌≤ℤ◌, ◌-ℤ◌, pos, ℕ, zero, suc, ℤ, List, [], ◌∷◌, true, false, length, map, Some, refl, ap, subst, ◌∙◌}
 use Rattle.std.specs.Prelude.{All}
 use Rattle.std.specs.Option.{option_map}
 use Rattle.std.specs.List.{slice_get, enumerate_from}
@@ -17,6 +17,7 @@ use Rattle.close_rects.specs.ClosePairs.{is_close}
 use Rattle.close_rects.specs.Rests.{IsNextClose, rest_at}
 use Rattle.close_rects.proofs.Closeness.{Meet-close, close-Meet}
 use Rattle.close_rects.proofs.Rows.{NoneClose, rest_at-found, rest_at-next}
+use Rattle.std.proofs.lemmas.Bool.{false_from_ne_true}
 
 fit_from : (n : ℕ) (rects : List Extent) → All HasInside rects → All IsExtentInWideReach rects → All IsFit (map fresh (enumerate_from n rects))
 fit_from n [] inside wide = All-nil IsFit
@@ -44,17 +45,13 @@ item_of [] k a is = let never : ⊥ = cc in absurd never
 item_of (item ∷ items) zero a is = let same : entry item ≡ a = cc in (item, refl, same)
 item_of (item ∷ items) (suc k) a is = item_of items k a is
 
-not_true : (t : Bool) → ¬ (t ≡ true) → t ≡ false
-not_true true refuted = absurd (refuted refl)
-not_true false refuted = refl
-
 -- where none meets the bounds near a rectangle, none is close to it
 pub NoneClose-met : (reach : ℤ) (items : List Item) (item : Item) (low high : ℕ) → pos 0 ≤ℤ reach → All IsFit items → IsFit item
     → NoneMet items (grown (reach -ℤ pos 1) item.rect) low high → NoneClose reach item.rect (map entry items) low high
 NoneClose-met reach items item low high reaches fit fits none k b on below is =
     let other : (i : Item) × (slice_get items k ≡ Some i) × (entry i ≡ b) = item_of items k b is in
     let other_fit : IsFit other.0 = fit_at items k other.0 fit other.1 in
-    let far : is_close reach item.rect other.0.rect ≡ false = not_true (is_close reach item.rect other.0.rect)
+    let far : is_close reach item.rect other.0.rect ≡ false = false_from_ne_true (is_close reach item.rect other.0.rect)
     (λ close. none k other.0 on below other.1 (record {
       left = other_fit.left;
       meets = Meet-close reach item.rect other.0.rect fits.inside other_fit.inside reaches close;

@@ -1,13 +1,14 @@
-use Rattle.std.proofs.Common.{◌≡◌, ◌+◌, ◌<◌, ◌≤◌, ℕ, zero, suc, List, [], ◌∷◌, ◌++◌, Bool, true, false, if◌then◌else◌, length, map, take, drop, get_or, Some, refl, ap, sym, ◌∙◌, arith, ◌-◌, min, append_assoc}
+use Rattle.std.proofs.Common.{◌≡◌, ◌+◌, ◌<◌, ℕ, suc, List, [], ◌∷◌, ◌++◌, Bool, true, false, if◌then◌else◌, length, map, take, drop, get_or, Some, refl, ap, sym, ◌∙◌, arith, ◌-◌, append_assoc}
 use Rattle.std.specs.Option.{option_map}
 use Rattle.std.specs.List.{slice_get, slice_index}
 use Rattle.std.proofs.lemmas.List.{map-append, take_more}
 use Rattle.std.proofs.lemmas.Option.{get_or_from_slice_get, slice_get-map}
-use Rattle.list_facts.proofs.Places.{drop-here}
 use Rattle.close_rects.specs.declared.member.Member.{Member}
 use Rattle.close_rects.specs.Crowds.{crowd_of, crowds_of, is_crowded, places_from}
 use Rattle.close_rects.specs.Kins.{pairs_of}
 use Rattle.close_rects.proofs.Placing.{StandFrom, StandFrom-drop, StandFrom-first, StandFrom-later}
+use Rattle.std_laws.proofs.Places.{drop-here}
+use Rattle.std_laws.proofs.Slices.{take-twice}
 
 -- the number of a member by its place
 pub number-at : (members : List Member) (n : ℕ) (b : Member) → slice_get members n ≡ Some b
@@ -48,12 +49,6 @@ pairs_of-more members number old pairs pushed places i m within here is before =
     ∙ append_assoc old (pairs_of members number (take i places)) ((number, m.number) ∷ [])
     ∙ ap (λ t. old ++ t) (ap (λ p. pairs_of members number (take i places) ++ p ∷ []) one ∙ sym more)
 
--- what is cut off is cut off before more is added, too
-pub take-twice : {X : Type 0} (most : ℕ) (xs ys : List X) → take most (take most xs ++ ys) ≡ take most (xs ++ ys)
-take-twice zero xs ys = refl
-take-twice (suc most) [] ys = refl
-take-twice (suc most) (x ∷ xs) ys = ap (λ t. x ∷ t) (take-twice most xs ys)
-
 -- a row's pairs are gathered, as many as there is room for
 pub rows-more : (members : List Member) (most row : ℕ) (a : Member) (pairs gathered : List (ℕ × ℕ)) → slice_get members row ≡ Some a
     → gathered ≡ take most (pairs ++ pairs_of members a.number (places_from (row + 1) a (drop (row + 1) members)))
@@ -70,17 +65,3 @@ rows-more members most row a pairs gathered here is rest =
     ∙ ap (take most) (append_assoc pairs (crowd_of a (drop (row + 1) members)) (crowds_of (drop (row + 1) members)))
     ∙ ap (λ t. take most (pairs ++ t)) (sym first)
     ∙ rest
-
--- of the pairs that are added only those are kept for which there is room
-pub take-room : {X Y : Type 0} (most count : ℕ) (f : Y → X) (xs : List X) (ys : List Y) → length xs ≤ most → count ≡ min (length ys) (most - length xs)
-    → xs ++ map f (take count ys) ≡ take most (xs ++ map f ys)
-take-room zero count f [] [] room is = let none : count ≡ 0 = omega arith in ap (λ n. map f (take n [])) none
-take-room zero count f [] (y ∷ ys) room is = let none : count ≡ 0 = omega arith in ap (λ n. map f (take n (y ∷ ys))) none
-take-room zero count f (x ∷ xs) ys room is = absurd (omega arith)
-take-room (suc most) count f [] [] room is = let none : count ≡ 0 = omega arith in ap (λ n. map f (take n [])) none
-take-room (suc most) count f [] (y ∷ ys) room is =
-    let less : min (length ys) (most - 0) + 1 ≡ count = omega arith in
-    let one : count ≡ suc (min (length ys) (most - 0)) = omega arith in
-    ap (λ n. map f (take n (y ∷ ys))) one ∙ ap (λ t. f y ∷ t) (take-room most (min (length ys) (most - 0)) f [] ys (omega arith) refl)
-take-room (suc most) count f (x ∷ xs) ys room is =
-    ap (λ t. x ∷ t) (take-room most count f xs ys (omega arith) (omega arith))

@@ -8,8 +8,8 @@ use Rattle.geom_core.specs.Rectangles.{Encloses, Meet}
 use Rattle.close_rects.specs.declared.items.Item.{Item}
 use Rattle.close_rects.specs.declared.blocks.Node.{Node}
 use Rattle.close_rects.specs.Blocks.{Covers, IsNode, IsIndexed, NoneMet}
-use Rattle.close_rects.proofs.Lists.{slice_get-set, slice_get-push}
 use Rattle.close_rects.proofs.Windows.{Meet-enclosing, Encloses-trans}
+use Rattle.std_laws.proofs.Places.{slice_get-set, slice_get-push}
 
 -- bounds round two neighbouring stretches
 pub Covers-over : (items : List Item) (low middle high : ℕ) (a b whole : Extent) → Covers items low middle a → Covers items middle high b

@@ -1,19 +1,12 @@
-use Rattle.std.proofs.Common.{◌≡◌, ◌+◌, ◌<◌, ℕ, get_or, refl, List, [], ◌∷◌, ◌++◌, length, Option, Some, None, true, eqb, ap, set, arith, inl, inr, subst}
-use Rattle.std.specs.Prelude.{IfSome}
+use Rattle.std.proofs.Common.{◌≡◌, ◌+◌, ◌<◌, ℕ, get_or, refl, List, [], ◌∷◌, ◌++◌, length, ap, set, arith, inl, inr}
 use Rattle.std.proofs.lemmas.List.{length-append, length-set}
-use Rattle.std.proofs.lemmas.Bool.{cases_lt, eqb-true}
+use Rattle.std.proofs.lemmas.Bool.{cases_lt}
 use Rattle.std.proofs.lemmas.Option.{slice_get_read}
-use Rattle.std.specs.Option.{option_eq}
 use Rattle.close_rects.specs.declared.items.Item.{Item}
 use Rattle.close_rects.specs.declared.kin.Kin.{Kin}
 use Rattle.close_rects.specs.declared.member.Member.{Member}
 use Rattle.close_rects.specs.Kins.{AreKins, AreOfClass, IsKin}
-use Rattle.close_rects.proofs.Lists.{slice_get-push, slice_get-set}
-
--- what is told of a value that is there
-pub some_told : {X : Type 0} (P : X → Type 0) (o : Option X) (x : X) → IfSome o P → o ≡ Some x → P x
-some_told P (Some y) x told is = let same : y ≡ x = cc in subst P same told
-some_told P None x told is = let never : ⊥ = cc in absurd never
+use Rattle.std_laws.proofs.Places.{slice_get-push, slice_get-set}
 
 -- two neighbouring stretches of one class
 pub AreOfClass-over : (members : List Member) (items : List Item) (low middle high class : ℕ) → AreOfClass members items low middle class
@@ -49,8 +42,3 @@ AreKins-push members items kins pushed kin is are told b other at =
           let old : IsKin members items (length kins) b other = are b other kept in
           record { on = old.on; within = omega arith; own = old.own; all = old.all }
     ]
-
--- a class that was found equal
-pub same_class : (o : Option ℕ) (class : ℕ) → option_eq eqb o (Some class) ≡ true → o ≡ Some class
-same_class None class same = let never : ⊥ = cc in absurd never
-same_class (Some other) class same = ap (λ (n : ℕ). Some n) (eqb-true other class same)

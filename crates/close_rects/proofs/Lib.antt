@@ -1,11 +1,7 @@
--- lists that are read after a write
-pub mod Lists
 -- rectangles within bounds, and windows that meet them
 pub mod Windows
 -- blocks whose nodes tell of them
 pub mod Indexes
--- signed numbers that are written and read back
-pub mod Signed
 -- the rectangles that are left, and taking one
 pub mod Sets
 -- close rectangles, and windows that they meet
@@ -21,8 +17,6 @@ pub mod Fits
 pub mod SetLaws
 -- short rows that are decided
 pub mod Worked
--- numbers in order
-pub mod Ascending
 -- what the kin of blocks tell
 pub mod KinLaws
 -- members that are found by their items, in order

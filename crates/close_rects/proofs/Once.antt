@@ -3,17 +3,16 @@ use Rattle.std.specs.Prelude.{Contains, All, AllPairs}
 use Rattle.std.specs.List.{slice_get, enumerate_from, AllByRecursion, IsDistinct}
 use Rattle.std.specs.List.Sorted.{IsPermutation}
 use Rattle.std.proofs.lemmas.List.Sorted.{Contains-permutation, IsPermutation-sym}
-use Rattle.std.proofs.lemmas.List.Elements.{All-contains_itself}
+use Rattle.std.proofs.lemmas.List.Elements.{All-contains_itself, Contains-append_cases}
 use Rattle.std.proofs.lemmas.List.Kept.{AllPairs-cons}
 use Rattle.std.proofs.lemmas.Map.Keys.{IsDistinct-IsPermutation, IsDistinct-cons, IsDistinct-head, IsDistinct-tail}
 use Rattle.std.proofs.lemmas.Bool.{cases_eq, cases_lt, eq-eqb, ne_eqb}
-use Rattle.list_facts.proofs.Members.{member-head}
 use Rattle.geom_core.specs.Extent.{Extent}
 use Rattle.close_rects.specs.ClosePairs.{is_close, IsClosePair, AreClosePairs}
 use Rattle.close_rects.specs.Rests.{pair_of, row_of, rows_of}
 use Rattle.close_rects.proofs.Closeness.{is_close-comm}
-use Rattle.close_rects.proofs.Sets.{Contains-later}
-use Rattle.close_rects.proofs.Pairs.{Contains-append, Contains-cases, Contains-none, HaveNumbers, IsMade, IsSecond, not_here, pair_of-comm, pair_of-less, row_among, rows_among, rows_contain, same_number}
+use Rattle.close_rects.proofs.Pairs.{HaveNumbers, IsMade, IsSecond, not_here, pair_of-comm, pair_of-less, row_among, rows_among, rows_contain, same_number}
+use Rattle.std_laws.proofs.Members.{member-head, member-tail, member-cases, member-none}
 
 -- no pair stands in a list again
 abbrev pub StandOnce : List (ℕ × ℕ) → Type 0
@@ -33,11 +32,11 @@ StandOnce-append : (left right : List (ℕ × ℕ)) → StandOnce left → Stand
     → ((p : ℕ × ℕ) → Contains left p → ¬ Contains right p) → StandOnce (left ++ right)
 StandOnce-append [] right left_once right_once apart = right_once
 StandOnce-append (p ∷ left) right left_once right_once apart = (
-  λ among. elim (Contains-append left right p among) [
+  λ among. elim (Contains-append_cases left right p among) [
     | inl in_left ↦ left_once.0 in_left
     | inr in_right ↦ apart p (member-head p left) in_right
   ],
-  StandOnce-append left right left_once.1 right_once (λ q among. apart q (Contains-later q p left among)),
+  StandOnce-append left right left_once.1 right_once (λ q among. apart q (member-tail p left q among)),
 )
 
 -- two pairs with one number in common are equal only if the other is
@@ -98,8 +97,8 @@ HaveNumbers-enumerated n (x ∷ rects) =
 -- a numbered rectangle stands in the list at its number
 at_number : (n : ℕ) (rects : List Extent) (a : ℕ × Extent) → Contains (enumerate_from n rects) a
     → (k : ℕ) × (a.0 ≡ n + k) × (slice_get rects k ≡ Some a.1)
-at_number n [] a among = absurd (Contains-none a among)
-at_number n (x ∷ rects) a among = elim (Contains-cases (n, x) (enumerate_from (n + 1) rects) a among) [
+at_number n [] a among = absurd (member-none a among)
+at_number n (x ∷ rects) a among = elim (member-cases (n, x) (enumerate_from (n + 1) rects) a among) [
   | inl same ↦
       let number : n ≡ a.0 = ap (λ (p : ℕ × Extent). p.0) same in
       (0, omega arith, ap (λ (p : ℕ × Extent). Some p.1) same)
@@ -116,7 +115,7 @@ numbered_at n (y ∷ rects) zero m x is sum =
     let first : (n, y) ≡ (m, x) = cc in
     subst (λ (p : ℕ × Extent). Contains (enumerate_from n (y ∷ rects)) p) first (member-head (n, y) (enumerate_from (n + 1) rects))
 numbered_at n (y ∷ rects) (suc k) m x is sum =
-    Contains-later (m, x) (n, y) (enumerate_from (n + 1) rects) (numbered_at (n + 1) rects k m x is (omega arith))
+    member-tail (n, y) (enumerate_from (n + 1) rects) (m, x) (numbered_at (n + 1) rects k m x is (omega arith))
 
 pub stands_at : (rects : List Extent) (a : ℕ × Extent) → Contains (enumerate_from 0 rects) a → slice_get rects a.0 ≡ Some a.1
 stands_at rects a among =

@@ -1,43 +1,14 @@
-use Rattle.std.proofs.Common.{◌≡◌, ◌≢◌, ◌⊎◌, ◌<◌, min, max, ℕ, zero, suc, ℤ, List, [], ◌∷◌, ◌++◌, Bool, true, false, if◌then◌else◌, refl, ap, sym, subst, ◌∙◌, inl, inr, arith, nat_eq}
+use Rattle.std.proofs.Common.{◌≡◌, ◌≢◌, ◌<◌, min, max, ℕ, ℤ, List, [], ◌∷◌, Bool, true, false, if◌then◌else◌, refl, ap, sym, subst, ◌∙◌, inl, inr, arith, nat_eq}
 use Rattle.std.specs.Prelude.{Contains}
 use Rattle.std.specs.List.{IsDistinct, AllByRecursion}
 use Rattle.std.proofs.lemmas.Map.Keys.{IsDistinct-head, IsDistinct-tail}
 use Rattle.std.proofs.lemmas.Bool.{eq-eqb}
-use Rattle.list_facts.proofs.Members.{member-head}
 use Rattle.geom_core.specs.Extent.{Extent}
 use Rattle.close_rects.specs.ClosePairs.{is_close}
 use Rattle.close_rects.specs.Rests.{pair_of, row_of, rows_of}
 use Rattle.close_rects.proofs.Closeness.{is_close-comm}
-use Rattle.close_rects.proofs.Sets.{Contains-later}
-
--- an element of a list is its first or one of the rest
-pub Contains-cases : {X : Type 0} (y : X) (ys : List X) (x : X) → Contains (y ∷ ys) x → (y ≡ x) ⊎ Contains ys x
-Contains-cases y ys x (zero, within, is) = inl is
-Contains-cases y ys x (suc k, within, is) = inr (k, omega arith, is)
-
-pub Contains-none : {X : Type 0} (x : X) → Contains [] x → ⊥
-Contains-none x (k, within, is) = omega arith
-
-pub Contains-append : {X : Type 0} (xs ys : List X) (x : X) → Contains (xs ++ ys) x → Contains xs x ⊎ Contains ys x
-Contains-append [] ys x among = inr among
-Contains-append (y ∷ xs) ys x among = elim (Contains-cases y (xs ++ ys) x among) [
-  | inl same ↦ inl (subst (λ z. Contains (y ∷ xs) z) same (member-head y xs))
-  | inr later ↦ elim (Contains-append xs ys x later) [
-    | inl left ↦ inl (Contains-later x y xs left)
-    | inr right ↦ inr right
-  ]
-]
-
-pub Contains-left : {X : Type 0} (xs ys : List X) (x : X) → Contains xs x → Contains (xs ++ ys) x
-Contains-left [] ys x among = absurd (Contains-none x among)
-Contains-left (y ∷ xs) ys x among = elim (Contains-cases y xs x among) [
-  | inl same ↦ subst (λ z. Contains (y ∷ (xs ++ ys)) z) same (member-head y (xs ++ ys))
-  | inr later ↦ Contains-later x y (xs ++ ys) (Contains-left xs ys x later)
-]
-
-pub Contains-right : {X : Type 0} (xs ys : List X) (x : X) → Contains ys x → Contains (xs ++ ys) x
-Contains-right [] ys x among = among
-Contains-right (y ∷ xs) ys x among = Contains-later x y (xs ++ ys) (Contains-right xs ys x among)
+use Rattle.std_laws.proofs.Members.{member-head, member-tail, member-cases, member-none}
+use Rattle.std.proofs.lemmas.List.Elements.{Contains-append_cases, Contains-append_left, Contains-append_right}
 
 -- two numbered rectangles have one number
 abbrev pub same_number : ℕ × Extent → ℕ × Extent → Bool
@@ -50,16 +21,16 @@ IsSecond reach a rects pair = (b : ℕ × Extent) × Contains rects b × (is_clo
 -- what stands behind the pairs of one rectangle
 pub row_among : (reach : ℤ) (a : ℕ × Extent) (rects : List (ℕ × Extent)) (pair : ℕ × ℕ) → Contains (row_of reach a rects) pair
     → IsSecond reach a rects pair
-row_among reach a [] pair among = absurd (Contains-none pair among)
+row_among reach a [] pair among = absurd (member-none pair among)
 row_among reach a (b ∷ rects) pair among = cases (row_among reach a rects pair) (is_close reach a.1 b.1) refl among
   where
     later : (Contains (row_of reach a rects) pair → IsSecond reach a rects pair) → Contains (row_of reach a rects) pair
         → IsSecond reach a (b ∷ rects) pair
-    later find rest = let found : IsSecond reach a rects pair = find rest in (found.0, Contains-later found.0 b rects found.1, found.2, found.3)
+    later find rest = let found : IsSecond reach a rects pair = find rest in (found.0, member-tail b rects found.0 found.1, found.2, found.3)
 
     cases : (Contains (row_of reach a rects) pair → IsSecond reach a rects pair) → (t : Bool) → is_close reach a.1 b.1 ≡ t
         → Contains (if t then pair_of a b ∷ row_of reach a rects else row_of reach a rects) pair → IsSecond reach a (b ∷ rects) pair
-    cases find true close rest = elim (Contains-cases (pair_of a b) (row_of reach a rects) pair rest) [
+    cases find true close rest = elim (member-cases (pair_of a b) (row_of reach a rects) pair rest) [
       | inl same ↦ (b, member-head b rects, close, sym same)
       | inr after ↦ later find after
     ]
@@ -67,8 +38,8 @@ row_among reach a (b ∷ rects) pair among = cases (row_among reach a rects pair
 
 pub row_contains : (reach : ℤ) (a b : ℕ × Extent) (rects : List (ℕ × Extent)) → Contains rects b → is_close reach a.1 b.1 ≡ true
     → Contains (row_of reach a rects) (pair_of a b)
-row_contains reach a b [] among close = absurd (Contains-none b among)
-row_contains reach a b (c ∷ rects) among close = elim (Contains-cases c rects b among) [
+row_contains reach a b [] among close = absurd (member-none b among)
+row_contains reach a b (c ∷ rects) among close = elim (member-cases c rects b among) [
   | inl same ↦
       let near : is_close reach a.1 c.1 ≡ true = ap (λ (d : ℕ × Extent). is_close reach a.1 d.1) same ∙ close in
       subst (λ t. Contains (if t then pair_of a c ∷ row_of reach a rects else row_of reach a rects) (pair_of a b)) (sym near)
@@ -78,7 +49,7 @@ row_contains reach a b (c ∷ rects) among close = elim (Contains-cases c rects 
   where
     further : (t : Bool) → Contains (row_of reach a rects) (pair_of a b)
         → Contains (if t then pair_of a c ∷ row_of reach a rects else row_of reach a rects) (pair_of a b)
-    further true rest = Contains-later (pair_of a b) (pair_of a c) (row_of reach a rects) rest
+    further true rest = member-tail (pair_of a c) (row_of reach a rects) (pair_of a b) rest
     further false rest = rest
 
 -- no later rectangle has the number of an earlier one
@@ -87,8 +58,8 @@ HaveNumbers rects = IsDistinct same_number rects
 
 pub not_here : (a : ℕ × Extent) (rects : List (ℕ × Extent)) → AllByRecursion (λ b. same_number a b ≡ false) rects → (b : ℕ × Extent)
     → Contains rects b → a.0 ≢ b.0
-not_here a [] none b among = absurd (Contains-none b among)
-not_here a (c ∷ rects) none b among = elim (Contains-cases c rects b among) [
+not_here a [] none b among = absurd (member-none b among)
+not_here a (c ∷ rects) none b among = elim (member-cases c rects b among) [
   | inl same ↦ λ equal.
       let apart : nat_eq a.0 b.0 ≡ false = subst (λ (d : ℕ × Extent). nat_eq a.0 d.0 ≡ false) same none.0 in
       let one : nat_eq a.0 b.0 ≡ true = eq-eqb a.0 b.0 equal in
@@ -108,15 +79,15 @@ pub record IsMade (reach : ℤ) (rects : List (ℕ × Extent)) (pair : ℕ × �
 
 pub rows_among : (reach : ℤ) (rects : List (ℕ × Extent)) (pair : ℕ × ℕ) → HaveNumbers rects → Contains (rows_of reach rects) pair
     → IsMade reach rects pair
-rows_among reach [] pair numbers among = absurd (Contains-none pair among)
-rows_among reach (a ∷ rects) pair numbers among = elim (Contains-append (row_of reach a rects) (rows_of reach rects) pair among) [
+rows_among reach [] pair numbers among = absurd (member-none pair among)
+rows_among reach (a ∷ rects) pair numbers among = elim (Contains-append_cases (row_of reach a rects) (rows_of reach rects) pair among) [
   | inl here ↦
       let found : IsSecond reach a rects pair = row_among reach a rects pair here in
       record {
         a = a;
         b = found.0;
         a_among = member-head a rects;
-        b_among = Contains-later found.0 a rects found.1;
+        b_among = member-tail a rects found.0 found.1;
         apart = not_here a rects (IsDistinct-head same_number a rects numbers) found.0 found.1;
         close = found.2;
         is = found.3;
@@ -126,8 +97,8 @@ rows_among reach (a ∷ rects) pair numbers among = elim (Contains-append (row_o
       record {
         a = made.a;
         b = made.b;
-        a_among = Contains-later made.a a rects made.a_among;
-        b_among = Contains-later made.b a rects made.b_among;
+        a_among = member-tail a rects made.a made.a_among;
+        b_among = member-tail a rects made.b made.b_among;
         apart = made.apart;
         close = made.close;
         is = made.is;
@@ -148,24 +119,24 @@ pair_of-less a b less =
 
 pub rows_contain : (reach : ℤ) (rects : List (ℕ × Extent)) (a b : ℕ × Extent) → Contains rects a → Contains rects b → a.0 ≢ b.0
     → is_close reach a.1 b.1 ≡ true → Contains (rows_of reach rects) (pair_of a b)
-rows_contain reach [] a b a_among b_among apart close = absurd (Contains-none a a_among)
+rows_contain reach [] a b a_among b_among apart close = absurd (member-none a a_among)
 rows_contain reach (c ∷ rects) a b a_among b_among apart close =
-    elim (Contains-cases c rects a a_among) [
-      | inl a_first ↦ elim (Contains-cases c rects b b_among) [
+    elim (member-cases c rects a a_among) [
+      | inl a_first ↦ elim (member-cases c rects b b_among) [
         | inl b_first ↦ let one : a ≡ b = cc in absurd (apart (ap (λ (p : ℕ × Extent). p.0) one))
         | inr b_later ↦
             let near : is_close reach c.1 b.1 ≡ true = ap (λ (d : ℕ × Extent). is_close reach d.1 b.1) a_first ∙ close in
             subst (λ (d : ℕ × Extent). Contains (rows_of reach (c ∷ rects)) (pair_of d b)) a_first
-            (Contains-left (row_of reach c rects) (rows_of reach rects) (pair_of c b) (row_contains reach c b rects b_later near))
+            (Contains-append_left (row_of reach c rects) (rows_of reach rects) (pair_of c b) (row_contains reach c b rects b_later near))
       ]
-      | inr a_later ↦ elim (Contains-cases c rects b b_among) [
+      | inr a_later ↦ elim (member-cases c rects b b_among) [
         | inl b_first ↦
             let near : is_close reach c.1 a.1 ≡ true =
             ap (λ (d : ℕ × Extent). is_close reach d.1 a.1) b_first ∙ is_close-comm reach b.1 a.1 ∙ close in
             subst (λ (d : ℕ × Extent). Contains (rows_of reach (c ∷ rects)) (pair_of a d)) b_first
             (subst (λ (p : ℕ × ℕ). Contains (rows_of reach (c ∷ rects)) p) (pair_of-comm c a)
-            (Contains-left (row_of reach c rects) (rows_of reach rects) (pair_of c a) (row_contains reach c a rects a_later near)))
-        | inr b_later ↦ Contains-right (row_of reach c rects) (rows_of reach rects) (pair_of a b)
+            (Contains-append_left (row_of reach c rects) (rows_of reach rects) (pair_of c a) (row_contains reach c a rects a_later near)))
+        | inr b_later ↦ Contains-append_right (row_of reach c rects) (rows_of reach rects) (pair_of a b)
             (rows_contain reach rects a b a_later b_later apart close)
       ]
     ]

@@ -10,7 +10,6 @@ use Rattle.std.proofs.lemmas.List.Sorted.{All-permutation, sum_by-IsPermutation}
 use Rattle.std.proofs.lemmas.List.{append-nil, length-map}
 use Rattle.std.proofs.lemmas.List.Sums.{sum_by-cons}
 use Rattle.std.proofs.lemmas.Option.{get_or_from_slice_get, slice_get-map, slice_get_within}
-use Rattle.list_facts.proofs.Places.{drop-here, drop-past}
 use Rattle.geom_core.specs.Extent.{Extent}
 use Rattle.geom_core.specs.Reach.{IsExtentInWideReach}
 use Rattle.geom_core.specs.Rectangles.{grown}
@@ -20,9 +19,10 @@ use Rattle.close_rects.specs.ClosePairs.{is_close}
 use Rattle.close_rects.specs.Crowds.{KeepsInReach, area, is_crowded, places_from}
 use Rattle.close_rects.specs.Items.{fresh, HasInside, IsFit}
 use Rattle.close_rects.specs.Kins.{AreNumbered, ArePlaced, IsFirstStranger, IsStranger, NoneStrange, class_of, is_later, numbers_of}
-use Rattle.close_rects.proofs.Ascending.{RisesFrom, hit, rises-sorted, rising-same, times, times-cons}
 use Rattle.close_rects.proofs.Closeness.{Meet-close, close-Meet}
 use Rattle.close_rects.proofs.Fits.{fit_at, fit_moved}
+use Rattle.std_laws.proofs.Places.{drop-here, drop-past, get-dropped}
+use Rattle.std_laws.proofs.Rising.{RisesFrom, hit, rises-sorted, rising-same, frequency, frequency-cons}
 
 -- these are the members from place n on
 abbrev pub StandFrom : List Member → ℕ → List Member → Type 0
@@ -37,14 +37,8 @@ pub StandFrom-later : (members : List Member) (n : ℕ) (b : Member) (bs : List 
 StandFrom-later members n b bs stand k other is =
     let step : n + 1 + k ≡ n + suc k = omega arith in ap (λ i. slice_get members i) step ∙ stand (suc k) other is
 
-slice_get-drop : {X : Type 0} (xs : List X) (n k : ℕ) → slice_get (drop n xs) k ≡ slice_get xs (n + k)
-slice_get-drop xs zero k = let here : k ≡ 0 + k = omega arith in ap (λ i. slice_get xs i) here
-slice_get-drop [] (suc n) k = refl
-slice_get-drop (x ∷ xs) (suc n) k =
-    let step : suc (n + k) ≡ suc n + k = omega arith in slice_get-drop xs n k ∙ ap (λ i. slice_get (x ∷ xs) i) step
-
 pub StandFrom-drop : (members : List Member) (n : ℕ) → StandFrom members n (drop n members)
-StandFrom-drop members n k b is = sym (slice_get-drop members n k) ∙ is
+StandFrom-drop members n k b is = sym (get-dropped members n k) ∙ is
 
 pub StandFrom-all : (members : List Member) → StandFrom members 0 members
 StandFrom-all members k b is = let here : 0 + k ≡ k = omega arith in ap (λ i. slice_get members i) here ∙ is
@@ -241,14 +235,14 @@ places-rise m n a (b ∷ bs) on = cases (is_crowded a b) (places-rise n (n + 1) 
 abbrev weight : (Item → Bool) → ℕ → Item → ℕ
 weight test v item = if test item then hit v item.number else 0
 
-times-numbers : (test : Item → Bool) (v : ℕ) (items : List Item) → times v (numbers_of test items) ≡ sum_by (weight test v) items
+times-numbers : (test : Item → Bool) (v : ℕ) (items : List Item) → frequency v (numbers_of test items) ≡ sum_by (weight test v) items
 times-numbers test v [] = refl
 times-numbers test v (item ∷ items) = cases (test item) (times-numbers test v items) ∙ sym (sum_by-cons (weight test v) item items)
   where
-    cases : (t : Bool) → times v (numbers_of test items) ≡ sum_by (weight test v) items
-        → times v (if t then item.number ∷ numbers_of test items else numbers_of test items)
+    cases : (t : Bool) → frequency v (numbers_of test items) ≡ sum_by (weight test v) items
+        → frequency v (if t then item.number ∷ numbers_of test items else numbers_of test items)
         ≡ (if t then hit v item.number else 0) + sum_by (weight test v) items
-    cases true later = times-cons v item.number (numbers_of test items) ∙ ap (λ n. hit v item.number + n) later
+    cases true later = frequency-cons v item.number (numbers_of test items) ∙ ap (λ n. hit v item.number + n) later
     cases false later = later ∙ omega arith
 
 -- the numbers of the strangers after a row, sorted, are the places of those that crowd its member
@@ -259,11 +253,11 @@ places-sorted members items row a found sorted placed is moved in_order =
     rising-same 0 0 sorted (places_from (row + 1) a (drop (row + 1) members)) (rises-sorted sorted in_order)
     (places-rise 0 (row + 1) a (drop (row + 1) members) (omega arith)) (λ v.
     sum_by-IsPermutation (hit v) found sorted moved
-    ∙ ap (times v) is
+    ∙ ap (frequency v) is
     ∙ times-numbers test v items
     ∙ sum_by-IsPermutation (weight test v) start items placed.moved
     ∙ sym (times-numbers test v start)
-    ∙ ap (times v) (numbers-before members row 0 (row + 1) a members (omega arith) (StandFrom-all members)))
+    ∙ ap (frequency v) (numbers-before members row 0 (row + 1) a members (omega arith) (StandFrom-all members)))
   where
     test : Item → Bool
     test = is_later members row a

@@ -1,10 +1,11 @@
 use Rattle.std.proofs.Common.{◌≡◌, ◌+◌, ◌<◌, ◌≤◌, ℕ, zero, suc, ℤ, List, [], ◌∷◌, ◌++◌, true, false, if◌then◌else◌, length, drop, Some, refl, ap, sym, ◌∙◌, inl, inr, arith}
 use Rattle.std.specs.List.{slice_get}
 use Rattle.std.proofs.lemmas.Bool.{cases_lt}
-use Rattle.list_facts.proofs.Places.{drop-here, drop-past}
 use Rattle.geom_core.specs.Extent.{Extent}
 use Rattle.close_rects.specs.ClosePairs.{is_close}
 use Rattle.close_rects.specs.Rests.{pair_of, row_of, rows_of, rows_from, rest_at}
+use Rattle.std_laws.proofs.Places.{drop-here, drop-past}
+use Rattle.std_laws.proofs.Slices.{drop-one}
 
 -- none of the rectangles from one place on up to before another is close to this one
 abbrev pub NoneClose : ℤ → Extent → List (ℕ × Extent) → ℕ → ℕ → Type 0
@@ -53,16 +54,10 @@ pub rows_from-all : (reach : ℤ) (rects : List (ℕ × Extent)) → rows_from r
 rows_from-all reach [] = refl
 rows_from-all reach (a ∷ rects) = refl
 
-drop_one : {X : Type 0} (xs : List X) (k : ℕ) → drop 1 (drop k xs) ≡ drop (suc k) xs
-drop_one [] zero = refl
-drop_one [] (suc k) = refl
-drop_one (x ∷ xs) zero = refl
-drop_one (x ∷ xs) (suc k) = drop_one xs k
-
 -- at the beginning of a row all later rows are left
 pub rest_at-row : (reach : ℤ) (rects : List (ℕ × Extent)) (row : ℕ) → rest_at reach rects row (suc row) ≡ rows_of reach (drop row rects)
 rest_at-row reach rects row =
-    ap (λ t. rows_from reach (drop row rects) t) (sym (drop_one rects row)) ∙ rows_from-all reach (drop row rects)
+    ap (λ t. rows_from reach (drop row rects) t) (sym (drop-one rects row)) ∙ rows_from-all reach (drop row rects)
 
 row_of-none : (reach : ℤ) (a : ℕ × Extent) (rects : List (ℕ × Extent)) (at : ℕ) → NoneClose reach a.1 rects at (length rects)
     → row_of reach a (drop at rects) ≡ []

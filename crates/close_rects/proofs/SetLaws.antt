@@ -3,12 +3,11 @@ use Rattle.std.specs.Prelude.{Contains}
 use Rattle.std.specs.List.{enumerate_from, slice_get}
 use Rattle.std.specs.List.Sorted.{IsPermutation}
 use Rattle.std.proofs.lemmas.List.Sorted.{Contains-permutation, IsPermutation-sym}
-use Rattle.list_facts.proofs.Members.{member-head}
 use Rattle.geom_core.specs.Extent.{Extent}
 use Rattle.close_rects.specs.RectSets.{NoneIn, Takes}
 use Rattle.close_rects.proofs.Once.{numbered_at, stands_at}
-use Rattle.close_rects.proofs.Pairs.{Contains-append, Contains-cases, Contains-left, Contains-right}
-use Rattle.close_rects.proofs.Sets.{Contains-later}
+use Rattle.std_laws.proofs.Members.{member-head, member-cases, member-tail}
+use Rattle.std.proofs.lemmas.List.Elements.{Contains-append_cases, Contains-append_left, Contains-append_right}
 
 -- each rectangle of a list stands in a new set
 pub all_stand : (rects : List Extent) (set : List (ℕ × Extent)) (k : ℕ) (rect : Extent) → IsPermutation (enumerate_from 0 rects) set
@@ -26,26 +25,26 @@ none_else rects set p moved among =
 pub taken-contains : (rect : Extent) (number : ℕ) (before after : List (ℕ × Extent)) (takes : Takes rect number before after)
     → Contains before (number, takes.taken)
 taken-contains rect number before after takes = rw takes.from
-    (Contains-right takes.front ((number, takes.taken) ∷ takes.back) (number, takes.taken) (member-head (number, takes.taken) takes.back))
+    (Contains-append_right takes.front ((number, takes.taken) ∷ takes.back) (number, takes.taken) (member-head (number, takes.taken) takes.back))
 
 -- what is left after a taking was left before
 pub before-contains : (rect : Extent) (number : ℕ) (before after : List (ℕ × Extent)) (p : ℕ × Extent) → Takes rect number before after
     → Contains after p → Contains before p
 before-contains rect number before after p takes among = rw takes.from
-    (elim (Contains-append takes.front takes.back p (rw takes.left at among)) [
-      | inl front ↦ Contains-left takes.front ((number, takes.taken) ∷ takes.back) p front
-      | inr back ↦ Contains-right takes.front ((number, takes.taken) ∷ takes.back) p (Contains-later p (number, takes.taken) takes.back back)
+    (elim (Contains-append_cases takes.front takes.back p (rw takes.left at among)) [
+      | inl front ↦ Contains-append_left takes.front ((number, takes.taken) ∷ takes.back) p front
+      | inr back ↦ Contains-append_right takes.front ((number, takes.taken) ∷ takes.back) p (member-tail (number, takes.taken) takes.back p back)
     ])
 
 -- what was left is taken, or left still
 pub after-contains : (rect : Extent) (number : ℕ) (before after : List (ℕ × Extent)) (p : ℕ × Extent) (takes : Takes rect number before after)
     → Contains before p → ((number, takes.taken) ≡ p) ⊎ Contains after p
 after-contains rect number before after p takes among =
-    elim (Contains-append takes.front ((number, takes.taken) ∷ takes.back) p (rw takes.from at among)) [
-      | inl front ↦ inr (rw takes.left (Contains-left takes.front takes.back p front))
-      | inr later ↦ elim (Contains-cases (number, takes.taken) takes.back p later) [
+    elim (Contains-append_cases takes.front ((number, takes.taken) ∷ takes.back) p (rw takes.from at among)) [
+      | inl front ↦ inr (rw takes.left (Contains-append_left takes.front takes.back p front))
+      | inr later ↦ elim (member-cases (number, takes.taken) takes.back p later) [
         | inl same ↦ inl same
-        | inr back ↦ inr (rw takes.left (Contains-right takes.front takes.back p back))
+        | inr back ↦ inr (rw takes.left (Contains-append_right takes.front takes.back p back))
       ]
     ]
 

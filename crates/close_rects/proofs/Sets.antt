@@ -10,6 +10,7 @@ use Rattle.close_rects.specs.declared.items.Item.{Item}
 use Rattle.close_rects.specs.Items.{entry, fresh, left_of}
 use Rattle.close_rects.specs.Blocks.{IsMet, NoneMet, inside_out}
 use Rattle.close_rects.specs.RectSets.{IsHeldBy, NoneIn, Takes}
+use Rattle.std_laws.proofs.Members.{member-tail}
 
 -- where no place has one that is left and meets the window, none of those left does
 pub NoneIn-left : (items : List Item) (window : Extent) → NoneMet items window 0 (length items) → NoneIn (Meet window) (left_of items)
@@ -94,9 +95,6 @@ pub NoneIn-inside_out : (rect : Extent) (rects : List (ℕ × Extent)) → NoneI
 NoneIn-inside_out rect rects none k d within holds =
     none k d within (record { left = holds.right; right = holds.left; low = holds.high; high = holds.low })
 
-pub Contains-later : {X : Type 0} (x y : X) (xs : List X) → Contains xs x → Contains (y ∷ xs) x
-Contains-later x y xs (k, within, is) = (suc k, omega arith, is)
-
 -- an item that is left stands among those left
 pub left_of-contains : (items : List Item) (at : ℕ) (item : Item) → slice_get items at ≡ Some item → item.taken ≡ false
     → Contains (left_of items) (entry item)
@@ -112,7 +110,7 @@ left_of-contains (first ∷ items) (suc at) item is left = cases first.taken (le
     cases : (taken : Bool) → Contains (left_of items) (entry item)
         → Contains (if taken then left_of items else entry first ∷ left_of items) (entry item)
     cases true among = among
-    cases false among = Contains-later (entry item) (entry first) (left_of items) among
+    cases false among = member-tail (entry first) (left_of items) (entry item) among
 
 -- an item that meets a rectangle's sides inside out holds it
 pub IsHeldBy-met : (items : List Item) (at : ℕ) (item : Item) (rect : Extent) → slice_get items at ≡ Some item → IsMet (inside_out rect) item

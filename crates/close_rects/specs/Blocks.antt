@@ -1,3 +1,4 @@
+-- bounds round blocks of them, and the first that meets a window
 use Rattle.std.specs.Prelude.{◌≡◌, ◌+◌, ◌*◌, ◌<◌, ◌≤◌, ◌^◌, ℕ, List, length, Some, false}
 use Rattle.std.specs.List.{slice_get}
 use Rattle.geom_core.specs.Extent.{Extent}

@@ -1,3 +1,4 @@
+-- pairs of close rectangles, and those that a scan has still to give
 use Rattle.std.specs.Prelude.{◌≡◌, ◌≢◌, ◌↔◌, ◌<◌, ℕ, ℤ, int_lt, Bool, true, ◌&&◌, List, Contains, AllPairs, Some}
 use Rattle.std.specs.List.{slice_get}
 use Rattle.geom_core.specs.Extent.{Extent}

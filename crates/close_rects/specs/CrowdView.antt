@@ -1,3 +1,4 @@
+-- members with their rectangles as contracts see them, beside the class of each block
 use Rattle.close_rects.specs.Kins.{AreKins, AreNumbered, ArePlaced, Crowded}
 use Rattle.close_rects.specs.declared.crowd.Crowd.TheInside.{Inside}
 

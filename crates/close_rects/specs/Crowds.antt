@@ -1,3 +1,4 @@
+-- members of classes that are too close, and how they are looked for
 use Rattle.std.specs.Prelude.{◌==◌, ◌+◌, ◌≤ℤ◌, ℕ, pos, Bool, false, List, [], ◌∷◌, ◌++◌, if◌then◌else◌}
 use Rattle.geom_core.specs.Extent.{Extent}
 use Rattle.geom_core.specs.Reach.{IsExtentInWideReach}

@@ -1,3 +1,4 @@
+-- numbered rectangles
 use Rattle.std.specs.Prelude.{◌≡◌, ◌<ℤ◌, ℕ, List, [], ◌∷◌, false, if◌then◌else◌}
 use Rattle.geom_core.specs.Extent.{Extent}
 use Rattle.geom_core.specs.Reach.{IsExtentInWideReach}

@@ -1,3 +1,4 @@
+-- blocks of members that are all of one class, and the first member of another class that meets a window
 use Rattle.std.specs.Prelude.{◌≡◌, ◌≢◌, ◌+◌, ◌*◌, ◌<◌, ◌≤◌, ◌==◌, ℕ, List, [], ◌∷◌, Bool, false, nat_lt, if◌then◌else◌, length, map, All, Some}
 use Rattle.std.specs.List.{slice_get, slice_index, enumerate_from}
 use Rattle.std.specs.List.Sorted.{IsPermutation}

@@ -1,3 +1,4 @@
+-- taking out of a set of rectangles
 use Rattle.std.specs.Prelude.{◌≡◌, ℕ, List, ◌∷◌, ◌++◌, All, Contains}
 use Rattle.geom_core.specs.Extent.{Extent}
 use Rattle.geom_core.specs.Rectangles.{Encloses, Meet}

@@ -1,3 +1,4 @@
+-- the close pairs of a list of rectangles in the order of a scan, and those left from a place in it on
 use Rattle.std.specs.Prelude.{◌≡◌, ◌<◌, ◌+◌, ℕ, ℤ, min, max, List, [], ◌∷◌, ◌++◌, length, drop, Some, if◌then◌else◌}
 use Rattle.std.specs.List.{slice_get}
 use Rattle.geom_core.specs.Extent.{Extent}

@@ -1,3 +1,4 @@
+-- a scan as contracts see it: the close pairs that it has still to give
 use Rattle.std.specs.Prelude.{ℕ, List, map, All}
 use Rattle.close_rects.specs.Items.{entry, IsFit}
 use Rattle.close_rects.specs.Rests.{rest_at}

@@ -1,3 +1,5 @@
+//! Blocks of eight rectangles, with bounds round what is left of each and round runs of them.
+
 ghost use Rattle.close_rects.specs.Blocks.{Covers, IsIndexed};
 ghost use Rattle.geom_core.specs.Rectangles.{Encloses};
 ghost use Rattle.std.specs.Prelude.{◌≡◌, ◌+◌, ◌*◌, false, IfOk};
@@ -7,19 +9,19 @@ use crate::items::{Item, Items};
 use std::alloc::{AllocError, Global};
 
 // How many items a block holds.
-pub const BLOCK: usize = 8;
+pub(crate) const BLOCK: usize = 8;
 
 // Bounds round the rectangles of a block that are left, and round those of this block and all further ones up to
 // before block `next`.
 #[derive(Clone, Copy)]
-pub struct Node {
-    pub own: Bounds,
-    pub all: Bounds,
-    pub next: usize,
+pub(crate) struct Node {
+    pub(crate) own: Bounds,
+    pub(crate) all: Bounds,
+    pub(crate) next: usize,
 }
 
 // A node for each block, that tells of this block alone. The one error is want of memory.
-pub fn single_nodes(alloc: Global, items: &Items) -> Result<Vec<Node>, AllocError>
+pub(crate) fn single_nodes(alloc: Global, items: &Items) -> Result<Vec<Node>, AllocError>
     ensures { IfOk result (λ v. IsIndexed items.now v.items) }
 {
     let count = items.len().div_ceil(BLOCK);
@@ -36,7 +38,7 @@ pub fn single_nodes(alloc: Global, items: &Items) -> Result<Vec<Node>, AllocErro
 }
 
 // Bounds round what is left of a block.
-pub fn own_bounds(items: &Items, b: usize) -> Bounds
+pub(crate) fn own_bounds(items: &Items, b: usize) -> Bounds
     ensures { Covers items.now (8 * b) (8 * b + 8) result }
 {
     let mut bounds = Bounds::none();

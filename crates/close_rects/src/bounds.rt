@@ -1,3 +1,5 @@
+//! Four sides round rectangles or of a search window, turned inside out perhaps, and whether two such meet.
+
 ghost use Rattle.close_rects.specs.Blocks.{inside_out};
 ghost use Rattle.geom_core.specs.Reach.{IsExtentInWideReach};
 ghost use Rattle.geom_core.specs.Rectangles.{Encloses, Meet, grown};
@@ -9,7 +11,7 @@ use std::marker::Model;
 
 // Four sides, of which the left one may also lie right of the right one and the lower one above the upper one.
 #[derive(Clone, Copy, PartialEq, Eq)]
-pub struct Bounds {
+pub(crate) struct Bounds {
     x0: i64,
     y0: i64,
     x1: i64,
@@ -28,7 +30,7 @@ impl Model for Bounds {
 
 impl Bounds {
     // Bounds in which nothing lies, and which nothing meets that lies within numbers of 64 bits.
-    pub fn none() -> Bounds {
+    pub(crate) fn none() -> Bounds {
         Bounds {
             x0: i64::MAX,
             y0: i64::MAX,
@@ -37,7 +39,7 @@ impl Bounds {
         }
     }
 
-    pub fn of(rect: &Rect) -> Bounds
+    pub(crate) fn of(rect: &Rect) -> Bounds
         ensures same { result ≡ rect.now }
         ensures across { rect.now.x0 <ℤ rect.now.x1 }
         ensures up { rect.now.y0 <ℤ rect.now.y1 }
@@ -51,7 +53,7 @@ impl Bounds {
     }
 
     // The bounds that just those rectangles meet whose two gaps from this one are both below `reach`.
-    pub fn near(rect: &Rect, reach: Reach) -> Bounds
+    pub(crate) fn near(rect: &Rect, reach: Reach) -> Bounds
         requires { IsExtentInWideReach rect.now }
         ensures { result ≡ grown (reach.length -ℤ pos 1) rect.now }
     {
@@ -65,7 +67,7 @@ impl Bounds {
     }
 
     // The sides of a rectangle, each in the place of the opposite one: just what holds the rectangle meets them.
-    pub fn inside_out(rect: &Rect) -> Bounds
+    pub(crate) fn inside_out(rect: &Rect) -> Bounds
         ensures { result ≡ inside_out rect.now }
     {
         Bounds {
@@ -77,7 +79,7 @@ impl Bounds {
     }
 
     // The least bounds round two.
-    pub fn over(&self, other: &Bounds) -> Bounds
+    pub(crate) fn over(&self, other: &Bounds) -> Bounds
         ensures first { Encloses result self.now }
         ensures second { Encloses result other.now }
     {
@@ -89,7 +91,7 @@ impl Bounds {
         }
     }
 
-    pub fn meets(&self, other: &Bounds) -> bool
+    pub(crate) fn meets(&self, other: &Bounds) -> bool
         ensures { IsTrue result ↔ Meet self.now other.now }
     {
         share(self.x0, self.x1, other.x0, other.x1) && share(self.y0, self.y1, other.y0, other.y1)

@@ -1,3 +1,5 @@
+//! Members in blocks by their places, and the first of another class that meets a window.
+
 use crate::blocks::BLOCK;
 use crate::bounds::Bounds;
 use crate::indexed::{Indexed, is_met};
@@ -10,7 +12,7 @@ use std::marker::Model;
 
 // Members, their rectangles in blocks by their places, and the kin of each block. Contracts see the members and the rectangles.
 #[derive(Drop)]
-pub struct Crowd<'a> {
+pub(crate) struct Crowd<'a> {
     members: Members<'a>,
     indexed: Indexed,
     kins: Vec<Kin>,
@@ -35,7 +37,7 @@ impl<'a> Crowd<'a> {
     ghost use Rattle.std.specs.Prelude.{◌≡◌, ◌+◌, ◌*◌, ◌<◌, ◌≤◌, ◌↔◌, length, IfNone, IfOk, IfSome, IsTrue, OnOk, Some};
 
     // The one error is want of memory.
-    pub fn of(alloc: Global, members: Members<'a>) -> Result<Crowd<'a>, AllocError>
+    pub(crate) fn of(alloc: Global, members: Members<'a>) -> Result<Crowd<'a>, AllocError>
         ensures { IfOk result (λ crowd. crowd.members ≡ members.entry) }
     {
         let items = members.items(alloc)?;
@@ -51,7 +53,7 @@ impl<'a> Crowd<'a> {
     }
 
     // Lends the members.
-    pub fn members(&self) -> &Members<'a>
+    pub(crate) fn members(&self) -> &Members<'a>
         ensures is { result.now ≡ self.now.members }
         ensures placed { ArePlaced self.now.members self.now.items }
     {
@@ -59,7 +61,7 @@ impl<'a> Crowd<'a> {
     }
 
     // Lends the rectangles.
-    pub fn items(&self) -> &Items
+    pub(crate) fn items(&self) -> &Items
         ensures { result.now ≡ self.now.items }
     {
         self.indexed.items()
@@ -140,7 +142,7 @@ impl<'a> Crowd<'a> {
     }
 
     // The first place from `from` on of a member of another class than this one that meets the window.
-    pub fn first_stranger(&self, window: &Bounds, class: u32, from: usize) -> Option<usize>
+    pub(crate) fn first_stranger(&self, window: &Bounds, class: u32, from: usize) -> Option<usize>
         ensures first { IfSome result (IsFirstStranger self.now.members self.now.items window.now class from) }
         ensures none { IfNone result (NoneStrange self.now.members self.now.items window.now class from (length self.now.items)) }
     {

@@ -1,3 +1,5 @@
+//! The first pairs of members of different classes that are too close, in the order of their list.
+
 ghost use Rattle.close_rects.specs.Crowds.{KeepsInReach, crowds_of, places_from};
 ghost use Rattle.close_rects.specs.declared.member.Member.{Member};
 ghost use Rattle.close_rects.specs.Kins.{pairs_of};

@@ -1,3 +1,5 @@
+//! Rectangles indexed by blocks: the first that meets a window is found, or taken out.
+
 ghost use Rattle.close_rects.specs.Blocks.{IsMet};
 ghost use Rattle.std.specs.Prelude.{◌↔◌, IsTrue};
 
@@ -10,7 +12,7 @@ use std::marker::Model;
 
 // Rectangles with a node for each block of them, by which those that meet a window are found. Contracts see the rectangles.
 #[derive(Drop)]
-pub struct Indexed {
+pub(crate) struct Indexed {
     items: Items,
     nodes: Vec<Node>,
 }
@@ -36,7 +38,7 @@ impl Indexed {
     ghost use Rattle.std.specs.Prelude.{◌≡◌, ◌<◌, ◌≤◌, length, IfNone, IfOk, IfSome};
 
     // The one error is want of memory.
-    pub fn of(alloc: Global, items: Items) -> Result<Indexed, AllocError>
+    pub(crate) fn of(alloc: Global, items: Items) -> Result<Indexed, AllocError>
         ensures { IfOk result (λ indexed. indexed ≡ items) }
     {
         let nodes = single_nodes(alloc, &items)?;
@@ -46,7 +48,7 @@ impl Indexed {
     }
 
     // Lends the rectangles.
-    pub fn items(&self) -> &Items
+    pub(crate) fn items(&self) -> &Items
         ensures { result.now ≡ self.now }
     {
         &self.items
@@ -103,7 +105,7 @@ impl Indexed {
     }
 
     // The first place from `from` on of a rectangle that is left and meets the window.
-    pub fn first_meeting(&self, window: &Bounds, from: usize) -> Option<usize>
+    pub(crate) fn first_meeting(&self, window: &Bounds, from: usize) -> Option<usize>
         ensures first { IfSome result (IsFirstMet self.now window.now from) }
         ensures none { IfNone result (NoneMet self.now window.now from (length self.now)) }
     {
@@ -122,7 +124,7 @@ impl Indexed {
     }
 
     // A place up to which no rectangle from place `at` on meets the window, by the bounds of a block that begins there.
-    pub fn passed(&self, window: &Bounds, at: usize) -> usize
+    pub(crate) fn passed(&self, window: &Bounds, at: usize) -> usize
         ensures on { at ≤ result }
         ensures none { NoneMet self.now window.now at result }
     {
@@ -142,7 +144,7 @@ impl Indexed {
 
     // Takes out the first rectangle that is left and meets the window, and gives its number; None where there is none, and then
     // nothing changes.
-    pub fn take_meeting(&mut self, window: &Bounds) -> Option<u32>
+    pub(crate) fn take_meeting(&mut self, window: &Bounds) -> Option<u32>
         ensures taken { IfSome result (λ number. Takes window.now number (left_of self.old) (left_of self.new)) }
         ensures none { IfNone result (NoneIn (Meet window.now) (left_of self.old)) }
         ensures same { IfNone result (self.new ≡ self.old) }
@@ -170,7 +172,7 @@ impl Indexed {
 }
 
 // Whether a rectangle is left and meets the window.
-pub fn is_met(item: Item, window: &Bounds) -> bool
+pub(crate) fn is_met(item: Item, window: &Bounds) -> bool
     ensures { IsTrue result ↔ IsMet window.now item }
 {
     !item.taken && window.meets(&Bounds::of(&item.rect))

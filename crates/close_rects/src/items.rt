@@ -1,3 +1,5 @@
+//! Numbered rectangles, each left or taken, in an order in which near ones stand near each other.
+
 ghost use Rattle.close_rects.specs.Items.{fresh, HasInside};
 ghost use Rattle.std.specs.Prelude.{◌≡◌};
 
@@ -8,10 +10,10 @@ use std::marker::Model;
 
 // A rectangle with its number in the list that was handed in, and whether it has been taken.
 #[derive(Clone, Copy)]
-pub struct Item {
-    pub rect: Rect,
-    pub number: u32,
-    pub taken: bool,
+pub(crate) struct Item {
+    pub(crate) rect: Rect,
+    pub(crate) number: u32,
+    pub(crate) taken: bool,
 }
 
 fn fresh(rect: &Rect, number: u32) -> Item
@@ -28,7 +30,7 @@ fn fresh(rect: &Rect, number: u32) -> Item
 
 // Numbered rectangles, fewer than 2^32.
 #[derive(Drop)]
-pub struct Items {
+pub(crate) struct Items {
     list: Vec<Item>,
 }
 
@@ -51,7 +53,7 @@ impl Items {
     ghost use Rattle.std.specs.Prelude.{◌≡◌, ◌<◌, ◌^◌, true, length, map, slice_set, All, IfOk, OnOk, Some};
 
     // Rectangles with their places in a list as their numbers. The one error is want of memory.
-    pub fn numbered(alloc: Global, rects: &[Rect]) -> Result<Items, AllocError>
+    pub(crate) fn numbered(alloc: Global, rects: &[Rect]) -> Result<Items, AllocError>
         requires { length rects.now < 2 ^ 32 }
         ensures numbered { IfOk result (λ v. v ≡ map fresh (enumerate_from 0 rects.now)) }
         ensures inside { OnOk result (All HasInside rects.now) }
@@ -64,7 +66,7 @@ impl Items {
     }
 
     // The same rectangles in an order in which those near each other have places near each other.
-    pub fn ordered(self) -> Items
+    pub(crate) fn ordered(self) -> Items
         ensures { IsPermutation self result }
     {
         let mut list = self.list;
@@ -72,14 +74,14 @@ impl Items {
         Items { list }
     }
 
-    pub fn len(&self) -> usize
+    pub(crate) fn len(&self) -> usize
         ensures is { result ≡ length self.now }
         ensures few { result < 2 ^ 32 }
     {
         self.list.len()
     }
 
-    pub fn at(&self, place: usize) -> Item
+    pub(crate) fn at(&self, place: usize) -> Item
         requires { place < length self.now }
         ensures is { slice_get self.now place ≡ Some result }
         ensures few { place < 2 ^ 32 }
@@ -88,7 +90,7 @@ impl Items {
     }
 
     // Notes that the rectangle at a place has been taken.
-    pub fn take(&mut self, place: usize)
+    pub(crate) fn take(&mut self, place: usize)
         requires { place < length self.old }
         ensures { (item : Item) → slice_get self.old place ≡ Some item → self.new ≡ slice_set self.old place (record item { taken = true }) }
     {

@@ -1,3 +1,5 @@
+//! A rectangle with a class, and the distance at which it keeps those of other classes.
+
 use geom_core::Rect;
 
 /// A rectangle of a class, which keeps those of other classes at a distance: it is crowded by each of them of which both gaps

@@ -1,3 +1,5 @@
+//! Members by their places in a list, and their rectangles numbered by these.
+
 ghost use Rattle.close_rects.specs.Crowds.{area};
 ghost use Rattle.std.specs.Prelude.{◌≡◌, map, IfOk};
 
@@ -9,7 +11,7 @@ use std::marker::Model;
 
 // Members, fewer than 2^32, with sides and reaches that are within reach.
 #[derive(Drop)]
-pub struct Members<'a> {
+pub(crate) struct Members<'a> {
     list: &'a [Member],
 }
 
@@ -31,7 +33,7 @@ impl<'a> Members<'a> {
     ghost use Rattle.std.specs.List.{slice_get};
     ghost use Rattle.std.specs.Prelude.{◌≡◌, ◌<◌, ◌^◌, length, All, IfOk, Some};
 
-    pub fn new(list: &'a [Member]) -> Members<'a>
+    pub(crate) fn new(list: &'a [Member]) -> Members<'a>
         requires few { length list.now < 2 ^ 32 }
         requires reach { All KeepsInReach list.now }
         ensures { result ≡ list.now }
@@ -39,13 +41,13 @@ impl<'a> Members<'a> {
         Members { list }
     }
 
-    pub fn len(&self) -> usize
+    pub(crate) fn len(&self) -> usize
         ensures { result ≡ length self.now }
     {
         self.list.len()
     }
 
-    pub fn at(&self, place: usize) -> Member
+    pub(crate) fn at(&self, place: usize) -> Member
         requires { place < length self.now }
         ensures is { slice_get self.now place ≡ Some result }
         ensures reach { KeepsInReach result }
@@ -55,7 +57,7 @@ impl<'a> Members<'a> {
     }
 
     // The class of the member at a place.
-    pub fn class_at(&self, place: u32) -> u32
+    pub(crate) fn class_at(&self, place: u32) -> u32
         requires { place < length self.now }
         ensures { result ≡ class_of self.now place }
     {
@@ -65,7 +67,7 @@ impl<'a> Members<'a> {
 
     // The members' rectangles, each with its place in the list, such that those near each other have places near each other. The
     // one error is want of memory.
-    pub fn items(&self, alloc: Global) -> Result<Items, AllocError>
+    pub(crate) fn items(&self, alloc: Global) -> Result<Items, AllocError>
         ensures { IfOk result (ArePlaced self.now) }
     {
         let rects = rects_of(alloc, self.list)?;

@@ -1,3 +1,5 @@
+//! Sorts rectangles along x or y, first all, then ever smaller parts, so that near ones get near places.
+
 ghost use Rattle.std.specs.List.Sorted.{IsPermutation};
 ghost use Rattle.std.specs.Prelude.{◌<◌};
 
@@ -5,7 +7,7 @@ use crate::items::Item;
 
 // Puts the whole list in order along x or y, then each eighth of it, and so on down to parts of 64, so that items near each
 // other get places near each other.
-pub fn order(items: &mut [Item])
+pub(crate) fn order(items: &mut [Item])
     ensures { IsPermutation items.old items.new }
 {
     let mut size: usize = 64;

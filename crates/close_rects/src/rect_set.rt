@@ -1,3 +1,5 @@
+//! A set of rectangles: one that meets a given rectangle is taken out, or one that holds it is found.
+
 use crate::bounds::Bounds;
 use crate::indexed::Indexed;
 use crate::items::Items;

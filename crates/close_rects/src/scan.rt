@@ -1,3 +1,5 @@
+//! The pairs of close rectangles of a list, given one after another.
+
 ghost use Rattle.close_rects.specs.Items.{entry};
 ghost use Rattle.close_rects.specs.Rests.{pair_of};
 ghost use Rattle.std.specs.Prelude.{◌≡◌};

@@ -9,7 +9,12 @@ use std::alloc::{AllocError, Global};
 use std::test::Fail;
 
 // Squares of a side, of which each begins a step right of and above the one before.
-pub fn stairs(alloc: Global, count: usize, step: u32, side: u32) -> Result<Vec<Rect>, AllocError>
+pub(crate) fn stairs(
+    alloc: Global,
+    count: usize,
+    step: u32,
+    side: u32,
+) -> Result<Vec<Rect>, AllocError>
     requires few { count ≤ 1000000 }
     requires flat { step ≤ 1000 }
     requires some { 0 < side }
@@ -26,7 +31,7 @@ pub fn stairs(alloc: Global, count: usize, step: u32, side: u32) -> Result<Vec<R
 }
 
 // Squares of a side in rows and columns, which begin a pitch apart.
-pub fn grid(
+pub(crate) fn grid(
     alloc: Global,
     rows: usize,
     columns: usize,

@@ -25,7 +25,7 @@ fn nearest(list: &[Candidate]) -> usize
 }
 
 /// A chooser of the first candidate with the least gap.
-pub fn nearest_chooser(alloc: Global) -> Result<Chooser, Fail> {
+pub(crate) fn nearest_chooser(alloc: Global) -> Result<Chooser, Fail> {
     let choice: Choice = Box::new(
         alloc,
         |list: &[Candidate]| -> usize
@@ -37,7 +37,7 @@ pub fn nearest_chooser(alloc: Global) -> Result<Chooser, Fail> {
 }
 
 /// A chooser of the last candidate.
-pub fn last_chooser(alloc: Global) -> Result<Chooser, Fail> {
+pub(crate) fn last_chooser(alloc: Global) -> Result<Chooser, Fail> {
     let choice: Choice = Box::new(
         alloc,
         |list: &[Candidate]| -> usize
@@ -49,7 +49,7 @@ pub fn last_chooser(alloc: Global) -> Result<Chooser, Fail> {
 }
 
 /// The chooser `deft`.
-pub fn deft_chooser(alloc: Global) -> Result<Chooser, Fail> {
+pub(crate) fn deft_chooser(alloc: Global) -> Result<Chooser, Fail> {
     let choice: Choice = Box::new(
         alloc,
         |list: &[Candidate]| -> usize
@@ -61,7 +61,7 @@ pub fn deft_chooser(alloc: Global) -> Result<Chooser, Fail> {
 }
 
 /// A chooser of the first candidate, which counts in a cell how often it is asked.
-pub fn counting_chooser(alloc: Global, calls: Rc<Cell<u32>>) -> Result<Chooser, Fail> {
+pub(crate) fn counting_chooser(alloc: Global, calls: Rc<Cell<u32>>) -> Result<Chooser, Fail> {
     let choice: Choice = Box::new(
         alloc,
         move |list: &[Candidate]| -> usize

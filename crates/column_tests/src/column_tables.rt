@@ -15,18 +15,18 @@ use std::test::Fail;
 
 /// What a column's record is to be.
 #[derive(Clone, Copy)]
-pub struct Wanted<'a> {
-    pub made: &'a [(u32, u32)],
-    pub top: u32,
-    pub bottom: u32,
-    pub straight: bool,
-    pub joins: &'a [(u32, u32)],
-    pub ended: &'a [u32],
-    pub moves: &'a [(u32, u32)],
+pub(crate) struct Wanted<'a> {
+    pub(crate) made: &'a [(u32, u32)],
+    pub(crate) top: u32,
+    pub(crate) bottom: u32,
+    pub(crate) straight: bool,
+    pub(crate) joins: &'a [(u32, u32)],
+    pub(crate) ended: &'a [u32],
+    pub(crate) moves: &'a [(u32, u32)],
 }
 
 /// A column that does nothing.
-pub const NOTHING: Wanted<'static> = Wanted {
+pub(crate) const NOTHING: Wanted<'static> = Wanted {
     made: &[],
     top: 0,
     bottom: 0,
@@ -38,11 +38,11 @@ pub const NOTHING: Wanted<'static> = Wanted {
 
 /// A channel, with how many free tracks its sweep begins, and the records of its columns.
 #[derive(Clone, Copy)]
-pub struct Case<'a> {
-    pub top: &'a [u32],
-    pub bottom: &'a [u32],
-    pub begun: u32,
-    pub wanted: &'a [Wanted<'a>],
+pub(crate) struct Case<'a> {
+    pub(crate) top: &'a [u32],
+    pub(crate) bottom: &'a [u32],
+    pub(crate) begun: u32,
+    pub(crate) wanted: &'a [Wanted<'a>],
 }
 
 fn is_wanted(done: &Column, wanted: &Wanted) -> bool {
@@ -64,7 +64,7 @@ fn are_made(done: &Column, wanted: &[(u32, u32)]) -> bool {
 
 /// Whether the record of a column is as it is wanted. A column that lacks memory is taken again from what it has left, so that
 /// the records are the same where one allocation fails.
-pub fn next_is(
+pub(crate) fn next_is(
     alloc: Global,
     state: &mut ColumnState,
     channel: &Channel,
@@ -89,7 +89,7 @@ pub fn next_is(
 }
 
 /// The number of the first column whose record in the published manner is another one than is wanted, or how many are wanted.
-pub fn first_other(
+pub(crate) fn first_other(
     alloc: Global,
     top: &[u32],
     bottom: &[u32],
@@ -100,7 +100,7 @@ pub fn first_other(
 }
 
 /// The same of a chooser that counts in a cell how often it is asked.
-pub fn first_other_counted(
+pub(crate) fn first_other_counted(
     alloc: Global,
     calls: &Rc<Cell<u32>>,
     top: &[u32],
@@ -112,7 +112,7 @@ pub fn first_other_counted(
 }
 
 /// The same in a manner, from so many free tracks.
-pub fn first_other_of(
+pub(crate) fn first_other_of(
     alloc: Global,
     top: &[u32],
     bottom: &[u32],
@@ -183,7 +183,7 @@ fn first_other_in(
 }
 
 /// The number of the first case in which a column's record in a manner is another one than is wanted, or how many cases there are.
-pub fn first_unlike(
+pub(crate) fn first_unlike(
     alloc: Global,
     manner: Manner,
     chooser: &Chooser,

@@ -4,13 +4,13 @@
 use crate::column_tables::{NOTHING, Wanted};
 
 /// The top pins of the channel.
-pub const FOURTEEN_TOP: &[u32] = &[5, 1, 0, 4, 6, 4, 2, 1, 3, 4, 0, 1, 2, 6];
+pub(crate) const FOURTEEN_TOP: &[u32] = &[5, 1, 0, 4, 6, 4, 2, 1, 3, 4, 0, 1, 2, 6];
 
 /// Its bottom pins.
-pub const FOURTEEN_BOTTOM: &[u32] = &[6, 0, 6, 1, 1, 0, 5, 0, 0, 1, 0, 1, 3, 0];
+pub(crate) const FOURTEEN_BOTTOM: &[u32] = &[6, 0, 6, 1, 1, 0, 5, 0, 0, 1, 0, 1, 3, 0];
 
 /// Its records from no track.
-pub const FOURTEEN_FROM_NONE: [Wanted<'static>; 14] = [
+pub(crate) const FOURTEEN_FROM_NONE: [Wanted<'static>; 14] = [
     Wanted {
         made: &[(1, 0), (2, 1)],
         top: 2,
@@ -76,7 +76,7 @@ pub const FOURTEEN_FROM_NONE: [Wanted<'static>; 14] = [
 ];
 
 /// Its records from five free tracks.
-pub const FOURTEEN_FROM_FIVE: [Wanted<'static>; 14] = [
+pub(crate) const FOURTEEN_FROM_FIVE: [Wanted<'static>; 14] = [
     Wanted {
         top: 5,
         bottom: 1,

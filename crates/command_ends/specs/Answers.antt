@@ -1,3 +1,4 @@
+-- what a function answers, and what it finds in files
 use Rattle.std.specs.Prelude.{◌≡◌, Result, Ok, Err}
 use Rattle.command_ends.specs.declared.refusal.Refusal.{Refusal}
 use Rattle.command_ends.specs.declared.refusal.Refusal.TheVariants as refusals

@@ -1,3 +1,4 @@
+-- the lines for what is wrong with a layout, with the names of instances, cells and pins, and their count
 use Rattle.std.specs.Prelude.{ℕ, List, [], ◌∷◌, ◌++◌, length, codes, Option, Some, None, slice_get}
 use Rattle.std.specs.Fmt.{decimal}
 use Rattle.geom_core.specs.declared.layout.Cell.{Cell}

@@ -1,3 +1,4 @@
+-- what a sink has gained of a line: its front, or all of it where no write failed
 use Rattle.std.specs.Prelude.{ℕ, List, Option}
 use Rattle.shelf_io.specs.Count.{Still}
 use Rattle.shelf_io.specs.Told.{EndsWithin, Refines, appended}

@@ -1,3 +1,4 @@
+-- numbers and file lengths above a limit, and their refusal
 use Rattle.std.specs.Prelude.{ℕ, List, length, nat_lt, if◌then◌else◌, Option, Some, None, Result, Ok, Err}
 use Rattle.command_ends.specs.declared.refusal.Limited.{Limited}
 use Rattle.command_ends.specs.declared.refusal.Refusal.{Refusal}

@@ -1,3 +1,4 @@
+-- the words of each fault and refusal, and the line that says what stopped a command
 use Rattle.std.specs.Prelude.{ℕ, List, [], ◌∷◌, ◌++◌, codes, Some, None}
 use Rattle.std.specs.Fmt.{decimal}
 use Rattle.tech_rules.specs.Keys.{name_of}

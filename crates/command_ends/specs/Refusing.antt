@@ -1,3 +1,4 @@
+-- points that may refuse, and limits
 use Rattle.std.specs.Prelude.{Option, Some, None, Result, Ok, Err}
 use Rattle.command_ends.specs.declared.refusal.Refusal.{Refusal}
 

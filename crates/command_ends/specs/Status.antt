@@ -1,3 +1,4 @@
+-- the status of a command, and its lines
 use Rattle.std.specs.Prelude.{ℕ, [], ◌∷◌, Bool, ◌==◌, Result, Ok, Err}
 use Rattle.std.specs.List.{list_any}
 use Rattle.command_ends.specs.declared.refusal.Refusal.{Refusal}

@@ -20,7 +20,7 @@ fn put_both<K: Sink>(out: &mut K, first: &[u8], second: &[u8]) -> Result<(), Fai
 }
 
 /// Puts a line of one word.
-pub fn put_one<K: Sink>(out: &mut K, word: &[u8]) -> Result<(), Failed>
+pub(crate) fn put_one<K: Sink>(out: &mut K, word: &[u8]) -> Result<(), Failed>
     ensures whole { OnOk result (Refines (K.written out.new) (appended (K.written out.old) (line (word.now ∷ [])))) }
     ensures front { OnErr result (EndsWithin (K.written out.old) (line (word.now ∷ [])) (K.written out.new)) }
     ensures quiet { OnOk result (K.faults out.new ≡ K.faults out.old) }
@@ -31,7 +31,7 @@ pub fn put_one<K: Sink>(out: &mut K, word: &[u8]) -> Result<(), Failed>
 }
 
 /// Puts a line of two words.
-pub fn put_two<K: Sink>(out: &mut K, first: &[u8], second: &[u8]) -> Result<(), Failed>
+pub(crate) fn put_two<K: Sink>(out: &mut K, first: &[u8], second: &[u8]) -> Result<(), Failed>
     ensures whole { OnOk result (Refines (K.written out.new) (appended (K.written out.old) (line (first.now ∷ second.now ∷ [])))) }
     ensures front { OnErr result (EndsWithin (K.written out.old) (line (first.now ∷ second.now ∷ [])) (K.written out.new)) }
     ensures quiet { OnOk result (K.faults out.new ≡ K.faults out.old) }
@@ -43,7 +43,7 @@ pub fn put_two<K: Sink>(out: &mut K, first: &[u8], second: &[u8]) -> Result<(), 
 }
 
 /// Puts a line of three words.
-pub fn put_three<K: Sink>(
+pub(crate) fn put_three<K: Sink>(
     out: &mut K,
     first: &[u8],
     second: &[u8],
@@ -78,7 +78,7 @@ fn put_four<K: Sink>(
 }
 
 /// Puts a line of five words.
-pub fn put_five<K: Sink>(
+pub(crate) fn put_five<K: Sink>(
     out: &mut K,
     first: &[u8],
     second: &[u8],

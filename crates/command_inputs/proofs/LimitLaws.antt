@@ -1,30 +1,23 @@
-use Rattle.std.proofs.Common.{◌≡◌, ◌≤◌, ◌<◌, ℕ, List, length, Bool, true, false, cond, Result, Ok, Err, nat_lt, refl, ap, arith}
-use Rattle.std.proofs.lemmas.Bool.Decides.{nat_tests}
+use Rattle.command_ends.specs.declared.refusal.Limited.TheVariants as limits
+use Rattle.command_ends.specs.declared.refusal.Refusal.TheVariants as refusals
+use Rattle.std.proofs.Common.{◌≡◌, ◌≤◌, ◌<◌, ℕ, List, length, Bool, true, false, cond, Result, Ok, Err, nat_lt, ap}
 use Rattle.tech_rules.specs.Rules.{RuleValues}
 use Rattle.command_ends.specs.Limits.{within_limit}
 use Rattle.command_ends.specs.Refusing.{◌>>=◌}
 use Rattle.command_inputs.specs.Stated.{rules_said, rules_verdict, stated_rules}
-use Rattle.command_ends.specs.declared.refusal.Limited.TheVariants as limits
 use Rattle.tech_rules.specs.RulesOf.{rules_of}
 use Rattle.tech_rules.specs.declared.fault.RulesFault.{RulesFault}
 use Rattle.command_ends.specs.declared.refusal.Limited.{Limited}
-use Rattle.command_ends.specs.declared.refusal.Refusal.{Refusal}
-use Rattle.command_ends.specs.declared.refusal.Refusal.TheVariants as refusals
-
-not-above : (most n : ℕ) → n ≤ most → nat_lt most n ≡ false
-not-above most n most_n = grind (arith, nat_tests)
-
-is-above : (most n : ℕ) → most < n → nat_lt most n ≡ true
-is-above most n more = grind (arith, nat_tests)
+use Rattle.std_laws.proofs.Tests.{nat_lt-not-above, nat_lt-is-above}
 
 -- contents that are no longer than the limit are within it
 pub within : (what : Limited) (most : ℕ) (bytes : List ℕ) → length bytes ≤ most → within_limit what most bytes ≡ Ok bytes
 unfolding within_limit
-within what most bytes short = ap (λ (long : Bool). cond long (Err (refusals.Limit what most)) (Ok bytes)) (not-above most (length bytes) short)
+within what most bytes short = ap (λ (long : Bool). cond long (Err (refusals.Limit what most)) (Ok bytes)) (nat_lt-not-above most (length bytes) short)
 
 pub beyond : (what : Limited) (most : ℕ) (bytes : List ℕ) → most < length bytes → within_limit what most bytes ≡ Err (refusals.Limit what most)
 unfolding within_limit
-beyond what most bytes long = ap (λ (longer : Bool). cond longer (Err (refusals.Limit what most)) (Ok bytes)) (is-above most (length bytes) long)
+beyond what most bytes long = ap (λ (longer : Bool). cond longer (Err (refusals.Limit what most)) (Ok bytes)) (nat_lt-is-above most (length bytes) long)
 
 -- contents within the limit are the whole
 pub is-whole : (what : Limited) (most : ℕ) (bytes items : List ℕ) → within_limit what most bytes ≡ Ok items → bytes ≡ items

@@ -1,3 +1,4 @@
+-- why files could not be read
 use Rattle.std.specs.Prelude.{◌≡◌, ◌⊎◌, ℕ, List, Option, Some, Ok, is_ok, true}
 use Rattle.shelf_io.specs.Count.{Rose}
 use Rattle.command_words.specs.Command.{Source, from_file, from_seed}

@@ -1,3 +1,4 @@
+-- the names in the faults of a design
 use Rattle.std.specs.Prelude.{ℕ, List, Option, None, option_map, slice_get}
 use Rattle.yal_reader.specs.declared.file.Call.{Call}
 use Rattle.yal_reader.specs.declared.file.Module.{Module}

@@ -1,3 +1,4 @@
+-- the commands and the layout that the bytes of a layout's file give, or why the file is refused
 use Rattle.std.specs.Prelude.{ℕ, List, Result, Ok, Err}
 use Rattle.limits.specs.declared.TheConstants.{MOST_LAYOUT_BYTES}
 use Rattle.geom_core.specs.declared.layout.Layout.{Layout}

@@ -1,3 +1,4 @@
+-- what the files of rules and of a design state, and what the file of a layout says
 use Rattle.std.specs.Prelude.{ℕ, List, Option, Some, option_map, Result, Ok, Err}
 use Rattle.limits.specs.declared.TheConstants.{MOST_DESIGN_BYTES, MOST_RULES_BYTES}
 use Rattle.tech_rules.specs.Rules.{RuleValues}

@@ -72,7 +72,7 @@ fn lent_name(file: &YalFile, fault: DesignFault) -> Option<&Name>
 }
 
 /// The name of the instance or the module that a fault speaks of, if it speaks of one. The one error is want of memory.
-pub fn fault_name(
+pub(crate) fn fault_name(
     alloc: Global,
     file: &YalFile,
     fault: DesignFault,

@@ -19,7 +19,7 @@ use tech_rules::{Rules, RulesFault, read_rules};
 use yal_reader::{YalFault, YalFile, read_yal};
 
 /// The rules that a text states.
-pub fn stated_rules(alloc: Global, bytes: &[u8]) -> Result<Rules, Refusal>
+pub(crate) fn stated_rules(alloc: Global, bytes: &[u8]) -> Result<Rules, Refusal>
     ensures made { Answers (λ rules. rules) result (stated_rules bytes.now) }
     ensures command { IfErr result (λ refusal. refusal_status refusal ≢ 2) }
 {
@@ -53,7 +53,7 @@ fn design_in(alloc: Global, file: &YalFile, rules: &Rules) -> Result<Design, Ref
 
 /// The design that a text of YAL says. The text's file is given up.
 #[tactic(auto, unfolding(crate::specs::Stated::stated_design))]
-pub fn stated_design(alloc: Global, bytes: &[u8], rules: &Rules) -> Result<Design, Refusal>
+pub(crate) fn stated_design(alloc: Global, bytes: &[u8], rules: &Rules) -> Result<Design, Refusal>
     requires { length bytes.now ≤ MOST_DESIGN_BYTES }
     ensures made { Answers (λ design. design) result (stated_design rules.now bytes.now) }
     ensures is { IfOk result (λ design. IsDesignOf rules.now bytes.now design) }

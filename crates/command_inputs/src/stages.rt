@@ -23,7 +23,7 @@ use std::alloc::Global;
 use tech_rules::Rules;
 
 /// The contents of a file of at most so many bytes. The files stay as they are; ReadFault comes only where the file's read count rose.
-pub fn load_within<S: Shelf>(
+pub(crate) fn load_within<S: Shelf>(
     alloc: Global,
     shelf: &mut S,
     name: &str,

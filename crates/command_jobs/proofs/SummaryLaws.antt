@@ -1,6 +1,5 @@
 use Rattle.std.proofs.Common.{◌≡◌, ◌∙◌, ◌<◌, ◌≤◌, ◌*◌, ◌^◌, ℕ, List, [], ◌∷◌, length, map, fold, max, ap, sym, arith}
 use Rattle.std.proofs.lemmas.List.{length-map}
-use Rattle.list_facts.proofs.Greatest.{greatest-first}
 use Rattle.design_model.specs.Netlist.{Netlist}
 use Rattle.feed_cells.specs.Fed.{Fed, IsFed, cells_in, fed_from, fed_rows, item_width, items_width, seats_in}
 use Rattle.feed_cells.specs.declared.fed.Item.{Item}
@@ -14,6 +13,7 @@ use Rattle.command_jobs.specs.Job.{Job}
 use Rattle.command_jobs.specs.Kept.{wirings_of}
 use Rattle.command_jobs.specs.Summarized.{cost_for, feeds_at, feeds_in, feeds_of, line_of_channel, summary_at, summary_of}
 use Rattle.command_jobs.specs.Text.{rows_with_feeds}
+use Rattle.std_laws.proofs.Greatest.{greatest-first}
 
 feed-width : (d : Netlist) (item : Item) → feeds_at item ≤ item_width d item
 feed-width d (Cell seat) = omega arith

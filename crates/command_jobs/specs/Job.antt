@@ -1,3 +1,4 @@
+-- the job, its rows, its routed channels and its text
 use Rattle.std.specs.Prelude.{ℕ}
 use Rattle.tech_rules.specs.Rules.{RuleValues}
 use Rattle.design_model.specs.Netlist.{Netlist}

@@ -1,3 +1,4 @@
+-- routed channels as a list of wirings and a list of what is kept beside them
 use Rattle.std.specs.Prelude.{List, [], ◌∷◌, map}
 use Rattle.channel_model.specs.declared.wiring.Wiring.{Wiring}
 use Rattle.greedy_router.specs.declared.sweep.Routed.{Routed}

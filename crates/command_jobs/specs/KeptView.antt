@@ -1,3 +1,4 @@
+-- routed channels in two lists as contracts see them, and that both lists are of one length
 use Rattle.std.specs.Prelude.{◌≡◌, ◌≤◌, List, [], length}
 use Rattle.std.specs.Vec.{vec_capacity}
 use Rattle.greedy_router.specs.declared.sweep.Routed.{Routed}

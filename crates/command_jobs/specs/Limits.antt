@@ -1,3 +1,4 @@
+-- the limits of a job
 use Rattle.std.specs.Prelude.{Option, Result, Ok}
 use Rattle.limits.specs.declared.TheConstants.{MOST_CHANGES, MOST_COLUMNS, MOST_SIZE}
 use Rattle.tech_rules.specs.Rules.{RuleValues}

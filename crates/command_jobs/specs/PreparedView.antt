@@ -1,3 +1,4 @@
+-- a job that is ready to be written, and its text written
 use Rattle.std.specs.Prelude.{◌≡◌, List}
 use Rattle.tech_rules.specs.Rules.{ValidRules}
 use Rattle.design_model.specs.Good.{Good}

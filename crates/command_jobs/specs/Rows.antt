@@ -1,3 +1,4 @@
+-- the number of rows of a job, its schedule of annealing, and the annealed rows
 use Rattle.std.specs.Prelude.{ℕ, List, Option, None, Some}
 use Rattle.tech_rules.specs.Rules.{RuleValues}
 use Rattle.design_model.specs.Netlist.{Netlist}

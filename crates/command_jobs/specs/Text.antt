@@ -1,3 +1,4 @@
+-- the rows with feeds of a job, its channels, and the text of its layout
 use Rattle.std.specs.Prelude.{ℕ, List}
 use Rattle.tech_rules.specs.Rules.{RuleValues}
 use Rattle.design_model.specs.Netlist.{Netlist}

@@ -1,3 +1,4 @@
+-- when a text is a good layout of a design, and how its writing may end
 use Rattle.std.specs.Prelude.{ℕ, List, Ok}
 use Rattle.geom_core.specs.declared.layout.Layout.{Layout}
 use Rattle.tech_rules.specs.Rules.{RuleValues}

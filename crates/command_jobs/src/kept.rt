@@ -11,14 +11,14 @@ use std::marker::Model;
 
 /// What is kept of a routed channel beside its wiring.
 #[derive(Drop)]
-pub struct Beside {
-    pub by: By,
-    pub sweep: Sweep,
+pub(crate) struct Beside {
+    pub(crate) by: By,
+    pub(crate) sweep: Sweep,
 }
 
 /// Routed channels in two lists, and room to put them together again. Contracts see them as one list.
 #[derive(Drop)]
-pub struct Apart {
+pub(crate) struct Apart {
     wirings: Vec<Wiring>,
     beside: Vec<Beside>,
     room: Vec<Routed>,
@@ -74,7 +74,7 @@ impl Apart {
     ghost use Rattle.command_jobs.specs.Kept.{wirings_of};
 
     /// Takes routed channels apart. The one error is want of memory, which gives them up.
-    pub fn new(alloc: Global, routed: Vec<Routed>) -> Result<Apart, AllocError>
+    pub(crate) fn new(alloc: Global, routed: Vec<Routed>) -> Result<Apart, AllocError>
         ensures { IfOk result (λ apart. apart ≡ routed.items) }
     {
         let count = routed.len();
@@ -90,14 +90,14 @@ impl Apart {
     }
 
     /// Their wirings. Takes no memory.
-    pub fn wirings(&self) -> &[Wiring]
+    pub(crate) fn wirings(&self) -> &[Wiring]
         ensures { result.now ≡ wirings_of self.now }
     {
         self.wirings.as_slice()
     }
 
     /// Puts them together again. Takes no memory.
-    pub fn together(self) -> Vec<Routed>
+    pub(crate) fn together(self) -> Vec<Routed>
         ensures { result.items ≡ self }
     {
         let Apart {

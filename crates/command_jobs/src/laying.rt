@@ -66,16 +66,16 @@ fn lay_drawn(
 
 /// Rows with feeds, their routed channels, where all of it lies, the drawings of the symbols, and the layout in short.
 #[derive(Drop)]
-pub struct ReadyRows {
-    pub fed: FedRows,
-    pub kept: Apart,
-    pub laid: Laid,
-    pub symbols: Vec<Items<Shape>>,
-    pub summary: Summary,
+pub(crate) struct ReadyRows {
+    pub(crate) fed: FedRows,
+    pub(crate) kept: Apart,
+    pub(crate) laid: Laid,
+    pub(crate) symbols: Vec<Items<Shape>>,
+    pub(crate) summary: Summary,
 }
 
 /// The rows of a design with feeds, routed and laid, if annealing tries no more changes than it may and the layout is within the limits. Each cell has room for its pins.
-pub fn ready_rows(
+pub(crate) fn ready_rows(
     alloc: Global,
     design: &Design,
     rules: &Rules,

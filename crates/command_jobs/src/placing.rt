@@ -25,7 +25,7 @@ use std::alloc::{AllocError, Global};
 use tech_rules::Rules;
 
 /// The number of rows of a design's layout. Takes no memory.
-pub fn rows_for(design: &Design, rules: &Rules, asked: Option<RowCount>) -> u32
+pub(crate) fn rows_for(design: &Design, rules: &Rules, asked: Option<RowCount>) -> u32
     ensures is { result ≡ rows_for rules.now design.now asked }
     ensures some { 1 ≤ result }
     ensures few { result ≤ MOST_ROWS }
@@ -95,15 +95,15 @@ fn feed_seats(alloc: Global, design: &Design, seats: &Rows) -> Result<FedSeats, 
 
 /// Rows with feeds, by what placement, and what the rows cost.
 #[derive(Drop)]
-pub struct FedDesign {
-    pub placement: Placement,
-    pub fed: FedRows,
-    pub cost: u64,
+pub(crate) struct FedDesign {
+    pub(crate) placement: Placement,
+    pub(crate) fed: FedRows,
+    pub(crate) cost: u64,
 }
 
 /// The rows of a design, annealed, with feeds, if annealing tries no more changes than it may.
 #[tactic(auto, unfolding(crate::specs::Text::rows_with_feeds, crate::specs::Summarized::cost_for))]
-pub fn feed_rows(
+pub(crate) fn feed_rows(
     alloc: Global,
     design: &Design,
     rules: &Rules,

@@ -104,16 +104,16 @@ fn route_tabled(
 
 /// Rows with feeds, what they cost without, and the routed channels between them.
 #[derive(Drop)]
-pub struct CostedRows {
-    pub fed: FedRows,
-    pub cost: u64,
-    pub lines: Vec<ChannelLine>,
-    pub kept: Apart,
+pub(crate) struct CostedRows {
+    pub(crate) fed: FedRows,
+    pub(crate) cost: u64,
+    pub(crate) lines: Vec<ChannelLine>,
+    pub(crate) kept: Apart,
 }
 
 /// The rows of a design with feeds, routed, if annealing tries no more changes than it may and the layout is within the limits.
 #[tactic(auto, unfolding(crate::specs::Limits::within_limits))]
-pub fn route_rows(
+pub(crate) fn route_rows(
     alloc: Global,
     design: &Design,
     rules: &Rules,

@@ -23,7 +23,7 @@ fn above(what: Limited, most: u64, n: u64) -> Option<Refusal>
 
 /// The first limit that a layout of this size passes: that of its columns, of its width or of its height. Takes no memory.
 #[tactic(auto, unfolding(crate::specs::Limits::size_refusal))]
-pub fn size_refusal(bound: Bound) -> Option<Refusal>
+pub(crate) fn size_refusal(bound: Bound) -> Option<Refusal>
     ensures is { result ≡ size_refusal bound }
     ensures status { IfSome result (λ refusal. refusal_status refusal ≡ 6) }
 {

@@ -63,7 +63,7 @@ fn line_of_channel(width: u64, channel: &Routed) -> ChannelLine
 }
 
 /// Routed channels in short, beside rows of this width. The one error is want of memory.
-pub fn channel_lines(
+pub(crate) fn channel_lines(
     alloc: Global,
     channels: &[Routed],
     width: u64,
@@ -78,7 +78,7 @@ pub fn channel_lines(
 
 /// The layout in short of a design in rows with feeds, which cost so, with these channels. The rows are at most 4,000,000 columns wide. Takes no
 /// memory.
-pub fn summarized(
+pub(crate) fn summarized(
     design: &Design,
     fed: &FedRows,
     channels: Vec<ChannelLine>,

@@ -12,21 +12,21 @@ use std::alloc::{AllocError, Global};
 use stock_styles::Stock;
 
 /// The layout of one inverter.
-pub const ONE_INVERTER: &str =
+pub(crate) const ONE_INVERTER: &str =
     "(cellroute 1);\nDS 1 1 1;\n9 INV;\nL XP;\nB 800 4000 400 2000;\nL NP;\nB 300 400 400 200;\nDF;\n91 u1;\nC 1 T 0 800;\nE\n";
 
 /// The layout of two buffers, `u1` and `u2`, that are joined.
-pub const TWO_JOINED: &str =
+pub(crate) const TWO_JOINED: &str =
     "(cellroute 1);\nDS 1 1 1;\n9 BUF;\nL XP;\nB 800 4000 400 2000;\nL NP;\nB 300 400 400 3800;\nDF;\n91 u1;\nC 1 T 0 800;\n91 u2;\nC 1 T 800 800;\nL NP;\nB 300 1000 400 5300;\nB 300 1000 1200 5300;\nL NM;\nB 1200 300 800 5600;\nB 400 400 400 5600;\nL NP;\nB 400 400 400 5600;\nL NC;\nB 200 200 400 5600;\nL NM;\nB 400 400 1200 5600;\nL NP;\nB 400 400 1200 5600;\nL NC;\nB 200 200 1200 5600;\nE\n";
 
 /// The words `route d r o`, with strokes between them.
-pub const ROUTE: &str = "route|d|r|o";
+pub(crate) const ROUTE: &str = "route|d|r|o";
 
 /// The words `check d r c`.
-pub const CHECK: &str = "check|d|r|c";
+pub(crate) const CHECK: &str = "check|d|r|c";
 
 /// The words of a text with strokes between them; no words where it is empty.
-pub fn words(alloc: Global, text: &str) -> Result<Vec<Word>, AllocError> {
+pub(crate) fn words(alloc: Global, text: &str) -> Result<Vec<Word>, AllocError> {
     let mut words = Vec::new(alloc);
     if text.is_empty() {
         return Ok(words);
@@ -38,18 +38,27 @@ pub fn words(alloc: Global, text: &str) -> Result<Vec<Word>, AllocError> {
 }
 
 /// A text with one piece of it replaced.
-pub fn text_with(alloc: Global, text: &str, old: &str, new: &str) -> Result<String, AllocError> {
+pub(crate) fn text_with(
+    alloc: Global,
+    text: &str,
+    old: &str,
+    new: &str,
+) -> Result<String, AllocError> {
     let (before, after) = text.split_once(old).unwrap_or((text, ""));
     format!(in alloc; "{before}{new}{after}")
 }
 
 /// The sample rules with one piece of their text replaced.
-pub fn rules_with(alloc: Global, old: &str, new: &str) -> Result<String, AllocError> {
+pub(crate) fn rules_with(alloc: Global, old: &str, new: &str) -> Result<String, AllocError> {
     text_with(alloc, RULES, old, new)
 }
 
 /// A shelf with the rules under `r` and these bytes under `d`.
-pub fn shelf_with_bytes(alloc: Global, rules: &str, design: &[u8]) -> Result<MemShelf, AllocError> {
+pub(crate) fn shelf_with_bytes(
+    alloc: Global,
+    rules: &str,
+    design: &[u8],
+) -> Result<MemShelf, AllocError> {
     let mut shelf = MemShelf::new(alloc)?;
     shelf.set("r", rules.as_bytes())?;
     shelf.set("d", design)?;
@@ -57,12 +66,12 @@ pub fn shelf_with_bytes(alloc: Global, rules: &str, design: &[u8]) -> Result<Mem
 }
 
 /// A shelf with the rules under `r` and the design under `d`.
-pub fn shelf_with(alloc: Global, rules: &str, design: &str) -> Result<MemShelf, AllocError> {
+pub(crate) fn shelf_with(alloc: Global, rules: &str, design: &str) -> Result<MemShelf, AllocError> {
     shelf_with_bytes(alloc, rules, design.as_bytes())
 }
 
 /// A shelf with these rules and the design of these modules and calls.
-pub fn shelf_of(
+pub(crate) fn shelf_of(
     alloc: Global,
     rules: &str,
     modules: &str,
@@ -73,12 +82,12 @@ pub fn shelf_of(
 }
 
 /// A shelf with the sample rules and the design of one inverter.
-pub fn inverter_shelf(alloc: Global) -> Result<MemShelf, AllocError> {
+pub(crate) fn inverter_shelf(alloc: Global) -> Result<MemShelf, AllocError> {
     shelf_of(alloc, RULES, INVERTER, "u1 INV n1;\n")
 }
 
 /// The style of a choice under a name, with one sweep as it was published, without free tracks to begin with.
-pub fn named_style(alloc: Global, name: &str, choice: Choice) -> Result<Style, AllocError>
+pub(crate) fn named_style(alloc: Global, name: &str, choice: Choice) -> Result<Style, AllocError>
     requires callable { (list : _) → IsAsked list.now → Choice.pre choice list }
     requires within { (list : _) (answer : ℕ) → IsAsked list.now → Choice.post choice list answer → answer < length list.now }
 {
@@ -106,7 +115,7 @@ fn stock_style(alloc: Global, stock: Stock) -> Result<Style, AllocError> {
 }
 
 /// How these words end over this shelf and this sink, with the styles `near`, `lean` and `high`.
-pub fn ended(
+pub(crate) fn ended(
     alloc: Global,
     text: &str,
     shelf: &mut MemShelf,
@@ -120,7 +129,7 @@ pub fn ended(
 }
 
 /// Whether these words end with this status over this shelf, and the sink holds this line then.
-pub fn is_ended_in(
+pub(crate) fn is_ended_in(
     alloc: Global,
     text: &str,
     shelf: &mut MemShelf,
@@ -133,7 +142,7 @@ pub fn is_ended_in(
 }
 
 /// Whether these words end with this status over this shelf, and print this line.
-pub fn is_ended(
+pub(crate) fn is_ended(
     alloc: Global,
     text: &str,
     shelf: &mut MemShelf,
@@ -145,7 +154,7 @@ pub fn is_ended(
 }
 
 /// Whether these words end with 0 over this shelf, and print these lines first.
-pub fn begins_so(
+pub(crate) fn begins_so(
     alloc: Global,
     words: &str,
     shelf: &mut MemShelf,
@@ -157,18 +166,18 @@ pub fn begins_so(
 }
 
 /// Whether these words end with status 0 over this shelf.
-pub fn is_done(alloc: Global, text: &str, shelf: &mut MemShelf) -> Result<bool, AllocError> {
+pub(crate) fn is_done(alloc: Global, text: &str, shelf: &mut MemShelf) -> Result<bool, AllocError> {
     let mut out = MemSink::new(alloc)?;
     Ok(ended(alloc, text, shelf, &mut out)?.status == 0)
 }
 
 /// Whether `route d r o` ends with status 0 over this shelf.
-pub fn is_routed(alloc: Global, shelf: &mut MemShelf) -> Result<bool, AllocError> {
+pub(crate) fn is_routed(alloc: Global, shelf: &mut MemShelf) -> Result<bool, AllocError> {
     is_done(alloc, ROUTE, shelf)
 }
 
 /// Whether these words end with this status over this shelf, print this line and write no `o`.
-pub fn is_refused_in(
+pub(crate) fn is_refused_in(
     alloc: Global,
     text: &str,
     shelf: &mut MemShelf,
@@ -179,7 +188,7 @@ pub fn is_refused_in(
 }
 
 /// Whether `route d r o` over these rules and this design is refused so.
-pub fn is_refused(
+pub(crate) fn is_refused(
     alloc: Global,
     rules: &str,
     design: &str,
@@ -191,7 +200,7 @@ pub fn is_refused(
 }
 
 /// The design of one cell of this width, in units.
-pub fn wide(alloc: Global, width: u32) -> Result<String, AllocError> {
+pub(crate) fn wide(alloc: Global, width: u32) -> Result<String, AllocError> {
     let module = format!(in alloc;
         "MODULE W;\nTYPE STANDARD;\nDIMENSIONS 0 0 {width} 0 {width} 40 0 40;\nIOLIST;\na I 4 0 3 POLY;\nENDIOLIST;\nENDMODULE;\n"
     )?;

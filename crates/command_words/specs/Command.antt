@@ -1,3 +1,4 @@
+-- the commands, and what their words give
 use Rattle.std.specs.Prelude.{◌<◌, ℕ, suc, List, [], ◌∷◌, Bool, true, false, if◌then◌else◌, codes, Option, Some, None, option_and_then, option_map}
 use Rattle.std.specs.Str.{bytes_eq}
 use Rattle.command_words.specs.NumberWord.{count_in, number_of, rows_in}

@@ -1,3 +1,4 @@
+-- the number of instances of a made design as contracts see it: from 1 to the most that a design may have
 use Rattle.std.specs.Prelude.{ℕ, ◌≤◌}
 use Rattle.limits.specs.declared.TheConstants.{MOST_INSTANCES}
 use Rattle.command_words.specs.declared.number_word.MadeCount.TheInside.{Inside}

@@ -1,3 +1,4 @@
+-- numbers that words ask for
 use Rattle.std.specs.Prelude.{ℕ, ◌+◌, ◌-◌, ◌*◌, ◌^◌, List, [], ◌∷◌, length, Bool, ◌&&◌, nat_le, nat_lt, if◌then◌else◌, Option, None, Some}
 use Rattle.limits.specs.declared.TheConstants.{MOST_INSTANCES, MOST_ROWS}
 

@@ -1,3 +1,4 @@
+-- a number of rows as contracts see it: from 1 to the most that a layout may have
 use Rattle.std.specs.Prelude.{ℕ, ◌≤◌}
 use Rattle.limits.specs.declared.TheConstants.{MOST_ROWS}
 use Rattle.command_words.specs.declared.number_word.RowCount.TheInside.{Inside}

@@ -1,3 +1,4 @@
+-- the commands to route and to check as the names in them, and when a reading gives what the words say
 use Rattle.std.specs.Prelude.{◌≡◌, Option, Some, None, Result, Ok, Err}
 use Rattle.command_words.specs.Command.{CheckNames, Command, Names, Source, check, from_file, from_seed, route}
 use Rattle.command_words.specs.declared.command.Check.{Check}

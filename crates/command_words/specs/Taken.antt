@@ -1,3 +1,4 @@
+-- the words that the argument parser of a command takes, with their values, and those that it refuses
 use Rattle.std.specs.Prelude.{◌≡◌, ◌≢◌, List, [], Result, Ok, Err}
 use Rattle.clap.specs.Words.{App, Row, Text, fault_of, matches_of}
 use Rattle.command_words.specs.declared.command.WordsFault.{WordsFault}

@@ -22,7 +22,7 @@ fn with_digit(number: u64, digit: u8) -> Option<u64>
 
 /// The number below 2^64 that a word of one to twenty digits writes. Takes no memory.
 #[tactic(auto, unfolding(crate::specs::NumberWord::number_of))]
-pub fn read_number(word: &str) -> Option<u64>
+pub(crate) fn read_number(word: &str) -> Option<u64>
     ensures { result ≡ number_of word.now }
 {
     let text = word.as_bytes();
@@ -76,7 +76,7 @@ impl RowCount {
 
 /// The number of rows, 1 to 512, that a word of one to twenty digits asks for. Takes no memory.
 #[tactic(auto, unfolding(crate::specs::NumberWord::rows_in))]
-pub fn read_rows(word: &str) -> Option<RowCount>
+pub(crate) fn read_rows(word: &str) -> Option<RowCount>
     ensures { result ≡ rows_in word.now }
 {
     let rows = read_number(word)?;
@@ -118,7 +118,7 @@ impl MadeCount {
 
 /// The number of instances, 1 to 20,000, that a word of one to twenty digits asks for. Takes no memory.
 #[tactic(auto, unfolding(crate::specs::NumberWord::count_in))]
-pub fn read_count(word: &str) -> Option<MadeCount>
+pub(crate) fn read_count(word: &str) -> Option<MadeCount>
     ensures { result ≡ count_in word.now }
 {
     let instances = read_number(word)?;

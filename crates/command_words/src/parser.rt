@@ -54,7 +54,7 @@ fn named_parser<'a>(alloc: Global, name: &'a str, last: &'a str) -> Result<Parse
 }
 
 /// The command `route` with its arguments. The one error is want of memory.
-pub fn route_parser<'a>(alloc: Global) -> Result<Parser<'a>, AllocError>
+pub(crate) fn route_parser<'a>(alloc: Global) -> Result<Parser<'a>, AllocError>
     ensures { IfOk result (λ c. app_of c ≡ route_app) }
 {
     let command = named_parser(alloc, "route", "out")?;
@@ -65,14 +65,14 @@ pub fn route_parser<'a>(alloc: Global) -> Result<Parser<'a>, AllocError>
 }
 
 /// The command `check` with its arguments. The one error is want of memory.
-pub fn check_parser<'a>(alloc: Global) -> Result<Parser<'a>, AllocError>
+pub(crate) fn check_parser<'a>(alloc: Global) -> Result<Parser<'a>, AllocError>
     ensures { IfOk result (λ c. app_of c ≡ check_app) }
 {
     named_parser(alloc, "check", "cif")
 }
 
 /// The command `make` with its arguments. The one error is want of memory.
-pub fn make_parser<'a>(alloc: Global) -> Result<Parser<'a>, AllocError>
+pub(crate) fn make_parser<'a>(alloc: Global) -> Result<Parser<'a>, AllocError>
     ensures { IfOk result (λ c. app_of c ≡ make_app) }
 {
     let command = Parser::new(alloc, "make");
@@ -84,7 +84,10 @@ pub fn make_parser<'a>(alloc: Global) -> Result<Parser<'a>, AllocError>
 
 /// What a command makes of words, of which the first is its name. It errs with Usage exactly where it refuses them, and with Memory where
 /// memory runs out.
-pub fn matches_in<'w>(parser: Parser<'w>, words: &'w [Word]) -> Result<ArgMatches<'w>, WordsFault>
+pub(crate) fn matches_in<'w>(
+    parser: Parser<'w>,
+    words: &'w [Word],
+) -> Result<ArgMatches<'w>, WordsFault>
     requires simple { is_simple (app_of parser) ≡ true }
     requires free { is_simple_and_free (app_of parser) ≡ true }
     ensures { IsTaken (λ m. rows_of (found_of m)) (app_of parser.entry) words.entry.now result }
@@ -99,7 +102,7 @@ pub fn matches_in<'w>(parser: Parser<'w>, words: &'w [Word]) -> Result<ArgMatche
 }
 
 /// The value of an argument. Takes no memory.
-pub fn value_of<'a>(matches: &ArgMatches<'a>, id: &str) -> Option<&'a str>
+pub(crate) fn value_of<'a>(matches: &ArgMatches<'a>, id: &str) -> Option<&'a str>
     ensures { option_map (λ s. s.now) result ≡ first_of id.now (rows_of (found_of matches.now)) }
 {
     matches.get_str(id)

@@ -1,3 +1,5 @@
+//! One word of the command line, and its text.
+
 ghost use Rattle.std.specs.Prelude.{◌≡◌};
 ghost use Rattle.std.specs.String.{string_bytes};
 

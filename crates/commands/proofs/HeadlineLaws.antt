@@ -1,4 +1,4 @@
-use Rattle.std.proofs.Common.{◌≡◌, ◌∙◌, ℕ, List, Result, Ok, ap, subst, sym}
+use Rattle.std.proofs.Common.{◌≡◌, ◌∙◌, ℕ, List, Ok, ap, subst, sym}
 use Rattle.greedy_router.specs.declared.sweep.Routed.{Routed}
 use Rattle.geom_core.specs.declared.layout.Layout.{Layout}
 use Rattle.tech_rules.specs.Rules.{RuleValues}
@@ -13,6 +13,7 @@ use Rattle.command_jobs.specs.Written.{IsGoodText}
 use Rattle.command_jobs.specs.Job.{Job}
 use Rattle.command_jobs.specs.Text.{job_text}
 use Rattle.command_inputs.specs.declared.stages.Inputs.{Inputs}
+use Rattle.std_laws.proofs.Options.{ok-same}
 
 -- the text of a job that is what two files say, and that is good, is a good layout of what they say
 pub headline-from : (stated bytes held : List ℕ) (job : Job) (kept : List Routed) → IsJobFrom stated bytes job → IsGoodText job.rules job.design (job_text job kept)
@@ -50,24 +51,21 @@ headline-of stated bytes text inputs layout from reads good = record {
   };
 }
 
-same-value : {A E : Type 0} (found : Result A E) (x y : A) → found ≡ Ok x → found ≡ Ok y → x ≡ y
-same-value found x y one other = let both : Ok x ≡ Ok y = sym one ∙ other in cc
-
 -- what a text reads as is one layout
 same-layout : (text : List ℕ) (l m : Layout) → ReadsAs text l → ReadsAs text m → l ≡ m
 same-layout text l m one other =
-    let commands : one.commands ≡ other.commands = same-value _ one.commands other.commands one.reads other.reads in
-    same-value (meaning one.commands) l m one.means (ap meaning commands ∙ other.means)
+    let commands : one.commands ≡ other.commands = ok-same _ one.commands other.commands one.reads other.reads in
+    ok-same (meaning one.commands) l m one.means (ap meaning commands ∙ other.means)
 
 -- and what files say is one design under one set of rules, so that the headline is a fact of these
 pub good-of : (stated bytes text : List ℕ) (inputs : Inputs) (layout : Layout) → AreInputsFrom stated bytes inputs → ReadsAs text layout
     → Headline stated bytes text → Good inputs.rules inputs.design layout
 good-of stated bytes text inputs layout from reads headline =
-    let rules : headline.rules ≡ inputs.rules = same-value _ headline.rules inputs.rules headline.states from.states in
-    let file : headline.good.file ≡ from.is.file = same-value _ headline.good.file from.is.file headline.good.read from.is.read in
+    let rules : headline.rules ≡ inputs.rules = ok-same _ headline.rules inputs.rules headline.states from.states in
+    let file : headline.good.file ≡ from.is.file = ok-same _ headline.good.file from.is.file headline.good.read from.is.read in
     let checked : on_grid inputs.rules from.is.file ≡ Ok headline.good.good.design =
     ap (λ (r : RuleValues). on_grid r from.is.file) (sym rules) ∙ ap (on_grid headline.rules) (sym file) ∙ headline.good.good.checked in
-    let design : headline.good.good.design ≡ inputs.design = same-value _ headline.good.good.design inputs.design checked from.is.is.checked in
+    let design : headline.good.good.design ≡ inputs.design = ok-same _ headline.good.good.design inputs.design checked from.is.is.checked in
     let shown : headline.good.good.good.layout ≡ layout = same-layout text headline.good.good.good.layout layout headline.good.good.good.reads reads in
     let one : Good inputs.rules headline.good.good.design headline.good.good.good.layout =
     subst (λ (r : RuleValues). Good r headline.good.good.design headline.good.good.good.layout) rules headline.good.good.good.good in

@@ -1,3 +1,4 @@
+-- what a command comes to, and the verdict on words and files
 use Rattle.geom_core.specs.declared.layout.Layout.{Layout}
 use Rattle.command_inputs.specs.declared.stages.Inputs.{Inputs}
 use Rattle.command_jobs.specs.Job.{Job}

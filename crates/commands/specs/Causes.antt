@@ -1,3 +1,4 @@
+-- why reading or writing failed in a command, by the counts of failures of its files and the sink
 use Rattle.std.specs.Prelude.{◌⊎◌, ℕ, List, [], ◌∷◌, Option, Some, None}
 use Rattle.shelf_io.specs.Count.{Rose, Still}
 use Rattle.command_words.specs.Command.{Command, check, from_file, reads_of, route, writes_of}

@@ -1,3 +1,4 @@
+-- how a command ends
 use Rattle.std.specs.Prelude.{◌≡◌, ◌↔◌, ◌⊎◌, ℕ, List, [], ◌∷◌, Result, Ok, Err}
 use Rattle.geom_core.specs.declared.layout.Layout.{Layout}
 use Rattle.design_model.specs.Good.{Good}

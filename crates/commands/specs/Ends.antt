@@ -1,3 +1,4 @@
+-- which end of a command agrees with the verdict on it
 use Rattle.std.specs.Prelude.{◌≡◌, List, Result, Ok, Err, IsOkAnd}
 use Rattle.greedy_router.specs.declared.sweep.Routed.{Routed}
 use Rattle.commands.specs.Done.{Does, Done, IsToLayOut}

@@ -1,3 +1,4 @@
+-- the headline: what is written reads as a good layout of the design
 use Rattle.std.specs.Prelude.{◌≡◌, ℕ, List, Ok}
 use Rattle.tech_rules.specs.Rules.{RuleValues}
 use Rattle.tech_rules.specs.RulesOf.{rules_of}

@@ -1,3 +1,4 @@
+-- what the written file and the sink hold after a command, and its status
 use Rattle.std.specs.Prelude.{◌≡◌, ◌⊎◌, ◌++◌, Bool, ℕ, List, Option, Some, Result, Ok, Err, IfSome, slice_get, take}
 use Rattle.shelf_io.specs.Count.{Rose}
 use Rattle.shelf_io.specs.Told.{Refines, appended}

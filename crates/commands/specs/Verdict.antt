@@ -1,3 +1,4 @@
+-- what a command's words and files ask for: a design to lay out, a layout to judge, or the first refusal
 use Rattle.std.specs.Prelude.{◌≡◌, ℕ, List, Option, Some, None, option_map, Result, Ok, Err}
 use Rattle.command_words.specs.Command.{Command, check, command_of, from_file, route}
 use Rattle.commands.specs.Accepted.{Accepted, to_judge, to_lay_out}

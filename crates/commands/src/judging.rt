@@ -27,10 +27,10 @@ use std::alloc::{AllocError, Global};
 
 /// A layout that was judged for a design under rules, and what was found.
 #[derive(Drop)]
-pub struct Judged {
-    pub inputs: Inputs,
-    pub layout: Layout,
-    pub findings: Vec<Finding>,
+pub(crate) struct Judged {
+    pub(crate) inputs: Inputs,
+    pub(crate) layout: Layout,
+    pub(crate) findings: Vec<Finding>,
 }
 
 // Finds what is wrong with a layout.
@@ -75,7 +75,7 @@ fn judge<S: Shelf>(alloc: Global, shelf: &mut S, names: &Check<'_>) -> Result<Ju
 
 /// Judges the layout of a file for the design and the rules of two files, prints what is wrong with it, and gives the status: 0 where it is
 /// good, 1 where it is not, or that of the first refusal. The files stay as they are.
-pub fn check_named<S: Shelf, K: Sink>(
+pub(crate) fn check_named<S: Shelf, K: Sink>(
     alloc: Global,
     shelf: &mut S,
     out: &mut K,

@@ -19,7 +19,7 @@ fn status_of(judged: &Judged) -> u8
 }
 
 /// Prints what was found of a layout, and gives the status: 9 where the sink failed. Takes no memory.
-pub fn report_judged<K: Sink>(out: &mut K, judged: &Judged) -> u8
+pub(crate) fn report_judged<K: Sink>(out: &mut K, judged: &Judged) -> u8
     ensures { Tells (Ok (done.judged judged.now.inputs judged.now.layout judged.now.findings.items)) result
         (K.written out.old) (K.written out.new) (K.faults out.old) (K.faults out.new) }
 {
@@ -34,7 +34,7 @@ pub fn report_judged<K: Sink>(out: &mut K, judged: &Judged) -> u8
 }
 
 /// Prints a layout in short, and gives the status: 9 where the sink failed. Takes no memory.
-pub fn report_laid<K: Sink>(out: &mut K, summary: &Summary) -> u8
+pub(crate) fn report_laid<K: Sink>(out: &mut K, summary: &Summary) -> u8
     ensures { Tells (Ok (done.laid_out summary.now)) result (K.written out.old) (K.written out.new) (K.faults out.old) (K.faults out.new) }
 {
     match print_summary(summary, out) {
@@ -47,7 +47,7 @@ pub fn report_laid<K: Sink>(out: &mut K, summary: &Summary) -> u8
 }
 
 /// Prints the line of what stopped a command, as far as the sink takes it, and gives the status. Takes no memory.
-pub fn report_stop<K: Sink>(out: &mut K, stop: &Stop) -> u8
+pub(crate) fn report_stop<K: Sink>(out: &mut K, stop: &Stop) -> u8
     ensures tells { IsStopped stop.now result (K.written out.old) (K.written out.new) (K.faults out.old) (K.faults out.new) }
     ensures listed { is_status result ≡ true }
     ensures above { 2 ≤ result }

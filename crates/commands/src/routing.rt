@@ -26,7 +26,7 @@ use std::alloc::Global;
 
 /// Routes a design from its source under the rules of a file into another file, by the choices of its style, prints the layout in short or the line
 /// of what stopped that, and gives the status: 0 where all is written and printed, 9 where the file or the sink failed, or that of the first refusal.
-pub fn route_named<S: Shelf, K: Sink>(
+pub(crate) fn route_named<S: Shelf, K: Sink>(
     alloc: Global,
     shelf: &mut S,
     out: &mut K,

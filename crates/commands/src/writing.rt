@@ -116,7 +116,7 @@ fn lay_and_write<S: Shelf>(
 
 /// Lays a design out as `route` wants it, routes it by the choices of a style, writes it into its file, prints the layout in short or the line of what stopped
 /// that, and gives the status: 0 where all is written and printed, 9 where the file or the sink failed, or that of the first refusal.
-pub fn lay_and_report<S: Shelf, K: Sink>(
+pub(crate) fn lay_and_report<S: Shelf, K: Sink>(
     alloc: Global,
     shelf: &mut S,
     sink: &mut K,

@@ -5,9 +5,6 @@ use Rattle.std.proofs.lemmas.List.Elements.{All-from_recursion}
 use Rattle.std.proofs.lemmas.Option.{none-some, same_Some, slice_get-map}
 use Rattle.std.specs.List.{AllByRecursion, find, slice_get}
 use Rattle.std.specs.Option.{option_map}
-use Rattle.list_facts.proofs.Counts.{few-numbers}
-use Rattle.list_facts.proofs.Every.{every-append, every-from-get, every-get, every-weaker}
-use Rattle.list_facts.proofs.Members.{all-get, contains-get, find-passes, find-some}
 use Rattle.design_model.specs.Netlist.{IsNetlist, Netlist, all_pins, pins_from, terminals_at}
 use Rattle.design_model.specs.PinOrder.{IsAscending, is_less, pin_pair}
 use Rattle.design_model.specs.declared.design.CellKind.{CellKind}
@@ -16,6 +13,9 @@ use Rattle.design_model.specs.declared.design.Pin.{Pin}
 use Rattle.design_model.specs.declared.design.Terminal.{Terminal}
 use Rattle.design_model.proofs.PairOrder.{less-is}
 use Rattle.design_model.proofs.PinsInOrder.{pins-ascending}
+use Rattle.std_laws.proofs.Counts.{few-numbers}
+use Rattle.std_laws.proofs.Every.{every-append, every-from-get, every-get, every-weaker}
+use Rattle.std_laws.proofs.Members.{all-get, contains-get, find-passes, find-some}
 
 pins-of-one : (i t : ℕ) (ts : List Terminal) → AllByRecursion (λ (q : ℕ × ℕ). q.0 ≡ i) (pins_from i t ts)
 pins-of-one i t [] = tt

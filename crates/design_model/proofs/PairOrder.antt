@@ -2,13 +2,13 @@ use Rattle.std.proofs.Common.{◌≡◌, ◌≢◌, ◌<◌, ◌≤◌, ◌⊎�
 use Rattle.std.proofs.lemmas.Bool.Decides.{nat_tests}
 use Rattle.std.proofs.lemmas.List.{length-map}
 use Rattle.std.proofs.lemmas.List.Sums.{prefix_len-le-length}
-use Rattle.std.proofs.lemmas.Option.{slice_get-map}
+use Rattle.std.proofs.lemmas.Option.{slice_get-map, same_Some}
 use Rattle.std.specs.List.{AllByRecursion, prefix_len, slice_get}
 use Rattle.std.specs.Option.{option_map}
-use Rattle.list_facts.proofs.Every.{every-get, every-weaker}
-use Rattle.list_facts.proofs.Mentioned.{one-more}
 use Rattle.design_model.specs.PinOrder.{IsAscending, is_less, pin_pair, pins_before}
 use Rattle.design_model.specs.declared.design.Pin.{Pin}
+use Rattle.std_laws.proofs.Every.{every-get, every-weaker}
+use Rattle.std_laws.proofs.Numbers.{one-more}
 
 -- what it is for a pair to be less than another
 pub less-is : (a b : ℕ × ℕ) → is_less a b ≡ true → (a.0 < b.0) ⊎ ((a.0 ≡ b.0) × (a.1 < b.1))
@@ -67,9 +67,6 @@ less-self a h = by (less-is a a h)
     by (inl x) = omega (arith, x)
     by (inr x) = omega (arith, x.1)
 
-some-less : (x y : ℕ × ℕ) → Some x ≡ Some y → x ≡ y
-some-less x y e = cc
-
 -- a pair of an ascending list that is less than q is one of those before q
 among-before : (q : ℕ × ℕ) (xs : List (ℕ × ℕ)) (m : ℕ) (y : ℕ × ℕ) → IsAscending xs → slice_get xs m ≡ Some y → is_less y q ≡ true
     → m < prefix_len (λ (p : ℕ × ℕ). is_less p q) xs
@@ -79,7 +76,7 @@ among-before q [] m y up at less = absurd (no at)
     no e = cc
 among-before q (x ∷ xs) zero y up at less =
     subst (λ b. 0 < cond b (1 + prefix_len (λ (p : ℕ × ℕ). is_less p q) xs) 0)
-    (sym (subst (λ p. is_less p q ≡ true) (sym (some-less x y at)) less)) (omega arith)
+    (sym (subst (λ p. is_less p q ≡ true) (sym (same_Some x y at)) less)) (omega arith)
 among-before q (x ∷ xs) (suc m) y up at less =
     subst (λ b. suc m < cond b (1 + prefix_len (λ (p : ℕ × ℕ). is_less p q) xs) 0)
     (sym (less-trans x y q (every-get (λ (p : ℕ × ℕ). is_less x p ≡ true) xs m y up.0 at) less))
@@ -91,7 +88,7 @@ past-before : (q : ℕ × ℕ) (xs : List (ℕ × ℕ)) (m : ℕ) (y : ℕ × �
 past-before q [] m y at other = omega arith
 past-before q (x ∷ xs) zero y at other =
     subst (λ b. cond b (1 + prefix_len (λ (p : ℕ × ℕ). is_less p q) xs) 0 ≤ 0)
-    (sym (subst (λ p. is_less p q ≡ false) (sym (some-less x y at)) other)) (omega arith)
+    (sym (subst (λ p. is_less p q ≡ false) (sym (same_Some x y at)) other)) (omega arith)
 past-before q (x ∷ xs) (suc m) y at other = by (is_less x q) (past-before q xs m y at other)
   where
     by : (b : Bool) → prefix_len (λ (p : ℕ × ℕ). is_less p q) xs ≤ m → cond b (1 + prefix_len (λ (p : ℕ × ℕ). is_less p q) xs) 0 ≤ suc m
@@ -158,4 +155,4 @@ pub none-there : (pins : List Pin) (q : ℕ × ℕ) (p : Pin) → IsAscending (m
     → AllByRecursion (λ (p : ℕ × ℕ). p ≢ q) (map pin_pair pins)
 unfolding pins_before
 none-there pins q p up at other =
-    none-is q (map pin_pair pins) up (λ y is same. other (some-less (pin_pair p) y (sym (pair-at pins _ p at) ∙ is) ∙ same))
+    none-is q (map pin_pair pins) up (λ y is same. other (same_Some (pin_pair p) y (sym (pair-at pins _ p at) ∙ is) ∙ same))

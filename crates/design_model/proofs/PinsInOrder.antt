@@ -2,14 +2,14 @@ use Rattle.std.proofs.Common.{◌≡◌, ◌≢◌, ◌<◌, ◌≤◌, ℕ, zer
 use Rattle.std.proofs.lemmas.Option.{slice_get-map}
 use Rattle.std.specs.List.{AllByRecursion, slice_get}
 use Rattle.std.specs.Option.{option_map}
-use Rattle.list_facts.proofs.Every.{every-append, every-get, every-left, every-right, every-weaker}
 use Rattle.design_model.specs.Netlist.{IsNetlist, Netlist, all_pins, pins_from, terminals_at}
 use Rattle.design_model.specs.PinOrder.{IsAscending, IsPinAt, instance_terminals, is_less, kind_terminals, pin_pair, power_at}
 use Rattle.design_model.specs.declared.design.CellKind.{CellKind}
 use Rattle.design_model.specs.declared.design.Inst.{Inst}
 use Rattle.design_model.specs.declared.design.Terminal.{Terminal}
-use Rattle.list_facts.proofs.Places.{get-front}
 use Rattle.design_model.proofs.PairOrder.{less-first, less-second}
+use Rattle.std_laws.proofs.Every.{every-append, every-get, every-left, every-right, every-weaker}
+use Rattle.std_laws.proofs.Places.{get-front}
 
 -- the pins of one instance from terminal t on have terminals from t on
 from-bounds : (i t : ℕ) (ts : List Terminal) → AllByRecursion (λ (q : ℕ × ℕ). (q.0 ≡ i) × (t ≤ q.1)) (pins_from i t ts)

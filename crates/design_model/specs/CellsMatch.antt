@@ -1,3 +1,4 @@
+-- the cells of a layout as the instances of a design
 use Rattle.std.specs.Prelude.{◌≡◌, ℕ, List, map, drop, take, Some, Contains, slice_get}
 use Rattle.std.specs.List.Sorted.{IsPermutation}
 use Rattle.geom_core.specs.Moving.{moved_shape}

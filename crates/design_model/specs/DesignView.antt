@@ -1,3 +1,4 @@
+-- a checked design as contracts see it: the lists of its netlist, and its height
 use Rattle.design_model.specs.Netlist.{Netlist, IsNetlist}
 use Rattle.design_model.specs.declared.design.Design.TheInside.{Inside}
 

@@ -1,3 +1,4 @@
+-- the drawing of a cell kind
 use Rattle.std.specs.Prelude.{ℕ, pos, ◌+◌, ◌*◌, ◌-◌, List, ◌∷◌, map, Bool, if◌then◌else◌}
 use Rattle.geom_core.specs.Extent.{Extent}
 use Rattle.geom_core.specs.declared.layout.Shape.{Shape}

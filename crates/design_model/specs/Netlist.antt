@@ -1,3 +1,4 @@
+-- a checked design as plain lists, and what every one keeps
 use Rattle.std.specs.Prelude.{◌≡◌, ◌<◌, ◌≤◌, ℕ, ◌+◌, ◌^◌, List, [], ◌∷◌, ◌++◌, length, map, true, false, ◌==◌, if◌then◌else◌, Option, None, Some, slice_get, All}
 use Rattle.std.specs.List.{IsDistinct, list_any}
 use Rattle.std.specs.Str.{bytes_eq}

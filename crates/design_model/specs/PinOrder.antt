@@ -1,3 +1,4 @@
+-- pins by their instances and terminals
 use Rattle.std.specs.Prelude.{◌≡◌, ℕ, List, [], ◌∷◌, map, Bool, true, ◌==◌, ◌&&◌, ◌||◌, nat_lt, Option, None, Some, slice_get}
 use Rattle.std.specs.List.{AllByRecursion, prefix_len}
 use Rattle.std.specs.Option.{option_map}

@@ -1,3 +1,4 @@
+-- the room that cells have for their pins
 use Rattle.std.specs.Prelude.{ℕ, ◌+◌, ◌*◌, ◌<◌, ◌≤◌, length}
 use Rattle.tech_rules.specs.Rules.{RuleValues}
 use Rattle.design_model.specs.Netlist.{Netlist}

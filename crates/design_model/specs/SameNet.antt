@@ -1,3 +1,4 @@
+-- nets as equal signal words
 use Rattle.std.specs.Prelude.{◌≡◌, ◌↔◌, ℕ, List, Option, Some, slice_get}
 use Rattle.design_model.specs.declared.design.Pin.{Pin}
 

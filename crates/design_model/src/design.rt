@@ -1,3 +1,5 @@
+//! Cell kinds with terminals and positions, instances, pins and nets, and the design that holds them.
+
 use crate::pin_search::find_pin;
 use geom_core::{Items, Name};
 use std::marker::Model;

@@ -1,3 +1,5 @@
+//! The pin at a terminal of an instance, found by halving the list of pins.
+
 ghost use Rattle.design_model.specs.PinOrder.{is_less, pin_pair, pins_before, IsAscending, IsPinAt};
 ghost use Rattle.std.specs.List.{AllByRecursion};
 ghost use Rattle.std.specs.Prelude.{◌≡◌, ◌≢◌, ◌≤◌, length, map, IfSome, None};
@@ -7,7 +9,7 @@ use limits::MOST_PINS;
 
 /// The number of the pin of this instance and terminal, if there is one among these pins, which stand in order of their
 /// instances, then terminals. Takes no memory.
-pub fn find_pin(pins: &[Pin], instance: u32, terminal: u32) -> Option<u32>
+pub(crate) fn find_pin(pins: &[Pin], instance: u32, terminal: u32) -> Option<u32>
     requires few { length pins.now ≤ MOST_PINS }
     requires ordered { IsAscending (map pin_pair pins.now) }
     ensures found { IfSome result (λ n. IsPinAt pins.now n instance terminal) }

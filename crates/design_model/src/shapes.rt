@@ -1,3 +1,5 @@
+//! The shapes of a cell kind: its outline, and a pin of the vertical layer at each position.
+
 ghost use Rattle.design_model.specs.Drawing.{drawing_of, extent_of, middle_of, outline_shape, pin_high, pin_low, position_shape};
 ghost use Rattle.design_model.specs.Netlist.{IsKind};
 ghost use Rattle.design_model.specs.declared.design.CellKind.{CellKind as Kind};

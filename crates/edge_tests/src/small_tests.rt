@@ -6,14 +6,14 @@ use std::alloc::Global;
 use std::test::Fail;
 
 /// The channel with these pins.
-pub fn channel_of(alloc: Global, top: &[u32], bottom: &[u32]) -> Result<Channel, Fail> {
+pub(crate) fn channel_of(alloc: Global, top: &[u32], bottom: &[u32]) -> Result<Channel, Fail> {
     let top = top.to_vec(alloc)?;
     let bottom = bottom.to_vec(alloc)?;
     Ok(Channel::new(top, bottom).ok_or("a channel")?)
 }
 
 /// Its wiring.
-pub fn edge_of(alloc: Global, top: &[u32], bottom: &[u32]) -> Result<Edge, Fail> {
+pub(crate) fn edge_of(alloc: Global, top: &[u32], bottom: &[u32]) -> Result<Edge, Fail> {
     Ok(left_edge(alloc, &channel_of(alloc, top, bottom)?)?)
 }
 

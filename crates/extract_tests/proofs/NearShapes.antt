@@ -2,11 +2,11 @@ use Rattle.std.proofs.Common.{◌≤◌, ℕ, ℤ, arith}
 use Rattle.std.specs.Prelude.{All, nat_abs}
 use Rattle.std.proofs.lemmas.Int.{ints}
 use Rattle.std.proofs.lemmas.List.Elements.{All-from_recursion}
-use Rattle.list_facts.proofs.Every.{every-weaker}
 use Rattle.geom_core.specs.Reach.{IsInReach, IsShapeInReach}
 use Rattle.geom_core.specs.declared.layout.Layout.{Layout}
 use Rattle.geom_core.specs.declared.layout.Shape.{Shape}
 use Rattle.cif_reader.specs.Within.{IsLayoutWithin, IsShapeWithin}
+use Rattle.std_laws.proofs.Every.{every-weaker}
 
 near : (z : ℤ) → nat_abs z ≤ 4000000000 → IsInReach z
 near z few = record { low = omega (arith, ints); high = omega (arith, ints) }

@@ -1,12 +1,10 @@
-use Rattle.std.proofs.Common.{◌≡◌, ◌∙◌, ℕ, suc, List, [], ◌∷◌, Some, length, map, ap, ap₂, sym, subst, refl, arith, Bool, true, false}
-use Rattle.std.specs.Bool.{OnTrue}
+use Rattle.std.proofs.Common.{◌≡◌, ◌∙◌, ℕ, suc, List, [], ◌∷◌, Some, length, map, ap, ap₂, sym, subst, refl, arith}
 use Rattle.std.specs.List.{slice_get}
 use Rattle.std.specs.List.Sorted.{IsPermutation}
 use Rattle.std.specs.Option.{option_map}
 use Rattle.std.proofs.lemmas.List.Sorted.{IsPermutation-refl}
 use Rattle.std.proofs.lemmas.Option.{slice_get-map}
 use Rattle.list_facts.proofs.Different.{place-get}
-use Rattle.list_facts.proofs.Members.{contains-get}
 use Rattle.geom_core.specs.declared.layout.Cell.{Cell}
 use Rattle.geom_core.specs.declared.layout.Layout.{Layout}
 use Rattle.tech_rules.specs.Rules.{RuleValues}
@@ -14,6 +12,7 @@ use Rattle.design_model.specs.CellsMatch.{CellsMatch, cell_names, instance_names
 use Rattle.design_model.specs.Netlist.{IsNetlist, Netlist}
 use Rattle.design_model.specs.declared.design.Inst.{Inst}
 use Rattle.extract_tests.specs.InOrder.{AreInOrder}
+use Rattle.std_laws.proofs.Members.{contains-get}
 
 same-names : (insts : List Inst) (cells : List Cell) → length cells ≡ length insts
     → ((k : ℕ) (i : Inst) (c : Cell) → slice_get insts k ≡ Some i → slice_get cells k ≡ Some c → c.name ≡ i.name)
@@ -44,12 +43,3 @@ in-order-match r d l good are =
           ∙ place-get (instance_names d) in_cells.0 i.name good.different_instances other in
           (are.each in_cells.0 i cell (ap (λ (k : ℕ). slice_get d.instances k) (sym one) ∙ second) first).copy kind is_kind;
     }
-
--- what follows from a test's meaning is one, too
-pub on-true : (b : Bool) (P Q : Type 0) → (P → Q) → OnTrue b P → OnTrue b Q
-on-true true P Q follows holds = follows holds
-on-true false P Q follows holds = tt
-
-pub meant : (b : Bool) (P : Type 0) → b ≡ true → OnTrue b P → P
-meant true P is holds = holds
-meant false P is holds = let never : ⊥ = cc in absurd never

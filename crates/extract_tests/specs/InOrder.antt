@@ -1,3 +1,4 @@
+-- cells in the order of instances
 use Rattle.std.specs.Prelude.{◌≡◌, ℕ, length, Some, slice_get}
 use Rattle.geom_core.specs.declared.layout.Cell.{Cell}
 use Rattle.geom_core.specs.declared.layout.Layout.{Layout}

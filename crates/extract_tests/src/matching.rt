@@ -137,7 +137,7 @@ fn are_in_order(
 }
 
 /// Whether the cells of a layout are those of a design, in the order of the instances. The one error is want of memory.
-pub fn cells_match(
+pub(crate) fn cells_match(
     alloc: Global,
     layout: &Layout,
     design: &Design,

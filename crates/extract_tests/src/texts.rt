@@ -30,7 +30,7 @@ fn layout_of(alloc: Global, text: &[u8]) -> Result<Option<Layout>, AllocError>
 
 /// The numbers of the pins of a design of these modules and calls and of the shapes of a text of CIF, or None where the cells of that are
 /// not those of the design in their order.
-pub fn extract_of(
+pub(crate) fn extract_of(
     alloc: Global,
     modules: &str,
     calls: &str,
@@ -50,7 +50,7 @@ pub fn extract_of(
 }
 
 /// For each number the place of the first that is equal to it, or the number of numbers where there is none.
-pub fn first_equal(alloc: Global, numbers: &[u32]) -> Result<Vec<usize>, AllocError> {
+pub(crate) fn first_equal(alloc: Global, numbers: &[u32]) -> Result<Vec<usize>, AllocError> {
     let mut places = Vec::new(alloc);
     for number in numbers {
         let place = numbers.iter().position(|other| *other == *number);

@@ -1,8 +1,6 @@
 use Rattle.std.proofs.Common.{◌≡◌, ◌⊎◌, ◌<◌, ◌≤◌, ℕ, inl, inr, refl, sym, subst, arith, List, [], ◌∷◌, true, false, eqb, Contains, length}
 use Rattle.std.proofs.lemmas.Bool.{and_parts, cases_eq, eq-eqb, eqb-true}
 use Rattle.std.proofs.lemmas.Bool.Decides.{nat_tests}
-use Rattle.list_facts.proofs.Greatest.{greatest-all, greatest-reached, least-all, least-reached}
-use Rattle.list_facts.proofs.Members.{filter-from, filter-member, member-head}
 use Rattle.design_model.specs.Netlist.{IsNetlist, Netlist}
 use Rattle.design_model.specs.declared.design.Pin.{Pin}
 use Rattle.row_model.specs.Rows.{ArePlaced}
@@ -16,6 +14,8 @@ use Rattle.feed_cells.proofs.Touching.{Touches}
 use Rattle.feed_cells.specs.declared.crossing.Crossing.{Crossing}
 use Rattle.feed_cells.specs.declared.crossing.Crossing.TheVariants.{Alone, One, Many}
 use Rattle.feed_cells.proofs.PinEdges.{pin-edge, row-within}
+use Rattle.std_laws.proofs.Greatest.{greatest-all, greatest-reached, least-all, least-reached}
+use Rattle.std_laws.proofs.Members.{filter-from, filter-member, member-head}
 
 -- the pins of a net are those of the design that have its number
 pub of-net : (d : Netlist) (net : ℕ) (p : Pin) → Contains (pins_of d net) p → Contains d.pins p × (p.net ≡ net)

@@ -5,8 +5,6 @@ use Rattle.std.proofs.lemmas.List.Sums.{count_by-le-length}
 use Rattle.std.proofs.lemmas.Option.{get_or_from_slice_get, slice_get_within}
 use Rattle.std.specs.List.{slice_get}
 use Rattle.std.specs.Option.{option_map}
-use Rattle.list_facts.proofs.Greatest.{greatest-bound}
-use Rattle.list_facts.proofs.Members.{contains-range, range-contains, filter-from, filter-member, map-cases, map-member, member-cases, member-head, member-tail}
 use Rattle.design_model.specs.Netlist.{Netlist}
 use Rattle.row_model.specs.Widths.{columns_of}
 use Rattle.row_model.specs.declared.rows.Seat.{Seat}
@@ -16,6 +14,8 @@ use Rattle.feed_cells.specs.Feeds.{feed_place, is_fed, lefts_of, middle_of}
 use Rattle.feed_cells.proofs.Standing.{IsFeed, Stands, seated, feeding}
 use Rattle.feed_cells.specs.declared.fed.Item.{Item}
 use Rattle.feed_cells.specs.declared.fed.Item.TheVariants.{Cell, Feed}
+use Rattle.std_laws.proofs.Greatest.{greatest-bound}
+use Rattle.std_laws.proofs.Members.{contains-range, range-contains, filter-from, filter-member, map-cases, map-member, member-cases, member-head, member-tail}
 
 -- the nets whose feeds stand in a row at a place
 abbrev nets_at : Netlist → List (List Seat) → ℕ → List Seat → ℕ → List ℕ

@@ -2,7 +2,6 @@ use Rattle.std.proofs.Common.{◌≡◌, ℕ, ◌+◌, ◌*◌, ◌≤◌, ◌==
 use Rattle.std.proofs.lemmas.List.FromFn.{length-range_with_len}
 use Rattle.std.proofs.lemmas.List.Sums.{sum_by-cons}
 use Rattle.design_model.proofs.DesignPins.{nets-few}
-use Rattle.list_facts.proofs.Counts.{filter-short}
 use Rattle.design_model.specs.Netlist.{Netlist, IsNetlist}
 use Rattle.row_model.specs.declared.rows.Seat.{Seat}
 use Rattle.row_model.proofs.WidthLaws.{columns-few}
@@ -13,6 +12,7 @@ use Rattle.row_model.specs.NearStands.{AreShort}
 use Rattle.feed_cells.specs.Sizes.{AreNarrow}
 use Rattle.feed_cells.specs.declared.fed.Item.{Item}
 use Rattle.feed_cells.specs.declared.fed.Item.TheVariants.{Cell, Feed}
+use Rattle.std_laws.proofs.Counts.{filter-short}
 
 -- the width of items one behind the other
 pub width-cons : (d : Netlist) (item : Item) (items : List Item) → items_width d (item ∷ items) ≡ item_width d item + items_width d items

@@ -1,7 +1,6 @@
 use Rattle.std.proofs.Common.{◌≡◌, ◌≢◌, ◌<◌, ◌≤◌, ℕ, refl, arith, List, [], ◌∷◌, Bool, true, Contains, length}
 use Rattle.std.proofs.lemmas.Bool.Decides.{nat_tests}
 use Rattle.std.proofs.lemmas.List.Elements.{All-contains}
-use Rattle.list_facts.proofs.Members.{member-head}
 use Rattle.design_model.specs.Netlist.{IsNetlist, Netlist}
 use Rattle.design_model.specs.declared.design.Pin.{Pin}
 use Rattle.row_model.specs.Rows.{ArePlaced}
@@ -16,6 +15,7 @@ use Rattle.feed_cells.specs.declared.fed.Item.TheVariants.{Feed}
 use Rattle.feed_cells.proofs.Touching.{channel_beside}
 use Rattle.feed_cells.proofs.CrossingLaws.{across-range, channels-within, fed-across, in-net, of-net}
 use Rattle.feed_cells.proofs.FedLaws.{feed-there}
+use Rattle.std_laws.proofs.Members.{member-head}
 
 -- a net that stands in a channel, or crosses a row, is not alone
 pub inside-stands : (c : Crossing) (channel : ℕ) → is_in c channel ≡ true → c ≢ Alone

@@ -2,7 +2,6 @@ use Rattle.std.proofs.Common.{◌≡◌, ◌⊎◌, ◌<◌, ℕ, ap, ◌∙◌,
 use Rattle.std.proofs.lemmas.Option.{slice_get-get_or}
 use Rattle.std.specs.List.{find, list_any, slice_get}
 use Rattle.std.specs.Option.{option_and_then, option_map, is_some}
-use Rattle.list_facts.proofs.Members.{all-get}
 use Rattle.design_model.specs.Netlist.{IsKind, IsNetlist, Netlist}
 use Rattle.design_model.specs.PinOrder.{kind_terminals, pin_pair, power_at}
 use Rattle.design_model.specs.declared.design.CellKind.{CellKind}
@@ -14,6 +13,7 @@ use Rattle.row_model.specs.Stands.{column_in, is_on, positions_in, row_of}
 use Rattle.row_model.specs.declared.rows.Seat.{Seat}
 use Rattle.row_model.proofs.StandLaws.{stand-within}
 use Rattle.feed_cells.specs.Crossings.{has_edge}
+use Rattle.std_laws.proofs.Members.{all-get}
 
 -- a position of a terminal is on one of the two edges
 on-edge : (positions : List Position) (terminal : ℕ) → list_any (λ (a : Position). eqb a.terminal terminal) positions ≡ true

@@ -1,11 +1,8 @@
 use Rattle.std.specs.List.{range_with_len, AllByRecursion, find}
-use Rattle.std.proofs.Common.{◌≡◌, ℕ, zero, suc, ◌+◌, ◌<◌, ◌≤◌, map, Some, ap, ◌∙◌, arith, List, [], ◌∷◌, ◌++◌, fold, min, max, true, refl, ◌-◌, ◌==◌, ◌&&◌, filter, length, Bool, not, Option, is_some, slice_get, ap₂}
+use Rattle.std.proofs.Common.{◌≡◌, ℕ, zero, suc, ◌+◌, ◌<◌, ◌≤◌, map, Some, ap, ◌∙◌, arith, List, [], ◌∷◌, fold, min, max, true, refl, ◌-◌, ◌==◌, ◌&&◌, filter, length, Bool, not, Option, is_some, slice_get, ap₂}
 use Rattle.std.proofs.lemmas.Bool.Decides.{nat_tests}
 use Rattle.std.proofs.Math.Path.{fun_ext}
 use Rattle.std.proofs.lemmas.List.Elements.{recursion_from_All}
-use Rattle.std.proofs.lemmas.List.FromFn.{map-range_with_len_more}
-use Rattle.list_facts.proofs.Ranges.{image-at, filter-map, map-map, map-same, range-bounds}
-use Rattle.list_facts.proofs.Every.{every-weaker}
 use Rattle.design_model.proofs.DesignPins.{nets-few}
 use Rattle.design_model.specs.Netlist.{Netlist, IsNetlist}
 use Rattle.design_model.specs.declared.design.Pin.{Pin}
@@ -24,16 +21,15 @@ use Rattle.feed_cells.specs.declared.crossing.Crossing.{Crossing}
 use Rattle.feed_cells.specs.declared.crossing.Crossing.TheVariants.{Alone, One, Many}
 use Rattle.feed_cells.specs.declared.net_places.NetPlace.{NetPlace}
 use Rattle.feed_cells.specs.declared.placement.PlacedPin.{PlacedPin}
+use Rattle.std_laws.proofs.Ranges.{image-at, range-bounds, image-more}
+use Rattle.std_laws.proofs.Images.{filter-map, map-map, map-same}
+use Rattle.std_laws.proofs.Every.{every-weaker}
 
 -- what a list of the images of nets has for a net
 pub at_net-image : {A : Type 0} (f : ℕ → A) (count net : ℕ) → 0 < net → net ≤ count → at_net (map f (range_with_len 1 count)) net ≡ Some (f net)
 at_net-image f count zero some few = absurd (omega arith)
 at_net-image f count (suc n) some few =
     image-at f 1 count n (omega arith) ∙ ap (λ (m : ℕ). Some (f m)) (let same : 1 + n ≡ suc n = omega arith in same)
-
--- one image more
-pub image-more : {A : Type 0} (f : ℕ → A) (first next : ℕ) → first ≤ next → map f (range_with_len first (next + 1 - first)) ≡ map f (range_with_len first (next - first)) ++ f next ∷ []
-image-more f first next within = rw (let more : next + 1 - first ≡ (next - first) + 1 = omega arith in more) (map-range_with_len_more f first (next - first) next (omega arith))
 
 pub ruleset range_laws = image-more
 

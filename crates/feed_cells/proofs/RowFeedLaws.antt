@@ -4,7 +4,6 @@ use Rattle.std.proofs.Common.{◌≡◌, ℕ, ◌+◌, ◌<◌, ◌≤◌, ◌==
 use Rattle.std.proofs.Math.Path.{fun_ext}
 use Rattle.std.proofs.lemmas.List.FromFn.{length-map-range_with_len}
 use Rattle.list_facts.specs.Lists.{list_there}
-use Rattle.list_facts.proofs.Counts.{length-filter-map}
 use Rattle.design_model.specs.Netlist.{Netlist}
 use Rattle.design_model.proofs.DesignPins.{nets-few}
 use Rattle.row_model.specs.Widths.{columns_of}
@@ -21,6 +20,7 @@ use Rattle.feed_cells.specs.declared.net_places.NetPlace.{NetPlace}
 use Rattle.feed_cells.specs.Sizes.{count_in}
 use Rattle.feed_cells.proofs.FedLaws.{lefts-long, cells-fed}
 use Rattle.feed_cells.proofs.PlacementLaws.{at_net-image, fed-as}
+use Rattle.std_laws.proofs.Counts.{length-filter-map}
 
 -- the nets that cross a row by a feed, by where all nets stand, are those that are to
 fed-nets : (d : Netlist) (rows : List (List Seat)) (row net n : ℕ) → nets_fed row net (map (net_place d rows) (range_with_len net n)) ≡ filter (is_fed d rows row) (range_with_len net n)

@@ -1,3 +1,4 @@
+-- the first and the last channel of a net, and what they are of its pins
 use Rattle.std.specs.Prelude.{ℕ}
 use Rattle.feed_cells.specs.Crossings.{lowest, highest}
 use Rattle.feed_cells.specs.declared.crossing.Crossing.{Crossing}

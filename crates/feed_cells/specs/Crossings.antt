@@ -1,3 +1,4 @@
+-- the channels that pins touch and that nets cross
 use Rattle.std.specs.Prelude.{◌==◌, ℕ, ◌+◌, ◌-◌, List, [], ◌∷◌, map, fold, filter, length, min, max, Bool, true, false, ◌&&◌, if◌then◌else◌, nat_le, nat_lt, is_some}
 use Rattle.std.specs.List.{range_with_len}
 use Rattle.design_model.specs.Netlist.{Netlist}

@@ -1,3 +1,4 @@
+-- rows with their feeds
 use Rattle.std.specs.Prelude.{◌≡◌, ◌==◌, ℕ, ◌+◌, List, [], ◌∷◌, ◌++◌, map, filter, length, sum, fold, max, ◌&&◌, Option, Some, None}
 use Rattle.std.specs.List.{filter_map, range_with_len}
 use Rattle.design_model.specs.Netlist.{Netlist}

@@ -1,3 +1,4 @@
+-- rows with feeds as contracts see them: their items, the greatest width, and the nets of each channel
 use Rattle.feed_cells.specs.Fed.{Fed}
 use Rattle.feed_cells.specs.declared.fed.FedRows.TheInside.{Inside}
 

@@ -1,3 +1,4 @@
+-- which net crosses which row by what, and where a feed stands
 use Rattle.std.specs.Prelude.{◌==◌, ℕ, ◌+◌, ◌/◌, List, [], ◌∷◌, map, Bool, true, false, ◌&&◌, not, if◌then◌else◌, Option, None, Some, is_some, count_by, nat_lt}
 use Rattle.std.specs.List.{find}
 use Rattle.design_model.specs.Netlist.{Netlist}

@@ -1,3 +1,4 @@
+-- a list of nets, in which a net is found by its number, from 1 on
 use Rattle.std.specs.Prelude.{ℕ, zero, suc, List, Option, None, slice_get}
 
 -- what a list of nets, which are numbered from 1 on, has for the net of this number

@@ -1,3 +1,4 @@
+-- where the pins and nets of a design in rows stand, and how far the pins of a net reach
 use Rattle.std.specs.Prelude.{ℕ, ◌-◌, ◌==◌, ◌&&◌, List, false, map, filter, if◌then◌else◌, Option, None, Some, slice_get}
 use Rattle.std.specs.List.{find, range_with_len}
 use Rattle.std.specs.Option.{option_and_then, option_map}

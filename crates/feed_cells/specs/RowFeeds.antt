@@ -1,3 +1,4 @@
+-- the feeds of a row by tables
 use Rattle.std.specs.Prelude.{◌≡◌, ◌==◌, ℕ, ◌+◌, ◌<◌, List, [], ◌∷◌, ◌++◌, map, filter, length, Bool, ◌&&◌, not, if◌then◌else◌, is_some, nat_lt, count_by, Option, None, Some, slice_get}
 use Rattle.list_facts.specs.Lists.{list_there}
 use Rattle.design_model.specs.Netlist.{Netlist}

@@ -1,3 +1,4 @@
+-- how far the pins of a net reach, pin by pin, and which channels and which middle that gives the net
 use Rattle.std.specs.Prelude.{ℕ, ◌/◌, ◌+◌, List, fold, min, max, true, false, if◌then◌else◌, Option, None, Some}
 use Rattle.row_model.specs.PinPlaces.{highest_of, lowest_of}
 use Rattle.row_model.specs.declared.places.PinPlace.{PinPlace}

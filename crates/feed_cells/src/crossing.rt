@@ -1,3 +1,5 @@
+//! Which channels a net stands in, and so which rows it crosses.
+
 ghost use Rattle.feed_cells.specs.Crossings.{crossed_rows, is_across, is_in};
 ghost use Rattle.std.specs.List.{range_with_len};
 ghost use Rattle.std.specs.Prelude.{◌≡◌, ◌&&◌, ◌-◌, ℕ, nat_le, nat_lt};
@@ -12,7 +14,7 @@ pub enum Crossing {
 
 impl Crossing {
     /// Whether the net stands in a channel.
-    pub fn is_in(self, channel: u32) -> bool
+    pub(crate) fn is_in(self, channel: u32) -> bool
         ensures { result ≡ is_in self channel }
     {
         match self {
@@ -23,7 +25,7 @@ impl Crossing {
     }
 
     /// Whether the net crosses a row.
-    pub fn is_across(self, row: u32) -> bool
+    pub(crate) fn is_across(self, row: u32) -> bool
         ensures { result ≡ is_across self row }
     {
         match self {

@@ -1,3 +1,5 @@
+//! Rows of cells and feeds, with the width of the widest and the number of nets in each channel.
+
 ghost use Rattle.feed_cells.specs.Fed.{item_width};
 ghost use Rattle.std.specs.Prelude.{◌≡◌};
 

@@ -1,3 +1,5 @@
+//! Makes rows of cells and feeds from rows of seats, row by row.
+
 ghost use Rattle.feed_cells.specs.Crossings.{all_nets};
 ghost use Rattle.feed_cells.specs.Fed.{fed_from, fed_row};
 ghost use Rattle.feed_cells.specs.Feeds.{is_fed};
@@ -20,7 +22,7 @@ use row_model::Seat;
 use std::alloc::{AllocError, Global};
 
 /// Rows with the feeds of these nets, by where the nets stand. The one error is want of memory.
-pub fn fed_rows(
+pub(crate) fn fed_rows(
     alloc: Global,
     design: &Design,
     rows: &[Items<Seat>],

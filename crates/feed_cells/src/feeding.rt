@@ -1,3 +1,5 @@
+//! Puts a feed into the rows of a design wherever a net crosses a row in which it has no through pin.
+
 ghost use Rattle.feed_cells.specs.Fed.{fed_rows, IsFed, cells_in};
 ghost use Rattle.feed_cells.specs.Placement.{placement_of};
 ghost use Rattle.row_model.specs.Rows.{ArePlaced};

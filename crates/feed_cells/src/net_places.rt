@@ -1,3 +1,5 @@
+//! A net by its pins: its channels, its middle column, and its through pin in each row that it crosses.
+
 ghost use Rattle.feed_cells.specs.Crossings.{crossed_rows};
 ghost use Rattle.feed_cells.specs.Placement.{first_through, net_place_in, through_at};
 ghost use Rattle.std.specs.Prelude.{◌≡◌, map, IfOk};
@@ -20,7 +22,7 @@ pub struct NetPlace {
 
 impl NetPlace {
     /// The through pin of the net in a row, if the net crosses the row and has one there.
-    pub fn through_pin(&self, row: u32) -> Option<Pin>
+    pub(crate) fn through_pin(&self, row: u32) -> Option<Pin>
         ensures { result ≡ through_at self.now row }
     {
         match self.crossing {
@@ -33,7 +35,7 @@ impl NetPlace {
 }
 
 /// A net by where its pins stand. The one error is want of memory. Takes steps as the number of the pins, and for each as the number of rows that the net crosses.
-pub fn net_place(alloc: Global, pins: &[PinPlace]) -> Result<NetPlace, AllocError>
+pub(crate) fn net_place(alloc: Global, pins: &[PinPlace]) -> Result<NetPlace, AllocError>
     ensures { IfOk result (λ net. net ≡ net_place_in pins.now) }
 {
     let span = span_of(pins);

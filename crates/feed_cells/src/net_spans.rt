@@ -1,3 +1,5 @@
+//! How far the pins of a net reach, in channels and in columns, with the channels and the middle that follow from it.
+
 ghost use Rattle.feed_cells.specs.Spans.{crossing_in, joined, middle_in, span_of};
 ghost use Rattle.std.specs.Prelude.{◌≡◌};
 
@@ -7,16 +9,16 @@ use row_model::PinPlace;
 /// How far the pins of a net reach: whether they are two or more, the greatest of their lowest channels, the least of their highest ones, and their
 /// least and greatest column.
 #[derive(Clone, Copy, Debug, Drop)]
-pub struct NetSpan {
-    pub many: bool,
-    pub floor: u32,
-    pub ceiling: u32,
-    pub left: u64,
-    pub right: u64,
+pub(crate) struct NetSpan {
+    pub(crate) many: bool,
+    pub(crate) floor: u32,
+    pub(crate) ceiling: u32,
+    pub(crate) left: u64,
+    pub(crate) right: u64,
 }
 
 /// How far pins reach together with one more, if there were any.
-pub fn joined(span: Option<NetSpan>, pin: PinPlace) -> Option<NetSpan>
+pub(crate) fn joined(span: Option<NetSpan>, pin: PinPlace) -> Option<NetSpan>
     ensures { result ≡ joined span pin }
 {
     let Some(span) = span else {
@@ -38,14 +40,14 @@ pub fn joined(span: Option<NetSpan>, pin: PinPlace) -> Option<NetSpan>
 }
 
 /// How far pins reach, if there are any.
-pub fn span_of(pins: &[PinPlace]) -> Option<NetSpan>
+pub(crate) fn span_of(pins: &[PinPlace]) -> Option<NetSpan>
     ensures { result ≡ span_of pins.now }
 {
     pins.iter().fold(None, |span, pin| joined(span, *pin))
 }
 
 /// Which channels a net stands in whose pins reach so far.
-pub fn crossing_in(span: Option<NetSpan>) -> Crossing
+pub(crate) fn crossing_in(span: Option<NetSpan>) -> Crossing
     ensures { result ≡ crossing_in span }
 {
     let Some(span) = span else {
@@ -64,7 +66,7 @@ pub fn crossing_in(span: Option<NetSpan>) -> Crossing
 }
 
 /// The middle of the columns of a net whose pins reach so far.
-pub fn middle_in(span: Option<NetSpan>) -> u64
+pub(crate) fn middle_in(span: Option<NetSpan>) -> u64
     ensures { result ≡ middle_in span }
 {
     match span {

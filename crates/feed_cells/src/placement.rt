@@ -1,3 +1,5 @@
+//! Tables of a design in rows: each pin with its place and its net's channels, and each net by its pins.
+
 ghost use Rattle.feed_cells.specs.Feeds.{is_pin};
 ghost use Rattle.feed_cells.specs.NetTables.{at_net};
 ghost use Rattle.feed_cells.specs.Placement.{nets_among, of_net, placed_by, placement_of};
@@ -112,7 +114,7 @@ fn placed_by(nets: &[NetPlace], place: PinPlace) -> PlacedPin
 }
 
 /// The net with this number, if there is one.
-pub fn net_at(nets: &[NetPlace], net: u32) -> Option<&NetPlace>
+pub(crate) fn net_at(nets: &[NetPlace], net: u32) -> Option<&NetPlace>
     ensures { option_map (λ n. n.now) result ≡ at_net nets.now net }
 {
     if net == 0 {

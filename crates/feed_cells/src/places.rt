@@ -1,3 +1,5 @@
+//! The first columns of the cells of a row, and how many of them lie left of a given column.
+
 ghost use Rattle.feed_cells.specs.Feeds.{lefts_of};
 ghost use Rattle.feed_cells.specs.RowFeeds.{place_among};
 ghost use Rattle.std.specs.List.Sorted.{IsNonDecreasingBy};
@@ -9,7 +11,11 @@ use row_model::{Seat, columns_of};
 use std::alloc::{AllocError, Global};
 
 /// The first columns of the seats of a row. The one error is want of memory.
-pub fn lefts_of(alloc: Global, design: &Design, seats: &[Seat]) -> Result<Vec<u64>, AllocError>
+pub(crate) fn lefts_of(
+    alloc: Global,
+    design: &Design,
+    seats: &[Seat],
+) -> Result<Vec<u64>, AllocError>
     requires short { length seats.now ≤ MOST_INSTANCES }
     ensures { IfOk result (λ v. v.items ≡ lefts_of design.now 0 seats.now) }
 {
@@ -26,7 +32,7 @@ pub fn lefts_of(alloc: Global, design: &Design, seats: &[Seat]) -> Result<Vec<u6
 
 /// How many cells of a row begin left of a column, by their first columns, which do not fall. Takes no memory, and steps as the logarithm of the
 /// number of cells.
-pub fn place_among(lefts: &[u64], middle: u64) -> usize
+pub(crate) fn place_among(lefts: &[u64], middle: u64) -> usize
     requires rising { IsNonDecreasingBy (λ (left : ℕ). left) lefts.now }
     ensures is { result ≡ place_among lefts.now middle }
     ensures within { result ≤ length lefts.now }

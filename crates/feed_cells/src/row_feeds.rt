@@ -1,3 +1,5 @@
+//! Which nets get a feed in each row, and at which place among the cells of the row.
+
 ghost use Rattle.feed_cells.specs.NetTables.{at_net};
 ghost use Rattle.feed_cells.specs.RowFeeds.{is_at_place, is_fed_by, middle_at, nets_fed};
 ghost use Rattle.list_facts.specs.Lists.{with_item};
@@ -14,7 +16,11 @@ use std::alloc::{AllocError, Global};
 
 /// The nets that cross each of so many rows by a feed, of nets that are numbered from 1 on. The one error is want of memory. Takes steps as the number of
 /// nets, and of the rows that they cross.
-pub fn feeds_by_row(alloc: Global, rows: usize, nets: &[NetPlace]) -> Result<Lists<u32>, AllocError>
+pub(crate) fn feeds_by_row(
+    alloc: Global,
+    rows: usize,
+    nets: &[NetPlace],
+) -> Result<Lists<u32>, AllocError>
     requires few { length nets.now ≤ MOST_PINS }
     ensures { IfOk result (λ feeds. (row : ℕ) → row < rows → slice_get feeds row ≡ Some (nets_fed row 1 nets.now)) }
 {
@@ -44,7 +50,7 @@ fn feed_net(feeds: &mut Lists<u32>, net: u32, place: &NetPlace) -> Result<(), Al
 }
 
 /// The nets whose feeds stand in a row with these first columns, by their places from 0 to the number of its cells. The one error is want of memory.
-pub fn feeds_by_place(
+pub(crate) fn feeds_by_place(
     alloc: Global,
     row: &[u32],
     nets: &[NetPlace],

@@ -1,3 +1,5 @@
+//! The items of one row from left to right: each cell behind the feeds of its place, then the last feeds.
+
 ghost use Rattle.feed_cells.specs.RowFeeds.{laid};
 ghost use Rattle.feed_cells.specs.declared.fed.Item.TheVariants.{Feed};
 ghost use Rattle.std.specs.Prelude.{◌≡◌, ◌≤◌, ◌++◌, map, length, IfOk, OnOk};
@@ -9,7 +11,11 @@ use row_model::Seat;
 use std::alloc::{AllocError, Global};
 
 /// The seats of a row, each behind the feeds of its place, and the feeds behind the last. The one error is want of memory.
-pub fn row_items(alloc: Global, seats: &[Seat], feeds: &Lists<u32>) -> Result<Vec<Item>, AllocError>
+pub(crate) fn row_items(
+    alloc: Global,
+    seats: &[Seat],
+    feeds: &Lists<u32>,
+) -> Result<Vec<Item>, AllocError>
     requires short { length seats.now ≤ MOST_INSTANCES }
     ensures { IfOk result (λ v. v.items ≡ laid feeds.now 0 seats.now) }
 {

@@ -1,3 +1,5 @@
+//! The channels that one net stands in, straight from a design and its rows, without tables.
+
 ghost use Rattle.row_model.specs.Rows.{ArePlaced};
 ghost use Rattle.row_model.specs.PinPlaces.{pin_place};
 ghost use Rattle.feed_cells.specs.Crossings.{crossing_of, pins_of};

@@ -1,3 +1,5 @@
+//! Counts over all rows and channels: the greatest width of a row with feeds, and the nets of each channel.
+
 ghost use Rattle.feed_cells.specs.Fed.{items_width};
 ghost use Rattle.feed_cells.specs.Crossings.{is_in};
 ghost use Rattle.feed_cells.specs.Sizes.{AreNarrow, HaveRoom, count_in, counted};
@@ -14,7 +16,7 @@ use limits::MOST_PINS;
 use std::alloc::{AllocError, Global};
 
 /// The width of the widest of rows with feeds in columns, where each is narrow. Takes no memory.
-pub fn greatest_width(design: &Design, rows: &[Items<Item>]) -> u64
+pub(crate) fn greatest_width(design: &Design, rows: &[Items<Item>]) -> u64
     ensures { AreNarrow design.now rows.now → result ≡ fold max 0 (map (items_width design.now) rows.now) }
 {
     let mut width = 0;
@@ -41,7 +43,11 @@ fn items_width(design: &Design, items: &[Item]) -> u64
 
 /// How many nets stand in each of so many channels from channel 0 on. The one error is want of memory. Takes steps as the number of channels and of nets, and
 /// for each net as the number of its channels.
-pub fn counts_in(alloc: Global, channels: usize, nets: &[NetPlace]) -> Result<Vec<u32>, AllocError>
+pub(crate) fn counts_in(
+    alloc: Global,
+    channels: usize,
+    nets: &[NetPlace],
+) -> Result<Vec<u32>, AllocError>
     requires few { length nets.now ≤ MOST_PINS }
     ensures { IfOk result (λ v. v.items ≡ map (count_in nets.now) (range_with_len 0 channels)) }
 {

@@ -1,2 +1,0 @@
--- signed numbers that are written and read back
-pub mod Signed

@@ -1,3 +1,4 @@
+-- rectangles, as their four sides, and what two of them have to do with each other
 use Rattle.std.specs.Prelude.{ℤ}
 
 -- a rectangle as its four sides: left, lower, right and upper

@@ -1,3 +1,4 @@
+-- the names of layers, and how one is stored
 use Rattle.std.specs.Prelude.{ℕ, ◌-◌, List, ◌++◌, length, replicate, Bool, ◌&&◌, ◌||◌, nat_le}
 use Rattle.std.specs.Char.{is_ascii_digit, is_ascii_uppercase}
 use Rattle.std.specs.List.{list_all}

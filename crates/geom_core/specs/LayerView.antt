@@ -1,3 +1,4 @@
+-- a layer name as contracts see it, and the four bytes and the length that store it
 use Rattle.std.specs.Prelude.{◌≡◌, ℕ, List, length, take, true}
 use Rattle.std.proofs.Common.{ap, ◌∙◌}
 use Rattle.geom_core.specs.LayerText.{is_layer_text, filled}

@@ -1,3 +1,4 @@
+-- a list whose items are lent for writing: it ends as what the slice holds last
 use Rattle.std.specs.Prelude.{List}
 use Rattle.std.specs.Borrow.{Lends, MutBor, Fml, Array, RattleType}
 use Rattle.geom_core.specs.Written.{overwritten}

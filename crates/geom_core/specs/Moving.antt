@@ -1,3 +1,4 @@
+-- the turn of a cell's place in a row, and a shape under a turn
 use Rattle.geom_core.specs.declared.layout.Shape.{Shape}
 use Rattle.geom_core.specs.declared.turn.Place.{Place}
 use Rattle.geom_core.specs.Turning.{Turning, moved}

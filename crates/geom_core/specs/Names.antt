@@ -1,3 +1,4 @@
+-- names that YAL and CIF can write
 use Rattle.std.specs.Prelude.{◌≡◌, ℕ, List, length, Bool, true, ◌&&◌, not, ◌==◌, nat_le}
 use Rattle.std.specs.List.{list_all}
 

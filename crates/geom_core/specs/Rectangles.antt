@@ -1,3 +1,4 @@
+-- sides of rectangles, and two rectangles that enclose one another, meet, or keep a distance
 use Rattle.std.specs.Prelude.{◌≡◌, ℤ, ◌+ℤ◌, ◌-ℤ◌, ◌≤ℤ◌, int_lt, if◌then◌else◌}
 use Rattle.geom_core.specs.Extent.{Extent}
 

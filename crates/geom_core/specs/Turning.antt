@@ -1,3 +1,4 @@
+-- turns, as their four steps, and shapes under turns
 use Rattle.std.specs.Prelude.{ℕ, zero, suc, ℤ, ◌+ℤ◌, neg_ℤ, Bool, true, false}
 use Rattle.geom_core.specs.Extent.{Extent}
 

@@ -1,3 +1,5 @@
+//! A list that owns its items and lends them for reading or writing.
+
 ghost use Rattle.std.specs.Borrow.{sem};
 ghost use Rattle.std.specs.Prelude.{◌≡◌};
 ghost use Rattle.geom_core.specs.Lending.{LendsItems};

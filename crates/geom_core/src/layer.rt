@@ -1,3 +1,5 @@
+//! The layer names of CIF: one to four digits or upper-case letters.
+
 ghost use Rattle.geom_core.specs.LayerText.{is_layer_code, is_layer_text, filled};
 ghost use Rattle.std.specs.List.{list_all};
 ghost use Rattle.std.specs.Prelude.{◌≡◌, ◌≤◌, ◌↔◌, length, true, IsSome, IfSome};

@@ -1,3 +1,5 @@
+//! Shapes on layers, named cells, and the layout of both.
+
 use crate::items::Items;
 use crate::layer::LayerName;
 use crate::name::Name;

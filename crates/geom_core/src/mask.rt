@@ -1,3 +1,5 @@
+//! The shapes of a mask that can be judged: fewer than 2^32, with sides within 10^15 half centimicrons.
+
 ghost use Rattle.geom_core.specs.Reach.{IsShapeInReach};
 ghost use Rattle.std.specs.Prelude.{◌≡◌, ◌<◌, ◌^◌, length, All};
 

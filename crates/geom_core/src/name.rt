@@ -1,3 +1,5 @@
+//! Names as bytes: lent, copied and compared.
+
 ghost use Rattle.std.proofs.lemmas.Cmp.{nat_list_eq_equiv};
 ghost use Rattle.std.specs.Borrow.{sem};
 ghost use Rattle.std.specs.Cmp.Lexicographic.{pointwise};

@@ -1,3 +1,5 @@
+//! Rectangles: whether two touch, the gaps between them, and whether one lies in the other.
+
 ghost use Rattle.geom_core.specs.Reach.{IsExtentInWideReach};
 ghost use Rattle.geom_core.specs.Rectangles.{Encloses, Meet, gap, gap_between};
 ghost use Rattle.std.specs.Prelude.{◌≡◌, ◌≤ℤ◌, ◌↔◌, negsuc, pos, IsTrue};

@@ -1,3 +1,5 @@
+//! Flips, quarter turns and offsets of cells, the places of cells in rows, and rectangles that are turned.
+
 ghost use Rattle.geom_core.specs.Reach.{IsExtentInReach, IsInReach};
 ghost use Rattle.geom_core.specs.Turning.{flipped, moved, quarter_turned, quarters_turned, shifted};
 ghost use Rattle.std.specs.Prelude.{◌≡◌, ◌<◌, ◌+ℤ◌, neg_ℤ};
@@ -49,7 +51,7 @@ pub fn moved(a: &Rect, turn: &Turn) -> Rect
 }
 
 // The rectangle of which x is negated where `flip` is set.
-#[tactic(auto, using(crate::proofs::Signed::read_back))]
+#[tactic(auto, using(std_laws::proofs::Integers::read_back))]
 fn flipped(flip: bool, rect: Rect) -> Rect
     requires { IsExtentInReach rect }
     ensures is { result ≡ flipped flip rect }
@@ -68,7 +70,7 @@ fn flipped(flip: bool, rect: Rect) -> Rect
 }
 
 // The rectangle after a quarter turn, counter-clockwise.
-#[tactic(auto, using(crate::proofs::Signed::read_back))]
+#[tactic(auto, using(std_laws::proofs::Integers::read_back))]
 fn quarter_turned(rect: Rect) -> Rect
     requires { IsExtentInReach rect }
     ensures is { result ≡ quarter_turned rect }
@@ -98,7 +100,7 @@ fn quarters_turned(quarters: u8, rect: Rect) -> Rect
 }
 
 // The rectangle with an offset.
-#[tactic(auto, using(crate::proofs::Signed::read_back))]
+#[tactic(auto, using(std_laws::proofs::Integers::read_back))]
 fn shifted(dx: i64, dy: i64, rect: Rect) -> Rect
     requires rect { IsExtentInReach rect }
     requires across { IsInReach dx }

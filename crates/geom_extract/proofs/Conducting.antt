@@ -1,12 +1,12 @@
-use Rattle.std.proofs.Common.{◌≡◌, ◌≢◌, ◌∙◌, ℕ, List, Bool, true, false, if◌then◌else◌, sym, subst, refl, inl, inr}
+use Rattle.std.proofs.Common.{◌≡◌, ◌∙◌, ℕ, List, Bool, true, false, if◌then◌else◌, sym, subst, refl, inl, inr}
 use Rattle.std.specs.Str.{bytes_eq}
-use Rattle.list_facts.proofs.Mentioned.{bytes_one, bytes_same}
 use Rattle.tech_rules.specs.Rules.{RuleValues, AreDifferent}
 use Rattle.design_model.specs.Joined.{Conducts}
 use Rattle.design_model.specs.Joined.Conducts.{on_one, cut_to_wire, wire_to_cut}
 use Rattle.geom_extract.specs.Planes.{plane_of}
 use Rattle.geom_extract.specs.declared.plane.Plane.{Plane}
 use Rattle.geom_extract.specs.declared.plane.Plane.TheVariants.{Horizontal, Vertical, Cut, Other}
+use Rattle.std_laws.proofs.Bytes.{bytes_one, bytes_same, bytes-differ}
 
 -- what the layer of a plane is
 abbrev pub LayerIs : RuleValues → List ℕ → Plane → Type 0
@@ -32,25 +32,18 @@ layer-is r layer = first (bytes_eq layer r.horizontal.layer) refl
     first true is = bytes_one layer r.horizontal.layer is
     first false is = second (bytes_eq layer r.vertical.layer) refl
 
-differ : (a b : List ℕ) → a ≢ b → bytes_eq a b ≡ false
-differ a b apart = go (bytes_eq a b) refl
-  where
-    go : (t : Bool) → bytes_eq a b ≡ t → t ≡ false
-    go true is = absurd (apart (bytes_one a b is))
-    go false is = refl
-
 pub plane-horizontal : (r : RuleValues) (layer : List ℕ) → layer ≡ r.horizontal.layer → plane_of r layer ≡ Horizontal
 plane-horizontal r layer is = subst (λ (l : List ℕ). plane_of r l ≡ Horizontal) (sym is) (rw (bytes_same r.horizontal.layer))
 
 pub plane-vertical : (r : RuleValues) (layer : List ℕ) → AreDifferent r → layer ≡ r.vertical.layer → plane_of r layer ≡ Vertical
 plane-vertical r layer apart is = subst (λ (l : List ℕ). plane_of r l ≡ Vertical) (sym is)
-    (rw (differ r.vertical.layer r.horizontal.layer (λ same. apart.horizontal_vertical (sym same)), bytes_same r.vertical.layer))
+    (rw (bytes-differ r.vertical.layer r.horizontal.layer (λ same. apart.horizontal_vertical (sym same)), bytes_same r.vertical.layer))
 
 pub plane-cut : (r : RuleValues) (layer : List ℕ) → AreDifferent r → layer ≡ r.cut.layer → plane_of r layer ≡ Cut
 plane-cut r layer apart is = subst (λ (l : List ℕ). plane_of r l ≡ Cut) (sym is)
     (rw (
-      differ r.cut.layer r.horizontal.layer (λ same. apart.horizontal_cut (sym same)),
-      differ r.cut.layer r.vertical.layer (λ same. apart.vertical_cut (sym same)),
+      bytes-differ r.cut.layer r.horizontal.layer (λ same. apart.horizontal_cut (sym same)),
+      bytes-differ r.cut.layer r.vertical.layer (λ same. apart.vertical_cut (sym same)),
       bytes_same r.cut.layer,
     ))
 

@@ -4,7 +4,6 @@ use Rattle.std.specs.List.{slice_get}
 use Rattle.std.specs.Option.{option_map}
 use Rattle.std.proofs.lemmas.List.{length-map}
 use Rattle.std.proofs.lemmas.Option.{get_or_from_slice_get, slice_get-get_or, slice_get-map}
-use Rattle.list_facts.proofs.Members.{get-contains}
 use Rattle.geom_core.specs.declared.layout.Layout.{Layout}
 use Rattle.geom_core.specs.declared.layout.Shape.{Shape}
 use Rattle.tech_rules.specs.Rules.{RuleValues}
@@ -23,6 +22,7 @@ use Rattle.geom_extract.proofs.CellJoins.{are-ties, drawn-first, drawn-within, i
 use Rattle.geom_extract.proofs.FirstPlaces.{IsFirst, first-there}
 use Rattle.geom_extract.proofs.JoinedShapes.{connected-is-joined}
 use Rattle.geom_extract.proofs.PinPlaces.{IsPinOf, pin-of, positions-are}
+use Rattle.std_laws.proofs.Members.{get-contains}
 
 abbrev BothWithin : ℕ → ℕ × ℕ → Type 0
 BothWithin n t = (t.0 < n) × (t.1 < n)

@@ -5,13 +5,13 @@ use Rattle.std.proofs.lemmas.Bool.{eq-eqb, eqb-true}
 use Rattle.std.proofs.lemmas.Option.{get_or_from_slice_get, slice_get-get_or}
 use Rattle.std.proofs.lemmas.List.{length-map}
 use Rattle.std.proofs.lemmas.List.FromFn.{length-range_with_len}
-use Rattle.list_facts.proofs.Members.{all-get}
-use Rattle.list_facts.proofs.Mentioned.{one-more}
-use Rattle.list_facts.proofs.Ranges.{image-at}
 use Rattle.design_model.specs.Netlist.{IsKind, IsPosition}
 use Rattle.design_model.specs.declared.design.CellKind.{CellKind}
 use Rattle.design_model.specs.declared.design.Position.{Position}
 use Rattle.geom_extract.specs.CellTies.{first_place, first_places}
+use Rattle.std_laws.proofs.Members.{all-get}
+use Rattle.std_laws.proofs.Numbers.{one-more}
+use Rattle.std_laws.proofs.Ranges.{image-at}
 
 -- a position of a terminal does not stand before the first
 pub first-least : (positions : List Position) (k t : ℕ) (p : Position) → slice_get positions k ≡ Some p → p.terminal ≡ t → first_place positions t ≤ k

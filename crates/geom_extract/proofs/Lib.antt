@@ -4,8 +4,6 @@ pub mod Reached
 pub mod Settled
 -- layers at different heights
 pub mod Heights
--- what stands at one place of two lists
-pub mod Together
 -- layers that conduct to one another
 pub mod Conducting
 -- what leads to a shape in a web

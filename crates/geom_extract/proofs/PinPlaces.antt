@@ -4,8 +4,6 @@ use Rattle.std.specs.Option.{option_map}
 use Rattle.std.specs.Prelude.{◌==◌, slice_index}
 use Rattle.std.proofs.lemmas.List.{length-map}
 use Rattle.std.proofs.lemmas.Option.{get_or_from_slice_get, slice_get-get_or, slice_get-map, slice_get_within}
-use Rattle.list_facts.proofs.Members.{all-get, contains-get}
-use Rattle.list_facts.proofs.Places.{at-place}
 use Rattle.design_model.specs.Netlist.{IsKind, IsNetlist, Netlist, terminals_of_kind}
 use Rattle.design_model.specs.PinOrder.{kind_terminals, pin_pair, power_at}
 use Rattle.design_model.specs.declared.design.CellKind.{CellKind}
@@ -17,6 +15,8 @@ use Rattle.design_model.proofs.DesignPins.{pin-within}
 use Rattle.design_model.proofs.PinsInOrder.{pin-free}
 use Rattle.geom_extract.specs.CellTies.{ArePlaces, Placing, first_place, first_places, positions_at, positions_of_inst, positions_of_kind}
 use Rattle.geom_extract.proofs.FirstPlaces.{IsFirst, first-long, first-read, first-there}
+use Rattle.std_laws.proofs.Members.{all-get, contains-get}
+use Rattle.std_laws.proofs.Places.{at-place}
 
 -- an instance of a design, and its kind
 pub record IsOfKind (d : Netlist) (instance : ℕ) : Type 0 where

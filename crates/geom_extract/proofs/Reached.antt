@@ -3,7 +3,7 @@ use Rattle.std.specs.List.{slice_get}
 use Rattle.std.specs.Prelude.{slice_index}
 use Rattle.std.proofs.lemmas.Bool.{cases_eq, cases_lt, eq-eqb, ne_eqb}
 use Rattle.std.proofs.lemmas.List.{get_or-set_same, get_or-set_other, get_or_append_left, length_push}
-use Rattle.std.proofs.lemmas.Option.{slice_get_read, slice_get_within}
+use Rattle.std.proofs.lemmas.Option.{slice_get_within}
 use Rattle.std.proofs.lemmas.List.Sums.{sum_by-set, count_by-le-length}
 use Rattle.std.proofs.Math.Seq.{get_or-append_seam}
 use Rattle.geom_core.specs.Extent.{Extent}
@@ -174,9 +174,6 @@ taken-leads web classes stock left ask number x rest takes leads = record {
   is_end = leads;
   meets = takes.meets;
 }
-
-pub end-read : (ends : List ℕ) (number x : ℕ) → number < length ends → x ≡ get_or ends number x → slice_get ends number ≡ Some x
-end-read ends number x within is = slice_get_read ends (length ends) number x refl within is
 
 -- to whatever a shape is linked, one of its three rectangles leads there
 pub linked-any : (web : Web) (x y : ℕ) (asks : Asks) (free : Type 0) → slice_get web.asks x ≡ Some asks → (Leads web asks.first y → free)

@@ -12,10 +12,11 @@ use Rattle.geom_extract.specs.Touching.{Connected, IsWebOf, asks_from, firsts, r
 use Rattle.geom_extract.specs.Touching.Connected.{here as same_shape, step as further}
 use Rattle.geom_extract.specs.Webs.{Chain, IsWeb, Web}
 use Rattle.geom_extract.specs.Webs.Chain.{here, step}
-use Rattle.geom_extract.proofs.Together.{At, length-map}
 use Rattle.geom_extract.proofs.WebSides.{InReach, IsWay, way-of}
 use Rattle.geom_extract.proofs.WebSides.IsWay.{of_shape, of_tie, of_tie_back}
 use Rattle.geom_extract.proofs.Links.{InRange, beside-linked, beside-sym, linked-beside, some-rect}
+use Rattle.std_laws.proofs.TwoLists.{At}
+use Rattle.std.proofs.lemmas.List.{length-map}
 
 abbrev IsPairWithin : List Shape → ℕ × ℕ → Type 0
 IsPairWithin shapes t = (t.0 < length shapes) × (t.1 < length shapes)
@@ -49,9 +50,9 @@ web-lengths r shapes ties web of =
     ap length of.rects ∙ length-append (map (rect_of r) shapes) (map tie_at (firsts ties) ++ map tie_at (seconds ties))
     ∙ ap (λ (n : ℕ). length (map (rect_of r) shapes) + n) (length-append (map tie_at (firsts ties)) (map tie_at (seconds ties))) in
     let front : length (range_with_len 0 (length shapes)) ≡ length shapes = length-range_with_len 0 (length shapes) in
-    let images : length (map (rect_of r) shapes) ≡ length shapes = length-map (rect_of r) shapes in
-    let one : length (map tie_at (firsts ties)) ≡ length (firsts ties) = length-map tie_at (firsts ties) in
-    let two : length (map tie_at (seconds ties)) ≡ length (seconds ties) = length-map tie_at (seconds ties) in
+    let images : length (map (rect_of r) shapes) ≡ length shapes = length-map shapes (rect_of r) in
+    let one : length (map tie_at (firsts ties)) ≡ length (firsts ties) = length-map (firsts ties) tie_at in
+    let two : length (map tie_at (seconds ties)) ≡ length (seconds ties) = length-map (seconds ties) tie_at in
     omega arith
 
 way-within : (r : RuleValues) (shapes : List Shape) (ties : List (ℕ × ℕ)) (rect : Extent) (y : ℕ) → InRange shapes ties

@@ -9,9 +9,8 @@ use Rattle.std.proofs.lemmas.List.Sorted.{list_any-IsPermutation}
 use Rattle.std.proofs.lemmas.Map.Keys.{IsDistinct-IsPermutation}
 use Rattle.std.proofs.lemmas.Option.{get_or_from_slice_get, slice_get-map}
 use Rattle.list_facts.specs.Names.{place_among}
-use Rattle.list_facts.proofs.Different.{any-get, place-get}
-use Rattle.list_facts.proofs.Members.{get-contains}
-use Rattle.list_facts.proofs.Mentioned.{get-place, names-flip}
+use Rattle.list_facts.proofs.Different.{place-get}
+use Rattle.list_facts.proofs.Mentioned.{get-place}
 use Rattle.geom_core.specs.Moving.{moved_shape}
 use Rattle.geom_core.specs.declared.layout.Cell.{Cell}
 use Rattle.geom_core.specs.declared.layout.Layout.{Layout}
@@ -23,10 +22,13 @@ use Rattle.design_model.specs.Netlist.{IsNetlist, Netlist}
 use Rattle.design_model.specs.declared.design.CellKind.{CellKind}
 use Rattle.design_model.specs.declared.design.Inst.{Inst}
 use Rattle.geom_extract.specs.CellTies.{behind_outline, start_of, starts_of}
+use Rattle.std_laws.proofs.Searches.{any-get}
+use Rattle.std_laws.proofs.Members.{get-contains}
+use Rattle.std_laws.proofs.Bytes.{bytes-flips}
 
 -- the cells have different names
 pub cells-different : (d : Netlist) (l : Layout) → IsNetlist d → IsPermutation (instance_names d) (cell_names l) → IsDistinct bytes_eq (cell_names l)
-cells-different d l good names = IsDistinct-IsPermutation bytes_eq names-flip (instance_names d) (cell_names l) names good.different_instances
+cells-different d l good names = IsDistinct-IsPermutation bytes_eq bytes-flips (instance_names d) (cell_names l) names good.different_instances
 
 -- the name of an instance is among them
 pub name-among : (d : Netlist) (l : Layout) (n : ℕ) (i : Inst) → IsPermutation (instance_names d) (cell_names l) → slice_get d.instances n ≡ Some i

@@ -4,11 +4,11 @@ use Rattle.std.specs.List.{slice_get}
 use Rattle.std.proofs.lemmas.Bool.{cases_lt}
 use Rattle.std.proofs.lemmas.Bool.Decides.{eqb_tells}
 use Rattle.std.proofs.lemmas.Option.{slice_get-get_or}
-use Rattle.list_facts.proofs.Members.{member-head}
-use Rattle.close_rects.proofs.Pairs.{Contains-append, Contains-cases, Contains-left, Contains-none, Contains-right}
 use Rattle.design_model.specs.Netlist.{Netlist}
 use Rattle.design_model.specs.declared.design.Position.{Position}
 use Rattle.geom_extract.specs.CellTies.{cell_ties, first_place, positions_at, tie_of, ties_among, ties_in}
+use Rattle.std_laws.proofs.Members.{member-head, member-cases, member-none}
+use Rattle.std.proofs.lemmas.List.Elements.{Contains-append_cases, Contains-append_left, Contains-append_right}
 
 -- one more position
 pub ties-more : (start : ℕ) (positions : List Position) (n : ℕ) (d : Position) → n < length positions
@@ -60,15 +60,15 @@ pub record IsTie (start : ℕ) (positions : List Position) (t : ℕ × ℕ) : Ty
 
 tie-one : (start : ℕ) (positions : List Position) (n : ℕ) (o : Option Position) (t : ℕ × ℕ) → slice_get positions n ≡ o
     → Contains (tie_of start positions n o) t → IsTie start positions t
-tie-one start positions n None t is among = absurd (Contains-none t among)
+tie-one start positions n None t is among = absurd (member-none t among)
 tie-one start positions n (Some p) t is among = by (eqb (first_place positions p.terminal) n) among
   where
     tie : ℕ × ℕ
     tie = (start + first_place positions p.terminal, start + n)
 
     by : (b : Bool) → Contains (cond b [] ((start + first_place positions p.terminal, start + n) ∷ [])) t → IsTie start positions t
-    by true among = absurd (Contains-none t among)
-    by false among = elim (Contains-cases (start + first_place positions p.terminal, start + n) [] t among) [
+    by true among = absurd (member-none t among)
+    by false among = elim (member-cases (start + first_place positions p.terminal, start + n) [] t among) [
       | inl same ↦ record {
         place = n;
         position = p;
@@ -76,13 +76,13 @@ tie-one start positions n (Some p) t is among = by (eqb (first_place positions p
         first = sym (ap (λ (u : ℕ × ℕ). u.0) same);
         second = sym (ap (λ (u : ℕ × ℕ). u.1) same);
       }
-      | inr later ↦ absurd (Contains-none t later)
+      | inr later ↦ absurd (member-none t later)
     ]
 
 pub tie-in : (start : ℕ) (positions : List Position) (n : ℕ) (t : ℕ × ℕ) → Contains (ties_in start positions n) t → IsTie start positions t
-tie-in start positions zero t among = absurd (Contains-none t among)
+tie-in start positions zero t among = absurd (member-none t among)
 tie-in start positions (suc n) t among =
-    elim (Contains-append (ties_in start positions n) (tie_of start positions n (slice_get positions n)) t among) [
+    elim (Contains-append_cases (ties_in start positions n) (tie_of start positions n (slice_get positions n)) t among) [
       | inl before ↦ tie-in start positions n t before
       | inr last ↦ tie-one start positions n (slice_get positions n) t refl last
     ]
@@ -94,7 +94,7 @@ in-ties start positions zero k p below is = absurd (omega arith)
 in-ties start positions (suc n) k p below is = elim (cases_lt k n) [
   | inl less ↦ elim (in-ties start positions n k p less is) [
     | inl first ↦ inl first
-    | inr among ↦ inr (Contains-left (ties_in start positions n) (tie_of start positions n (slice_get positions n)) (start + first_place positions p.terminal, start + k) among)
+    | inr among ↦ inr (Contains-append_left (ties_in start positions n) (tie_of start positions n (slice_get positions n)) (start + first_place positions p.terminal, start + k) among)
   ]
   | inr past ↦
       let last : k ≡ n = omega arith in
@@ -108,16 +108,16 @@ in-ties start positions (suc n) k p below is = elim (cases_lt k n) [
             subst (λ (l : List (ℕ × ℕ)). Contains l (start + first_place positions p.terminal, start + n)) (sym one)
             (member-head (start + first_place positions p.terminal, start + n) []) in
             inr (subst (λ (m : ℕ). Contains (ties_in start positions (suc n)) (start + first_place positions p.terminal, start + m)) (sym last)
-            (Contains-right (ties_in start positions n) (tie_of start positions n (slice_get positions n)) (start + first_place positions p.terminal, start + n) here))
+            (Contains-append_right (ties_in start positions n) (tie_of start positions n (slice_get positions n)) (start + first_place positions p.terminal, start + n) here))
       ]
 ]
 
 -- a tie among those of instances is one in the cell of an instance
 pub tie-among : (d : Netlist) (starts : List ℕ) (n : ℕ) (t : ℕ × ℕ) → Contains (ties_among d starts n) t
     → (m : ℕ) × (m < n) × IsTie (slice_index starts m) (positions_at d m) t
-tie-among d starts zero t among = absurd (Contains-none t among)
+tie-among d starts zero t among = absurd (member-none t among)
 tie-among d starts (suc n) t among =
-    elim (Contains-append (ties_among d starts n) (cell_ties (slice_index starts n) (positions_at d n)) t among) [
+    elim (Contains-append_cases (ties_among d starts n) (cell_ties (slice_index starts n) (positions_at d n)) t among) [
       | inl before ↦ let found = tie-among d starts n t before in (found.0, omega (arith, found.1), found.2)
       | inr last ↦ (n, omega arith, tie-in (slice_index starts n) (positions_at d n) (length (positions_at d n)) t last)
     ]
@@ -126,9 +126,9 @@ pub among-ties : (d : Netlist) (starts : List ℕ) (n m : ℕ) (t : ℕ × ℕ) 
     → Contains (ties_among d starts n) t
 among-ties d starts zero m t below among = absurd (omega arith)
 among-ties d starts (suc n) m t below among = elim (cases_lt m n) [
-  | inl less ↦ Contains-left (ties_among d starts n) (cell_ties (slice_index starts n) (positions_at d n)) t (among-ties d starts n m t less among)
+  | inl less ↦ Contains-append_left (ties_among d starts n) (cell_ties (slice_index starts n) (positions_at d n)) t (among-ties d starts n m t less among)
   | inr past ↦
       let last : m ≡ n = omega arith in
-      Contains-right (ties_among d starts n) (cell_ties (slice_index starts n) (positions_at d n)) t
+      Contains-append_right (ties_among d starts n) (cell_ties (slice_index starts n) (positions_at d n)) t
       (subst (λ (k : ℕ). Contains (cell_ties (slice_index starts k) (positions_at d k)) t) last among)
 ]

@@ -12,7 +12,8 @@ use Rattle.geom_extract.specs.Touching.{IsWebOf, asks_from, firsts, rect_of, sec
 use Rattle.geom_extract.specs.Asking.{asks_of}
 use Rattle.geom_extract.specs.Webs.{Leads, Web}
 use Rattle.geom_extract.specs.declared.asker.Asks.{Asks}
-use Rattle.geom_extract.proofs.Together.{At, At-append, At-images, At-left, At-numbered, At-right, images-At, length-map, numbered-At}
+use Rattle.std_laws.proofs.TwoLists.{At, At-append, At-images, At-left, At-numbered, At-right, images-At, numbered-At}
+use Rattle.std.proofs.lemmas.List.{length-map}
 
 abbrev pub InReach : List Shape → Type 0
 InReach shapes = (k : ℕ) (s : Shape) → slice_get shapes k ≡ Some s → IsExtentInReach s.rect
@@ -24,7 +25,7 @@ pub data IsWay (r : RuleValues) (shapes : List Shape) (ties : List (ℕ × ℕ))
   of_tie_back : (a : ℕ) → Contains ties (y, a) → tie_at a ≡ rect → IsWay r shapes ties rect y
 
 fronts-equal : (r : RuleValues) (shapes : List Shape) → length (map (rect_of r) shapes) ≡ length (range_with_len 0 (length shapes))
-fronts-equal r shapes = length-map (rect_of r) shapes ∙ sym (length-range_with_len 0 (length shapes))
+fronts-equal r shapes = length-map shapes (rect_of r) ∙ sym (length-range_with_len 0 (length shapes))
 
 abbrev first_of : ℕ × ℕ → ℕ
 first_of t = t.0
@@ -46,7 +47,7 @@ sides-tie ties f g t among = subst (λ (l : List Extent). At l (map g ties) (tie
     (images-At (λ (u : ℕ × ℕ). tie_at (f u)) g ties t among)
 
 ties-equal : (ties : List (ℕ × ℕ)) → length (map tie_at (firsts ties)) ≡ length (seconds ties)
-ties-equal ties = length-map tie_at (firsts ties) ∙ length-map first_of ties ∙ sym (length-map second_of ties)
+ties-equal ties = length-map (firsts ties) tie_at ∙ length-map ties first_of ∙ sym (length-map ties second_of)
 
 pub way-of : (r : RuleValues) (shapes : List Shape) (ties : List (ℕ × ℕ)) (web : Web) (rect : Extent) (y : ℕ) → IsWebOf r shapes ties web
     → At web.rects web.ends rect y → IsWay r shapes ties rect y

@@ -1,3 +1,4 @@
+-- what a shape asks for others with
 use Rattle.std.specs.Prelude.{ℕ, pos}
 use Rattle.geom_core.specs.Extent.{Extent}
 use Rattle.geom_core.specs.Reach.{IsExtentInReach}

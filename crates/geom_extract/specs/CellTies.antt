@@ -1,3 +1,4 @@
+-- where positions are drawn, and the ties in cells
 use Rattle.std.specs.Prelude.{◌≡◌, ◌<◌, ◌^◌, ℕ, zero, suc, ◌+◌, ◌==◌, List, [], ◌∷◌, ◌++◌, map, length, Option, None, Some, if◌then◌else◌, slice_get, slice_index}
 use Rattle.std.specs.List.{position_or_len, range_with_len}
 use Rattle.geom_core.specs.declared.layout.Cell.{Cell}

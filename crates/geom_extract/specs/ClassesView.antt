@@ -1,3 +1,4 @@
+-- a web with the classes of its shapes as contracts see them, between two walks
 use Rattle.geom_extract.specs.Walks.{Classed, IsSettled}
 use Rattle.geom_extract.specs.declared.walked.Classes.TheInside.{Inside}
 

@@ -1,3 +1,4 @@
+-- a design with the places of the shapes of its pins, as they are kept
 use Rattle.geom_extract.specs.CellTies.{ArePlaces, Placing}
 use Rattle.geom_extract.specs.declared.places.Places.TheInside.{Inside}
 

@@ -1,3 +1,4 @@
+-- layers at different heights
 use Rattle.std.specs.Prelude.{ℕ, ℤ, pos, ◌+ℤ◌, ◌*◌, ◌+◌, List, if◌then◌else◌}
 use Rattle.std.specs.Str.{bytes_eq}
 use Rattle.geom_core.specs.Extent.{Extent}

@@ -1,3 +1,4 @@
+-- shapes, ties and rules as contracts see them, with the shapes within reach and the ties among them
 use Rattle.std.specs.Prelude.{◌<◌, ◌^◌, length, All}
 use Rattle.geom_core.specs.Reach.{IsShapeInReach}
 use Rattle.geom_extract.specs.Touching.{Tied}

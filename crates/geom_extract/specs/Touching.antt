@@ -1,3 +1,4 @@
+-- shapes that touch or are tied, and their web
 use Rattle.std.specs.Prelude.{◌≡◌, ℕ, ◌+◌, List, [], ◌∷◌, ◌++◌, map, length, Some, slice_get, Contains}
 use Rattle.std.specs.List.{range_with_len}
 use Rattle.geom_core.specs.Extent.{Extent}

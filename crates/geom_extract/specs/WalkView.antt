@@ -1,3 +1,4 @@
+-- a walk as contracts see it: its web, start, classes and queue, and the rectangles that are left to it
 use Rattle.std.specs.Prelude.{◌<◌, length}
 use Rattle.geom_extract.specs.Walks.{IsRest, Walking}
 use Rattle.geom_extract.specs.declared.walk.Walk.TheInside.{Inside}

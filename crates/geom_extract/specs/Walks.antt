@@ -1,3 +1,4 @@
+-- a walk along such chains
 use Rattle.std.specs.Prelude.{◌≡◌, ◌<◌, ◌≤◌, ◌+◌, ◌==◌, ℕ, List, [], ◌∷◌, ◌++◌, length, Some, slice_get, slice_index, set, Contains}
 use Rattle.std.specs.List.{count_by}
 use Rattle.geom_core.specs.Extent.{Extent}

@@ -6,15 +6,15 @@ use std::marker::Model;
 
 // The three rectangles with which a shape asks for others.
 #[derive(Clone, Copy)]
-pub struct Asks {
-    pub first: Rect,
-    pub second: Rect,
-    pub third: Rect,
+pub(crate) struct Asks {
+    pub(crate) first: Rect,
+    pub(crate) second: Rect,
+    pub(crate) third: Rect,
 }
 
 // The same in short: a shape's rectangle, its layer and its number. Contracts see the three rectangles.
 #[derive(Drop)]
-pub struct Asker {
+pub(crate) struct Asker {
     rect: Rect,
     plane: Plane,
     number: u32,
@@ -37,7 +37,7 @@ impl Asker {
     ghost use Rattle.std.specs.Prelude.{◌≡◌};
 
     // A shape of this rectangle, layer and number.
-    pub fn new(plane: Plane, rect: &Rect, number: u32) -> Asker
+    pub(crate) fn new(plane: Plane, rect: &Rect, number: u32) -> Asker
         requires { IsExtentInReach rect.now }
         ensures { result ≡ asks_of plane rect.now number }
     {
@@ -49,7 +49,7 @@ impl Asker {
     }
 
     // What it asks with.
-    pub fn asks(&self) -> Asks
+    pub(crate) fn asks(&self) -> Asks
         ensures { result ≡ self.now }
     {
         let rect = &self.rect;

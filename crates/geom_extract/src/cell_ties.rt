@@ -1,3 +1,5 @@
+//! The ties in the cells of instances: each position is tied with the first of its terminal.
+
 ghost use Rattle.design_model.specs.Netlist.{IsKind};
 ghost use Rattle.geom_extract.specs.CellTies.{cell_ties, first_places};
 ghost use Rattle.std.specs.Prelude.{◌≡◌, ◌<◌, ◌+◌, ◌++◌, ◌^◌, length, OnOk};
@@ -6,7 +8,7 @@ use design_model::CellKind;
 use std::alloc::AllocError;
 
 // Puts the ties in a cell of this kind behind others: each position is tied with the first of its terminal.
-pub fn push_ties(
+pub(crate) fn push_ties(
     ties: &mut Vec<(u32, u32)>,
     start: usize,
     kind: &CellKind,

@@ -1,3 +1,5 @@
+//! A number for each pin of a design and each shape of its layout, equal where shapes join them.
+
 ghost use Rattle.design_model.specs.CellsMatch.{CellsMatch};
 ghost use Rattle.geom_core.specs.Reach.{IsShapeInReach};
 ghost use Rattle.geom_extract.specs.Extracts.{IsExtract};

@@ -1,3 +1,5 @@
+//! The first position of each terminal of a kind, and the shape that is drawn at a pin's first position.
+
 ghost use Rattle.geom_extract.specs.CellTies.{first_places};
 ghost use Rattle.std.specs.Prelude.{◌≡◌, map, IfOk};
 
@@ -10,10 +12,10 @@ use std::marker::Model;
 // Where the positions of a design stand: for each kind the first place of the positions of each of its terminals, and for each
 // instance the number of the shape of the first position of its cell.
 #[derive(Drop)]
-pub struct Places<'d> {
-    pub design: &'d Design,
-    pub firsts: Vec<Items<usize>>,
-    pub starts: Vec<usize>,
+pub(crate) struct Places<'d> {
+    pub(crate) design: &'d Design,
+    pub(crate) firsts: Vec<Items<usize>>,
+    pub(crate) starts: Vec<usize>,
 }
 
 impl<'d> Model for Places<'d> {
@@ -33,7 +35,7 @@ impl<'d> Places<'d> {
     ghost use Rattle.std.specs.Prelude.{◌≡◌, ◌<◌, length, map, slice_index, All, Contains, IfOk};
 
     // The ties in the cells of all instances. The one error is want of memory.
-    pub fn ties(&self, alloc: Global) -> Result<Vec<(u32, u32)>, AllocError>
+    pub(crate) fn ties(&self, alloc: Global) -> Result<Vec<(u32, u32)>, AllocError>
         ensures { IfOk result (λ v. v.items ≡ ties_among self.now.design self.now.starts (length self.now.design.instances)) }
     {
         let design = self.design;
@@ -49,7 +51,7 @@ impl<'d> Places<'d> {
     }
 
     // The numbers of the shapes of the first positions of all pins. The one error is want of memory.
-    pub fn pin_classes(&self, alloc: Global, classes: &[u32]) -> Result<Vec<u32>, AllocError>
+    pub(crate) fn pin_classes(&self, alloc: Global, classes: &[u32]) -> Result<Vec<u32>, AllocError>
         requires { All (λ p. pin_shape self.now.design self.now.starts p < length classes.now) self.now.design.pins }
         ensures { IfOk result (λ v. v.items ≡ map (λ p. slice_index classes.now (pin_shape self.now.design self.now.starts p)) self.now.design.pins) }
     {
@@ -75,7 +77,10 @@ impl<'d> Places<'d> {
 }
 
 // For each kind, the first place at which a position of each of its terminals stands.
-pub fn all_first_places(alloc: Global, kinds: &[CellKind]) -> Result<Vec<Items<usize>>, AllocError>
+pub(crate) fn all_first_places(
+    alloc: Global,
+    kinds: &[CellKind],
+) -> Result<Vec<Items<usize>>, AllocError>
     ensures { IfOk result (λ v. v.items ≡ map first_places kinds.now) }
 {
     let mut tables = Vec::with_capacity(alloc, kinds.len())?;

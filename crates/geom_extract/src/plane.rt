@@ -1,3 +1,5 @@
+//! The layers of wires and cuts, each raised to a height of its own, so that no shape meets one of another layer.
+
 ghost use Rattle.geom_core.specs.Reach.{IsExtentInReach};
 ghost use Rattle.geom_extract.specs.Planes.{height_of, plane_of, raised, tie_at};
 ghost use Rattle.std.specs.Prelude.{◌≡◌, ◌≤ℤ◌, pos};
@@ -7,14 +9,14 @@ use tech_rules::Rules;
 
 // Which layer a shape is of, as far as shapes conduct to one another.
 #[derive(Clone, Copy, Debug, PartialEq, Eq)]
-pub enum Plane {
+pub(crate) enum Plane {
     Horizontal,
     Vertical,
     Cut,
     Other,
 }
 
-pub fn plane_of(rules: &Rules, layer: &LayerName) -> Plane
+pub(crate) fn plane_of(rules: &Rules, layer: &LayerName) -> Plane
     ensures { result ≡ plane_of rules.now layer.now }
 {
     let text = layer.text();
@@ -44,7 +46,7 @@ fn height_of(plane: Plane) -> i64
 }
 
 // A rectangle at the height of a layer.
-pub fn raised(rect: &Rect, plane: Plane) -> Rect
+pub(crate) fn raised(rect: &Rect, plane: Plane) -> Rect
     requires { IsExtentInReach rect.now }
     ensures { result ≡ raised (height_of plane) rect.now }
 {
@@ -58,7 +60,7 @@ pub fn raised(rect: &Rect, plane: Plane) -> Rect
 }
 
 // A rectangle above all layers that meets that of no other shape.
-pub fn tie_at(shape: u32) -> Rect
+pub(crate) fn tie_at(shape: u32) -> Rect
     ensures { result ≡ tie_at shape }
 {
     let x = 2 * i64::from(shape);

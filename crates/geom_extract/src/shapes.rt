@@ -1,3 +1,5 @@
+//! A number for each shape, equal along chains of shapes that touch or are tied.
+
 ghost use Rattle.geom_core.specs.Reach.{IsShapeInReach};
 ghost use Rattle.geom_extract.specs.Touching.{Connected};
 ghost use Rattle.std.specs.Prelude.{◌≡◌, ◌<◌, ◌↔◌, ◌^◌, length, slice_index, All, IfOk, ℕ};

@@ -1,3 +1,5 @@
+//! The shape of the first position in each instance's cell, which is found by its name.
+
 ghost use Rattle.design_model.specs.CellsMatch.{cell_names, instance_names};
 ghost use Rattle.geom_extract.specs.CellTies.{starts_of};
 ghost use Rattle.list_facts.specs.Names.{mentions};
@@ -49,7 +51,11 @@ impl<'a> CellNames<'a> {
 }
 
 // For each instance the number of the shape of the first position of the cell that bears its name.
-pub fn starts_of(alloc: Global, layout: &Layout, design: &Design) -> Result<Vec<usize>, AllocError>
+pub(crate) fn starts_of(
+    alloc: Global,
+    layout: &Layout,
+    design: &Design,
+) -> Result<Vec<usize>, AllocError>
     requires { IsPermutation (instance_names design.now) (cell_names layout.now) }
     ensures { IfOk result (λ v. v.items ≡ starts_of layout.now design.now) }
 {

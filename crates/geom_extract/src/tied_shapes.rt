@@ -1,3 +1,5 @@
+//! Shapes with their ties and layers, and the rectangles by which they are linked.
+
 use crate::asker::Asker;
 use crate::plane::{plane_of, raised, tie_at};
 use crate::walked::Classes;
@@ -9,7 +11,7 @@ use tech_rules::Rules;
 
 // Shapes, some pairs of which are tied, and the rules of their layers.
 #[derive(Drop)]
-pub struct TiedShapes<'a> {
+pub(crate) struct TiedShapes<'a> {
     shapes: &'a [Shape],
     ties: &'a [(u32, u32)],
     rules: &'a Rules,
@@ -34,7 +36,11 @@ impl<'a> TiedShapes<'a> {
     ghost use Rattle.std.specs.List.{range_with_len};
     ghost use Rattle.std.specs.Prelude.{◌≡◌, ◌<◌, ◌↔◌, ◌^◌, ◌++◌, length, map, slice_index, All, IfOk, ℕ};
 
-    pub fn new(shapes: &'a [Shape], ties: &'a [(u32, u32)], rules: &'a Rules) -> TiedShapes<'a>
+    pub(crate) fn new(
+        shapes: &'a [Shape],
+        ties: &'a [(u32, u32)],
+        rules: &'a Rules,
+    ) -> TiedShapes<'a>
         requires few { length shapes.now < 2 ^ 32 }
         requires reach { All IsShapeInReach shapes.now }
         requires ties { All (λ t. (t.0 < length shapes.now) × (t.1 < length shapes.now)) ties.now }
@@ -51,7 +57,7 @@ impl<'a> TiedShapes<'a> {
 
     // A number for each shape: two have equal numbers exactly where a chain leads from the one to the other in which each shape
     // touches the next or is tied to it. The one error is want of memory.
-    pub fn classes(&self, alloc: Global) -> Result<Vec<u32>, AllocError>
+    pub(crate) fn classes(&self, alloc: Global) -> Result<Vec<u32>, AllocError>
         ensures len { IfOk result (λ v. length v.items ≡ length self.now.shapes) }
         ensures classes { IfOk result (λ v. (x y : ℕ) → x < length v.items → y < length v.items → (slice_index v.items x ≡ slice_index v.items y) ↔ Connected self.now.rules self.now.shapes self.now.ties x y) }
     {

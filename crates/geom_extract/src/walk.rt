@@ -1,3 +1,5 @@
+//! A walk from one shape to all that it is joined with, which takes each rectangle out as it meets it.
+
 ghost use Rattle.geom_extract.specs.Walks.{IsReached};
 ghost use Rattle.std.specs.Prelude.{◌<◌, ◌∷◌, ◌++◌, [], length, OnErr, OnOk};
 
@@ -8,17 +10,17 @@ use std::alloc::{AllocError, Global};
 use std::marker::Model;
 
 // The class of a shape that has none yet.
-pub const NONE: u32 = u32::MAX;
+pub(crate) const NONE: u32 = u32::MAX;
 
 // A walk from a shape of a web along all chains: the rectangles that have not been met yet, the classes of shapes, and the
 // shapes in the order in which they were come to. Contracts see all of it but the rectangles.
 #[derive(Drop)]
-pub struct Walk<'w> {
-    pub web: &'w Web,
-    pub set: RectSet,
-    pub classes: Vec<u32>,
-    pub queue: Vec<u32>,
-    pub start: u32,
+pub(crate) struct Walk<'w> {
+    pub(crate) web: &'w Web,
+    pub(crate) set: RectSet,
+    pub(crate) classes: Vec<u32>,
+    pub(crate) queue: Vec<u32>,
+    pub(crate) start: u32,
 }
 
 impl<'w> Model for Walk<'w> {
@@ -39,7 +41,7 @@ impl<'w> Walk<'w> {
     ghost use Rattle.std.specs.Prelude.{◌≡◌, ◌<◌, length, OnOk};
 
     // Takes all rectangles that meet what a shape asks with. The one error is want of memory.
-    pub fn visit(&mut self, x: u32) -> Result<(), AllocError>
+    pub(crate) fn visit(&mut self, x: u32) -> Result<(), AllocError>
         requires { x < length self.old.web.asks }
         ensures web { self.new.web ≡ self.old.web }
         ensures start { self.new.start ≡ self.old.start }

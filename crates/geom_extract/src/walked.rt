@@ -1,3 +1,5 @@
+//! The classes of shapes, given by a walk from each shape that has none yet.
+
 use crate::walk::{NONE, Walk};
 use crate::web::Web;
 use close_rects::RectSet;
@@ -7,7 +9,7 @@ use std::marker::Model;
 // The classes that shapes of a web have been given: each is the number of a shape from which a chain leads to it, and what a
 // shape with a class is linked to has the same. Contracts see the web and the classes.
 #[derive(Drop)]
-pub struct Classes<'w> {
+pub(crate) struct Classes<'w> {
     web: &'w Web,
     set: RectSet,
     list: Vec<u32>,
@@ -32,7 +34,7 @@ impl<'w> Classes<'w> {
 
     // A number for each shape of a web: two shapes have equal numbers exactly where a chain of links leads from one to the other.
     // The one error is want of memory.
-    pub fn all(alloc: Global, web: &'w Web) -> Result<Vec<u32>, AllocError>
+    pub(crate) fn all(alloc: Global, web: &'w Web) -> Result<Vec<u32>, AllocError>
         ensures len { IfOk result (λ v. length v.items ≡ length web.now.asks) }
         ensures classes { IfOk result (λ v. (x y : ℕ) → x < length v.items → y < length v.items → (slice_index v.items x ≡ slice_index v.items y) ↔ Chain web.now x y) }
     {

@@ -1,3 +1,5 @@
+//! Rectangles that lead to shapes, and those with which each shape asks for the shapes that it is linked to.
+
 use crate::asker::Asker;
 use geom_core::Rect;
 use std::marker::Model;
@@ -5,10 +7,10 @@ use std::marker::Model;
 // Rectangles, each of which leads to a shape, and what each shape asks for: it is linked to the shapes to which those lead that
 // meet a rectangle of its own. Links go both ways.
 #[derive(Drop)]
-pub struct Web {
-    pub rects: Vec<Rect>,
-    pub ends: Vec<u32>,
-    pub asks: Vec<Asker>,
+pub(crate) struct Web {
+    pub(crate) rects: Vec<Rect>,
+    pub(crate) ends: Vec<u32>,
+    pub(crate) asks: Vec<Asker>,
 }
 
 impl Model for Web {

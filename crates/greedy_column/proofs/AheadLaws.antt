@@ -1,11 +1,10 @@
 use Rattle.std.proofs.Common.{◌≡◌, inl, inr, ◌<◌, ◌≤◌, ◌&&◌, ◌||◌, ◌≢◌, eqb, ltb, leb, ℕ, zero, suc, List, [], ◌∷◌, true, false, length, get_or, slice_get, refl, sym, ◌∙◌, arith}
-use Rattle.std.proofs.lemmas.Bool.{cases_eq, cond-true, cond-false}
+use Rattle.std.proofs.lemmas.Bool.{cases_eq, cond-true, cond-false, eq-eqb, ne_eqb}
 use Rattle.std.proofs.lemmas.Bool.Decides.{nat_tests}
 use Rattle.std.specs.List.{AllWithin}
 use Rattle.choose_core.specs.declared.candidate.Next.TheVariants.{Ends}
 use Rattle.greedy_column.specs.declared.uses.Use.{Use}
-use Rattle.greedy_column.specs.Uses.{AreSorted, is_past, next_at}
-use Rattle.greedy_column.specs.Uses.{next_after}
+use Rattle.greedy_column.specs.Uses.{AreSorted, is_past, next_at, next_after}
 
 later_test : (n m c k : ℕ) → (ltb n m || (eqb n m && leb c k)) ≡ true → (eqb n m && ltb k c) ≡ false
 later_test n m c k past = grind (arith, nat_tests)
@@ -18,12 +17,6 @@ here_test n m c k past same = grind (arith, nat_tests)
 
 other_test : (n m c k : ℕ) → (ltb n m || (eqb n m && leb c k)) ≡ false → n ≢ m → m < n
 other_test n m c k past other = grind (arith, nat_tests)
-
-same_test : (n m : ℕ) → n ≡ m → eqb n m ≡ true
-same_test n m same = grind (arith, nat_tests)
-
-not_same_test : (n m : ℕ) → n ≢ m → eqb n m ≡ false
-not_same_test n m other = grind (arith, nat_tests)
 
 -- no use of a list of greater nets is of the net
 none_after : (uses : List Use) (column net : ℕ) → ((k : ℕ) (d : Use) → k < length uses → net < (get_or uses k d).net) → next_after uses column net ≡ Ends
@@ -42,11 +35,11 @@ next_after-at (u ∷ uses) column net zero sorted before behind =
     elim (cases_eq u.net net) [
       | inl same ↦
           cond-true (eqb u.net net && ltb column u.column) u.next (next_after uses column net) (here_test u.net net u.column column past same)
-          ∙ sym (cond-true (eqb u.net net) u.next Ends (same_test u.net net same))
+          ∙ sym (cond-true (eqb u.net net) u.next Ends (eq-eqb u.net net same))
       | inr other ↦
           let above : net < u.net = other_test u.net net u.column column past other in
           none_after (u ∷ uses) column net (λ k d within. let least = (sorted 0 k d (omega arith) within).nets in omega (arith, least, above))
-          ∙ sym (cond-false (eqb u.net net) u.next Ends (not_same_test u.net net other))
+          ∙ sym (cond-false (eqb u.net net) u.next Ends (ne_eqb u.net net other))
     ]
 next_after-at (u ∷ uses) column net (suc place) sorted before behind =
     cond-false (eqb u.net net && ltb column u.column) u.next (next_after uses column net)

@@ -5,8 +5,8 @@ use Rattle.std.specs.List.{count_by}
 use Rattle.greedy_column.specs.declared.column.Track.{Track}
 use Rattle.greedy_column.specs.Lines.{lines_from, net_on, own_lines}
 use Rattle.greedy_column.specs.Moving.{without}
-use Rattle.greedy_column.proofs.Members.{in_none, in_first, in_cases}
 use Rattle.greedy_column.proofs.TableLaws.{nets}
+use Rattle.std_laws.proofs.Members.{member-none, member-head, member-cases}
 
 abbrev own_from : ℕ → ℕ → List Track → List ℕ
 own_from net first tracks = lines_from (λ (t : Track). eqb t.net net) first tracks
@@ -27,7 +27,7 @@ own_at net first zero (t ∷ tracks) some held =
     let e : first ≡ first + zero = omega arith in
     subst (λ l. Contains (own_from net first (t ∷ tracks)) l) e
     (Contains-append_left (cond (eqb t.net net) (first ∷ []) []) (own_from net (suc first) tracks) first
-    (subst (λ b. Contains (cond b (first ∷ []) []) first) (sym (eq-eqb t.net net held)) (in_first first [])))
+    (subst (λ b. Contains (cond b (first ∷ []) []) first) (sym (eq-eqb t.net net held)) (member-head first [])))
 own_at net first (suc k) (t ∷ tracks) some held =
     let e : suc first + k ≡ first + suc k = omega arith in
     subst (λ l. Contains (own_from net first (t ∷ tracks)) l) e
@@ -35,11 +35,11 @@ own_at net first (suc k) (t ∷ tracks) some held =
 
 -- nothing is left of a list of one once this is taken
 left_of_one : (line : ℕ) (lines : List ℕ) → length lines ≡ 1 → Contains lines line → without line lines ≡ []
-left_of_one line [] long member = absurd (in_none line member)
+left_of_one line [] long member = absurd (member-none line member)
 left_of_one line (one ∷ (two ∷ lines)) long member = absurd (omega (arith, long))
-left_of_one line (one ∷ []) long member = elim (in_cases one line [] member) [
+left_of_one line (one ∷ []) long member = elim (member-cases one [] line member) [
   | inl same ↦ ap (λ b. cond (not b) (one ∷ []) []) (eq-eqb one line same)
-  | inr later ↦ absurd (in_none line later)
+  | inr later ↦ absurd (member-none line later)
 ]
 
 -- a net that holds one track, on this line, has no other line

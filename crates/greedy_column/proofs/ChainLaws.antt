@@ -8,7 +8,6 @@ use Rattle.greedy_column.specs.Neighbours.{Holds, Grouped, alone}
 use Rattle.greedy_column.specs.Lines.{id_on, net_on, is_held, held_lines}
 use Rattle.greedy_column.specs.Joining.{neighbours, span_in, is_joined}
 use Rattle.greedy_column.specs.Ending.{chain_from, is_joined_below, joined_pairs}
-use Rattle.greedy_column.proofs.Members.{in_none, in_one, in_first, in_later, in_cases, in_filter, in_filter_back, any_at, any_from}
 use Rattle.greedy_column.proofs.IdLaws.{Apart}
 use Rattle.greedy_column.proofs.PairLaws.{AreAscending, neighbours-ascending, AreAscending-filter}
 use Rattle.greedy_column.proofs.TableLaws.{line_of-line}
@@ -16,29 +15,30 @@ use Rattle.greedy_column.proofs.PartLaws.{Apart-lines_from}
 use Rattle.greedy_column.proofs.DrawnLaws.{IsPiece-neighbour}
 use Rattle.greedy_column.proofs.GroupLaws.{HoldsLine, one_holder, Holds-from, lower_line, upper_line, Grouped-trans, Grouped-sym, Grouped-net, piece_linked, linked_joined, last_piece}
 use Rattle.greedy_column.proofs.HeldLineLaws.{listed_held, HoldsLine-listed}
+use Rattle.std_laws.proofs.Members.{member-none, member-only, member-head, member-tail, member-cases, filter-member, filter-from, any-cases, any-member}
 
 -- what holds of a chain's first line, and goes from the lower end of a pair to the upper one, holds of each line of the chain
 pub along_chain : (P : ℕ → Type 0) (pairs : List Span) (first line : ℕ) → P first → ((pair : Span) → Contains pairs pair → P pair.low → P pair.high)
     → Contains (chain_from pairs first) line → P line
-along_chain P [] first line begins onward member = subst P (in_one first line member) begins
+along_chain P [] first line begins onward member = subst P (member-only first line member) begins
 along_chain P (pair ∷ pairs) first line begins onward member =
     step (eqb pair.low first) refl member
-    (λ up inside. along_chain P pairs pair.high line up (λ other there. onward other (in_later pair other pairs there)) inside)
-    (λ inside. along_chain P pairs first line begins (λ other there. onward other (in_later pair other pairs there)) inside) where
+    (λ up inside. along_chain P pairs pair.high line up (λ other there. onward other (member-tail pair pairs other there)) inside)
+    (λ inside. along_chain P pairs first line begins (λ other there. onward other (member-tail pair pairs other there)) inside) where
       step : (b : Bool) → eqb pair.low first ≡ b → Contains (cond b (first ∷ chain_from pairs pair.high) (chain_from pairs first)) line
           → (P pair.high → Contains (chain_from pairs pair.high) line → P line) → (Contains (chain_from pairs first) line → P line) → P line
-      step true is member up past = elim (in_cases first line (chain_from pairs pair.high) member) [
+      step true is member up past = elim (member-cases first (chain_from pairs pair.high) line member) [
         | inl here ↦ subst P here begins
-        | inr later ↦ up (onward pair (in_first pair pairs) (subst P (sym (eqb-true pair.low first is)) begins)) later
+        | inr later ↦ up (onward pair (member-head pair pairs) (subst P (sym (eqb-true pair.low first is)) begins)) later
       ]
       step false is member up past = past member
 
 -- a chain begins with its first line
 pub chain_first : (pairs : List Span) (first : ℕ) → Contains (chain_from pairs first) first
-chain_first [] first = in_first first []
+chain_first [] first = member-head first []
 chain_first (pair ∷ pairs) first = step (eqb pair.low first) (chain_first pairs first) where
   step : (b : Bool) → Contains (chain_from pairs first) first → Contains (cond b (first ∷ chain_from pairs pair.high) (chain_from pairs first)) first
-  step true later = in_first first (chain_from pairs pair.high)
+  step true later = member-head first (chain_from pairs pair.high)
   step false later = later
 
 -- the lines of a chain over ascending pairs are its first line, or lie above the lowest of the pairs
@@ -47,8 +47,8 @@ chain_lines : (tracks least : ℕ) (pairs : List Span) (first line : ℕ) → Ar
 chain_lines tracks least pairs first line ascending member =
     along_chain (λ l. (l ≡ first) ⊎ (least < l)) pairs first line (inl refl) (λ pair there low. let bounds = ends pairs least pair ascending there in inr (omega (arith, bounds.0, bounds.1))) member where
       ends : (pairs : List Span) (least : ℕ) (pair : Span) → AreAscending tracks least pairs → Contains pairs pair → (least ≤ pair.low) × (pair.low < pair.high)
-      ends [] least pair ascending there = absurd (in_none pair there)
-      ends (one ∷ pairs) least pair (begins, upward, within, later) there = elim (in_cases one pair pairs there) [
+      ends [] least pair ascending there = absurd (member-none pair there)
+      ends (one ∷ pairs) least pair (begins, upward, within, later) there = elim (member-cases one pairs pair there) [
         | inl same ↦ (
           omega (arith, begins, ap (λ (s : Span). s.low) same),
           omega (arith, upward, ap (λ (s : Span). s.low) same, ap (λ (s : Span). s.high) same),
@@ -57,8 +57,8 @@ chain_lines tracks least pairs first line ascending member =
       ]
 
 least_low : (tracks least : ℕ) (pairs : List Span) (pair : Span) → AreAscending tracks least pairs → Contains pairs pair → least ≤ pair.low
-least_low tracks least [] pair ascending there = absurd (in_none pair there)
-least_low tracks least (one ∷ pairs) pair (begins, upward, within, later) there = elim (in_cases one pair pairs there) [
+least_low tracks least [] pair ascending there = absurd (member-none pair there)
+least_low tracks least (one ∷ pairs) pair (begins, upward, within, later) there = elim (member-cases one pairs pair there) [
   | inl same ↦ omega (arith, begins, ap (λ (s : Span). s.low) same)
   | inr behind ↦ let bound = least_low tracks (suc one.low) pairs pair later behind in omega (arith, begins, bound)
 ]
@@ -66,21 +66,21 @@ least_low tracks least (one ∷ pairs) pair (begins, upward, within, later) ther
 -- with the lower end of a pair a chain has the upper one
 pub chain_onward : (tracks least : ℕ) (pairs : List Span) (first : ℕ) (pair : Span) → AreAscending tracks least pairs → Contains pairs pair
     → Contains (chain_from pairs first) pair.low → Contains (chain_from pairs first) pair.high
-chain_onward tracks least [] first pair ascending there member = absurd (in_none pair there)
+chain_onward tracks least [] first pair ascending there member = absurd (member-none pair there)
 chain_onward tracks least (one ∷ pairs) first pair (begins, upward, within, later) there member =
     step (eqb one.low first) refl member (λ up inside. chain_onward tracks (suc one.low) pairs up pair later inside) where
       step : (b : Bool) → eqb one.low first ≡ b → Contains (cond b (first ∷ chain_from pairs one.high) (chain_from pairs first)) pair.low
           → ((up : ℕ) → Contains pairs pair → Contains (chain_from pairs up) pair.low → Contains (chain_from pairs up) pair.high)
           → Contains (cond b (first ∷ chain_from pairs one.high) (chain_from pairs first)) pair.high
-      step true is member onward = elim (in_cases one pair pairs there) [
-        | inl same ↦ in_later first pair.high (chain_from pairs one.high)
+      step true is member onward = elim (member-cases one pairs pair there) [
+        | inl same ↦ member-tail first (chain_from pairs one.high) pair.high
             (subst (λ l. Contains (chain_from pairs one.high) l) (ap (λ (s : Span). s.high) same) (chain_first pairs one.high))
-        | inr behind ↦ elim (in_cases first pair.low (chain_from pairs one.high) member) [
+        | inr behind ↦ elim (member-cases first (chain_from pairs one.high) pair.low member) [
           | inl here ↦ absurd (omega (arith, here, eqb-true one.low first is, least_low tracks (suc one.low) pairs pair later behind))
-          | inr inside ↦ in_later first pair.high (chain_from pairs one.high) (onward one.high behind inside)
+          | inr inside ↦ member-tail first (chain_from pairs one.high) pair.high (onward one.high behind inside)
         ]
       ]
-      step false is member onward = elim (in_cases one pair pairs there) [
+      step false is member onward = elim (member-cases one pairs pair there) [
         | inr behind ↦ onward first behind member
         | inl same ↦
             let low : one.low ≡ pair.low = ap (λ (s : Span). s.low) same in
@@ -94,7 +94,7 @@ Apart-filter : (p : ℕ → Bool) (xs : List ℕ) → Apart xs → Apart (filter
 Apart-filter p [] apart = tt
 Apart-filter p (x ∷ xs) apart = step (p x) (Apart-filter p xs apart.1) where
   step : (b : Bool) → Apart (filter p xs) → Apart (cond b (x ∷ filter p xs) (filter p xs))
-  step true rest = ((λ member. apart.0 (in_filter_back p x xs member).0), rest)
+  step true rest = ((λ member. apart.0 (filter-from p xs x member).0), rest)
   step false rest = rest
 
 -- the lines that begin groups, and how the groups divide the lines
@@ -106,7 +106,7 @@ module _ (now : List Track) (apart : Apart (ids now)) (vs : List Vertical) (span
   firsts = filter (λ line. not (is_joined_below joined line)) (held_lines now)
 
   pub joined_is : (pair : Span) → Contains joined pair → Contains (neighbours now) pair × (is_joined spans pair ≡ true)
-  joined_is pair member = in_filter_back (is_joined spans) pair (neighbours now) member
+  joined_is pair member = filter-from (is_joined spans) (neighbours now) pair member
 
   ascending : AreAscending (length now) 1 joined
   ascending = AreAscending-filter (length now) 1 (is_joined spans) (neighbours now) (neighbours-ascending now)
@@ -141,11 +141,11 @@ module _ (now : List Track) (apart : Apart (ids now)) (vs : List Vertical) (span
     step : (b : Bool) → is_joined_below joined line ≡ b → ((m other : ℕ) → other ≤ n → HoldsLine now m other → InSome other) → InSome line
     step false is lower = record {
       first = line;
-      begins = in_filter (λ l. not (is_joined_below joined l)) line (held_lines now) (listed_held now net line holds) (ap not is);
+      begins = filter-member (λ l. not (is_joined_below joined l)) (held_lines now) line (listed_held now net line holds) (ap not is);
       member = chain_first joined line;
     }
     step true is lower =
-        let found = any_at (λ (pair : Span). eqb pair.high line) joined is in
+        let found = any-cases (λ (pair : Span). eqb pair.high line) joined is in
         let pair = found.0 in
         let piece = IsPiece-neighbour now pair (joined_is pair found.1).0 in
         let high : pair.high ≡ line = eqb-true pair.high line found.2 in
@@ -157,7 +157,7 @@ module _ (now : List Track) (apart : Apart (ids now)) (vs : List Vertical) (span
         }
 
   pub first_holds : (first : ℕ) → Contains firsts first → HoldsLine now (net_on now first) first
-  first_holds first member = HoldsLine-listed now first (in_filter_back (λ l. not (is_joined_below joined l)) first (held_lines now) member).0
+  first_holds first member = HoldsLine-listed now first (filter-from (λ l. not (is_joined_below joined l)) (held_lines now) first member).0
 
   -- the first line of a group is linked to none below it
   never_below : (first other : ℕ) → Contains firsts first → Contains firsts other → Grouped now vs (id_on now first) (id_on now other) → first < other → ⊥
@@ -177,9 +177,9 @@ module _ (now : List Track) (apart : Apart (ids now)) (vs : List Vertical) (span
       let covered : is_joined spans piece ≡ true =
       linked_joined now apart vs spans drawn piece is linked (subst (λ n. Holds now n (id_on now first)) (sym last.net_is) held)
       (inl (omega (arith, low, last.begins), omega (arith, high, last.ends))) in
-      let listed : Contains joined piece = in_filter (is_joined spans) piece (neighbours now) last.listed covered in
-      let is_below : is_joined_below joined other ≡ true = any_from (λ (pair : Span). eqb pair.high other) piece joined listed (eq-eqb piece.high other last.ends) in
-      let free = (in_filter_back (λ l. not (is_joined_below joined l)) other (held_lines now) two).1 in
+      let listed : Contains joined piece = filter-member (is_joined spans) (neighbours now) piece last.listed covered in
+      let is_below : is_joined_below joined other ≡ true = any-member (λ (pair : Span). eqb pair.high other) joined piece listed (eq-eqb piece.high other last.ends) in
+      let free = (filter-from (λ l. not (is_joined_below joined l)) (held_lines now) other two).1 in
       cc (ap not is_below, free)
 
   -- linked lines are in one group

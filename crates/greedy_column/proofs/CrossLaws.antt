@@ -15,10 +15,10 @@ use Rattle.greedy_column.specs.Lines.{id_on, net_on}
 use Rattle.greedy_column.specs.Offers.{offer, join_offer, move_question}
 use Rattle.greedy_column.specs.Joining.{JoinsFollow, possible_joins, span_in, is_joined, is_clear, passes}
 use Rattle.greedy_column.specs.Moving.{MovesFollow, GoesTo, carried, move_ids, move_options, others_of_net, piece_between, without}
-use Rattle.greedy_column.proofs.Members.{in_one, in_first, in_later, in_cases, in_map, in_filter_back, all_at}
 use Rattle.greedy_column.proofs.PickLaws.{picked_is_option}
 use Rattle.greedy_column.proofs.IdLaws.{Apart}
 use Rattle.greedy_column.proofs.TableLaws.{line_of-line, held_by-line}
+use Rattle.std_laws.proofs.Members.{member-only, member-head, member-tail, member-cases, map-member, filter-from, all-member}
 
 -- two pieces share a line
 abbrev pub Meet : Span → Span → Type 0
@@ -40,15 +40,15 @@ uncrossed-clear spans piece apart clear s t first second meet = elim (Contains-a
   | inl old ↦ elim (Contains-append_cases spans (piece ∷ []) t second) [
     | inl old_too ↦ apart s t old old_too meet
     | inr new ↦
-        let same : piece ≡ t = in_one piece t new in
+        let same : piece ≡ t = member-only piece t new in
         subst (λ (u : Span). s.net ≡ u.net) same
-        (passed piece s (all_at (passes piece) s spans clear old) (subst (λ (u : Span). Meet s u) (sym same) meet))
+        (passed piece s (all-member (passes piece) s spans clear old) (subst (λ (u : Span). Meet s u) (sym same) meet))
   ]
-  | inr new ↦ let same : piece ≡ s = in_one piece s new in elim (Contains-append_cases spans (piece ∷ []) t second) [
+  | inr new ↦ let same : piece ≡ s = member-only piece s new in elim (Contains-append_cases spans (piece ∷ []) t second) [
     | inl old ↦
         subst (λ (u : Span). u.net ≡ t.net) same
-        (sym (passed piece t (all_at (passes piece) t spans clear old) (subst (λ (u : Span). Meet t u) (sym same) (meet.1, meet.0))))
-    | inr new_too ↦ ap (λ (u : Span). u.net) (sym same ∙ in_one piece t new_too)
+        (sym (passed piece t (all-member (passes piece) t spans clear old) (subst (λ (u : Span). Meet t u) (sym same) (meet.1, meet.0))))
+    | inr new_too ↦ ap (λ (u : Span). u.net) (sym same ∙ member-only piece t new_too)
   ]
 ]
 
@@ -62,7 +62,7 @@ module _ (may : List Candidate → ℕ → Type 0) (next : ℕ → Next) where
   uncrossed-joins pairs spans [] apart follow = subst (λ (l : List Span). AreUncrossed l) (sym (append-nil spans)) apart
   uncrossed-joins pairs spans (piece ∷ joined) apart follow =
       let option = picked_is_option may (join_offer next) (possible_joins spans pairs) piece follow.0 in
-      let test = (in_filter_back (λ s. not (is_joined spans s) && is_clear spans s) piece pairs option).1 in
+      let test = (filter-from (λ s. not (is_joined spans s) && is_clear spans s) pairs piece option).1 in
       let clear = (and_parts (not (is_joined spans piece)) (is_clear spans piece) test).1 in
       subst (λ (l : List Span). AreUncrossed l) (append_assoc spans (piece ∷ []) joined)
       (uncrossed-joins pairs (spans ++ piece ∷ []) joined (uncrossed-clear spans piece apart clear) follow.1)
@@ -71,12 +71,12 @@ module _ (may : List Candidate → ℕ → Type 0) (next : ℕ → Next) where
       → is_clear spans (piece_between net line target) ≡ true
   goes_clear ahead others net line target spans free goes other =
       in_options (move_options spans net line free)
-      (λ member. (in_filter_back (λ o. is_clear spans (piece_between net line o)) target free member).1) goes where
+      (λ member. (filter-from (λ o. is_clear spans (piece_between net line o)) free target member).1) goes where
         in_options : (options : List ℕ) → (Contains options target → is_clear spans (piece_between net line target) ≡ true) → GoesTo may ahead others line options target
             → is_clear spans (piece_between net line target) ≡ true
         in_options [] from goes = absurd (other goes)
         in_options (o ∷ options) from goes =
-            elim (in_cases line target (o ∷ options) (picked_is_option may (offer (move_question line ahead) others) (line ∷ (o ∷ options)) target goes)) [
+            elim (member-cases line (o ∷ options) target (picked_is_option may (offer (move_question line ahead) others) (line ∷ (o ∷ options)) target goes)) [
               | inl same ↦ absurd (other (sym same))
               | inr member ↦ from member
             ]
@@ -133,7 +133,7 @@ drawn_moves : (tracks : List Track) (moves : List (ℕ × ℕ)) → Apart (ids t
     → map (span_in (ids tracks)) (map (between tracks) (map (move_ids tracks) moves)) ≡ map (move_piece tracks) moves
 drawn_moves tracks [] apart within = refl
 drawn_moves tracks (m ∷ moves) apart within =
-    λ i. drawn_move tracks m apart (within m (in_first m moves)) i ∷ drawn_moves tracks moves apart (λ o member. within o (in_later m o moves member)) i
+    λ i. drawn_move tracks m apart (within m (member-head m moves)) i ∷ drawn_moves tracks moves apart (λ o member. within o (member-tail m moves o member)) i
 
 -- verticals that lie on uncrossed pieces are of one net where they share a point
 pub uncrossed-verticals : (pins : Pins) (column : ℕ) (now : List Track) (done : Column) (spans : List Span) (moves : List (ℕ × ℕ)) → Apart (ids now)
@@ -146,5 +146,5 @@ uncrossed-verticals pins column now done spans moves apart drawn told within unc
     ∙ (λ i. drawn i ++ map (span_in (ids now)) (map (between now) (told i)))
     ∙ ap (λ (l : List Span). spans ++ l) (drawn_moves now moves apart within) in
     uncrossed (span_in (ids now) v) (span_in (ids now) w)
-    (subst (λ (l : List Span). Contains l (span_in (ids now) v)) all (in_map (span_in (ids now)) v (verticals pins column done now) first))
-    (subst (λ (l : List Span). Contains l (span_in (ids now) w)) all (in_map (span_in (ids now)) w (verticals pins column done now) second)) shares
+    (subst (λ (l : List Span). Contains l (span_in (ids now) v)) all (map-member (span_in (ids now)) (verticals pins column done now) v first))
+    (subst (λ (l : List Span). Contains l (span_in (ids now) w)) all (map-member (span_in (ids now)) (verticals pins column done now) w second)) shares

@@ -13,11 +13,11 @@ use Rattle.greedy_column.specs.Lines.{id_on, net_on}
 use Rattle.greedy_column.specs.Offers.{join_offer}
 use Rattle.greedy_column.specs.Joining.{JoinsFollow, neighbours, possible_joins, span_in, ids_of, is_joined, is_clear}
 use Rattle.greedy_column.specs.Follows.{pin_spans}
-use Rattle.greedy_column.proofs.Members.{in_none, in_cases, in_first, in_later, in_filter_back}
 use Rattle.greedy_column.proofs.PickLaws.{picked_is_option}
 use Rattle.greedy_column.proofs.IdLaws.{Apart}
 use Rattle.greedy_column.proofs.TableLaws.{nets, line_of-line, held_by-line}
 use Rattle.greedy_column.proofs.NeighbourLaws.{AreNext, next_from}
+use Rattle.std_laws.proofs.Members.{member-none, member-cases, member-head, member-tail, filter-from}
 
 -- a piece between two neighbouring tracks of its net
 pub record IsPiece (tracks : List Track) (piece : Span) : Type 0 where
@@ -52,11 +52,11 @@ IsPiece-neighbour tracks piece member =
 -- each join is one of two neighbouring tracks
 pub joined-neighbours : (may : List Candidate → ℕ → Type 0) (next : ℕ → Next) (pairs spans joined : List Span) → JoinsFollow may next pairs spans joined
     → (piece : Span) → Contains joined piece → Contains pairs piece
-joined-neighbours may next pairs spans [] follow piece member = absurd (in_none piece member)
-joined-neighbours may next pairs spans (first ∷ joined) follow piece member = elim (in_cases first piece joined member) [
+joined-neighbours may next pairs spans [] follow piece member = absurd (member-none piece member)
+joined-neighbours may next pairs spans (first ∷ joined) follow piece member = elim (member-cases first joined piece member) [
   | inl same ↦
       let option = picked_is_option may (join_offer next) (possible_joins spans pairs) first follow.0 in
-      subst (λ (s : Span). Contains pairs s) same (in_filter_back (λ s. not (is_joined spans s) && is_clear spans s) first pairs option).0
+      subst (λ (s : Span). Contains pairs s) same (filter-from (λ s. not (is_joined spans s) && is_clear spans s) pairs first option).0
   | inr later ↦ joined-neighbours may next pairs (spans ++ first ∷ []) joined follow.1 piece later
 ]
 
@@ -86,8 +86,8 @@ drawn_pieces : (tracks : List Track) (joined : List Span) → Apart (ids tracks)
     → map (span_in (ids tracks)) (map (between tracks) (map (ids_of tracks) joined)) ≡ joined
 drawn_pieces tracks [] apart each = refl
 drawn_pieces tracks (piece ∷ joined) apart each =
-    (λ i. drawn_piece tracks piece apart (each piece (in_first piece joined)) i
-    ∷ drawn_pieces tracks joined apart (λ s member. each s (in_later piece s joined member)) i)
+    (λ i. drawn_piece tracks piece apart (each piece (member-head piece joined)) i
+    ∷ drawn_pieces tracks joined apart (λ s member. each s (member-tail piece joined s member)) i)
 
 -- the verticals of the pins and the joins lie on the spans that the steps draw
 pub drawn : (pins : Pins) (column : ℕ) (now : List Track) (done : Column) (joined : List Span) → Apart (ids now)

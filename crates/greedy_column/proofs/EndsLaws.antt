@@ -11,7 +11,6 @@ use Rattle.greedy_column.specs.Neighbours.{Holds, AreNeighbours, Grouped, alone,
 use Rattle.greedy_column.specs.State.{AreNumbered}
 use Rattle.greedy_column.specs.Ahead.{HasLaterPin}
 use Rattle.greedy_column.specs.Fair.{Fair}
-use Rattle.greedy_column.proofs.Members.{in_none, in_first}
 use Rattle.greedy_column.proofs.IdLaws.{Apart, Apart-from, ids-freed}
 use Rattle.greedy_column.proofs.DrawnLaws.{IsPiece-neighbour}
 use Rattle.greedy_column.proofs.PartLaws.{AreNeighbours-from}
@@ -21,6 +20,7 @@ use Rattle.greedy_column.proofs.NoPinLaws.{no_pins, no_pins-made}
 use Rattle.greedy_column.proofs.EnteredLaws.{now-apart, keeps-now}
 use Rattle.greedy_column.proofs.VerticalLaws.{one_on_line, piece_of, IsOfPin, of_both, of_bottom, of_top, joined_kind}
 use Rattle.greedy_column.proofs.HeldCountLaws.{Holds-some, entered-count, freed-fewer, moved-count}
+use Rattle.std_laws.proofs.Members.{member-none, member-head}
 
 -- a column without pins
 module _ (pins : Pins) (column fresh : ℕ) (before : List Track) (done : Column) (numbered : AreNumbered fresh before) (fair : Fair pins column fresh before done)
@@ -85,8 +85,8 @@ module _ (pins : Pins) (column fresh : ℕ) (before : List Track) (done : Column
   pub some_ends : (net a b : ℕ) → Holds now net a → Holds now net b → a ≢ b → (id : ℕ) × Contains done.ended id
   some_ends net a b first second other = step done.ended refl where
     step : (ended : List ℕ) → done.ended ≡ ended → (id : ℕ) × Contains ended id
-    step [] is = absurd (not_two (λ id member. in_none id (subst (λ l. Contains l id) is member)) net a b first second other)
-    step (id ∷ ended) is = (id, in_first id ended)
+    step [] is = absurd (not_two (λ id member. member-none id (subst (λ l. Contains l id) is member)) net a b first second other)
+    step (id ∷ ended) is = (id, member-head id ended)
 
   -- where a track ends, fewer are held
   fewer_ended : (id : ℕ) → Contains done.ended id → held_count (after pins column done before) < held_count before

@@ -10,31 +10,32 @@ use Rattle.greedy_column.specs.Replay.{top_pin, bottom_pin, with_made, entered}
 use Rattle.greedy_column.specs.Neighbours.{Holds}
 use Rattle.greedy_column.specs.Lawful.{IsLawful, AreMadeFrom, TopEnters, BottomEnters, MayEnter, IsMove}
 use Rattle.greedy_column.specs.State.{AreNumbered}
-use Rattle.greedy_column.proofs.Members.{in_none, in_cases, in_map_back}
-use Rattle.greedy_column.proofs.IdLaws.{Apart, ids-insert, ids-hold, ids-entered, in_insert_new, in_insert_old, AreNumbered-with_made}
+use Rattle.greedy_column.proofs.IdLaws.{Apart, ids-insert, ids-hold, ids-entered, AreNumbered-with_made}
 use Rattle.greedy_column.proofs.HeldLaws.{held_by-given, held_by-other, held_by-with_made, in_with_made}
 use Rattle.greedy_column.proofs.FairLaws.{Apart-entered}
+use Rattle.std_laws.proofs.Members.{member-none, member-cases, map-cases}
+use Rattle.std_laws.proofs.Inserted.{insert-new, insert-old}
 
 -- what stood before stands when others are made, and so do these
 in_made_old : (tracks : List Track) (made : List Made) (id : ℕ) → Contains (ids tracks) id → Contains (ids (with_made tracks made)) id
 in_made_old tracks [] id member = member
 in_made_old tracks (m ∷ made) id member =
     in_made_old (insert tracks m.below (record { id = m.id; net = 0 })) made id
-    (subst (λ l. Contains l id) (sym (ids-insert (record { id = m.id; net = 0 }) tracks m.below)) (in_insert_old m.id id (ids tracks) m.below member))
+    (subst (λ l. Contains l id) (sym (ids-insert (record { id = m.id; net = 0 }) tracks m.below)) (insert-old m.id id (ids tracks) m.below member))
 
 in_made_new : (tracks : List Track) (made : List Made) (id : ℕ) → Contains (map (λ (m : Made). m.id) made) id → Contains (ids (with_made tracks made)) id
-in_made_new tracks [] id member = absurd (in_none id member)
-in_made_new tracks (m ∷ made) id member = elim (in_cases m.id id (map (λ (o : Made). o.id) made) member) [
+in_made_new tracks [] id member = absurd (member-none id member)
+in_made_new tracks (m ∷ made) id member = elim (member-cases m.id (map (λ (o : Made). o.id) made) id member) [
   | inl same ↦ in_made_old (insert tracks m.below (record { id = m.id; net = 0 })) made id
       (subst (λ l. Contains l id) (sym (ids-insert (record { id = m.id; net = 0 }) tracks m.below))
-      (subst (λ n. Contains (insert (ids tracks) m.below m.id) n) same (in_insert_new m.id (ids tracks) m.below)))
+      (subst (λ n. Contains (insert (ids tracks) m.below m.id) n) same (insert-new m.id (ids tracks) m.below)))
   | inr later ↦ in_made_new (insert tracks m.below (record { id = m.id; net = 0 })) made id later
 ]
 
 -- an id that is made is new
 made_new : (fresh count : ℕ) (made : List Made) (m : Made) → AreMadeFrom fresh count made → Contains made m → fresh ≤ m.id
-made_new fresh count [] m placed member = absurd (in_none m member)
-made_new fresh count (n ∷ made) m placed member = elim (in_cases n m made member) [
+made_new fresh count [] m placed member = absurd (member-none m member)
+made_new fresh count (n ∷ made) m placed member = elim (member-cases n made m member) [
   | inl same ↦ omega (arith, placed.0, ap (λ (o : Made). o.id) same)
   | inr later ↦ let above = made_new (suc fresh) (suc count) made m placed.2 later in omega (arith, above)
 ]
@@ -65,7 +66,7 @@ module _ (pins : Pins) (column fresh : ℕ) (before : List Track) (done : Column
 
   made_is_new : (id : ℕ) → Contains (map (λ (m : Made). m.id) done.made) id → fresh ≤ id
   made_is_new id member =
-      let from = in_map_back (λ (m : Made). m.id) id done.made member in
+      let from = map-cases (λ (m : Made). m.id) done.made id member in
       let above = made_new fresh (length before) done.made from.0 lawful.made from.1 in
       omega (arith, above, from.2)
 
@@ -153,7 +154,7 @@ module _ (pins : Pins) (column fresh : ℕ) (before : List Track) (done : Column
       | inr neither ↦ elim (in_with_made before done.made id (in_with id held.there)) [
         | inl old ↦ inl (record { net_is = held.net_is; there = old; held = sym (held_same id old other neither) ∙ held.held })
         | inr new ↦
-            let from = in_map_back (λ (m : Made). m.id) id done.made new in
+            let from = map-cases (λ (m : Made). m.id) done.made id new in
             absurd (elim (lawful.made_entered from.0 from.1) [
               | inl top ↦ other (sym top ∙ from.2)
               | inr bottom ↦ neither (sym bottom ∙ from.2)

@@ -14,11 +14,11 @@ use Rattle.greedy_column.specs.Lines.{below_line, id_on, own_lines, holds_track}
 use Rattle.greedy_column.specs.Offers.{offer}
 use Rattle.greedy_column.specs.State.{AreNumbered}
 use Rattle.greedy_column.specs.Entering.{EntersPair, EntersNew, newcomer_of, pin_kind, top_question, bottom_question}
-use Rattle.greedy_column.proofs.Members.{in_first, in_later, in_filter_back}
 use Rattle.greedy_column.proofs.PickLaws.{picked_is_option}
 use Rattle.greedy_column.proofs.IdLaws.{Apart-from}
 use Rattle.greedy_column.proofs.TableLaws.{line_of-line, id_on-member}
 use Rattle.greedy_column.proofs.EntryLaws.{IsOpenLine, IsOpen-from, MayBeEntered}
+use Rattle.std_laws.proofs.Members.{member-head, member-tail, filter-from}
 
 -- what a column's kind tells of the nets of its pins
 abbrev pub KindSays : ℕ → ℕ → PinKind → Type 0
@@ -62,7 +62,7 @@ module _ (manner : Manner) (may : List Candidate → ℕ → Type 0) (before : L
   new_both top bottom uppers lowers TopPin entries some too above below (line, by, is) =
       let own = below line (picked_is_option may (offer (bottom_question bottom) (own_lines bottom.net before)) lowers line by) in
       subst (λ (e : Entries). EnterBoth before top.net bottom.net e) (sym is) (record {
-        top = inr (in_first fresh []);
+        top = inr (member-head fresh []);
         bottom = inl (IsOpen-from before bottom.net line (Apart-from (ids before) numbered.distinct) too own);
         apart = λ same. old_id bottom.net line own (sym same);
       })
@@ -70,13 +70,13 @@ module _ (manner : Manner) (may : List Candidate → ℕ → Type 0) (before : L
       let own = above line (picked_is_option may (offer (top_question top (length before)) (own_lines top.net before)) uppers line by) in
       subst (λ (e : Entries). EnterBoth before top.net bottom.net e) (sym is) (record {
         top = inl (IsOpen-from before top.net line (Apart-from (ids before) numbered.distinct) some own);
-        bottom = inr (in_first fresh []);
+        bottom = inr (member-head fresh []);
         apart = λ same. old_id top.net line own same;
       })
   new_both top bottom uppers lowers BothPins entries some too above below is =
       subst (λ (e : Entries). EnterBoth before top.net bottom.net e) (sym is) (record {
-        top = inr (in_later fresh (fresh + 1) ((fresh + 1) ∷ []) (in_first (fresh + 1) []));
-        bottom = inr (in_first fresh ((fresh + 1) ∷ []));
+        top = inr (member-tail fresh ((fresh + 1) ∷ []) (fresh + 1) (member-head (fresh + 1) []));
+        bottom = inr (member-head fresh ((fresh + 1) ∷ []));
         apart = λ same. omega (arith, same);
       })
 
@@ -88,7 +88,7 @@ module _ (manner : Manner) (may : List Candidate → ℕ → Type 0) (before : L
       new_both top bottom uppers lowers (newcomer_of manner (holds_track before top.net) (holds_track before bottom.net) uppers lowers) entries some too above below enters
   pair_both top bottom uppers lowers (first ∷ others) entries some too within above below (line, by, (partner, at, is)) =
       let upper = above line (within line (picked_is_option may (offer (top_question top (length before)) (own_lines top.net before)) (first ∷ others) line by)) in
-      let found = in_filter_back (λ l. ltb l line) partner lowers (picked_is_option may (offer (bottom_question bottom) (own_lines bottom.net before)) (below_line line lowers) partner at) in
+      let found = filter-from (λ l. ltb l line) lowers partner (picked_is_option may (offer (bottom_question bottom) (own_lines bottom.net before)) (below_line line lowers) partner at) in
       let lower = below partner found.0 in
       let order : partner < line = ltb-true partner line found.1 in
       let apart = Apart-from (ids before) numbered.distinct in

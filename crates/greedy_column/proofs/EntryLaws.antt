@@ -13,11 +13,10 @@ use Rattle.greedy_column.specs.Lawful.{IsOpen}
 use Rattle.greedy_column.specs.Lines.{is_open, lines_from, open_lines, id_on, net_on}
 use Rattle.greedy_column.specs.Offers.{offer}
 use Rattle.greedy_column.specs.Entering.{EntersAlone, entry_at, new_track}
-use Rattle.greedy_column.proofs.Members.{in_none, in_first}
 use Rattle.greedy_column.proofs.PickLaws.{picked_is_option}
-use Rattle.greedy_column.proofs.LineLaws.{one_line}
 use Rattle.greedy_column.proofs.IdLaws.{Apart}
 use Rattle.greedy_column.proofs.TableLaws.{nets, held_by-line, id_on-member}
+use Rattle.std_laws.proofs.Members.{member-none, member-head, member-if}
 
 -- a line that is open to a net, and what its track is
 pub record IsOpenLine (before : List Track) (net line : ℕ) : Type 0 where
@@ -33,10 +32,10 @@ either n net test = elim (cases_eq n 0) [
 
 open_at : (net first line : ℕ) (tracks : List Track) → Contains (lines_from (is_open net) first tracks) line
     → (k : ℕ) × (k < length tracks) × (line ≡ first + k) × ((get_or (nets tracks) k 0 ≡ 0) ⊎ (get_or (nets tracks) k 0 ≡ net))
-open_at net first line [] member = absurd (in_none line member)
+open_at net first line [] member = absurd (member-none line member)
 open_at net first line (t ∷ tracks) member =
     elim (Contains-append_cases (cond (is_open net t) (first ∷ []) []) (lines_from (is_open net) (suc first) tracks) line member) [
-      | inl here ↦ let one = one_line (is_open net t) first line here in (0, omega arith, omega (arith, one.0), either t.net net one.1)
+      | inl here ↦ let one = member-if (is_open net t) first line here in (0, omega arith, omega (arith, one.0), either t.net net one.1)
       | inr later ↦ let rest = open_at net (suc first) line tracks later in (suc rest.0, omega (arith, rest.1), omega (arith, rest.2), rest.3)
     ]
 
@@ -99,7 +98,7 @@ EntersOne-from may before fresh edge question own below net [] entries apart som
     let made : List Made = new_track fresh below ∷ [] in
     subst (λ (e : Entries). EntersOne before edge net e) (sym is) (record {
       enters = inr (subst (λ (l : List Made). Contains (map (λ (m : Made). m.id) l) (entered_at edge (entry_at edge made fresh))) (sym (entry_made edge made fresh))
-          (subst (λ n. Contains (fresh ∷ []) n) (sym (entry_id edge made fresh)) (in_first fresh [])));
+          (subst (λ n. Contains (fresh ∷ []) n) (sym (entry_id edge made fresh)) (member-head fresh [])));
       other = entry_other edge made fresh;
     })
 EntersOne-from may before fresh edge question own below net (line ∷ lines) entries apart some each (picked, by, is) =

@@ -1,4 +1,4 @@
-use Rattle.std.proofs.Common.{◌≡◌, ◌<◌, ◌≤◌, ◌++◌, ℕ, List, [], ◌∷◌, length, map, refl, sym, subst, ap, ◌∙◌, arith, Contains}
+use Rattle.std.proofs.Common.{◌≡◌, ◌<◌, ◌≤◌, ◌++◌, ℕ, List, length, map, sym, subst, ap, ◌∙◌, arith, Contains}
 use Rattle.std.proofs.lemmas.List.{length-map}
 use Rattle.channel_model.specs.Pins.{Pins}
 use Rattle.choose_core.specs.declared.candidate.Candidate.{Candidate}
@@ -17,7 +17,6 @@ use Rattle.greedy_column.specs.Joining.{neighbours, ids_of}
 use Rattle.greedy_column.specs.Moving.{move_ids}
 use Rattle.greedy_column.specs.Follows.{Follows, entries_of, pin_of, pin_spans}
 use Rattle.greedy_column.specs.State.{AreNumbered}
-use Rattle.greedy_column.proofs.Members.{in_map_back}
 use Rattle.greedy_column.proofs.IdLaws.{Apart, Apart-from, Apart-to, ids-entered, AreNumbered-with_made}
 use Rattle.greedy_column.proofs.TableLaws.{same_line}
 use Rattle.greedy_column.proofs.LineLaws.{LieWithin-lines}
@@ -32,11 +31,8 @@ use Rattle.greedy_column.proofs.KeepLaws.{ended_held, keeps}
 use Rattle.greedy_column.proofs.MovedLaws.{IsMove-from}
 use Rattle.greedy_column.proofs.OrderLaws.{Apart-order, held_in_order}
 use Rattle.greedy_column.proofs.SparingLaws.{SparesTracks-from}
-
--- a map after a map
-map_twice : {X Y : Type 0} (f : Y → ℕ) (g : X → Y) (xs : List X) → map f (map g xs) ≡ map (λ x. f (g x)) xs
-map_twice f g [] = refl
-map_twice f g (x ∷ xs) = ap (λ l. f (g x) ∷ l) (map_twice f g xs)
+use Rattle.std_laws.proofs.Members.{map-cases}
+use Rattle.std_laws.proofs.Images.{map-map}
 
 -- the ids of the tracks that the pins have entered are apart
 pub Apart-entered : (pins : Pins) (column fresh count : ℕ) (before : List Track) (done : Column) → AreNumbered fresh before → AreMadeFrom fresh count done.made
@@ -77,7 +73,7 @@ Fair-from manner may pins column fresh before done matched numbered follows =
         made = made.placed;
         made_entered = made.entered;
         joins = λ low high member.
-            let from = in_map_back (ids_of now) (low, high) on.joined (subst (λ (l : List (ℕ × ℕ)). Contains l (low, high)) on.joins_told member) in
+            let from = map-cases (ids_of now) on.joined (low, high) (subst (λ (l : List (ℕ × ℕ)). Contains l (low, high)) on.joins_told member) in
             let pair = AreNeighbours-from now from.0 apart (each from.0 from.1) in (
               from.0.net,
               subst (λ h. AreNeighbours now from.0.net low h) (ap (λ (p : ℕ × ℕ). p.1) from.2)
@@ -86,18 +82,18 @@ Fair-from manner may pins column fresh before done matched numbered follows =
         ended_once = Apart-to done.ended (Apart-rising done.ended on.ends_told.ascending);
         ended_held = ended_held may pins column now done (spans ++ on.joined) on.ending matched apart on_lines on.ends_follow on.ends_told;
         moves = λ old new member.
-            let from = in_map_back (move_ids now) (old, new) on.moving (subst (λ (l : List (ℕ × ℕ)). Contains l (old, new)) on.moves_told member) in
+            let from = map-cases (move_ids now) on.moving (old, new) (subst (λ (l : List (ℕ × ℕ)). Contains l (old, new)) on.moves_told member) in
             let lines = moves_within may (next_of pins column) now kept on.order (spans ++ on.joined) (free_lines now) on.moving on.moves_follow from.0 from.1 in
             subst (λ n. IsMove before now done old n) (ap (λ (p : ℕ × ℕ). p.1) from.2)
             (subst (λ o. IsMove before now done o (id_on now from.0.1)) (ap (λ (p : ℕ × ℕ). p.0) from.2)
             (IsMove-from pins column fresh before done numbered made.placed made.entered entries apart from.0.0 from.0.1
             (held_in_order manner (next_of pins column) kept on.order on.ordered from.0.0 lines.0) lines.1));
         moved_once = Apart-to (map (λ (m : ℕ × ℕ). m.0) done.moves)
-            (subst (λ l. Apart l) (sym (ap (λ (l : List (ℕ × ℕ)). map (λ (m : ℕ × ℕ). m.0) l) on.moves_told ∙ map_twice (λ (m : ℕ × ℕ). m.0) (move_ids now) on.moving))
+            (subst (λ l. Apart l) (sym (ap (λ (l : List (ℕ × ℕ)). map (λ (m : ℕ × ℕ). m.0) l) on.moves_told ∙ map-map (move_ids now) (λ (m : ℕ × ℕ). m.0) on.moving))
             (Apart-map (λ (m : ℕ × ℕ). id_on now m.0) (λ (m : ℕ × ℕ). m.0) on.moving
             (λ x y first second same. same_line now x.0 y.0 apart (within x first).0 (within y second).0 same) moves.0));
         moved_apart = Apart-to (map (λ (m : ℕ × ℕ). m.1) done.moves)
-            (subst (λ l. Apart l) (sym (ap (λ (l : List (ℕ × ℕ)). map (λ (m : ℕ × ℕ). m.1) l) on.moves_told ∙ map_twice (λ (m : ℕ × ℕ). m.1) (move_ids now) on.moving))
+            (subst (λ l. Apart l) (sym (ap (λ (l : List (ℕ × ℕ)). map (λ (m : ℕ × ℕ). m.1) l) on.moves_told ∙ map-map (move_ids now) (λ (m : ℕ × ℕ). m.1) on.moving))
             (Apart-map (λ (m : ℕ × ℕ). id_on now m.1) (λ (m : ℕ × ℕ). m.1) on.moving
             (λ x y first second same. same_line now x.1 y.1 apart (within x first).1 (within y second).1 same) moves.1));
         apart = uncrossed-verticals pins column now done (spans ++ on.joined) on.moving apart on_lines on.moves_told within

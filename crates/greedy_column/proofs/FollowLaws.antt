@@ -1,7 +1,4 @@
-use Rattle.std.proofs.Common.{◌≡◌, ℕ, List, subst, arith, inl, inr}
-use Rattle.std.proofs.lemmas.Bool.{cases_lt}
-use Rattle.std.proofs.lemmas.List.Kept.{AllPairs-from_increasing}
-use Rattle.std.specs.List.Sorted.{IsStrictlyIncreasing, IsNonDecreasing}
+use Rattle.std.proofs.Common.{ℕ, List, subst}
 use Rattle.choose_core.specs.declared.candidate.Candidate.{Candidate}
 use Rattle.choose_core.specs.declared.plan.Manner.{Manner}
 use Rattle.choose_core.specs.declared.candidate.Next.{Next}
@@ -13,14 +10,6 @@ use Rattle.greedy_column.specs.Joining.{neighbours}
 use Rattle.greedy_column.specs.Ending.{EndsFollow, groups, joined_pairs}
 use Rattle.greedy_column.specs.Moving.{MovesFollow}
 use Rattle.greedy_column.specs.Follows.{AreEndsTold, AreJoinsTold, AreMovesTold, FollowsOn}
-
--- numbers of which each is below the next do not fall
-pub not_falling : (xs : List ℕ) → IsStrictlyIncreasing xs → IsNonDecreasing xs
-not_falling xs rising i j d order within =
-    elim (cases_lt i j) [
-      | inl below ↦ let less = AllPairs-from_increasing xs rising i j d below within in omega (arith, less)
-      | inr above ↦ let same : i ≡ j = omega arith in rw same (omega arith)
-    ]
 
 -- the steps, as they are told one by one
 pub FollowsOn-from_told : (manner : Manner) (may : List Candidate → ℕ → Type 0) (next : ℕ → Next) (now : List Track) (spans drawn : List Span)

@@ -8,9 +8,9 @@ use Rattle.greedy_column.specs.declared.span.Span.{Span}
 use Rattle.greedy_column.specs.Lines.{net_on, own_lines}
 use Rattle.greedy_column.specs.Offers.{offer, keep_question}
 use Rattle.greedy_column.specs.Ending.{EndsFollow, EndsOf, EndsButOne, outside, chain_from, next_on, gives_up}
-use Rattle.greedy_column.proofs.Members.{in_none, in_one, in_first, in_later, in_cases, in_filter, in_filter_back}
 use Rattle.greedy_column.proofs.PickLaws.{picked_is_option}
 use Rattle.greedy_column.proofs.IdLaws.{Apart}
+use Rattle.std_laws.proofs.Members.{member-none, member-only, member-head, member-tail, member-cases, filter-member, filter-from}
 
 -- of a group all lines end but one
 pub record KeepsOne (group these : List ℕ) : Type 0 where
@@ -25,20 +25,20 @@ owned now group = own_lines (net_on now (get_or group 0 0)) now
 
 module _ (may : List Candidate → ℕ → Type 0) where
   all_but_one : (tracks : ℕ) (next : Next) (own group these : List ℕ) (line : ℕ) → Contains group line → EndsButOne may tracks next own group these → KeepsOne group these
-  all_but_one tracks next own [] these line member ends = absurd (in_none line member)
+  all_but_one tracks next own [] these line member ends = absurd (member-none line member)
   all_but_one tracks next own (one ∷ []) these line member none = record {
     kept = one;
-    member = in_first one [];
-    goes_on = λ there. in_none one (subst (λ l. Contains l one) none there);
-    others = λ l there other. absurd (other (sym (in_one one l there)));
+    member = member-head one [];
+    goes_on = λ there. member-none one (subst (λ l. Contains l one) none there);
+    others = λ l there other. absurd (other (sym (member-only one l there)));
   }
   all_but_one tracks next own (one ∷ (two ∷ group)) these line member (kept, by, is) = record {
     kept = kept;
     member = picked_is_option may (offer (keep_question tracks next) (outside (one ∷ (two ∷ group)) own)) (one ∷ (two ∷ group)) kept by;
-    goes_on = λ there. let test = (in_filter_back (λ l. not (eqb l kept)) kept (one ∷ (two ∷ group)) (subst (λ l. Contains l kept) is there)).1 in
+    goes_on = λ there. let test = (filter-from (λ l. not (eqb l kept)) (one ∷ (two ∷ group)) kept (subst (λ l. Contains l kept) is there)).1 in
         cc (ap not (eq-eqb kept kept refl), test);
     others = λ l there other. subst (λ m. Contains m l) (sym is)
-        (in_filter (λ m. not (eqb m kept)) l (one ∷ (two ∷ group)) there (ap not (ne_eqb l kept other)));
+        (filter-member (λ m. not (eqb m kept)) (one ∷ (two ∷ group)) l there (ap not (ne_eqb l kept other)));
   }
 
   pub ends_kept : (tracks : ℕ) (next : Next) (own : List ℕ) (given : Bool) (group these : List ℕ) (line : ℕ) → given ≡ false → Contains group line
@@ -52,10 +52,10 @@ module _ (may : List Candidate → ℕ → Type 0) where
 
   -- what ends of a group is in it
   but_one_within : (tracks : ℕ) (next : Next) (own group these : List ℕ) (line : ℕ) → EndsButOne may tracks next own group these → Contains these line → Contains group line
-  but_one_within tracks next own [] these line none member = absurd (in_none line (subst (λ l. Contains l line) none member))
-  but_one_within tracks next own (one ∷ []) these line none member = absurd (in_none line (subst (λ l. Contains l line) none member))
+  but_one_within tracks next own [] these line none member = absurd (member-none line (subst (λ l. Contains l line) none member))
+  but_one_within tracks next own (one ∷ []) these line none member = absurd (member-none line (subst (λ l. Contains l line) none member))
   but_one_within tracks next own (one ∷ (two ∷ group)) these line (kept, by, is) member =
-      (in_filter_back (λ l. not (eqb l kept)) line (one ∷ (two ∷ group)) (subst (λ l. Contains l line) is member)).0
+      (filter-from (λ l. not (eqb l kept)) (one ∷ (two ∷ group)) line (subst (λ l. Contains l line) is member)).0
 
   ends_within : (tracks : ℕ) (next : Next) (own : List ℕ) (given : Bool) (group these : List ℕ) (line : ℕ) → EndsOf may tracks next own given group these → Contains these line
       → Contains group line
@@ -66,15 +66,15 @@ module _ (may : List Candidate → ℕ → Type 0) where
     -- what ends is in a group
     pub ended_in : (lines ending : List ℕ) (line : ℕ) → EndsFollow may next now spans (map (chain_from joined) lines) ending → Contains ending line
         → (first : ℕ) × Contains lines first × Contains (chain_from joined first) line
-    ended_in [] ending line none member = absurd (in_none line (subst (λ l. Contains l line) none member))
+    ended_in [] ending line none member = absurd (member-none line (subst (λ l. Contains l line) none member))
     ended_in (one ∷ lines) ending line (these, (others, here, follow, is)) member =
         elim (Contains-append_cases these others line (subst (λ l. Contains l line) is member)) [
           | inl own ↦ (
             one,
-            in_first one lines,
+            member-head one lines,
             ends_within (length now) (next_on next now (chain_from joined one)) (owned now (chain_from joined one)) (gives_up next now spans (chain_from joined one)) (chain_from joined one) these line here own,
           )
-          | inr later ↦ let rest = ended_in lines others line follow later in (rest.0, in_later one rest.0 lines rest.1, rest.2)
+          | inr later ↦ let rest = ended_in lines others line follow later in (rest.0, member-tail one lines rest.0 rest.1, rest.2)
         ]
 
     -- the lines of a group that end, and no other line of it does
@@ -87,8 +87,8 @@ module _ (may : List Candidate → ℕ → Type 0) where
     pub ends_in : (lines ending : List ℕ) (first : ℕ) → Apart lines
         → ((one two line : ℕ) → Contains lines one → Contains lines two → Contains (chain_from joined one) line → Contains (chain_from joined two) line → one ≡ two)
         → EndsFollow may next now spans (map (chain_from joined) lines) ending → Contains lines first → EndsIn ending (chain_from joined first)
-    ends_in [] ending first apart divided follow member = absurd (in_none first member)
-    ends_in (one ∷ lines) ending first apart divided (these, (others, here, follow, is)) member = elim (in_cases one first lines member) [
+    ends_in [] ending first apart divided follow member = absurd (member-none first member)
+    ends_in (one ∷ lines) ending first apart divided (these, (others, here, follow, is)) member = elim (member-cases one lines first member) [
       | inl same ↦ subst (λ f. EndsIn ending (chain_from joined f)) same (record {
         these = these;
         ends = here;
@@ -97,13 +97,13 @@ module _ (may : List Candidate → ℕ → Type 0) where
           | inl own ↦ own
           | inr later ↦
               let other = ended_in lines others line follow later in
-              let equal : one ≡ other.0 = divided one other.0 line (in_first one lines) (in_later one other.0 lines other.1) inside other.2 in
+              let equal : one ≡ other.0 = divided one other.0 line (member-head one lines) (member-tail one lines other.0 other.1) inside other.2 in
               absurd (apart.0 (subst (λ l. Contains lines l) (sym equal) other.1))
         ];
       })
       | inr behind ↦
           let rest = ends_in lines others first apart.1
-          (λ f g line a b m n. divided f g line (in_later one f lines a) (in_later one g lines b) m n) follow behind in
+          (λ f g line a b m n. divided f g line (member-tail one lines f a) (member-tail one lines g b) m n) follow behind in
           record {
             these = rest.these;
             ends = rest.ends;
@@ -112,7 +112,7 @@ module _ (may : List Candidate → ℕ → Type 0) where
               | inr later ↦ rest.only line inside later
               | inl own ↦
                   let there = ends_within (length now) (next_on next now (chain_from joined one)) (owned now (chain_from joined one)) (gives_up next now spans (chain_from joined one)) (chain_from joined one) these line here own in
-                  let equal : one ≡ first = divided one first line (in_first one lines) member there inside in
+                  let equal : one ≡ first = divided one first line (member-head one lines) member there inside in
                   absurd (apart.0 (subst (λ l. Contains lines l) (sym equal) behind))
             ];
           }

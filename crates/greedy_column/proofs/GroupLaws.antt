@@ -7,12 +7,12 @@ use Rattle.greedy_column.specs.Verticals.{Vertical}
 use Rattle.greedy_column.specs.Neighbours.{Holds, Grouped, alone, along}
 use Rattle.greedy_column.specs.Lines.{id_on, net_on}
 use Rattle.greedy_column.specs.Joining.{neighbours, span_in, is_joined, covers}
-use Rattle.greedy_column.proofs.Members.{in_map, any_at, any_from}
 use Rattle.greedy_column.proofs.IdLaws.{Apart}
 use Rattle.greedy_column.proofs.TableLaws.{nets, length-ids, place_in, line_of-line, held_by-line, id_on-member}
 use Rattle.greedy_column.proofs.NeighbourLaws.{AreNext, listed_from}
 use Rattle.greedy_column.proofs.DrawnLaws.{IsPiece, IsPiece-neighbour}
 use Rattle.greedy_column.proofs.JoinedLaws.{drawn_on, linked_by}
+use Rattle.std_laws.proofs.Members.{map-member, any-cases, any-member}
 
 -- a net holds the track on a line
 pub record HoldsLine (tracks : List Track) (net line : ℕ) : Type 0 where
@@ -134,7 +134,7 @@ module _ (now : List Track) (apart : Apart (ids now)) (vs : List Vertical) (span
   -- a piece whose ends a vertical joins links its tracks
   pub piece_linked : (piece : Span) → IsPiece now piece → is_joined spans piece ≡ true → Grouped now vs (id_on now piece.low) (id_on now piece.high)
   piece_linked piece is joined =
-      let found = any_at (covers piece) spans joined in
+      let found = any-cases (covers piece) spans joined in
       let v = drawn_on now vs spans drawn found.0 found.1 in
       let low = line_of-line now piece.low apart is.begins (omega (arith, is.order, is.within)) in
       let high = line_of-line now piece.high apart (omega (arith, is.order)) is.within in
@@ -149,7 +149,7 @@ module _ (now : List Track) (apart : Apart (ids now)) (vs : List Vertical) (span
   covered_by : (piece : Span) (v : Vertical) → Contains vs v → v.net ≡ piece.net → (span_in (ids now) v).low ≤ piece.low → piece.high ≤ (span_in (ids now) v).high
       → is_joined spans piece ≡ true
   covered_by piece v member net low high =
-      any_from (covers piece) (span_in (ids now) v) spans (subst (λ (l : List Span). Contains l (span_in (ids now) v)) drawn (in_map (span_in (ids now)) v vs member))
+      any-member (covers piece) spans (span_in (ids now) v) (subst (λ (l : List Span). Contains l (span_in (ids now) v)) drawn (map-member (span_in (ids now)) vs v member))
       (and_from (eqb v.net piece.net) (leb (span_in (ids now) v).low piece.low && leb piece.high (span_in (ids now) v).high) (eq-eqb v.net piece.net net)
       (and_from (leb (span_in (ids now) v).low piece.low) (leb piece.high (span_in (ids now) v).high) (le-leb (span_in (ids now) v).low piece.low low)
       (le-leb piece.high (span_in (ids now) v).high high)))

@@ -6,9 +6,9 @@ use Rattle.greedy_column.specs.declared.column.Track.{Track}
 use Rattle.greedy_column.specs.Tracks.{ids, held_by, hold}
 use Rattle.greedy_column.specs.Replay.{with_nets, freed_among, freed, moved}
 use Rattle.greedy_column.specs.Neighbours.{Holds}
-use Rattle.greedy_column.proofs.Members.{in_first, in_later, any_from}
 use Rattle.greedy_column.proofs.IdLaws.{Apart, ids-hold}
 use Rattle.greedy_column.specs.Held.{held_count, IsHeld}
+use Rattle.std_laws.proofs.Members.{member-head, member-tail, any-member}
 
 -- how much a track counts: 1 where it is held
 abbrev pub held_one : ℕ → ℕ
@@ -39,7 +39,7 @@ Holds-some (t ∷ tracks) apart held = elim (cases_eq t.net 0) [
     t.net,
     (
       t.id,
-      record { net_is = omega arith; there = in_first t.id (ids tracks); held = cond-true (eqb t.id t.id) t.net (held_by tracks t.id) (eq-eqb t.id t.id refl) },
+      record { net_is = omega arith; there = member-head t.id (ids tracks); held = cond-true (eqb t.id t.id) t.net (held_by tracks t.id) (eq-eqb t.id t.id refl) },
     ),
   )
   | inl none ↦
@@ -50,7 +50,7 @@ Holds-some (t ∷ tracks) apart held = elim (cases_eq t.net 0) [
           id,
           record {
             net_is = own.net_is;
-            there = in_later t.id id (ids tracks) own.there;
+            there = member-tail t.id (ids tracks) id own.there;
             held = cond-false (eqb t.id id) t.net (held_by tracks id) (ne_eqb t.id id (λ same. apart.0 (subst (λ i. Contains (ids tracks) i) (sym same) own.there))) ∙ own.held;
           },
         ),
@@ -62,8 +62,8 @@ hold-absent : (tracks : List Track) (id net : ℕ) → (Contains (ids tracks) id
 hold-absent [] id net none = refl
 hold-absent (t ∷ tracks) id net none =
     (λ i. cond-false (eqb t.id id) (record { id = t.id; net = net }) t
-    (ne_eqb t.id id (λ same. none (subst (λ j. Contains (t.id ∷ ids tracks) j) same (in_first t.id (ids tracks))))) i ∷ hold id net tracks)
-    ∙ ap (λ l. t ∷ l) (hold-absent tracks id net (λ member. none (in_later t.id id (ids tracks) member)))
+    (ne_eqb t.id id (λ same. none (subst (λ j. Contains (t.id ∷ ids tracks) j) same (member-head t.id (ids tracks))))) i ∷ hold id net tracks)
+    ∙ ap (λ l. t ∷ l) (hold-absent tracks id net (λ member. none (member-tail t.id (ids tracks) id member)))
 
 -- how many tracks are held once one is given, and once one is freed
 given-count : (tracks : List Track) (id net : ℕ) → Apart (ids tracks) → held_count (hold id net tracks) ≤ held_count tracks + held_one net
@@ -114,7 +114,7 @@ freed-most ended (t ∷ tracks) =
     omega (arith, freed-most ended tracks, among-count ended t, held_count-cons t tracks, held_count-cons (freed_among ended t) (freed ended tracks))
 
 among-gone : (ended : List ℕ) (t : Track) → Contains ended t.id → held_one (freed_among ended t).net ≡ 0
-among-gone ended t member = step (list_any (λ id. eqb id t.id) ended) (any_from (λ id. eqb id t.id) t.id ended member (eq-eqb t.id t.id refl)) where
+among-gone ended t member = step (list_any (λ id. eqb id t.id) ended) (any-member (λ id. eqb id t.id) ended t.id member (eq-eqb t.id t.id refl)) where
   step : (b : Bool) → b ≡ true → held_one (cond b (record { id = t.id; net = 0 }) t).net ≡ 0
   step true is = refl
   step false is = absurd (cc is)

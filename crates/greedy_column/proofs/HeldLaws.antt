@@ -9,9 +9,10 @@ use Rattle.greedy_column.specs.Tracks.{ids, held_by, given, hold}
 use Rattle.greedy_column.specs.Replay.{top_pin, bottom_pin, with_made, entered}
 use Rattle.greedy_column.specs.Lawful.{AreMadeFrom, TopEnters, WasFree}
 use Rattle.greedy_column.specs.State.{AreNumbered}
-use Rattle.greedy_column.proofs.Members.{in_none, in_first, in_later, in_cases, in_map_back}
-use Rattle.greedy_column.proofs.IdLaws.{ids-insert, ids-hold, ids-entered, in_insert, AreNumbered-with_made}
+use Rattle.greedy_column.proofs.IdLaws.{ids-insert, ids-hold, ids-entered, AreNumbered-with_made}
 use Rattle.greedy_column.proofs.LawfulLaws.{AreEntered}
+use Rattle.std_laws.proofs.Members.{member-none, member-head, member-tail, member-cases, map-cases}
+use Rattle.std_laws.proofs.Inserted.{insert-cases}
 
 -- a track that is given to a net is the net's, and any other keeps its own
 given_own : (id net rest : ℕ) (t : Track) → (t.id ≢ id → rest ≡ net) → cond (eqb (given id net t).id id) (given id net t).net rest ≡ net
@@ -21,10 +22,10 @@ given_own id net rest t later = step (eqb t.id id) refl where
   step false is = cond-false (eqb t.id id) t.net rest is ∙ later (eqb-false t.id id is)
 
 pub held_by-given : (tracks : List Track) (id net : ℕ) → Contains (ids tracks) id → held_by (hold id net tracks) id ≡ net
-held_by-given [] id net member = absurd (in_none id member)
+held_by-given [] id net member = absurd (member-none id member)
 held_by-given (t ∷ tracks) id net member =
     given_own id net (held_by (hold id net tracks) id) t
-    (λ other. held_by-given tracks id net (elim (in_cases t.id id (ids tracks) member) [ inl same ↦ absurd (other same) | inr later ↦ later ]))
+    (λ other. held_by-given tracks id net (elim (member-cases t.id (ids tracks) id member) [ inl same ↦ absurd (other same) | inr later ↦ later ]))
 
 given_other : (id net other rest again : ℕ) (t : Track) → id ≢ other → rest ≡ again
     → cond (eqb (given id net t).id other) (given id net t).net rest ≡ cond (eqb t.id other) t.net again
@@ -60,11 +61,11 @@ pub in_with_made : (tracks : List Track) (made : List Made) (id : ℕ) → Conta
 in_with_made tracks [] id member = inl member
 in_with_made tracks (m ∷ made) id member =
     elim (in_with_made (insert tracks m.below (record { id = m.id; net = 0 })) made id member) [
-      | inl here ↦ elim (in_insert m.id id (ids tracks) m.below (subst (λ l. Contains l id) (ids-insert (record { id = m.id; net = 0 }) tracks m.below) here)) [
-        | inl same ↦ inr (subst (λ n. Contains (m.id ∷ map (λ (o : Made). o.id) made) n) same (in_first m.id (map (λ (o : Made). o.id) made)))
+      | inl here ↦ elim (insert-cases m.id id (ids tracks) m.below (subst (λ l. Contains l id) (ids-insert (record { id = m.id; net = 0 }) tracks m.below) here)) [
+        | inl same ↦ inr (subst (λ n. Contains (m.id ∷ map (λ (o : Made). o.id) made) n) same (member-head m.id (map (λ (o : Made). o.id) made)))
         | inr old ↦ inl old
       ]
-      | inr later ↦ inr (in_later m.id id (map (λ (o : Made). o.id) made) later)
+      | inr later ↦ inr (member-tail m.id (map (λ (o : Made). o.id) made) id later)
     ]
 
 module _ (pins : Pins) (column fresh : ℕ) (before : List Track) (done : Column) (numbered : AreNumbered fresh before)
@@ -106,7 +107,7 @@ module _ (pins : Pins) (column fresh : ℕ) (before : List Track) (done : Column
       let old : Contains (ids before) id = elim (in_with_made before done.made id there) [
         | inl before_it ↦ before_it
         | inr new ↦
-            let from = in_map_back (λ (m : Made). m.id) id done.made new in
+            let from = map-cases (λ (m : Made). m.id) done.made id new in
             elim (made_entered from.0 from.1) [ inl top ↦ absurd (not_top (sym from.2 ∙ top)) | inr bottom ↦ absurd (not_bottom (sym from.2 ∙ bottom)) ]
       ] in
       let same : held_by (entered pins column done before) id ≡ held_by before id =

@@ -1,6 +1,5 @@
-use Rattle.std.proofs.Common.{◌≡◌, ◌⊎◌, inl, inr, ◌<◌, ◌+◌, eqb, ℕ, zero, suc, List, [], ◌∷◌, Bool, true, false, cond, length, refl, sym, subst, ap, ◌∙◌, arith, Contains, add-zero, eq-eqb}
-use Rattle.std.proofs.lemmas.Bool.{ne_eqb}
-use Rattle.std.specs.List.{IsDistinct, AllByRecursion, insert, list_any}
+use Rattle.std.proofs.Common.{◌≡◌, inl, inr, ◌<◌, ◌+◌, eqb, ℕ, zero, suc, List, [], ◌∷◌, Bool, true, false, cond, length, refl, sym, subst, ap, ◌∙◌, arith, Contains, add-zero}
+use Rattle.std.specs.List.{IsDistinct, insert, list_any}
 use Rattle.channel_model.specs.Pins.{Pins}
 use Rattle.greedy_column.specs.declared.column.Track.{Track}
 use Rattle.greedy_column.specs.declared.column.Made.{Made}
@@ -9,24 +8,13 @@ use Rattle.greedy_column.specs.Tracks.{ids, held_by, given, hold}
 use Rattle.greedy_column.specs.Replay.{top_pin, bottom_pin, with_made, freed_among, freed, moved, entered}
 use Rattle.greedy_column.specs.Lawful.{AreMadeFrom}
 use Rattle.greedy_column.specs.State.{AreNumbered}
-use Rattle.greedy_column.proofs.Members.{in_none, in_first, in_later, in_cases}
+use Rattle.std_laws.proofs.Members.{member-head, member-tail, all_other, other_all}
+use Rattle.std_laws.proofs.Inserted.{insert-cases}
 
 -- no number stands twice
 abbrev pub Apart : List ℕ → Type 0
 Apart [] = Unit {0}
 Apart (x ∷ xs) = (Contains xs x → ⊥) × Apart xs
-
-all_other : (x : ℕ) (xs : List ℕ) → AllByRecursion (λ y. eqb x y ≡ false) xs → Contains xs x → ⊥
-all_other x [] all member = in_none x member
-all_other x (y ∷ ys) all member = elim (in_cases y x ys member) [
-  | inl same ↦ cc (eq-eqb x y (sym same), all.0)
-  | inr later ↦ all_other x ys all.1 later
-]
-
-other_all : (x : ℕ) (xs : List ℕ) → (Contains xs x → ⊥) → AllByRecursion (λ y. eqb x y ≡ false) xs
-other_all x [] none = tt
-other_all x (y ∷ ys) none =
-    (ne_eqb x y (λ same. none (subst (λ z. Contains (y ∷ ys) z) (sym same) (in_first y ys))), other_all x ys (λ member. none (in_later y x ys member)))
 
 pub Apart-from : (xs : List ℕ) → IsDistinct (λ i j. eqb i j) xs → Apart xs
 unfolding IsDistinct
@@ -38,29 +26,6 @@ unfolding IsDistinct
 Apart-to [] apart = tt
 Apart-to (x ∷ xs) apart = (other_all x xs apart.0, Apart-to xs apart.1)
 
-module _ {X : Type 0} where
-  -- the members of a list into which one is inserted
-  pub in_insert : (x y : X) (xs : List X) (k : ℕ) → Contains (insert xs k x) y → (x ≡ y) ⊎ Contains xs y
-  in_insert x y xs zero member = in_cases x y xs member
-  in_insert x y [] (suc k) member = in_cases x y [] member
-  in_insert x y (z ∷ zs) (suc k) member = elim (in_cases z y (insert zs k x) member) [
-    | inl same ↦ inr (subst (λ w. Contains (z ∷ zs) w) same (in_first z zs))
-    | inr later ↦ elim (in_insert x y zs k later) [ inl same ↦ inl same | inr old ↦ inr (in_later z y zs old) ]
-  ]
-
-  pub in_insert_new : (x : X) (xs : List X) (k : ℕ) → Contains (insert xs k x) x
-  in_insert_new x xs zero = in_first x xs
-  in_insert_new x [] (suc k) = in_first x []
-  in_insert_new x (z ∷ zs) (suc k) = in_later z x (insert zs k x) (in_insert_new x zs k)
-
-  pub in_insert_old : (x y : X) (xs : List X) (k : ℕ) → Contains xs y → Contains (insert xs k x) y
-  in_insert_old x y xs zero member = in_later x y xs member
-  in_insert_old x y [] (suc k) member = absurd (in_none y member)
-  in_insert_old x y (z ∷ zs) (suc k) member = elim (in_cases z y zs member) [
-    | inl same ↦ subst (λ w. Contains (z ∷ insert zs k x) w) same (in_first z (insert zs k x))
-    | inr later ↦ in_later z y (insert zs k x) (in_insert_old x y zs k later)
-  ]
-
 pub ids-insert : (t : Track) (tracks : List Track) (k : ℕ) → ids (insert tracks k t) ≡ insert (ids tracks) k t.id
 ids-insert t tracks zero = refl
 ids-insert t [] (suc k) = refl
@@ -70,11 +35,11 @@ pub Apart-insert : (x : ℕ) (xs : List ℕ) (k : ℕ) → (Contains xs x → �
 Apart-insert x xs zero none apart = (none, apart)
 Apart-insert x [] (suc k) none apart = (none, apart)
 Apart-insert x (z ∷ zs) (suc k) none apart = (
-  (λ member. elim (in_insert x z zs k member) [
-    | inl same ↦ none (subst (λ w. Contains (z ∷ zs) w) (sym same) (in_first z zs))
+  (λ member. elim (insert-cases x z zs k member) [
+    | inl same ↦ none (subst (λ w. Contains (z ∷ zs) w) (sym same) (member-head z zs))
     | inr old ↦ apart.0 old
   ]),
-  Apart-insert x zs k (λ member. none (in_later z x zs member)) apart.1,
+  Apart-insert x zs k (λ member. none (member-tail z zs x member)) apart.1,
 )
 
 -- tracks are numbered where their ids are
@@ -93,8 +58,8 @@ AreNumbered-insert fresh k tracks numbered =
     let old : Contains (ids tracks) fresh → ⊥ = λ member. let less = numbered.below fresh member in omega (arith, less) in
     AreNumbered-from (suc fresh) (insert tracks k (record { id = fresh; net = 0 })) (insert (ids tracks) k fresh)
     (ids-insert (record { id = fresh; net = 0 }) tracks k) (omega arith)
-    (λ id member. elim (in_insert fresh id (ids tracks) k member) [ inl same ↦ omega (arith, numbered.some, same) | inr before ↦ numbered.positive id before ])
-    (λ id member. elim (in_insert fresh id (ids tracks) k member) [
+    (λ id member. elim (insert-cases fresh id (ids tracks) k member) [ inl same ↦ omega (arith, numbered.some, same) | inr before ↦ numbered.positive id before ])
+    (λ id member. elim (insert-cases fresh id (ids tracks) k member) [
       | inl same ↦ omega (arith, same)
       | inr before ↦ let less = numbered.below id before in omega (arith, less)
     ])

@@ -11,10 +11,10 @@ use Rattle.greedy_column.specs.Verticals.{Vertical, joined_verticals}
 use Rattle.greedy_column.specs.Neighbours.{Holds, AreNeighbours, Grouped, alone, along}
 use Rattle.greedy_column.specs.Keeping.{AreJoined}
 use Rattle.greedy_column.specs.Joining.{neighbours, possible_joins, span_in, is_joined, is_clear, covers, passes}
-use Rattle.greedy_column.proofs.Members.{in_none, in_filter, in_map_back, any_at, not_all}
 use Rattle.greedy_column.proofs.IdLaws.{Apart}
 use Rattle.greedy_column.proofs.TableLaws.{length-ids, line_of-at, held_by-at, place_in}
 use Rattle.greedy_column.proofs.NeighbourLaws.{AreNext, listed_from}
+use Rattle.std_laws.proofs.Members.{member-none, filter-member, map-cases, any-cases, all-fails}
 
 -- two neighbouring tracks stand on two places of their net with none between
 pub AreNext-from : (now : List Track) (net low high : ℕ) → Apart (ids now) → AreNeighbours now net low high
@@ -54,7 +54,7 @@ AreNext-from now net low high apart pair =
 -- a vertical on a span
 pub drawn_on : (now : List Track) (vs : List Vertical) (spans : List Span) → map (span_in (ids now)) vs ≡ spans → (s : Span) → Contains spans s
     → (v : Vertical) × Contains vs v × (span_in (ids now) v ≡ s)
-drawn_on now vs spans is s member = in_map_back (span_in (ids now)) s vs (subst (λ (l : List Span). Contains l s) (sym is) member)
+drawn_on now vs spans is s member = map-cases (span_in (ids now)) vs s (subst (λ (l : List Span). Contains l s) (sym is) member)
 
 -- what a vertical of the net covers is linked by it
 pub linked_by : (now : List Track) (vs : List Vertical) (net low high : ℕ) (piece s : Span) (v : Vertical) → Holds now net low → Holds now net high
@@ -93,14 +93,14 @@ AreJoined-from pins column now done spans apart drawn none net low high pair unl
     let member : Contains (neighbours now) piece = listed_from now net 1 i j next.1.1 in
     let upward : 1 + i ≤ 1 + j = omega (arith, next.1.1.order) in
     let unjoined : is_joined spans piece ≡ true → ⊥ = λ joined.
-    let found = any_at (covers piece) spans joined in
+    let found = any-cases (covers piece) spans joined in
     let v = drawn_on now (joined_verticals pins column done now) spans drawn found.0 found.1 in
     unlinked (linked_by now (joined_verticals pins column done now) net low high piece found.0 v.0 pair.lower pair.upper v.1 v.2 refl low_is high_is upward found.2) in
     let impossible : (not (is_joined spans piece) && is_clear spans piece) ≡ true → ⊥ = λ test.
-    in_none piece (subst (λ (l : List Span). Contains l piece) none
-    (in_filter (λ s. not (is_joined spans s) && is_clear spans s) piece (neighbours now) member test)) in
+    member-none piece (subst (λ (l : List Span). Contains l piece) none
+    (filter-member (λ s. not (is_joined spans s) && is_clear spans s) (neighbours now) piece member test)) in
     let blocked : is_clear spans piece ≡ false = both_false (is_joined spans piece) (is_clear spans piece) unjoined impossible in
-    let found = not_all (passes piece) spans blocked in
+    let found = all-fails (passes piece) spans blocked in
     let v = drawn_on now (joined_verticals pins column done now) spans drawn found.0 found.1 in
     let s = found.0 in
     let facts = not_passed s.net net s.low s.high (1 + i) (1 + j) found.2 in

@@ -15,7 +15,6 @@ use Rattle.greedy_column.specs.Entering.{is_ending}
 use Rattle.greedy_column.specs.Joining.{neighbours, span_in, is_joined}
 use Rattle.greedy_column.specs.Ending.{EndsFollow, chain_from, groups, joined_pairs, is_split, is_given_up, gives_up, next_on}
 use Rattle.greedy_column.specs.Follows.{AreEnded}
-use Rattle.greedy_column.proofs.Members.{in_map, in_map_back, any_at, any_from}
 use Rattle.greedy_column.proofs.IdLaws.{Apart}
 use Rattle.greedy_column.proofs.TableLaws.{line_of-line, same_line}
 use Rattle.greedy_column.proofs.PairLaws.{chain_from-first}
@@ -24,6 +23,7 @@ use Rattle.greedy_column.proofs.DrawnLaws.{IsPiece-neighbour}
 use Rattle.greedy_column.proofs.GroupLaws.{HoldsLine, HoldsLine-from, Holds-from, id_of_line, lower_line, upper_line, Grouped-trans, Grouped-sym, linked_joined, climb}
 use Rattle.greedy_column.proofs.ChainLaws.{joined, firsts, in_group, in_some, first_holds, one_group, Apart-firsts}
 use Rattle.greedy_column.proofs.GroupEndLaws.{owned, KeepsOne, EndsIn, ended_in, ends_in, ends_kept, ends_given}
+use Rattle.std_laws.proofs.Members.{map-member, map-cases, any-cases, any-member}
 
 both_false : (b c : Bool) → (b && not c) ≡ false → (b ≡ false) ⊎ (c ≡ true)
 both_false true true none = inr refl
@@ -81,7 +81,7 @@ module _ (may : List Candidate → ℕ → Type 0) (pins : Pins) (column : ℕ) 
 
   -- the ids that end are those of the lines
   ended_from : (line : ℕ) → Contains ending line → Contains done.ended (id_on now line)
-  ended_from line member = (told.members (id_on now line)).1 (in_map (id_on now) line ending member)
+  ended_from line member = (told.members (id_on now line)).1 (map-member (id_on now) ending line member)
 
   ending_held : (line : ℕ) → Contains ending line → (net : ℕ) × HoldsLine now net line
   ending_held line member =
@@ -91,7 +91,7 @@ module _ (may : List Candidate → ℕ → Type 0) (pins : Pins) (column : ℕ) 
 
   ended_to : (net line : ℕ) → HoldsLine now net line → Contains done.ended (id_on now line) → Contains ending line
   ended_to net line holds member =
-      let from = in_map_back (id_on now) (id_on now line) ending ((told.members (id_on now line)).0 member) in
+      let from = map-cases (id_on now) ending (id_on now line) ((told.members (id_on now line)).0 member) in
       let other = (ending_held from.0 from.1).1 in
       let same : from.0 ≡ line = same_line now from.0 line apart (other.begins, other.within) (holds.begins, holds.within) from.2 in
       subst (λ l. Contains ending l) same from.1
@@ -99,7 +99,7 @@ module _ (may : List Candidate → ℕ → Type 0) (pins : Pins) (column : ℕ) 
   -- what ends is held
   pub ended_held : (id : ℕ) → Contains done.ended id → (net : ℕ) × Holds now net id
   ended_held id member =
-      let from = in_map_back (id_on now) id ending ((told.members id).0 member) in
+      let from = map-cases (id_on now) ending id ((told.members id).0 member) in
       let held = ending_held from.0 from.1 in
       (held.0, subst (λ i. Holds now held.0 i) from.2 (Holds-from now apart held.0 from.0 held.1))
 
@@ -122,14 +122,14 @@ module _ (may : List Candidate → ℕ → Type 0) (pins : Pins) (column : ℕ) 
         step piece listed net_is false is =
             absurd (cc (
               whole_net,
-              any_from (λ (pair : Span). eqb pair.net net && not (is_joined spans pair)) piece (neighbours now) listed
+              any-member (λ (pair : Span). eqb pair.net net && not (is_joined spans pair)) (neighbours now) piece listed
                   (and_from (eqb piece.net net) (not (is_joined spans piece)) (eq-eqb piece.net net net_is) (ap not is)),
             ))
 
   -- a net of which two neighbouring tracks are left apart is split
   split : (net : ℕ) → is_split spans (neighbours now) net ≡ true → IsSplit pins column now done net
   split net is =
-      let found = any_at (λ (pair : Span). eqb pair.net net && not (is_joined spans pair)) (neighbours now) is in
+      let found = any-cases (λ (pair : Span). eqb pair.net net && not (is_joined spans pair)) (neighbours now) is in
       let pair = found.0 in
       let tests = and_parts (eqb pair.net net) (not (is_joined spans pair)) found.2 in
       let piece = IsPiece-neighbour now pair found.1 in

@@ -4,6 +4,7 @@ use Rattle.channel_model.specs.Pins.{Pins}
 use Rattle.choose_core.specs.declared.candidate.Next.TheVariants.{Ends, Top, Bottom, Both}
 use Rattle.greedy_column.specs.Ahead.{HasLaterPin, first_in, next_of}
 use Rattle.greedy_column.specs.Entering.{is_ending}
+use Rattle.std.proofs.lemmas.List.{get_or-drop}
 
 -- a net stands in one of these columns
 abbrev Stands : List ℕ → List ℕ → ℕ → Type 0
@@ -54,15 +55,6 @@ goes_on_where (a ∷ top) (b ∷ bottom) net (suc k) matched some stands = elim 
   ]
 ]
 
--- what stands behind the first of some columns
-behind : (xs : List ℕ) (n k : ℕ) → get_or (drop n xs) k 0 ≡ get_or xs (n + k) 0
-behind xs zero k = let e : k ≡ zero + k = omega arith in ap (λ m. get_or xs m 0) e
-behind [] (suc n) k = none k ∙ sym (none (suc n + k)) where
-  none : (k : ℕ) → ◌≡◌ {A = ℕ} (get_or {A = ℕ} [] k 0) 0
-  none zero = refl
-  none (suc k) = refl
-behind (x ∷ xs) (suc n) k = let e : suc (n + k) ≡ suc n + k = omega arith in behind xs n k ∙ ap (λ m. get_or (x ∷ xs) m 0) e
-
 -- a net whose next pins are told has a later pin
 pub HasLaterPin-from : (pins : Pins) (column net : ℕ) → 0 < net → is_ending (next_of pins column net) ≡ false → HasLaterPin pins column net
 HasLaterPin-from pins column net some goes_on =
@@ -72,8 +64,8 @@ HasLaterPin-from pins column net some goes_on =
       column + 1 + found.0,
       omega arith,
       elim found.1 [
-        | inl top ↦ inl (sym (behind pins.top (column + 1) found.0) ∙ top)
-        | inr bottom ↦ inr (sym (behind pins.bottom (column + 1) found.0) ∙ bottom)
+        | inl top ↦ inl (sym (get_or-drop (column + 1) pins.top found.0 0) ∙ top)
+        | inr bottom ↦ inr (sym (get_or-drop (column + 1) pins.bottom found.0 0) ∙ bottom)
       ],
     )
 
@@ -88,6 +80,6 @@ goes_on-from_later pins column net matched some later =
     let same : length (drop (column + 1) pins.top) ≡ length (drop (column + 1) pins.bottom) =
     omega (arith, length-drop (column + 1) pins.top, length-drop (column + 1) pins.bottom, matched) in
     ap is_ending is ∙ goes_on_where (drop (column + 1) pins.top) (drop (column + 1) pins.bottom) net k same some (elim later.2 [
-      | inl top ↦ inl (behind pins.top (column + 1) k ∙ ap (λ m. get_or pins.top m 0) at ∙ top)
-      | inr bottom ↦ inr (behind pins.bottom (column + 1) k ∙ ap (λ m. get_or pins.bottom m 0) at ∙ bottom)
+      | inl top ↦ inl (get_or-drop (column + 1) pins.top k 0 ∙ ap (λ m. get_or pins.top m 0) at ∙ top)
+      | inr bottom ↦ inr (get_or-drop (column + 1) pins.bottom k 0 ∙ ap (λ m. get_or pins.bottom m 0) at ∙ bottom)
     ])

@@ -1,5 +1,5 @@
-use Rattle.std.proofs.Common.{◌≡◌, ◌≢◌, ◌⊎◌, inl, inr, ◌<◌, ◌||◌, eqb, ℕ, List, [], ◌∷◌, Bool, true, false, cond, length, refl, sym, subst, ap, ◌∙◌, arith, Contains, eqb-true, eq-eqb}
-use Rattle.std.proofs.lemmas.Bool.{cond-true, cond-false, ne_eqb}
+use Rattle.std.proofs.Common.{◌≡◌, ◌≢◌, inl, inr, ◌<◌, ◌||◌, eqb, ℕ, List, [], ◌∷◌, Bool, true, false, cond, length, refl, sym, subst, ap, ◌∙◌, arith, Contains, eqb-true, eq-eqb}
+use Rattle.std.proofs.lemmas.Bool.{cond-true, cond-false, ne_eqb, or_parts, or_cases}
 use Rattle.channel_model.specs.Pins.{Pins}
 use Rattle.choose_core.specs.declared.candidate.Candidate.{Candidate}
 use Rattle.choose_core.specs.declared.plan.Manner.{Manner}
@@ -18,11 +18,11 @@ use Rattle.greedy_column.specs.Lines.{open_lines, own_lines, above_lowest, holds
 use Rattle.greedy_column.specs.Entering.{EntersBy, EntersEqual, any_place, is_ending, straight_question, top_question, bottom_question, pin_kind}
 use Rattle.greedy_column.specs.Follows.{Follows, entries_of, pin_of}
 use Rattle.greedy_column.specs.State.{AreNumbered}
-use Rattle.greedy_column.proofs.Members.{any_at, in_cases, in_map, in_filter_back, in_none}
 use Rattle.greedy_column.proofs.IdLaws.{Apart, Apart-from}
 use Rattle.greedy_column.proofs.LaterLaws.{HasLaterPin-from, goes_on-from_later}
 use Rattle.greedy_column.proofs.EntryLaws.{IsOpenLine-from, EntersOne-from}
 use Rattle.greedy_column.proofs.EntersLaws.{KindSays, kind_says, pair_both}
+use Rattle.std_laws.proofs.Members.{any-cases, member-cases, map-member, filter-from, member-none}
 
 -- of which tracks the pins enter: what is lawful of a record's entries
 pub record AreEntered (pins : Pins) (column : ℕ) (before : List Track) (done : Column) : Type 0 where
@@ -34,28 +34,28 @@ pub record AreEntered (pins : Pins) (column : ℕ) (before : List Track) (done :
 
 -- the lines above the lowest of others are among them
 pub above_lowest-within : (others lines : List ℕ) (line : ℕ) → Contains (above_lowest others lines) line → Contains lines line
-above_lowest-within [] lines line member = absurd (in_none line member)
-above_lowest-within (lowest ∷ others) lines line member = (in_filter_back _ line lines member).0
+above_lowest-within [] lines line member = absurd (member-none line member)
+above_lowest-within (lowest ∷ others) lines line member = (filter-from _ lines line member).0
 
 -- the net of a track
 held_by-member : (tracks : List Track) (t : Track) → Apart (ids tracks) → Contains tracks t → held_by tracks t.id ≡ t.net
-held_by-member [] t apart member = absurd (in_none t member)
-held_by-member (u ∷ tracks) t apart member = elim (in_cases u t tracks member) [
+held_by-member [] t apart member = absurd (member-none t member)
+held_by-member (u ∷ tracks) t apart member = elim (member-cases u tracks t member) [
   | inl same ↦ cond-true (eqb u.id t.id) u.net (held_by tracks t.id) (eq-eqb u.id t.id (ap (λ (v : Track). v.id) same)) ∙ ap (λ (v : Track). v.net) same
   | inr later ↦
       cond-false (eqb u.id t.id) u.net (held_by tracks t.id)
-      (ne_eqb u.id t.id (λ same. apart.0 (subst (λ n. Contains (ids tracks) n) (sym same) (in_map (λ (v : Track). v.id) t tracks later))))
+      (ne_eqb u.id t.id (λ same. apart.0 (subst (λ n. Contains (ids tracks) n) (sym same) (map-member (λ (v : Track). v.id) tracks t later))))
       ∙ held_by-member tracks t apart.1 later
 ]
 
 held_track : (before : List Track) (net : ℕ) → 0 < net → Apart (ids before) → holds_track before net ≡ true → (id : ℕ) × Holds before net id
 held_track before net some apart held =
-    let found = any_at (λ (t : Track). eqb t.net net) before held in
+    let found = any-cases (λ (t : Track). eqb t.net net) before held in
     let t : Track = found.0 in (
       t.id,
       record {
         net_is = some;
-        there = in_map (λ (v : Track). v.id) t before found.1;
+        there = map-member (λ (v : Track). v.id) before t found.1;
         held = held_by-member before t apart found.1 ∙ eqb-true t.net net found.2;
       },
     )
@@ -69,14 +69,6 @@ none_held (t ∷ tracks) net id some none held = step (eqb t.net net) (eqb t.id 
   step false true is none held later = cc (eq-eqb t.net net held, is)
   step false false is none held later = later none held
 
-left_false : (b c : Bool) → (b || c) ≡ false → (b ≡ false) × (c ≡ false)
-left_false true c none = absurd (cc none)
-left_false false c none = (refl, none)
-
-either_true : (b c : Bool) → (b || c) ≡ true → (b ≡ true) ⊎ (c ≡ true)
-either_true true c some = inl refl
-either_true false c some = inr some
-
 module _ (manner : Manner) (may : List Candidate → ℕ → Type 0) (pins : Pins) (column fresh : ℕ) (before : List Track) (done : Column)
     (matched : length pins.top ≡ length pins.bottom) (numbered : AreNumbered fresh before) where
   no_top : done.top ≡ 0 → 0 < done.top → ⊥
@@ -89,7 +81,7 @@ module _ (manner : Manner) (may : List Candidate → ℕ → Type 0) (pins : Pin
   equal_none : 0 < top_pin pins column → top_pin pins column ≡ bottom_pin pins column
       → (holds_track before (top_pin pins column) || is_ending (next_of pins column (top_pin pins column))) ≡ true → TopEnters pins column before → ⊥
   equal_none some same gone (inl two) = two.1 same
-  equal_none some same gone (inr straight) = elim (either_true (holds_track before (top_pin pins column)) (is_ending (next_of pins column (top_pin pins column))) gone) [
+  equal_none some same gone (inr straight) = elim (or_cases (holds_track before (top_pin pins column)) (is_ending (next_of pins column (top_pin pins column))) gone) [
     | inl held ↦ let own = held_track before (top_pin pins column) some (Apart-from (ids before) numbered.distinct) held in straight.holds_none own.0 own.1
     | inr ends ↦ cc (ends, goes_on-from_later pins column (top_pin pins column) matched some straight.later)
   ]
@@ -108,7 +100,7 @@ module _ (manner : Manner) (may : List Candidate → ℕ → Type 0) (pins : Pin
         entered_once = λ named. absurd (no_top top named);
       }
   equal_entered false is some same enters =
-      let parts = left_false (holds_track before (top_pin pins column)) (is_ending (next_of pins column (top_pin pins column))) (sym is) in
+      let parts = or_parts (holds_track before (top_pin pins column)) (is_ending (next_of pins column (top_pin pins column))) (sym is) in
       let one = EntersOne-from may before fresh Upper (straight_question (pin_of pins column (top_pin pins column))) (own_lines (top_pin pins column) before)
       (any_place manner (pin_of pins column (top_pin pins column)) Lower before) (top_pin pins column)
       (open_lines (top_pin pins column) before) (entries_of done) (Apart-from (ids before) numbered.distinct) some

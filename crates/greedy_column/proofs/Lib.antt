@@ -1,5 +1,3 @@
--- members of lists
-pub mod Members
 -- options that are picked
 pub mod PickLaws
 -- lines of tracks

@@ -1,9 +1,10 @@
-use Rattle.std.proofs.Common.{◌≡◌, inl, inr, ◌<◌, ◌≤◌, ◌+◌, ◌^◌, ◌++◌, ℕ, suc, List, [], ◌∷◌, Bool, true, false, cond, ltb, length, filter, refl, sym, subst, ◌∙◌, arith, Contains, length-append}
+use Rattle.std.proofs.Common.{◌≡◌, inl, inr, ◌<◌, ◌≤◌, ◌+◌, ◌^◌, ◌++◌, ℕ, suc, List, [], ◌∷◌, Bool, true, false, cond, ltb, length, filter, sym, subst, ◌∙◌, arith, Contains, length-append}
 use Rattle.std.proofs.lemmas.List.{append-nil}
 use Rattle.std.proofs.lemmas.List.Elements.{Contains-append_cases}
 use Rattle.greedy_column.specs.declared.column.Track.{Track}
 use Rattle.greedy_column.specs.Lines.{lines_from, above_lowest, below_line, AreLines}
-use Rattle.greedy_column.proofs.Members.{in_none, in_first, in_later, in_one, in_filter_back, filter-few}
+use Rattle.std_laws.proofs.Members.{member-none, member-head, member-tail, filter-from, member-if}
+use Rattle.std_laws.proofs.Counts.{filter-short}
 
 -- a track that passes a test stands on a line
 pub record StandsOn (passes : Track → Bool) (tracks : List Track) (first line : ℕ) : Type 0 where
@@ -13,23 +14,19 @@ pub record StandsOn (passes : Track → Bool) (tracks : List Track) (first line 
   pub there : Contains tracks track
   pub passing : passes track ≡ true
 
-pub one_line : (b : Bool) (line other : ℕ) → Contains (cond b (line ∷ []) []) other → (line ≡ other) × (b ≡ true)
-one_line true line other member = (in_one line other member, refl)
-one_line false line other member = absurd (in_none other member)
-
 pub lines_from-each : (passes : Track → Bool) (first line : ℕ) (tracks : List Track) → Contains (lines_from passes first tracks) line
     → StandsOn passes tracks first line
-lines_from-each passes first line [] member = absurd (in_none line member)
+lines_from-each passes first line [] member = absurd (member-none line member)
 lines_from-each passes first line (t ∷ tracks) member =
     elim (Contains-append_cases (cond (passes t) (first ∷ []) []) (lines_from passes (suc first) tracks) line member) [
-      | inl here ↦ let one = one_line (passes t) first line here in
-          record { above = omega (arith, one.0); below = omega (arith, one.0); track = t; there = in_first t tracks; passing = one.1 }
+      | inl here ↦ let one = member-if (passes t) first line here in
+          record { above = omega (arith, one.0); below = omega (arith, one.0); track = t; there = member-head t tracks; passing = one.1 }
       | inr later ↦ let found = lines_from-each passes (suc first) line tracks later in
           record {
             above = omega (arith, found.above);
             below = omega (arith, found.below);
             track = found.track;
-            there = in_later t found.track tracks found.there;
+            there = member-tail t tracks found.track found.there;
             passing = found.passing;
           }
     ]
@@ -68,9 +65,9 @@ LieWithin-found passes line tracks (t ∷ rest) lines none found = absurd (omega
 
 -- a line above the lowest of others has one of them below it
 pub below_line-some : (others lines : List ℕ) (line : ℕ) → Contains (above_lowest others lines) line → 0 < length (below_line line others)
-below_line-some [] lines line member = absurd (in_none line member)
+below_line-some [] lines line member = absurd (member-none line member)
 below_line-some (lowest ∷ others) lines line member =
-    let above = (in_filter_back (λ l. ltb lowest l) line lines member).1 in
+    let above = (filter-from (λ l. ltb lowest l) lines line member).1 in
     subst (λ b. 0 < length (cond b (lowest ∷ filter (λ l. ltb l line) others) (filter (λ l. ltb l line) others))) (sym above) (omega arith)
 
 -- lines within tracks that are few
@@ -82,6 +79,6 @@ AreLines-within tracks lines few within = record {
 
 pub AreLines-filter : (p : ℕ → Bool) (lines : List ℕ) → AreLines lines → AreLines (filter p lines)
 AreLines-filter p lines are = record {
-  each = λ line member. are.each line (in_filter_back p line lines member).0;
-  few = omega (arith, filter-few p lines, are.few);
+  each = λ line member. are.each line (filter-from p lines line member).0;
+  few = omega (arith, filter-short p lines, are.few);
 }

@@ -17,10 +17,10 @@ use Rattle.greedy_column.specs.Places.{place_of_new}
 use Rattle.greedy_column.specs.Offers.{offer}
 use Rattle.greedy_column.specs.Lawful.{AreMadeFrom}
 use Rattle.greedy_column.specs.Entering.{Enters, EntersBy, EntersAlone, EntersEqual, EntersPair, EntersNew, newcomer_of, entry_at, new_track, any_place, place_for, pin_kind, is_ending, straight_question, top_question, bottom_question}
-use Rattle.greedy_column.proofs.Members.{in_none, in_one, in_cases}
 use Rattle.greedy_column.proofs.PickLaws.{picked_is_option}
 use Rattle.greedy_column.proofs.LineLaws.{LieWithin, LieWithin-lines}
 use Rattle.greedy_column.proofs.PlaceLaws.{place_bounds}
+use Rattle.std_laws.proofs.Members.{member-none, member-only, member-cases}
 
 -- the tracks that a column makes: of ids from the first new one upwards, each at a place, and each for a pin that enters it
 pub record AreMadeForPins (before : List Track) (fresh : ℕ) (entries : Entries) : Type 0 where
@@ -30,17 +30,17 @@ pub record AreMadeForPins (before : List Track) (fresh : ℕ) (entries : Entries
 
 module _ (manner : Manner) (may : List Candidate → ℕ → Type 0) (before : List Track) (fresh : ℕ) where
   none_made : (top bottom : ℕ) → AreMadeForPins before fresh (record { made = []; top = top; bottom = bottom })
-  none_made top bottom = record { placed = tt; entered = λ m member. absurd (in_none m member); few = omega arith }
+  none_made top bottom = record { placed = tt; entered = λ m member. absurd (member-none m member); few = omega arith }
 
   made_at : (edge : Edge) (below : ℕ) → below ≤ length before → AreMadeForPins before fresh (entry_at edge (new_track fresh below ∷ []) fresh)
   made_at Upper below within = record {
     placed = (refl, within, tt);
-    entered = λ m member. inl (sym (ap (λ (n : Made). n.id) (in_one (new_track fresh below) m member)));
+    entered = λ m member. inl (sym (ap (λ (n : Made). n.id) (member-only (new_track fresh below) m member)));
     few = omega arith;
   }
   made_at Lower below within = record {
     placed = (refl, within, tt);
-    entered = λ m member. inr (sym (ap (λ (n : Made). n.id) (in_one (new_track fresh below) m member)));
+    entered = λ m member. inr (sym (ap (λ (n : Made). n.id) (member-only (new_track fresh below) m member)));
     few = omega arith;
   }
 
@@ -67,7 +67,7 @@ module _ (manner : Manner) (may : List Candidate → ℕ → Type 0) (before : L
   one_made top bottom below place enters = record {
     placed = (refl, place, tt);
     entered = λ m member.
-        let same : fresh ≡ m.id = ap (λ (n : Made). n.id) (in_one (new_track fresh below) m member) in
+        let same : fresh ≡ m.id = ap (λ (n : Made). n.id) (member-only (new_track fresh below) m member) in
         elim enters [ inl is ↦ inl (sym same ∙ is) | inr is ↦ inr (sym same ∙ is) ];
     few = omega arith;
   }
@@ -91,9 +91,9 @@ module _ (manner : Manner) (may : List Candidate → ℕ → Type 0) (before : L
       let second = place_bounds manner (holds_track before top.net) top.next Upper (length before + 1) (lower + 1) (length before + 1) (omega (arith, first)) in
       subst (λ (e : Entries). AreMadeForPins before fresh e) (sym is) (record {
         placed = (refl, first, (omega arith, omega (arith, second.1), tt));
-        entered = λ m member. elim (in_cases (new_track fresh lower) m (new_track (fresh + 1) upper ∷ []) member) [
+        entered = λ m member. elim (member-cases (new_track fresh lower) (new_track (fresh + 1) upper ∷ []) m member) [
           | inl here ↦ inr (sym (ap (λ (n : Made). n.id) here))
-          | inr later ↦ inl (sym (ap (λ (n : Made). n.id) (in_one (new_track (fresh + 1) upper) m later)))
+          | inr later ↦ inl (sym (ap (λ (n : Made). n.id) (member-only (new_track (fresh + 1) upper) m later)))
         ];
         few = omega arith;
       })

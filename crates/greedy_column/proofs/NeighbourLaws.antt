@@ -4,8 +4,8 @@ use Rattle.std.proofs.lemmas.List.Elements.{Contains-append_left, Contains-appen
 use Rattle.greedy_column.specs.declared.column.Track.{Track}
 use Rattle.greedy_column.specs.declared.span.Span.{Span}
 use Rattle.greedy_column.specs.Joining.{next_line, pair_of, neighbours_from}
-use Rattle.greedy_column.proofs.Members.{in_none, in_first, in_one}
 use Rattle.greedy_column.proofs.TableLaws.{nets}
+use Rattle.std_laws.proofs.Members.{member-none, member-head, member-only}
 
 -- two places of a net, and none of the net between them
 pub record AreNext (tracks : List Track) (net i j : ℕ) : Type 0 where
@@ -41,7 +41,7 @@ listed_from (t ∷ tracks) net first zero (suc j) next =
     let pair : pair_of t.net first (next_line t.net (suc first) tracks) ≡ record { net = net; low = first; high = suc first + j } ∷ [] =
     ap (λ n. pair_of n first (next_line n (suc first) tracks)) same ∙ ap (pair_of net first) found ∙ pair_of-some net first (suc first + j) next.some in
     let member : Contains (pair_of t.net first (next_line t.net (suc first) tracks)) (record { net = net; low = first; high = suc first + j }) =
-    subst (λ (l : List Span). Contains l (record { net = net; low = first; high = suc first + j })) (sym pair) (in_first (record { net = net; low = first; high = suc first + j }) []) in
+    subst (λ (l : List Span). Contains l (record { net = net; low = first; high = suc first + j })) (sym pair) (member-head (record { net = net; low = first; high = suc first + j }) []) in
     let low : first ≡ first + 0 = omega arith in
     let high : suc first + j ≡ first + suc j = omega arith in
     let here : Contains (neighbours_from first (t ∷ tracks)) (record { net = net; low = first; high = suc first + j }) =
@@ -85,7 +85,7 @@ next_line-back (t ∷ tracks) net first above found = step (eqb t.net net) refl 
 -- and nothing else is listed
 pub next_from : (tracks : List Track) (first : ℕ) (pair : Span) → Contains (neighbours_from first tracks) pair
     → (i : ℕ) × ((j : ℕ) × (pair.low ≡ first + i) × (pair.high ≡ first + j) × AreNext tracks pair.net i j)
-next_from [] first pair member = absurd (in_none pair member)
+next_from [] first pair member = absurd (member-none pair member)
 next_from (t ∷ tracks) first pair member =
     elim (Contains-append_cases (pair_of t.net first (next_line t.net (suc first) tracks)) (neighbours_from (suc first) tracks) pair member) [
       | inl here ↦ begin (next_line t.net (suc first) tracks) (λ above found. next_line-back tracks t.net (suc first) above found) here
@@ -95,15 +95,15 @@ next_from (t ∷ tracks) first pair member =
           → ((above : ℕ) → o ≡ Some above → (k : ℕ) × (k < length tracks) × (above ≡ suc first + k) × (get_or (nets tracks) k 0 ≡ t.net) × ((j : ℕ) → j < k → get_or (nets tracks) j 0 ≢ t.net))
           → Contains (pair_of t.net first o) pair
           → (i : ℕ) × ((j : ℕ) × (pair.low ≡ first + i) × (pair.high ≡ first + j) × AreNext (t ∷ tracks) pair.net i j)
-      begin None found here = absurd (in_none pair here)
+      begin None found here = absurd (member-none pair here)
       begin (Some above) found here = elim (cases_eq t.net 0) [
-        | inl none ↦ absurd (in_none pair (subst (λ (l : List Span). Contains l pair)
+        | inl none ↦ absurd (member-none pair (subst (λ (l : List Span). Contains l pair)
             (cond-true {A = List Span} (eqb t.net 0) [] (record { net = t.net; low = first; high = above } ∷ []) (eq-eqb t.net 0 none)) here))
         | inr some ↦
             let positive : 0 < t.net = omega arith in
             let at = found above refl in
             let is : record { net = t.net; low = first; high = above } ≡ pair =
-            in_one (record { net = t.net; low = first; high = above }) pair (subst (λ (l : List Span). Contains l pair) (pair_of-some t.net first above positive) here) in (
+            member-only (record { net = t.net; low = first; high = above }) pair (subst (λ (l : List Span). Contains l pair) (pair_of-some t.net first above positive) here) in (
               0,
               (
                 suc at.0,

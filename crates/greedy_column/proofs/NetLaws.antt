@@ -8,8 +8,8 @@ use Rattle.greedy_column.specs.declared.column.Made.{Made}
 use Rattle.greedy_column.specs.declared.column.Column.{Column}
 use Rattle.greedy_column.specs.Tracks.{held_by, given, hold}
 use Rattle.greedy_column.specs.Replay.{top_pin, bottom_pin, with_made, freed_among, freed, moved, entered, after}
-use Rattle.greedy_column.proofs.Members.{in_first, in_later, in_map_back}
-use Rattle.greedy_column.proofs.IdLaws.{in_insert}
+use Rattle.std_laws.proofs.Members.{member-head, member-tail, map-cases}
+use Rattle.std_laws.proofs.Inserted.{insert-cases}
 
 module _ (pins : Pins) where
   -- a net is none, or stands in the channel
@@ -21,7 +21,7 @@ module _ (pins : Pins) where
 
   AreNets-map : (f : Track → Track) (tracks : List Track) → ((t : Track) → IsNet t.net → IsNet (f t).net) → AreNets tracks → AreNets (map f tracks)
   AreNets-map f tracks keeps nets t member =
-      let from = in_map_back f t tracks member in subst (λ (u : Track). IsNet u.net) from.2 (keeps from.0 (nets from.0 from.1))
+      let from = map-cases f tracks t member in subst (λ (u : Track). IsNet u.net) from.2 (keeps from.0 (nets from.0 from.1))
 
   AreNets-hold : (id net : ℕ) (tracks : List Track) → IsNet net → AreNets tracks → AreNets (hold id net tracks)
   AreNets-hold id net tracks is nets = AreNets-map (given id net) tracks (λ t own. step (eqb t.id id) t own) nets where
@@ -38,7 +38,7 @@ module _ (pins : Pins) where
   held_by-net : (tracks : List Track) (id : ℕ) → AreNets tracks → IsNet (held_by tracks id)
   held_by-net [] id nets = inl refl
   held_by-net (t ∷ tracks) id nets =
-      step (eqb t.id id) t (held_by tracks id) (nets t (in_first t tracks)) (held_by-net tracks id (λ u member. nets u (in_later t u tracks member))) where
+      step (eqb t.id id) t (held_by tracks id) (nets t (member-head t tracks)) (held_by-net tracks id (λ u member. nets u (member-tail t tracks u member))) where
         step : (b : Bool) (t : Track) (net : ℕ) → IsNet t.net → IsNet net → IsNet (cond b t.net net)
         step true t net here later = here
         step false t net here later = later
@@ -53,7 +53,7 @@ module _ (pins : Pins) where
   AreNets-with_made tracks [] nets = nets
   AreNets-with_made tracks (m ∷ made) nets =
       AreNets-with_made (insert tracks m.below (record { id = m.id; net = 0 })) made
-      (λ t member. elim (in_insert (record { id = m.id; net = 0 }) t tracks m.below member) [
+      (λ t member. elim (insert-cases (record { id = m.id; net = 0 }) t tracks m.below member) [
         | inl same ↦ subst (λ (u : Track). IsNet u.net) same (inl refl)
         | inr old ↦ nets t old
       ])

@@ -7,7 +7,7 @@ use Rattle.greedy_column.specs.declared.column.Made.{Made}
 use Rattle.greedy_column.specs.declared.column.Column.{Column}
 use Rattle.greedy_column.specs.Replay.{top_pin, bottom_pin}
 use Rattle.greedy_column.specs.Lawful.{IsLawful, AreMadeFrom}
-use Rattle.greedy_column.proofs.Members.{in_first}
+use Rattle.std_laws.proofs.Members.{member-head}
 
 -- past the end of a channel there are no pins
 pub no_pins : (pins : Pins) (column : ℕ) → length pins.top ≡ length pins.bottom → length pins.top ≤ column
@@ -32,7 +32,7 @@ module _ (pins : Pins) (column fresh : ℕ) (before : List Track) (done : Column
 no_made : (top bottom fresh count : ℕ) (made : List Made) → 0 < fresh → top ≡ 0 → bottom ≡ 0 → AreMadeFrom fresh count made
     → ((m : Made) → Contains made m → (m.id ≡ top) ⊎ (m.id ≡ bottom)) → made ≡ []
 no_made top bottom fresh count [] some none too placed entered = refl
-no_made top bottom fresh count (m ∷ made) some none too placed entered = let is = entered m (in_first m made) in absurd (omega (arith, placed.0))
+no_made top bottom fresh count (m ∷ made) some none too placed entered = let is = entered m (member-head m made) in absurd (omega (arith, placed.0))
 
 pub no_pins-made : (pins : Pins) (column fresh : ℕ) (before : List Track) (done : Column) → 0 < fresh → IsLawful pins column fresh before done
     → top_pin pins column ≡ 0 → bottom_pin pins column ≡ 0 → done.made ≡ []

@@ -9,22 +9,22 @@ use Rattle.choose_core.specs.declared.plan.Manner.TheVariants.{Published, Lookin
 use Rattle.greedy_column.specs.declared.column.Track.{Track}
 use Rattle.greedy_column.specs.Lines.{held_lines, is_held}
 use Rattle.greedy_column.specs.Moving.{IsOrderOfMoves, behind_on, is_split}
-use Rattle.greedy_column.proofs.Members.{in_first, in_later, in_filter, in_filter_back}
 use Rattle.greedy_column.proofs.IdLaws.{Apart}
 use Rattle.greedy_column.proofs.PartLaws.{Apart-lines_from}
+use Rattle.std_laws.proofs.Members.{member-head, member-tail, filter-member, filter-from}
 
 Apart-filter : (p : ℕ → Bool) (xs : List ℕ) → Apart xs → Apart (filter p xs)
 Apart-filter p [] apart = tt
 Apart-filter p (x ∷ xs) apart = step (p x) (Apart-filter p xs apart.1) where
   step : (b : Bool) → Apart (filter p xs) → Apart (cond b (x ∷ filter p xs) (filter p xs))
-  step true later = ((λ member. apart.0 (in_filter_back p x xs member).0), later)
+  step true later = ((λ member. apart.0 (filter-from p xs x member).0), later)
   step false later = later
 
 Apart-append : (xs ys : List ℕ) → Apart xs → Apart ys → ((x : ℕ) → Contains xs x → Contains ys x → ⊥) → Apart (xs ++ ys)
 Apart-append [] ys first second none = second
 Apart-append (x ∷ xs) ys first second none = (
-  (λ member. elim (Contains-append_cases xs ys x member) [ inl one ↦ first.0 one | inr other ↦ none x (in_first x xs) other ]),
-  Apart-append xs ys first.1 second (λ y one other. none y (in_later x y xs one) other),
+  (λ member. elim (Contains-append_cases xs ys x member) [ inl one ↦ first.0 one | inr other ↦ none x (member-head x xs) other ]),
+  Apart-append xs ys first.1 second (λ y one other. none y (member-tail x xs y one) other),
 )
 
 -- numbers of one key
@@ -41,7 +41,7 @@ apart_by_key : (key : ℕ → ℕ) (xs : List ℕ) → ((x : ℕ) → Apart (fil
 apart_by_key key [] each = tt
 apart_by_key key (y ∷ ys) each = (
   (λ member. (subst (λ b. Apart (cond b (y ∷ filter (like key y) ys) (filter (like key y) ys))) (like_itself key y) (each y)).0
-      (in_filter (like key y) y ys member (like_itself key y))),
+      (filter-member (like key y) ys y member (like_itself key y))),
   apart_by_key key ys (λ x. later (like key x y) x (each x)),
 ) where
   later : (b : Bool) (x : ℕ) → Apart (cond b (y ∷ filter (like key x) ys) (filter (like key x) ys)) → Apart (filter (like key x) ys)
@@ -52,7 +52,7 @@ module _ (key : ℕ → ℕ) (xs ys : List ℕ) (stable : IsStableByKey key nat_
   -- a stable sort keeps its members, and leaves them apart
   in_sorted : (x : ℕ) → Contains ys x → Contains xs x
   in_sorted x member =
-      (in_filter_back (like key x) x xs (subst (λ l. Contains l x) (stable x) (in_filter (like key x) x ys member (like_itself key x)))).0
+      (filter-from (like key x) xs x (subst (λ l. Contains l x) (stable x) (filter-member (like key x) ys x member (like_itself key x)))).0
 
   Apart-sorted : Apart xs → Apart ys
   Apart-sorted apart = apart_by_key key ys (λ x. subst (λ l. Apart l) (sym (stable x)) (Apart-filter (like key x) xs apart))
@@ -63,8 +63,8 @@ pub held_in_order : (manner : Manner) (next : ℕ → Next) (kept : List Track) 
 held_in_order Published next kept order is line member = subst (λ l. Contains l line) is member
 held_in_order LookingAhead next kept order is line member =
     elim (Contains-append_cases (filter (is_split kept) (held_lines kept)) is.others line (subst (λ l. Contains l line) is.split_first member)) [
-      | inl split ↦ (in_filter_back (is_split kept) line (held_lines kept) split).0
-      | inr other ↦ (in_filter_back (λ l. not (is_split kept l)) line (held_lines kept)
+      | inl split ↦ (filter-from (is_split kept) (held_lines kept) line split).0
+      | inr other ↦ (filter-from (λ l. not (is_split kept l)) (held_lines kept) line
           (in_sorted (behind_on next kept) (filter (λ l. not (is_split kept l)) (held_lines kept)) is.others is.farthest_first.stable line other)).0
     ]
 
@@ -79,7 +79,7 @@ Apart-order LookingAhead next kept order is =
     (Apart-sorted (behind_on next kept) lines is.others is.farthest_first.stable
     (Apart-filter (λ l. not (is_split kept l)) (held_lines kept) (Apart-lines_from is_held 1 kept)))
     (λ x split other.
-    let one = (in_filter_back (is_split kept) x (held_lines kept) split).1 in
-    let two = (in_filter_back (λ l. not (is_split kept l)) x (held_lines kept)
+    let one = (filter-from (is_split kept) (held_lines kept) x split).1 in
+    let two = (filter-from (λ l. not (is_split kept l)) (held_lines kept) x
     (in_sorted (behind_on next kept) lines is.others is.farthest_first.stable x other)).1 in
     cc (ap not one, two)))

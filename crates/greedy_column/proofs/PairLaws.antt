@@ -4,7 +4,8 @@ use Rattle.greedy_column.specs.declared.column.Track.{Track}
 use Rattle.greedy_column.specs.declared.span.Span.{Span}
 use Rattle.greedy_column.specs.Joining.{ArePairs, next_line, pair_of, neighbours_from, neighbours}
 use Rattle.greedy_column.specs.Ending.{chain_from}
-use Rattle.greedy_column.proofs.Members.{in_none, in_cases, in_filter_back, filter-few}
+use Rattle.std_laws.proofs.Members.{member-none, member-cases, filter-from}
+use Rattle.std_laws.proofs.Counts.{filter-short}
 
 -- where the next track of a net stands
 pub next_line-within : (net line above : ℕ) (tracks : List Track) → next_line net line tracks ≡ Some above → (line ≤ above) × (above < line + length tracks)
@@ -68,8 +69,8 @@ AreAscending-filter tracks first p (pair ∷ pairs) (begins, upward, within, lat
       step false rest = ascending_lower tracks (suc pair.low) first (filter p pairs) (omega (arith, begins)) rest
 
 above_first : (tracks first : ℕ) (pairs : List Span) → 0 < first → AreAscending tracks first pairs → (pair : Span) → Contains pairs pair → 0 < pair.low
-above_first tracks first [] some ascending = λ pair member. absurd (in_none pair member)
-above_first tracks first (one ∷ pairs) some (begins, upward, inside, later) = λ pair member. elim (in_cases one pair pairs member) [
+above_first tracks first [] some ascending = λ pair member. absurd (member-none pair member)
+above_first tracks first (one ∷ pairs) some (begins, upward, inside, later) = λ pair member. elim (member-cases one pairs pair member) [
   | inl same ↦ subst (λ (p : Span). 0 < p.low) same (omega (arith, begins, some))
   | inr behind ↦ above_first tracks (suc one.low) pairs (omega arith) later pair behind
 ]
@@ -82,8 +83,8 @@ ArePairs-neighbours tracks few = record {
 
 pub ArePairs-filter : (p : Span → Bool) (pairs : List Span) → ArePairs pairs → ArePairs (filter p pairs)
 ArePairs-filter p pairs are = record {
-  few = omega (arith, filter-few p pairs, are.few);
-  above = λ pair member. are.above pair (in_filter_back p pair pairs member).0;
+  few = omega (arith, filter-short p pairs, are.few);
+  above = λ pair member. are.above pair (filter-from p pairs pair member).0;
 }
 
 -- a line to which none is joined above

@@ -12,12 +12,13 @@ use Rattle.greedy_column.specs.Lines.{id_on, net_on, lines_from}
 use Rattle.greedy_column.specs.Offers.{offer, move_question}
 use Rattle.greedy_column.specs.Joining.{is_clear}
 use Rattle.greedy_column.specs.Moving.{MovesFollow, GoesTo, move_options, piece_between, without, carried, others_of_net}
-use Rattle.greedy_column.proofs.Members.{in_none, in_first, in_later, in_cases, in_map, in_map_back, in_filter_back}
 use Rattle.greedy_column.proofs.PickLaws.{picked_is_option}
 use Rattle.greedy_column.proofs.IdLaws.{Apart}
 use Rattle.greedy_column.proofs.LineLaws.{lines_from-each}
 use Rattle.greedy_column.proofs.TableLaws.{nets, length-ids, line_of-line, held_by-line, held_by-at, id_on-member, place_in}
 use Rattle.greedy_column.proofs.DrawnLaws.{IsPiece}
+use Rattle.std_laws.proofs.Members.{member-none, member-head, member-tail, member-cases, map-member, map-cases, filter-from}
+use Rattle.std_laws.proofs.Increasing.{increasing-rest}
 
 -- a piece lies between two neighbouring tracks
 pub AreNeighbours-from : (now : List Track) (piece : Span) → Apart (ids now) → IsPiece now piece → AreNeighbours now piece.net (id_on now piece.low) (id_on now piece.high)
@@ -42,19 +43,13 @@ AreNeighbours-from now piece apart is =
           ];
     }
 
--- numbers of which each is below the next are apart
-rising_rest : (x : ℕ) (xs : List ℕ) → IsStrictlyIncreasing (x ∷ xs) → IsStrictlyIncreasing xs
-rising_rest x xs rising k within =
-    let e : suc k + 1 ≡ suc (k + 1) = omega arith in
-    rw e at (rising (suc k) (omega arith))
-
 pub Apart-rising : (xs : List ℕ) → IsStrictlyIncreasing xs → Apart xs
 Apart-rising [] rising = tt
 Apart-rising (x ∷ xs) rising = (
   (λ member.
       let less = AllPairs-from_increasing (x ∷ xs) rising 0 (suc member.0) x (omega arith) (omega (arith, member.1)) in
       omega (arith, less, member.2)),
-  Apart-rising xs (rising_rest x xs rising),
+  Apart-rising xs (increasing-rest x xs rising),
 )
 
 -- lines are apart
@@ -72,19 +67,19 @@ pub Apart-map : {X : Type 0} (f : X → ℕ) (g : X → ℕ) (xs : List X) → (
 Apart-map f g [] keeps apart = tt
 Apart-map f g (x ∷ xs) keeps apart = (
   (λ member.
-      let from = in_map_back f (f x) xs member in
-      let same = keeps x from.0 (in_first x xs) (in_later x from.0 xs from.1) (sym from.2) in
-      apart.0 (subst (λ n. Contains (map g xs) n) (sym same) (in_map g from.0 xs from.1))),
-  Apart-map f g xs (λ a b first second same. keeps a b (in_later x a xs first) (in_later x b xs second) same) apart.1,
+      let from = map-cases f xs (f x) member in
+      let same = keeps x from.0 (member-head x xs) (member-tail x xs from.0 from.1) (sym from.2) in
+      apart.0 (subst (λ n. Contains (map g xs) n) (sym same) (map-member g xs from.0 from.1))),
+  Apart-map f g xs (λ a b first second same. keeps a b (member-tail x xs a first) (member-tail x xs b second) same) apart.1,
 )
 
 module _ (may : List Candidate → ℕ → Type 0) (next : ℕ → Next) (tracks : List Track) where
   goes_free : (others : List ℕ) (net line target : ℕ) (spans : List Span) (free : List ℕ) → GoesTo may (next net) others line (move_options spans net line free) target → target ≢ line → Contains free target
-  goes_free others net line target spans free goes other = in_options (move_options spans net line free) (λ member. (in_filter_back (λ o. is_clear spans (piece_between net line o)) target free member).0) goes where
+  goes_free others net line target spans free goes other = in_options (move_options spans net line free) (λ member. (filter-from (λ o. is_clear spans (piece_between net line o)) free target member).0) goes where
     in_options : (options : List ℕ) → (Contains options target → Contains free target) → GoesTo may (next net) others line options target → Contains free target
     in_options [] from goes = absurd (other goes)
     in_options (o ∷ options) from goes =
-        elim (in_cases line target (o ∷ options) (picked_is_option may (offer (move_question line (next net)) others) (line ∷ (o ∷ options)) target goes)) [
+        elim (member-cases line (o ∷ options) target (picked_is_option may (offer (move_question line (next net)) others) (line ∷ (o ∷ options)) target goes)) [
           | inl same ↦ absurd (other (sym same))
           | inr member ↦ from member
         ]
@@ -92,21 +87,21 @@ module _ (may : List Candidate → ℕ → Type 0) (next : ℕ → Next) (tracks
   -- moves go to free lines, and go from lines in their order
   pub moves_within : (kept : List Track) (lines : List ℕ) (spans : List Span) (free : List ℕ) (moves : List (ℕ × ℕ)) → MovesFollow may next tracks kept lines spans free moves
       → (m : ℕ × ℕ) → Contains moves m → Contains lines m.0 × Contains free m.1 × (m.1 ≢ m.0)
-  moves_within kept [] spans free moves none m member = absurd (in_none m (subst (λ (l : List (ℕ × ℕ)). Contains l m) none member))
+  moves_within kept [] spans free moves none m member = absurd (member-none m (subst (λ (l : List (ℕ × ℕ)). Contains l m) none member))
   moves_within kept (line ∷ lines) spans free moves (inl (stays, follow)) m member =
-      let found = moves_within kept lines spans free moves follow m member in (in_later line m.0 lines found.0, found.1, found.2)
+      let found = moves_within kept lines spans free moves follow m member in (member-tail line lines m.0 found.0, found.1, found.2)
   moves_within kept (line ∷ lines) spans free moves (inr (target, (rest, goes, other, is, follow))) m member =
-      elim (in_cases (line, target) m rest (subst (λ (l : List (ℕ × ℕ)). Contains l m) is member)) [
+      elim (member-cases (line, target) rest m (subst (λ (l : List (ℕ × ℕ)). Contains l m) is member)) [
         | inl same ↦
             let first : line ≡ m.0 = ap (λ (p : ℕ × ℕ). p.0) same in
             let second : target ≡ m.1 = ap (λ (p : ℕ × ℕ). p.1) same in (
-              subst (λ l. Contains (line ∷ lines) l) first (in_first line lines),
+              subst (λ l. Contains (line ∷ lines) l) first (member-head line lines),
               subst (λ t. Contains free t) second (goes_free (others_of_net tracks kept line) (net_on tracks line) line target spans free goes other),
               λ equal. other (second ∙ equal ∙ sym first),
             )
         | inr later ↦
             let found = moves_within (carried tracks kept line target) lines (spans ++ piece_between (net_on tracks line) line target ∷ []) (without target free) rest follow m later in
-            (in_later line m.0 lines found.0, (in_filter_back (λ o. not (eqb o target)) m.1 free found.1).0, found.2)
+            (member-tail line lines m.0 found.0, (filter-from (λ o. not (eqb o target)) free m.1 found.1).0, found.2)
       ]
 
   kept_apart : (o target : ℕ) → not (eqb o target) ≡ true → o ≢ target
@@ -122,16 +117,16 @@ module _ (may : List Candidate → ℕ → Type 0) (next : ℕ → Next) (tracks
       subst (λ (l : List (ℕ × ℕ)). Apart (map (λ (m : ℕ × ℕ). m.0) l) × Apart (map (λ (m : ℕ × ℕ). m.1) l)) (sym is) (
         (
           (λ member.
-              let from = in_map_back (λ (m : ℕ × ℕ). m.0) line rest member in
+              let from = map-cases (λ (m : ℕ × ℕ). m.0) rest line member in
               let found = moves_within (carried tracks kept line target) lines spans_now (without target free) rest follow from.0 from.1 in
               apart.0 (subst (λ l. Contains lines l) from.2 found.0)),
           later.0,
         ),
         (
           (λ member.
-              let from = in_map_back (λ (m : ℕ × ℕ). m.1) target rest member in
+              let from = map-cases (λ (m : ℕ × ℕ). m.1) rest target member in
               let found = moves_within (carried tracks kept line target) lines spans_now (without target free) rest follow from.0 from.1 in
-              kept_apart from.0.1 target (in_filter_back (λ o. not (eqb o target)) from.0.1 free found.1).1 from.2),
+              kept_apart from.0.1 target (filter-from (λ o. not (eqb o target)) free from.0.1 found.1).1 from.2),
           later.1,
         ),
       )

@@ -3,7 +3,7 @@ use Rattle.std.proofs.lemmas.List.{length-map}
 use Rattle.std.proofs.lemmas.Option.{slice_get-get_or}
 use Rattle.choose_core.specs.declared.candidate.Candidate.{Candidate}
 use Rattle.greedy_column.specs.Offers.{IsPicked}
-use Rattle.greedy_column.proofs.Members.{in_got}
+use Rattle.std_laws.proofs.Members.{get-contains}
 
 module _ {X : Type 0} where
   -- what an answer picks
@@ -18,4 +18,4 @@ module _ {X : Type 0} where
   -- what is picked is an option
   pub picked_is_option : (may : List Candidate → ℕ → Type 0) (offers : X → Candidate) (options : List X) (option : X) → IsPicked may offers options option
       → Contains options option
-  picked_is_option may offers options option (answer, given, at) = in_got option options answer at
+  picked_is_option may offers options option (answer, given, at) = get-contains options answer option at

@@ -1,5 +1,5 @@
 use Rattle.std.proofs.Common.{◌≡◌, ◌≢◌, inl, inr, ◌<◌, ◌≤◌, ◌+◌, ◌-◌, eqb, ltb, ℕ, List, [], ◌∷◌, Bool, true, false, cond, length, map, get_or, refl, sym, subst, ap, ◌∙◌, arith, Contains}
-use Rattle.std.proofs.lemmas.Bool.{ltb-true, eqb-false}
+use Rattle.std.proofs.lemmas.Bool.{ltb-true}
 use Rattle.std.proofs.lemmas.List.Edits.{get_or-insert_at, get_or-insert_below, get_or-insert_above, length-insert}
 use Rattle.std.proofs.lemmas.List.Elements.{Contains-append_cases}
 use Rattle.std.specs.List.{insert}
@@ -26,15 +26,17 @@ use Rattle.greedy_column.specs.Joining.{span_in}
 use Rattle.greedy_column.specs.Entering.{EntersBy, EntersPair, EntersNew, newcomer_of, any_place, place_for, pin_kind, top_question, bottom_question}
 use Rattle.greedy_column.specs.Follows.{Follows, entries_of, pin_of, pin_spans}
 use Rattle.greedy_column.specs.State.{AreNumbered}
-use Rattle.greedy_column.proofs.Members.{in_none, in_one, in_map_back, in_filter_back}
 use Rattle.greedy_column.proofs.PickLaws.{picked_is_option}
-use Rattle.greedy_column.proofs.IdLaws.{Apart, Apart-from, Apart-insert, ids-insert, ids-entered, in_insert}
+use Rattle.greedy_column.proofs.IdLaws.{Apart, Apart-from, Apart-insert, ids-insert, ids-entered}
 use Rattle.greedy_column.proofs.TableLaws.{length-ids, line_of-at, line_of-line}
 use Rattle.greedy_column.proofs.PlaceLaws.{place_bounds}
 use Rattle.greedy_column.proofs.EntryLaws.{IsOpenLine, IsOpenLine-from}
 use Rattle.greedy_column.proofs.EntersLaws.{KindSays, kind_says}
 use Rattle.greedy_column.proofs.LawfulLaws.{above_lowest-within}
 use Rattle.greedy_column.proofs.CrossLaws.{AreUncrossed}
+use Rattle.std_laws.proofs.Members.{member-none, member-only, map-cases, filter-from}
+use Rattle.std_laws.proofs.Inserted.{insert-cases}
+use Rattle.std_laws.proofs.Tests.{eqb-positive}
 
 -- the lines of ids once a new one is put among them: those below it stay, it stands where it is put, and those above rise
 module _ (order : List ℕ) (k new : ℕ) (within : k ≤ length order) (apart : Apart (insert order k new)) where
@@ -72,7 +74,7 @@ module _ (manner : Manner) (may : List Candidate → ℕ → Type 0) (before : L
   second_apart : (k l : ℕ) → Apart (insert (insert (ids before) k fresh) l (fresh + 1))
   second_apart k l =
       Apart-insert (fresh + 1) (insert (ids before) k fresh) l
-      (λ member. elim (in_insert fresh (fresh + 1) (ids before) k member) [
+      (λ member. elim (insert-cases fresh (fresh + 1) (ids before) k member) [
         | inl same ↦ omega (arith, same)
         | inr old ↦ let less = numbered.below (fresh + 1) old in omega (arith, less)
       ])
@@ -128,7 +130,7 @@ module _ (manner : Manner) (may : List Candidate → ℕ → Type 0) (before : L
       new_below top bottom uppers lowers (newcomer_of manner (holds_track before top.net) (holds_track before bottom.net) uppers lowers) entries above below enters
   pair_below top bottom uppers lowers (first ∷ others) entries within above below (line, by, (partner, at, is)) =
       let upper = above line (within line (picked_is_option may (offer (top_question top (length before)) (own_lines top.net before)) (first ∷ others) line by)) in
-      let found = in_filter_back (λ l. ltb l line) partner lowers (picked_is_option may (offer (bottom_question bottom) (own_lines bottom.net before)) (below_line line lowers) partner at) in
+      let found = filter-from (λ l. ltb l line) lowers partner (picked_is_option may (offer (bottom_question bottom) (own_lines bottom.net before)) (below_line line lowers) partner at) in
       let lower = below partner found.0 in
       let order : partner < line = ltb-true partner line found.1 in
       let apart = Apart-from (ids before) numbered.distinct in
@@ -157,23 +159,20 @@ pins_below manner may pins column fresh before done numbered follows some too ot
           (λ line member. above_lowest-within (open_lines (bottom_pin pins column) before) (open_lines (top_pin pins column) before) line member)
           (λ line member. IsOpenLine-from before (top_pin pins column) line member) (λ line member. IsOpenLine-from before (bottom_pin pins column) line member) enters
 
-positive : (n : ℕ) → eqb n 0 ≡ false → 0 < n
-positive n some = let other = eqb-false n 0 some in omega (arith, other)
-
 -- a vertical of a pin
 bottom_is : (net id : ℕ) (v : Vertical) → Contains (bottom_verticals net id) v → (0 < net) × (record { net = net; low = floor; high = on id } ≡ v)
 bottom_is net id v member = step (eqb net 0) refl member where
   step : (b : Bool) → eqb net 0 ≡ b → Contains (cond {A = List Vertical} b [] (record { net = net; low = floor; high = on id } ∷ [])) v
       → (0 < net) × (record { net = net; low = floor; high = on id } ≡ v)
-  step true is member = absurd (in_none v member)
-  step false is member = (positive net is, in_one (record { net = net; low = floor; high = on id }) v member)
+  step true is member = absurd (member-none v member)
+  step false is member = (eqb-positive net is, member-only (record { net = net; low = floor; high = on id }) v member)
 
 top_is : (net id : ℕ) (v : Vertical) → Contains (top_verticals net id) v → (0 < net) × (record { net = net; low = on id; high = ceiling } ≡ v)
 top_is net id v member = step (eqb net 0) refl member where
   step : (b : Bool) → eqb net 0 ≡ b → Contains (cond {A = List Vertical} b [] (record { net = net; low = on id; high = ceiling } ∷ [])) v
       → (0 < net) × (record { net = net; low = on id; high = ceiling } ≡ v)
-  step true is member = absurd (in_none v member)
-  step false is member = (positive net is, in_one (record { net = net; low = on id; high = ceiling }) v member)
+  step true is member = absurd (member-none v member)
+  step false is member = (eqb-positive net is, member-only (record { net = net; low = on id; high = ceiling }) v member)
 
 -- the verticals of two pins do not meet where the one's track lies below the other's
 pin_pieces : (order : List ℕ) (straight : Bool) (top_net bottom_net top bottom : ℕ)
@@ -181,10 +180,10 @@ pin_pieces : (order : List ℕ) (straight : Bool) (top_net bottom_net top bottom
     → AreUncrossed (map (span_in order) (verticals_of_pins straight top_net bottom_net top bottom))
 pin_pieces order true top_net bottom_net top bottom below s t first second meet =
     let whole : Span = record { net = top_net; low = 0; high = length order + 1 } in
-    ap (λ (u : Span). u.net) (sym (in_one whole s first) ∙ in_one whole t second)
+    ap (λ (u : Span). u.net) (sym (member-only whole s first) ∙ member-only whole t second)
 pin_pieces order false top_net bottom_net top bottom below s t first second meet =
-    let from = in_map_back (span_in order) s (verticals_of_pins false top_net bottom_net top bottom) first in
-    let to = in_map_back (span_in order) t (verticals_of_pins false top_net bottom_net top bottom) second in
+    let from = map-cases (span_in order) (verticals_of_pins false top_net bottom_net top bottom) s first in
+    let to = map-cases (span_in order) (verticals_of_pins false top_net bottom_net top bottom) t second in
     elim (Contains-append_cases (bottom_verticals bottom_net bottom) (top_verticals top_net top) from.0 from.1) [
       | inl one ↦ let v = bottom_is bottom_net bottom from.0 one in
           let s_is : span_in order (record { net = bottom_net; low = floor; high = on bottom }) ≡ s = ap (span_in order) v.1 ∙ from.2 in

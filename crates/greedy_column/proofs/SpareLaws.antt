@@ -6,10 +6,10 @@ use Rattle.greedy_column.specs.Tracks.{ids, held_by, line_of}
 use Rattle.greedy_column.specs.Lawful.{IsOpen}
 use Rattle.greedy_column.specs.Sparing.{HasNone, HasNoPair}
 use Rattle.greedy_column.specs.Lines.{is_open, lines_from, open_lines, above_lowest}
-use Rattle.greedy_column.proofs.Members.{in_none, in_first, in_cases, in_filter}
 use Rattle.greedy_column.proofs.IdLaws.{Apart}
 use Rattle.greedy_column.proofs.LineLaws.{lines_from-each}
 use Rattle.greedy_column.proofs.TableLaws.{nets, length-ids, held_by-at, place_in}
+use Rattle.std_laws.proofs.Members.{member-none, member-head, member-cases, filter-member}
 
 open_test : (n net : ℕ) → (n ≡ 0) ⊎ (n ≡ net) → (eqb n 0 || eqb n net) ≡ true
 open_test n net (inl none) = ap (λ b. b || eqb n net) (eq-eqb n 0 none)
@@ -26,7 +26,7 @@ listed_open net first zero (t ∷ tracks) within at =
     let e : first ≡ first + zero = omega arith in
     subst (λ l. Contains (lines_from (is_open net) first (t ∷ tracks)) l) e
     (Contains-append_left (cond (is_open net t) (first ∷ []) []) (lines_from (is_open net) (suc first) tracks) first
-    (subst (λ b. Contains (cond b (first ∷ []) []) first) (sym (open_test t.net net at)) (in_first first [])))
+    (subst (λ b. Contains (cond b (first ∷ []) []) first) (sym (open_test t.net net at)) (member-head first [])))
 listed_open net first (suc k) (t ∷ tracks) within at =
     let e : suc first + k ≡ first + suc k = omega arith in
     subst (λ l. Contains (lines_from (is_open net) first (t ∷ tracks)) l) e
@@ -53,12 +53,12 @@ open_member before net id apart (inr own) =
 -- without an open line no track is open
 pub HasNone-from : (before : List Track) (net : ℕ) → Apart (ids before) → open_lines net before ≡ [] → HasNone before net
 HasNone-from before net apart none id is =
-    in_none (line_of (ids before) id) (subst (λ l. Contains l (line_of (ids before) id)) none (open_member before net id apart is))
+    member-none (line_of (ids before) id) (subst (λ l. Contains l (line_of (ids before) id)) none (open_member before net id apart is))
 
 -- the first of some lines is the lowest
 lowest_first : (passes : Track → Bool) (first line lowest : ℕ) (others : List ℕ) (tracks : List Track) → lines_from passes first tracks ≡ lowest ∷ others
     → Contains (lines_from passes first tracks) line → lowest ≤ line
-lowest_first passes first line lowest others [] is member = absurd (in_none line member)
+lowest_first passes first line lowest others [] is member = absurd (member-none line member)
 lowest_first passes first line lowest others (t ∷ tracks) is member =
     step (passes t) refl is member (λ again inside. lowest_first passes (suc first) line lowest others tracks again inside) where
       step : (b : Bool) → passes t ≡ b → (cond b (first ∷ []) [] ++ lines_from passes (suc first) tracks) ≡ lowest ∷ others
@@ -66,7 +66,7 @@ lowest_first passes first line lowest others (t ∷ tracks) is member =
           → (lines_from passes (suc first) tracks ≡ lowest ∷ others → Contains (lines_from passes (suc first) tracks) line → lowest ≤ line) → lowest ≤ line
       step true is_passing is member later =
           let same : first ≡ lowest = cc is in
-          elim (in_cases first line (lines_from passes (suc first) tracks) member) [
+          elim (member-cases first (lines_from passes (suc first) tracks) line member) [
             | inl here ↦ omega (arith, same, here)
             | inr above ↦ let found = lines_from-each passes (suc first) line tracks above in omega (arith, same, found.above)
           ]
@@ -78,10 +78,10 @@ pub HasNoPair-from : (before : List Track) (top bottom : ℕ) → Apart (ids bef
 HasNoPair-from before top bottom apart none upper lower above below order =
     step (open_lines bottom before) refl none (open_member before bottom lower apart below) where
       step : (lowers : List ℕ) → open_lines bottom before ≡ lowers → above_lowest lowers (open_lines top before) ≡ [] → Contains lowers (line_of (ids before) lower) → ⊥
-      step [] is none member = in_none (line_of (ids before) lower) member
+      step [] is none member = member-none (line_of (ids before) lower) member
       step (lowest ∷ others) is none member =
           let least : lowest ≤ line_of (ids before) lower =
           lowest_first (is_open bottom) 1 (line_of (ids before) lower) lowest others before is (open_member before bottom lower apart below) in
-          in_none (line_of (ids before) upper) (subst (λ l. Contains l (line_of (ids before) upper)) none
-          (in_filter (λ l. ltb lowest l) (line_of (ids before) upper) (open_lines top before) (open_member before top upper apart above)
+          member-none (line_of (ids before) upper) (subst (λ l. Contains l (line_of (ids before) upper)) none
+          (filter-member (λ l. ltb lowest l) (open_lines top before) (line_of (ids before) upper) (open_member before top upper apart above)
           (lt-ltb lowest (line_of (ids before) upper) (omega (arith, least, order)))))

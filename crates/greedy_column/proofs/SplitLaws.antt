@@ -8,7 +8,7 @@ use Rattle.greedy_column.specs.Lines.{held_lines, lines_from, net_on}
 use Rattle.greedy_column.specs.Joining.{next_line, pair_of, neighbours_from, neighbours}
 use Rattle.greedy_column.specs.Moving.{is_split}
 use Rattle.greedy_column.proofs.HeldLineLaws.{HoldsLine-listed}
-use Rattle.greedy_column.proofs.SortedLaws.{any_map}
+use Rattle.std_laws.proofs.Searches.{any-map}
 
 -- the lines of a net's tracks, the first track standing on this line
 abbrev own_from : ℕ → ℕ → List Track → List ℕ
@@ -66,5 +66,5 @@ pub split_found : (kept : List Track) (nets found : List ℕ) (pairs : List Span
     → list_any (λ n. eqb n (net_on kept line)) nets ≡ is_split kept line
 split_found kept nets found pairs pairs_are found_are same line held =
     let net : ℕ = net_on kept line in
-    same net ∙ ap (λ l. list_any (λ n. eqb n net) l) found_are ∙ any_map (λ (pair : Span). pair.net) (λ n. eqb n net) pairs
+    same net ∙ ap (λ l. list_any (λ n. eqb n net) l) found_are ∙ any-map (λ (pair : Span). pair.net) (λ n. eqb n net) pairs
     ∙ ap (λ l. list_any (is_of net) l) pairs_are ∙ is_paired net 1 kept (HoldsLine-listed kept line held).some

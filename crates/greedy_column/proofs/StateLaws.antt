@@ -19,15 +19,15 @@ use Rattle.greedy_column.specs.Entering.{Enters}
 use Rattle.greedy_column.specs.Joining.{span_in}
 use Rattle.greedy_column.specs.Follows.{Follows, FollowsOn, entries_of, pin_with}
 use Rattle.greedy_column.specs.State.{AreNumbered, IsState}
-use Rattle.greedy_column.proofs.Members.{any_at, in_none, in_first, in_later, in_one}
 use Rattle.greedy_column.proofs.IdLaws.{Apart, Apart-to, ids-entered, ids-freed, ids-moved, AreNumbered-ids, AreNumbered-with_made}
 use Rattle.greedy_column.proofs.NetLaws.{AreNets, AreNets-after}
+use Rattle.std_laws.proofs.Members.{any-cases, member-none, member-head, member-tail, member-only}
 
 -- there are fewer tracks than ids have been given
 pub AreNumbered-few : (fresh : ℕ) (tracks : List Track) → AreNumbered fresh tracks → length tracks ≤ fresh
 AreNumbered-few fresh tracks numbered =
     let few : length (ids tracks) ≤ fresh = length-le_from_distinct_below (ids tracks) fresh numbered.distinct
-    (λ q some. let found = any_at (eqb q) (ids tracks) some in
+    (λ q some. let found = any-cases (eqb q) (ids tracks) some in
     let less = numbered.below found.0 found.1 in let same : q ≡ found.0 = eqb-true q found.0 found.2 in omega (arith, less, same)) in
     omega (arith, few, length-map tracks (λ (t : Track). t.id))
 
@@ -120,20 +120,20 @@ ids-more : (n : ℕ) → ids (free_tracks (suc n)) ≡ ids (free_tracks n) ++ su
 ids-more n = map-append (λ (t : Track). t.id) (free_tracks n) (record { id = suc n; net = 0 } ∷ [])
 
 pub ids-free : (n id : ℕ) → Contains (ids (free_tracks n)) id → (0 < id) × (id < n + 1)
-ids-free zero id member = absurd (in_none id member)
+ids-free zero id member = absurd (member-none id member)
 ids-free (suc n) id member = elim (Contains-append_cases (ids (free_tracks n)) (suc n ∷ []) id (subst (λ l. Contains l id) (ids-more n) member)) [
   | inl before ↦ let h = ids-free n id before in (h.0, omega (arith, h.1))
-  | inr last ↦ let same = in_one (suc n) id last in (omega (arith, same), omega (arith, same))
+  | inr last ↦ let same = member-only (suc n) id last in (omega (arith, same), omega (arith, same))
 ]
 
 Apart-more : (x : ℕ) (xs : List ℕ) → Apart xs → (Contains xs x → ⊥) → Apart (xs ++ x ∷ [])
-Apart-more x [] apart new = (in_none x, tt)
+Apart-more x [] apart new = (member-none x, tt)
 Apart-more x (y ∷ ys) apart new = (
   λ member. elim (Contains-append_cases ys (x ∷ []) y member) [
     | inl old ↦ apart.0 old
-    | inr last ↦ new (subst (λ z. Contains (y ∷ ys) z) (sym (in_one x y last)) (in_first y ys))
+    | inr last ↦ new (subst (λ z. Contains (y ∷ ys) z) (sym (member-only x y last)) (member-head y ys))
   ],
-  Apart-more x ys apart.1 (λ member. new (in_later y x ys member)),
+  Apart-more x ys apart.1 (λ member. new (member-tail y ys x member)),
 )
 
 Apart-free : (n : ℕ) → Apart (ids (free_tracks n))
@@ -143,10 +143,10 @@ Apart-free (suc n) = subst (λ l. Apart l) (sym (ids-more n))
 
 -- no net holds one of them
 pub nets-free : (n : ℕ) (t : Track) → Contains (free_tracks n) t → t.net ≡ 0
-nets-free zero t member = absurd (in_none t member)
+nets-free zero t member = absurd (member-none t member)
 nets-free (suc n) t member = elim (Contains-append_cases (free_tracks n) (record { id = suc n; net = 0 } ∷ []) t member) [
   | inl before ↦ nets-free n t before
-  | inr last ↦ sym (ap (λ (u : Track). u.net) (in_one (record { id = suc n; net = 0 }) t last))
+  | inr last ↦ sym (ap (λ (u : Track). u.net) (member-only (record { id = suc n; net = 0 }) t last))
 ]
 
 -- with free tracks alone, and the next number as the first id

@@ -4,8 +4,6 @@ use Rattle.std.proofs.lemmas.Bool.Decides.{nat_tests}
 use Rattle.std.proofs.lemmas.List.{append_assoc}
 use Rattle.std.proofs.lemmas.List.Sorted.{ties_still_rise}
 use Rattle.std.specs.Ordering.{nat_cmp, is_lt}
-use Rattle.std.specs.Cmp.{nat_cmp_is}
-use Rattle.std.specs.declared.cmp.Ordering.TheVariants.{Equal, Greater}
 use Rattle.std.specs.List.Sorted.{IsSortedByKey, IsStableByKey, IsNonDecreasingBy, ties}
 use Rattle.channel_model.specs.Pins.{Pins}
 use Rattle.choose_core.specs.declared.candidate.Next.{Next}
@@ -13,6 +11,7 @@ use Rattle.choose_core.specs.declared.candidate.Next.TheVariants.{Ends, Top, Bot
 use Rattle.greedy_column.specs.declared.uses.Use.{Use}
 use Rattle.greedy_column.specs.Uses.{AreSorted, IsBefore, next_after, use_at, uses_at, uses_from}
 use Rattle.greedy_column.specs.Ahead.{next_of, first_in}
+use Rattle.std_laws.proofs.Tests.{cmp-not-less}
 
 -- the columns of uses do not fall, and the first is at least this one
 abbrev pub Rise : ℕ → List Use → Type 0
@@ -52,14 +51,8 @@ rise_step column (u ∷ (v ∷ uses)) (suc k) d rise within =
     let e : suc k + 1 ≡ suc (k + 1) = omega arith in
     rw e later
 
-not_less : (a b : ℕ) → b ≤ a → is_lt (nat_cmp a b) ≡ false
-not_less a b order = elim (cases_eq a b) [
-  | inl same ↦ ap is_lt (sym (nat_cmp_is a b Equal same))
-  | inr other ↦ let above : b < a = omega (arith, order, other) in ap is_lt (sym (nat_cmp_is a b Greater above))
-]
-
 pub rise_sorted : (column : ℕ) (uses : List Use) → Rise column uses → IsSortedByKey (λ (u : Use). u.column) nat_cmp uses
-rise_sorted column uses rise k d low high = not_less _ _ (rise_step column uses k d rise high)
+rise_sorted column uses rise k d low high = cmp-not-less _ _ (rise_step column uses k d rise high)
 
 -- uses that ascend by net, and by column where two neighbours are of one net, are sorted
 sorted_by : (uses : List Use) (i n : ℕ) (d : Use) → IsNonDecreasingBy (λ (u : Use). u.net) uses
@@ -106,8 +99,8 @@ next_after-stable xs ys column net stable =
     let p : Use → Bool = ties (λ (x y : Use). is_lt (nat_cmp x.net y.net)) one in
     let keeps : (u : Use) → eqb u.net net ≡ true → p u ≡ true = λ u same.
     let e : u.net ≡ net = eqb-true u.net net same in
-    let a : is_lt (nat_cmp net u.net) ≡ false = not_less net u.net (omega (arith, e)) in
-    let b : is_lt (nat_cmp u.net net) ≡ false = not_less u.net net (omega (arith, e)) in
+    let a : is_lt (nat_cmp net u.net) ≡ false = cmp-not-less net u.net (omega (arith, e)) in
+    let b : is_lt (nat_cmp u.net net) ≡ false = cmp-not-less u.net net (omega (arith, e)) in
     ap (λ z. not z && not (is_lt (nat_cmp u.net net))) a ∙ ap (λ z. not false && not z) b in
     sym (next_after-filter p ys column net keeps) ∙ ap (λ (l : List Use). next_after l column net) (stable one) ∙ next_after-filter p xs column net keeps
 

@@ -10,10 +10,10 @@ use Rattle.greedy_column.specs.Verticals.{Vertical, floor, on, ceiling, bottom_v
 use Rattle.greedy_column.specs.Neighbours.{Holds, AreNeighbours}
 use Rattle.greedy_column.specs.Lawful.{IsLawful, HasEqualPins, TopEnters, BottomEnters}
 use Rattle.greedy_column.specs.State.{AreNumbered}
-use Rattle.greedy_column.proofs.Members.{in_none, in_first, in_one, in_map_back}
 use Rattle.greedy_column.proofs.IdLaws.{Apart}
 use Rattle.greedy_column.proofs.TableLaws.{place_in}
 use Rattle.greedy_column.proofs.EnteredLaws.{now-apart, target-free}
+use Rattle.std_laws.proofs.Members.{member-none, member-head, member-only, map-cases}
 
 -- two tracks on one line are one
 pub one_on_line : (order : List ℕ) (a b : ℕ) → Apart order → Contains order a → Contains order b → line_of order a ≡ line_of order b → a ≡ b
@@ -59,27 +59,27 @@ module _ (pins : Pins) (column : ℕ) (before : List Track) (done : Column) wher
     bottom_kind : (v : Vertical) → done.straight ≡ false → Contains (bottom_verticals (bottom_pin pins column) done.bottom) v → IsOfPin v
     bottom_kind v bent member = step (eqb (bottom_pin pins column) 0) refl member where
       step : (b : Bool) → eqb (bottom_pin pins column) 0 ≡ b → Contains (cond {A = List Vertical} b [] (lower_of (bottom_pin pins column) done.bottom ∷ [])) v → IsOfPin v
-      step true is member = absurd (in_none v member)
+      step true is member = absurd (member-none v member)
       step false is member =
           let other = eqb-false (bottom_pin pins column) 0 is in
           let some : 0 < bottom_pin pins column = omega arith in
           let enters : BottomEnters pins column = (some, (λ same. not_equal bent (omega (arith, some, same)) same)) in
-          subst (λ w. IsOfPin w) (in_one (lower_of (bottom_pin pins column) done.bottom) v member) (of_bottom enters)
+          subst (λ w. IsOfPin w) (member-only (lower_of (bottom_pin pins column) done.bottom) v member) (of_bottom enters)
 
     top_kind : (v : Vertical) → done.straight ≡ false → Contains (top_verticals (top_pin pins column) done.top) v → IsOfPin v
     top_kind v bent member = step (eqb (top_pin pins column) 0) refl member where
       step : (b : Bool) → eqb (top_pin pins column) 0 ≡ b → Contains (cond {A = List Vertical} b [] (upper_of (top_pin pins column) done.top ∷ [])) v → IsOfPin v
-      step true is member = absurd (in_none v member)
+      step true is member = absurd (member-none v member)
       step false is member =
           let other = eqb-false (top_pin pins column) 0 is in
           let some : 0 < top_pin pins column = omega arith in
           let apart = not_equal bent some in
-          subst (λ w. IsOfPin w) (in_one (upper_of (top_pin pins column) done.top) v member) (of_top (inl (some, apart)) apart)
+          subst (λ w. IsOfPin w) (member-only (upper_of (top_pin pins column) done.top) v member) (of_top (inl (some, apart)) apart)
 
     pub pin_kind : (v : Vertical) → Contains (pin_verticals pins column done) v → IsOfPin v
     pin_kind v member = step done.straight refl member where
       step : (b : Bool) → done.straight ≡ b → Contains (verticals_of_pins b (top_pin pins column) (bottom_pin pins column) done.top done.bottom) v → IsOfPin v
-      step true is member = subst (λ w. IsOfPin w) (in_one (straight_of (top_pin pins column)) v member) (of_both (lawful.straight.0 is))
+      step true is member = subst (λ w. IsOfPin w) (member-only (straight_of (top_pin pins column)) v member) (of_both (lawful.straight.0 is))
       step false is member =
           elim (Contains-append_cases (bottom_verticals (bottom_pin pins column) done.bottom) (top_verticals (top_pin pins column) done.top) v member) [
             | inl low ↦ bottom_kind v is low
@@ -104,13 +104,13 @@ module _ (pins : Pins) (column : ℕ) (before : List Track) (done : Column) wher
 
     join_kind : (v : Vertical) → Contains (map (between now) done.joins) v → IsOf v
     join_kind v member =
-        let from = in_map_back (between now) v done.joins member in
+        let from = map-cases (between now) done.joins v member in
         let pair = lawful.joins from.0.0 from.0.1 from.1 in
         subst (λ w. IsOf w) (sym (join_is pair.0 from.0.0 from.0.1 pair.1) ∙ from.2) (of_join pair.0 from.0.0 from.0.1 from.1 pair.1)
 
     move_kind : (v : Vertical) → Contains (map (between now) done.moves) v → IsOf v
     move_kind v member =
-        let from = in_map_back (between now) v done.moves member in
+        let from = map-cases (between now) done.moves v member in
         let old : ℕ = from.0.0 in
         let new : ℕ = from.0.1 in
         let move = lawful.moves old new from.1 in
@@ -133,7 +133,7 @@ module _ (pins : Pins) (column : ℕ) (before : List Track) (done : Column) wher
     joined_kind v member = elim (Contains-append_cases (pin_verticals pins column done) (map (between now) done.joins) v member) [
       | inl pin ↦ inl (pin_kind v pin)
       | inr join ↦
-          let from = in_map_back (between now) v done.joins join in
+          let from = map-cases (between now) done.joins v join in
           let pair = lawful.joins from.0.0 from.0.1 from.1 in
           inr (pair.0, (from.0.0, (from.0.1, from.1, pair.1, sym (join_is pair.0 from.0.0 from.0.1 pair.1) ∙ from.2)))
     ]
@@ -152,12 +152,12 @@ module _ (pins : Pins) (column : ℕ) (before : List Track) (done : Column) wher
     bottom_met some = step done.straight refl where
       step : (b : Bool) → done.straight ≡ b
           → (v : Vertical) × Contains (verticals_of_pins b (top_pin pins column) (bottom_pin pins column) done.top done.bottom) v × (v.net ≡ bottom_pin pins column) × (v.low ≡ floor)
-      step true is = (straight_of (top_pin pins column), in_first (straight_of (top_pin pins column)) [], (lawful.straight.0 is).equal, refl)
+      step true is = (straight_of (top_pin pins column), member-head (straight_of (top_pin pins column)) [], (lawful.straight.0 is).equal, refl)
       step false is = (
         lower_of (bottom_pin pins column) done.bottom,
         Contains-append_left (bottom_verticals (bottom_pin pins column) done.bottom) (top_verticals (top_pin pins column) done.top) (lower_of (bottom_pin pins column) done.bottom)
             (subst (λ b. Contains (cond {A = List Vertical} b [] (lower_of (bottom_pin pins column) done.bottom ∷ [])) (lower_of (bottom_pin pins column) done.bottom))
-            (sym (ne_eqb (bottom_pin pins column) 0 (λ none. omega (arith, none, some)))) (in_first (lower_of (bottom_pin pins column) done.bottom) [])),
+            (sym (ne_eqb (bottom_pin pins column) 0 (λ none. omega (arith, none, some)))) (member-head (lower_of (bottom_pin pins column) done.bottom) [])),
         refl,
         refl,
       )
@@ -166,12 +166,12 @@ module _ (pins : Pins) (column : ℕ) (before : List Track) (done : Column) wher
     top_met some = step done.straight where
       step : (b : Bool)
           → (v : Vertical) × Contains (verticals_of_pins b (top_pin pins column) (bottom_pin pins column) done.top done.bottom) v × (v.net ≡ top_pin pins column) × (v.high ≡ ceiling)
-      step true = (straight_of (top_pin pins column), in_first (straight_of (top_pin pins column)) [], refl, refl)
+      step true = (straight_of (top_pin pins column), member-head (straight_of (top_pin pins column)) [], refl, refl)
       step false = (
         upper_of (top_pin pins column) done.top,
         Contains-append_right (bottom_verticals (bottom_pin pins column) done.bottom) (top_verticals (top_pin pins column) done.top) (upper_of (top_pin pins column) done.top)
             (subst (λ b. Contains (cond {A = List Vertical} b [] (upper_of (top_pin pins column) done.top ∷ [])) (upper_of (top_pin pins column) done.top))
-            (sym (ne_eqb (top_pin pins column) 0 (λ none. omega (arith, none, some)))) (in_first (upper_of (top_pin pins column) done.top) [])),
+            (sym (ne_eqb (top_pin pins column) 0 (λ none. omega (arith, none, some)))) (member-head (upper_of (top_pin pins column) done.top) [])),
         refl,
         refl,
       )

@@ -9,23 +9,9 @@ use Rattle.greedy_column.specs.declared.column.Track.{Track}
 use Rattle.greedy_column.specs.declared.move_order.Waiting.{Waiting}
 use Rattle.greedy_column.specs.Lines.{held_lines, net_on}
 use Rattle.greedy_column.specs.Moving.{AreOrdered, is_split}
-use Rattle.greedy_column.proofs.Members.{in_first, in_later, in_map_back}
-
--- a filter of what a map gives
-filter_map : {X Y : Type 0} (f : X → Y) (p : Y → Bool) (xs : List X) → filter p (map f xs) ≡ map f (filter (λ x. p (f x)) xs)
-filter_map f p [] = refl
-filter_map f p (x ∷ xs) = step (p (f x)) (filter_map f p xs) where
-  step : (b : Bool) → filter p (map f xs) ≡ map f (filter (λ y. p (f y)) xs)
-      → cond b (f x ∷ filter p (map f xs)) (filter p (map f xs)) ≡ map f (cond b (x ∷ filter (λ y. p (f y)) xs) (filter (λ y. p (f y)) xs))
-  step true later = ap (λ l. f x ∷ l) later
-  step false later = later
-
--- tests that agree on all members
-filter_same : (p q : ℕ → Bool) (xs : List ℕ) → ((x : ℕ) → Contains xs x → p x ≡ q x) → filter p xs ≡ filter q xs
-filter_same p q [] same = refl
-filter_same p q (x ∷ xs) same =
-    (λ i. cond (same x (in_first x xs) i) (x ∷ filter p xs) (filter p xs))
-    ∙ ap (λ l. cond (q x) (x ∷ l) l) (filter_same p q xs (λ y member. same y (in_later x y xs member)))
+use Rattle.std_laws.proofs.Members.{member-head, member-tail, map-cases}
+use Rattle.std_laws.proofs.Images.{filter-map}
+use Rattle.std_laws.proofs.Counts.{filter-same}
 
 -- a loop that parts lines by a test goes on with one more
 pub part_more : (p : ℕ → Bool) (line : ℕ) (later done pushed all : List ℕ) (b : Bool) → b ≡ p line → pushed ≡ done ++ cond b (line ∷ []) []
@@ -50,7 +36,7 @@ module _ (key : ℕ → ℕ) where
 
   restored : (ws : List Waiting) → ((w : Waiting) → Contains ws w → waiting w.line ≡ w) → map waiting (map line_of_waiting ws) ≡ ws
   restored [] each = refl
-  restored (w ∷ ws) each = λ i. each w (in_first w ws) i ∷ restored ws (λ v member. each v (in_later w v ws member)) i
+  restored (w ∷ ws) each = λ i. each w (member-head w ws) i ∷ restored ws (λ v member. each v (member-tail w ws v member)) i
 
   rising : (lines : List ℕ) → IsNonDecreasingBy (λ (w : Waiting). w.behind) (map waiting lines) → IsNonDecreasingBy key lines
   rising lines sorted i j d order within =
@@ -69,7 +55,7 @@ module _ (key : ℕ → ℕ) where
       let like : ℕ → Bool = ties (λ a b. is_lt (nat_cmp (key a) (key b))) x in
       let like_waiting : Waiting → Bool = ties (λ (v w : Waiting). is_lt (nat_cmp v.behind w.behind)) (waiting x) in
       let same : map waiting (filter like ordered) ≡ map waiting (filter like lines) =
-      sym (filter_map waiting like_waiting ordered) ∙ stable (waiting x) ∙ filter_map waiting like_waiting lines in
+      sym (filter-map like_waiting waiting ordered) ∙ stable (waiting x) ∙ filter-map like_waiting waiting lines in
       sym (lines_back (filter like ordered)) ∙ ap (map line_of_waiting) same ∙ lines_back (filter like lines)
 
   -- lines are ordered by a stable sort of what waits on them
@@ -78,7 +64,7 @@ module _ (key : ℕ → ℕ) where
       → ordered ≡ map (λ (w : Waiting). w.line) sorted → AreOrdered key lines ordered
   AreOrdered-from_sort lines ordered found sorted is rises stable permuted told =
       let each : (w : Waiting) → Contains sorted w → waiting w.line ≡ w = λ w member.
-      let at = in_map_back waiting w lines (subst (λ (l : List Waiting). Contains l w) is (Contains-permutation sorted found w (IsPermutation-sym found sorted permuted) member)) in
+      let at = map-cases waiting lines w (subst (λ (l : List Waiting). Contains l w) is (Contains-permutation sorted found w (IsPermutation-sym found sorted permuted) member)) in
       ap waiting (sym (ap (λ (v : Waiting). v.line) at.2)) ∙ at.2 in
       let whole : sorted ≡ map waiting ordered = sym (restored sorted each) ∙ ap (map waiting) (sym told) in
       record {
@@ -92,9 +78,9 @@ module _ (key : ℕ → ℕ) where
 module _ (kept : List Track) (nets : List ℕ)
     (tells : (line : ℕ) → Contains (held_lines kept) line → list_any (λ n. eqb n (net_on kept line)) nets ≡ is_split kept line) where
   pub split_found : filter (λ line. list_any (λ n. eqb n (net_on kept line)) nets) (held_lines kept) ≡ filter (is_split kept) (held_lines kept)
-  split_found = filter_same (λ line. list_any (λ n. eqb n (net_on kept line)) nets) (is_split kept) (held_lines kept) tells
+  split_found = filter-same (λ line. list_any (λ n. eqb n (net_on kept line)) nets) (is_split kept) (held_lines kept) tells
 
   pub others_found : filter (λ line. not (list_any (λ n. eqb n (net_on kept line)) nets)) (held_lines kept)
       ≡ filter (λ line. not (is_split kept line)) (held_lines kept)
-  others_found = filter_same (λ line. not (list_any (λ n. eqb n (net_on kept line)) nets)) (λ line. not (is_split kept line)) (held_lines kept)
+  others_found = filter-same (λ line. not (list_any (λ n. eqb n (net_on kept line)) nets)) (λ line. not (is_split kept line)) (held_lines kept)
       (λ line member. ap not (tells line member))

@@ -1,3 +1,4 @@
+-- whether a net has a pin in a later column, and at which edge the first of these lies
 use Rattle.std.specs.Prelude.{◌≡◌, ◌⊎◌, ◌<◌, ◌==◌, ◌+◌, if◌then◌else◌, ℕ, List, [], ◌∷◌, drop, slice_index}
 use Rattle.channel_model.specs.Pins.{Pins}
 use Rattle.choose_core.specs.declared.candidate.Next.{Next}

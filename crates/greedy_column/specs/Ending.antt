@@ -1,3 +1,4 @@
+-- the groups that joined tracks make, and which lines of each group end
 use Rattle.std.specs.Prelude.{◌≡◌, ◌==◌, ◌&&◌, ◌++◌, not, if◌then◌else◌, ℕ, List, [], ◌∷◌, Bool, true, false, filter, map, length, slice_index}
 use Rattle.std.specs.List.{list_any}
 use Rattle.choose_core.specs.declared.candidate.Candidate.{Candidate}

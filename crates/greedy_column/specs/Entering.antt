@@ -1,3 +1,4 @@
+-- which tracks the pins of a column enter and which are made for them, by the answers of a chooser
 use Rattle.std.specs.Prelude.{◌≡◌, ◌+◌, ◌-◌, ◌==◌, ◌||◌, ◌&&◌, not, if◌then◌else◌, ℕ, List, [], ◌∷◌, length, Some, None, Bool, true, false}
 use Rattle.choose_core.specs.declared.candidate.Candidate.{Candidate}
 use Rattle.choose_core.specs.declared.candidate.Next.{Next}

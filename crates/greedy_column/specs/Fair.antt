@@ -1,3 +1,4 @@
+-- when a column's record is fair, and when all records of a sweep are
 use Rattle.std.specs.Prelude.{◌⊎◌, ◌+◌, ℕ, suc, List, [], ◌∷◌, length}
 use Rattle.channel_model.specs.Pins.{Pins}
 use Rattle.greedy_column.specs.declared.column.Track.{Track}

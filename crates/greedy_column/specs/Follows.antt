@@ -1,3 +1,4 @@
+-- when a record is what the four steps make of a column: lines are found, and told by the ids of tracks
 use Rattle.std.specs.Prelude.{◌≡◌, ◌↔◌, ◌++◌, IsTrue, ℕ, List, map, Contains}
 use Rattle.std.specs.List.Sorted.{IsStrictlyIncreasing}
 use Rattle.channel_model.specs.Pins.{Pins}

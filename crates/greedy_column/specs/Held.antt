@@ -1,3 +1,4 @@
+-- how many tracks are held
 use Rattle.std.specs.Prelude.{◌<◌, ◌==◌, not, ℕ, List}
 use Rattle.std.specs.List.{count_by}
 use Rattle.greedy_column.specs.declared.column.Track.{Track}

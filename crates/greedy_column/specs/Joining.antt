@@ -1,3 +1,4 @@
+-- pairs of neighbouring tracks of a net, which joins of them are possible, and in which order they are made
 use Rattle.std.specs.Prelude.{◌≡◌, ◌<◌, ◌==◌, ◌&&◌, ◌||◌, ◌+◌, ◌^◌, ◌++◌, length, not, nat_le, nat_lt, if◌then◌else◌, ℕ, suc, List, [], ◌∷◌, Bool, Contains, filter, Option, Some, None}
 use Rattle.std.specs.List.{list_any, list_all}
 use Rattle.choose_core.specs.declared.candidate.Candidate.{Candidate}

@@ -1,3 +1,4 @@
+-- tracks of a net are joined where no other net parts them, and one of each group goes on or the net gives up all
 use Rattle.std.specs.Prelude.{◌≡◌, ◌≢◌, ◌⊎◌, ℕ, List, Contains}
 use Rattle.channel_model.specs.Pins.{Pins}
 use Rattle.greedy_column.specs.declared.column.Track.{Track}

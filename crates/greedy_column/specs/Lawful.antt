@@ -1,3 +1,4 @@
+-- which entries, new tracks, joins, ends and moves the record of a column may have
 use Rattle.std.specs.Prelude.{◌≡◌, ◌≢◌, ◌⊎◌, ◌<◌, ◌≤◌, ◌↔◌, ◌==◌, IsTrue, ℕ, suc, List, [], ◌∷◌, map, length, Contains}
 use Rattle.std.specs.List.{IsDistinct}
 use Rattle.channel_model.specs.Pins.{Pins}

@@ -1,3 +1,4 @@
+-- a record is what the four steps make, each choice being an answer of the chooser
 use Rattle.std.specs.Prelude.{◌==◌, ◌<◌, ◌||◌, ◌+◌, ◌-◌, ◌^◌, ◌++◌, not, if◌then◌else◌, nat_lt, ℕ, suc, List, [], ◌∷◌, Bool, Contains, filter, map, slice_index, length}
 use Rattle.std.specs.List.{list_any}
 use Rattle.greedy_column.specs.declared.column.Track.{Track}

@@ -1,3 +1,4 @@
+-- the order in which kept tracks move, the free lines that each may go to, and the moves that are made
 use Rattle.std.specs.Prelude.{◌≡◌, ◌≢◌, ◌⊎◌, ◌==◌, ◌+◌, ◌-◌, ◌++◌, not, nat_lt, Bool, ℕ, List, [], ◌∷◌, filter, length, min, max}
 use Rattle.std.specs.List.Sorted.{IsNonDecreasingBy, IsStableByKey}
 use Rattle.std.specs.Ordering.{nat_cmp}

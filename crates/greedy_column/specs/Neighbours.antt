@@ -1,3 +1,4 @@
+-- a record is fair: lawful, sparing of tracks, joined, and with one track kept of each group
 use Rattle.std.specs.Prelude.{◌≡◌, ◌<◌, ◌≤◌, ℕ, List, Contains}
 use Rattle.greedy_column.specs.declared.column.Track.{Track}
 use Rattle.greedy_column.specs.Tracks.{ids, held_by, line_of}

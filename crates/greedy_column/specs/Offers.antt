@@ -1,3 +1,4 @@
+-- what is asked of a chooser, the candidates that tracks are offered as, and which option is picked
 use Rattle.std.specs.Prelude.{◌≡◌, ◌+◌, ◌-◌, ℕ, suc, min, List, [], ◌∷◌, map, slice_get, Option, Some, None}
 use Rattle.choose_core.specs.declared.candidate.Candidate.{Candidate}
 use Rattle.choose_core.specs.declared.candidate.Ask.TheVariants.{Join, Enter, Keep, Move}

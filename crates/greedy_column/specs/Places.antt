@@ -1,3 +1,4 @@
+-- how many tracks lie below a new one, as published or looking ahead to its net's next pins
 use Rattle.std.specs.Prelude.{◌/◌, ℕ, Bool, true, false, min, max}
 use Rattle.choose_core.specs.declared.candidate.Next.{Next}
 use Rattle.choose_core.specs.declared.candidate.Next.TheVariants.{Ends, Top, Bottom, Both}

@@ -1,3 +1,4 @@
+-- the tracks that the records of columns make, from so many free tracks on
 use Rattle.std.specs.Prelude.{◌==◌, ◌++◌, if◌then◌else◌, ℕ, zero, suc, List, [], ◌∷◌, map, slice_index}
 use Rattle.std.specs.List.{list_any, insert}
 use Rattle.channel_model.specs.Pins.{Pins}

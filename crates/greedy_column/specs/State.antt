@@ -1,3 +1,4 @@
+-- the states that a column begins with
 use Rattle.std.specs.Prelude.{◌≡◌, ◌⊎◌, ◌<◌, ◌==◌, ℕ, List, Contains}
 use Rattle.std.specs.List.{IsDistinct}
 use Rattle.channel_model.specs.Pins.{Pins}

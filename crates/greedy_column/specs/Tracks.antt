@@ -1,3 +1,4 @@
+-- the tracks after some columns
 use Rattle.std.specs.Prelude.{◌==◌, if◌then◌else◌, ℕ, suc, List, [], ◌∷◌, map}
 use Rattle.greedy_column.specs.declared.column.Track.{Track}
 

@@ -1,3 +1,4 @@
+-- where a net has its next pins
 use Rattle.std.specs.Prelude.{◌≡◌, ◌<◌, ◌≤◌, ◌==◌, ◌&&◌, ◌||◌, ◌++◌, nat_lt, nat_le, if◌then◌else◌, Bool, Option, Some, None, [], ◌∷◌, suc, ℕ, List, length, slice_index_or}
 use Rattle.choose_core.specs.declared.candidate.Next.{Next}
 use Rattle.choose_core.specs.declared.candidate.Next.TheVariants.{Ends, Top, Bottom, Both}

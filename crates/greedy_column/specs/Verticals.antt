@@ -1,3 +1,4 @@
+-- the verticals of a column
 use Rattle.std.specs.Prelude.{◌≤◌, ◌+◌, ◌==◌, ◌++◌, nat_le, Bool, if◌then◌else◌, ℕ, List, [], ◌∷◌, map, length}
 use Rattle.channel_model.specs.Pins.{Pins}
 use Rattle.greedy_column.specs.declared.column.Track.{Track}

@@ -1,3 +1,5 @@
+//! Where each net of a channel has its next pins after a column: at one edge, at both, or nowhere.
+
 ghost use Rattle.greedy_column.specs.Uses.{AreSorted};
 ghost use Rattle.std.specs.Prelude.{◌≡◌, IfOk};
 

@@ -1,3 +1,5 @@
+//! Tracks with their ids, the state between two columns, and the record of one column.
+
 use geom_core::Items;
 use std::alloc::{AllocError, Global};
 

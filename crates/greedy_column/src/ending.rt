@@ -1,3 +1,5 @@
+//! Which tracks end: all but one of each group that is joined, or all of them where their net has no more pins.
+
 ghost use Rattle.greedy_column.specs.Ending.{EndsButOne, EndsFollow, EndsOf, chain_from, groups, is_given_up, is_split, joined_pairs, others_of, outside};
 ghost use Rattle.greedy_column.specs.Joining.{neighbours};
 ghost use Rattle.greedy_column.specs.Lines.{held_lines, net_on, own_lines};
@@ -125,7 +127,11 @@ impl<C: Chooses> Moment<'_, C> {
     }
 
     // The lines that end, group by group.
-    pub fn ending_lines(&self, paired: &Paired, spans: &[Span]) -> Result<Vec<u32>, AllocError>
+    pub(crate) fn ending_lines(
+        &self,
+        paired: &Paired,
+        spans: &[Span],
+    ) -> Result<Vec<u32>, AllocError>
         ensures { IfOk result (λ ending.
             EndsFollow (C.answers self.now.chooser.now) (next_after self.now.ahead.now.uses.items self.now.column) paired.now.tracks.now spans.now
             (groups (joined_pairs spans.now (neighbours paired.now.tracks.now)) (held_lines paired.now.tracks.now)) ending.items) }

@@ -1,3 +1,5 @@
+//! How pins enter tracks: one alone, two of one net, or two of different nets.
+
 ghost use Rattle.greedy_column.specs.Entering.{Enters, EntersAlone, EntersEqual, any_place, bottom_question, entry_at, is_ending, pin_kind, straight_question, top_question};
 ghost use Rattle.greedy_column.specs.Lines.{holds_track, open_lines, own_lines};
 ghost use Rattle.std.specs.Prelude.{◌≡◌, ◌<◌, ◌+◌, ◌^◌, ◌||◌, IfOk, length};
@@ -13,21 +15,21 @@ use std::alloc::{AllocError, Global};
 
 // An edge of the channel.
 #[derive(Clone, Copy, Debug)]
-pub enum Edge {
+pub(crate) enum Edge {
     Upper,
     Lower,
 }
 
 // A pin's net, 0 for no pin, and where the net has its next pins.
 #[derive(Clone, Copy, Debug)]
-pub struct Pin {
-    pub net: u32,
-    pub next: Next,
+pub(crate) struct Pin {
+    pub(crate) net: u32,
+    pub(crate) next: Next,
 }
 
 // The kinds of columns, by their pins; two pins are of different nets.
 #[derive(Clone, Copy, Debug)]
-pub enum PinKind {
+pub(crate) enum PinKind {
     NoPins,
     BottomAlone,
     TopAlone,
@@ -37,7 +39,7 @@ pub enum PinKind {
 
 // Which pins get a new track, where two pins have no pair of tracks to enter.
 #[derive(Clone, Copy, Debug)]
-pub enum Newcomer {
+pub(crate) enum Newcomer {
     TopPin,
     BottomPin,
     BothPins,
@@ -45,10 +47,10 @@ pub enum Newcomer {
 
 // What step 1 does: the tracks that it makes, and those that the top pin and the bottom pin enter, 0 where there is none.
 #[derive(Debug, Drop)]
-pub struct Entries {
-    pub made: Items<Made>,
-    pub top: u32,
-    pub bottom: u32,
+pub(crate) struct Entries {
+    pub(crate) made: Items<Made>,
+    pub(crate) top: u32,
+    pub(crate) bottom: u32,
 }
 
 impl Pin {
@@ -64,7 +66,7 @@ impl Pin {
     }
 
     // What is asked of this pin at the top, above some tracks.
-    pub fn top_question(self, tracks: &Tracks) -> Question
+    pub(crate) fn top_question(self, tracks: &Tracks) -> Question
         ensures { result ≡ top_question self (length tracks.now) }
     {
         Question {
@@ -75,7 +77,7 @@ impl Pin {
     }
 
     // What is asked of this pin at the bottom.
-    pub fn bottom_question(self) -> Question
+    pub(crate) fn bottom_question(self) -> Question
         ensures { result ≡ bottom_question self }
     {
         Question {
@@ -125,7 +127,7 @@ fn pin_kind(top: u32, bottom: u32) -> PinKind
 }
 
 // Whether a net has no later pin.
-pub fn is_ending(next: Next) -> bool
+pub(crate) fn is_ending(next: Next) -> bool
     ensures { result ≡ is_ending next }
 {
     match next {
@@ -136,7 +138,7 @@ pub fn is_ending(next: Next) -> bool
 
 impl<C: Chooses> Moment<'_, C> {
     // The entries of a column's pins.
-    pub fn enter(
+    pub(crate) fn enter(
         &self,
         before: &Tracks,
         fresh: u32,

@@ -1,3 +1,5 @@
+//! The ids of the tracks that end in a column, and the tracks once these are freed.
+
 ghost use Rattle.greedy_column.specs.Follows.{AreEnded};
 ghost use Rattle.greedy_column.specs.Replay.{freed, freed_among};
 ghost use Rattle.std.specs.List.Sorted.{IsNonDecreasing};
@@ -9,7 +11,11 @@ use crate::tracks::Tracks;
 use std::alloc::{AllocError, Global};
 
 // The ids of these lines, each once, in ascending order.
-pub fn ended_ids(alloc: Global, tracks: &Tracks, ending: &[u32]) -> Result<Vec<u32>, AllocError>
+pub(crate) fn ended_ids(
+    alloc: Global,
+    tracks: &Tracks,
+    ending: &[u32],
+) -> Result<Vec<u32>, AllocError>
     ensures { IfOk result (λ ended. AreEnded tracks.now ending.now ended.items) }
 {
     let mut ended: Vec<u32> = ending
@@ -22,7 +28,11 @@ pub fn ended_ids(alloc: Global, tracks: &Tracks, ending: &[u32]) -> Result<Vec<u
 }
 
 // The tracks, of which those of these ids are freed.
-pub fn freed(alloc: Global, tracks: &[Track], ended: &[u32]) -> Result<Vec<Track>, AllocError>
+pub(crate) fn freed(
+    alloc: Global,
+    tracks: &[Track],
+    ended: &[u32],
+) -> Result<Vec<Track>, AllocError>
     requires { IsNonDecreasing ended.now }
     ensures { IfOk result (λ kept. kept.items ≡ freed ended.now tracks.now) }
 {

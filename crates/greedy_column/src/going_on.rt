@@ -1,3 +1,5 @@
+//! What a column does once its pins have entered: joins, ends and moves, and the tracks after them.
+
 ghost use Rattle.greedy_column.specs.Follows.{AreEndsTold, AreJoinsTold, AreMovesTold, FollowsOn};
 ghost use Rattle.greedy_column.specs.Replay.{freed, moved};
 ghost use Rattle.greedy_column.specs.Uses.{next_after};
@@ -20,11 +22,11 @@ use std::alloc::{AllocError, Global};
 
 // What steps 2 to 4 do, and the tracks after them.
 #[derive(Drop)]
-pub struct Outcome {
-    pub joins: Items<(u32, u32)>,
-    pub ended: Items<u32>,
-    pub moves: Items<(u32, u32)>,
-    pub tracks: Items<Track>,
+pub(crate) struct Outcome {
+    pub(crate) joins: Items<(u32, u32)>,
+    pub(crate) ended: Items<u32>,
+    pub(crate) moves: Items<(u32, u32)>,
+    pub(crate) tracks: Items<Track>,
 }
 
 // What steps 2 and 3 do, and the verticals after them.
@@ -44,7 +46,7 @@ struct Carried {
 
 impl<C: Chooses> Moment<'_, C> {
     // Steps 2 to 4, over the tracks that the pins have entered and the verticals of these.
-    pub fn go_on(&self, now: &Tracks, spans: Vec<Span>) -> Result<Outcome, AllocError>
+    pub(crate) fn go_on(&self, now: &Tracks, spans: Vec<Span>) -> Result<Outcome, AllocError>
         ensures follows { IfOk result (λ outcome. FollowsOn self.now.manner (C.answers self.now.chooser.now) (next_after self.now.ahead.now.uses.items self.now.column) now.now spans.items
             outcome.joins outcome.ended outcome.moves) }
         ensures tracks { IfOk result (λ outcome. outcome.tracks ≡ moved outcome.moves (freed outcome.ended now.now)) }

@@ -1,3 +1,5 @@
+//! Groups of joined tracks: the lines of each from its lowest one up, and the nets that have more than one group.
+
 ghost use Rattle.greedy_column.specs.Ending.{chain_from, is_joined_below, is_split, joined_pairs, outside};
 ghost use Rattle.greedy_column.specs.Joining.{is_joined};
 ghost use Rattle.greedy_column.specs.Lines.{held_lines};
@@ -13,16 +15,16 @@ use std::alloc::{AllocError, Global};
 // What tells the groups of a column: the joined neighbours, the lines that are joined to one above them, and the nets of more than one
 // group.
 #[derive(Drop)]
-pub struct Grouping {
-    pub joined: Pairs,
-    pub lower: Sorted,
-    pub split: Sorted,
+pub(crate) struct Grouping {
+    pub(crate) joined: Pairs,
+    pub(crate) lower: Sorted,
+    pub(crate) split: Sorted,
     ghost lower_is: { (line : ℕ) → list_any (λ n. n == line) lower ≡ list_any (λ pair. pair.low == line) joined },
 }
 
 impl Grouping {
     // What tells the groups of these neighbouring tracks, by these verticals.
-    pub fn new(alloc: Global, spans: &[Span], pairs: &Pairs) -> Result<Grouping, AllocError>
+    pub(crate) fn new(alloc: Global, spans: &[Span], pairs: &Pairs) -> Result<Grouping, AllocError>
         ensures joined { IfOk result (λ grouping. grouping.joined ≡ joined_pairs spans.now pairs.now) }
         ensures split { IfOk result (λ grouping. (net : ℕ) → list_any (λ n. n == net) grouping.split ≡ is_split spans.now pairs.now net) }
     {
@@ -37,7 +39,7 @@ impl Grouping {
     }
 
     // The lines of the group whose lowest line is this one, at once where no line is joined to it.
-    pub fn group_at(&self, alloc: Global, first: u32) -> Result<Vec<u32>, AllocError>
+    pub(crate) fn group_at(&self, alloc: Global, first: u32) -> Result<Vec<u32>, AllocError>
         ensures group { IfOk result (λ group. group.items ≡ chain_from self.now.joined first) }
         ensures few { IfOk result (λ group. length group.items < 2 ^ 32) }
     {
@@ -105,7 +107,11 @@ fn chain(alloc: Global, joined: &Pairs, first: u32) -> Result<Vec<u32>, AllocErr
 }
 
 // The lowest lines of the groups.
-pub fn lowest_lines(alloc: Global, tracks: &Tracks, joined: &Pairs) -> Result<Vec<u32>, AllocError>
+pub(crate) fn lowest_lines(
+    alloc: Global,
+    tracks: &Tracks,
+    joined: &Pairs,
+) -> Result<Vec<u32>, AllocError>
     ensures { IfOk result (λ lowest. lowest.items ≡ filter (λ line. not (is_joined_below joined.now line)) (held_lines tracks.now)) }
 {
     let upper = upper_lines(alloc, joined)?;

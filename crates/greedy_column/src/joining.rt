@@ -1,3 +1,5 @@
+//! Joins neighbouring tracks of a net by verticals, one after another, while one more is possible.
+
 ghost use Rattle.greedy_column.specs.Uses.{next_after};
 ghost use Rattle.greedy_column.specs.Joining.{IsNextJoin, JoinsFollow, ids_of, possible_joins};
 ghost use Rattle.greedy_column.specs.Offers.{IsPicked, join_offer};
@@ -51,7 +53,11 @@ impl<C: Chooses> Moment<'_, C> {
     }
 
     // The joins of a column, in their order: while one is possible, one is picked, and becomes a vertical.
-    pub fn join_all(&self, pairs: &Pairs, spans: &mut Vec<Span>) -> Result<Vec<Span>, AllocError>
+    pub(crate) fn join_all(
+        &self,
+        pairs: &Pairs,
+        spans: &mut Vec<Span>,
+    ) -> Result<Vec<Span>, AllocError>
         ensures joins { IfOk result (λ joined.
             JoinsFollow (C.answers self.now.chooser.now) (next_after self.now.ahead.now.uses.items self.now.column) pairs.now spans.old.items joined.items) }
         ensures spans { IfOk result (λ joined. spans.new.items ≡ spans.old.items ++ joined.items) }
@@ -86,7 +92,7 @@ fn join_offers(
 }
 
 // The ids of the joins' lower and upper tracks.
-pub fn join_ids(
+pub(crate) fn join_ids(
     alloc: Global,
     tracks: &Tracks,
     joined: &[Span],

@@ -1,3 +1,5 @@
+//! Lists of lines: those of free tracks and of a net's own ones, and what is above, below or outside of others.
+
 ghost use Rattle.greedy_column.specs.Ending.{outside};
 ghost use Rattle.greedy_column.specs.Lines.{AreLines, above_lowest, below_line, held_lines, is_sought, lines_from, open_lines, own_lines};
 ghost use Rattle.greedy_column.specs.Moving.{move_options, without};
@@ -14,7 +16,7 @@ use std::marker::Model;
 
 // Lines on which tracks stand.
 #[derive(Drop)]
-pub struct Lines {
+pub(crate) struct Lines {
     list: Vec<u32>,
 }
 
@@ -31,7 +33,7 @@ impl Model for Lines {
 
 // Which tracks are sought: those that are free or a net's own, those that nets hold, or those that one net holds.
 #[derive(Clone, Copy, Debug)]
-pub enum Sought {
+pub(crate) enum Sought {
     Open(u32),
     Held,
     Own(u32),
@@ -52,7 +54,7 @@ impl Sought {
 
 impl Tracks {
     // The lines of the tracks that are free or a net's own; of those that are free, for net 0.
-    pub fn open_lines(&self, alloc: Global, net: u32) -> Result<Lines, AllocError>
+    pub(crate) fn open_lines(&self, alloc: Global, net: u32) -> Result<Lines, AllocError>
         ensures { IfOk result (λ lines. lines ≡ open_lines net self.now) }
     {
         let list = self.lines_where(alloc, Sought::Open(net))?;
@@ -60,7 +62,7 @@ impl Tracks {
     }
 
     // The lines of the tracks that a net holds.
-    pub fn own_lines(&self, alloc: Global, net: u32) -> Result<Lines, AllocError>
+    pub(crate) fn own_lines(&self, alloc: Global, net: u32) -> Result<Lines, AllocError>
         ensures { IfOk result (λ lines. lines ≡ own_lines net self.now) }
     {
         let list = self.lines_where(alloc, Sought::Own(net))?;
@@ -68,7 +70,7 @@ impl Tracks {
     }
 
     // The lines of the tracks that nets hold.
-    pub fn held_lines(&self, alloc: Global) -> Result<Vec<u32>, AllocError>
+    pub(crate) fn held_lines(&self, alloc: Global) -> Result<Vec<u32>, AllocError>
         ensures { IfOk result (λ lines. lines.items ≡ held_lines self.now) }
     {
         self.lines_where(alloc, Sought::Held)
@@ -93,7 +95,7 @@ impl Tracks {
 
 impl Lines {
     // No lines.
-    pub fn none(alloc: Global) -> Lines
+    pub(crate) fn none(alloc: Global) -> Lines
         ensures { result ≡ [] }
     {
         Lines {
@@ -102,7 +104,7 @@ impl Lines {
     }
 
     // Lends the lines.
-    pub fn list(&self) -> &[u32]
+    pub(crate) fn list(&self) -> &[u32]
         ensures list { result.now ≡ self.now }
         ensures are { AreLines self.now }
     {
@@ -110,7 +112,7 @@ impl Lines {
     }
 
     // Of these lines those above the lowest of others.
-    pub fn above_lowest(&self, alloc: Global, others: &Lines) -> Result<Lines, AllocError>
+    pub(crate) fn above_lowest(&self, alloc: Global, others: &Lines) -> Result<Lines, AllocError>
         ensures { IfOk result (λ above. above ≡ above_lowest others.now self.now) }
     {
         match others.list().first() {
@@ -129,7 +131,7 @@ impl Lines {
     }
 
     // Of these lines those below a line.
-    pub fn below(&self, alloc: Global, upper: u32) -> Result<Lines, AllocError>
+    pub(crate) fn below(&self, alloc: Global, upper: u32) -> Result<Lines, AllocError>
         ensures { IfOk result (λ below. below ≡ below_line upper self.now) }
     {
         let lines = self.list.iter().copied();
@@ -138,7 +140,7 @@ impl Lines {
     }
 
     // What is left of these lines once one is taken.
-    pub fn without(&self, alloc: Global, line: u32) -> Result<Lines, AllocError>
+    pub(crate) fn without(&self, alloc: Global, line: u32) -> Result<Lines, AllocError>
         ensures { IfOk result (λ left. left ≡ without line self.now) }
     {
         let lines = self.list.iter().copied();
@@ -147,7 +149,7 @@ impl Lines {
     }
 
     // Of these free lines those to which a track of a net on this line may move past the verticals of other nets.
-    pub fn move_options(
+    pub(crate) fn move_options(
         &self,
         alloc: Global,
         spans: &[Span],
@@ -164,7 +166,7 @@ impl Lines {
     }
 
     // The lines outside a group.
-    pub fn outside(&self, alloc: Global, group: &[u32]) -> Result<Lines, AllocError>
+    pub(crate) fn outside(&self, alloc: Global, group: &[u32]) -> Result<Lines, AllocError>
         ensures { IfOk result (λ others. others ≡ outside group.now self.now) }
     {
         let list = outside(alloc, group, &self.list)?;
@@ -191,7 +193,7 @@ fn is_member(group: &[u32], line: u32) -> bool
 }
 
 // Adds a line, where it is wanted.
-pub fn push_where(lines: &mut Vec<u32>, wanted: bool, line: u32) -> Result<(), AllocError>
+pub(crate) fn push_where(lines: &mut Vec<u32>, wanted: bool, line: u32) -> Result<(), AllocError>
     ensures { OnOk result (lines.new.items ≡ lines.old.items ++ (if wanted then line ∷ [] else [])) }
 {
     if wanted {

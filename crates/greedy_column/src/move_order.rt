@@ -1,3 +1,5 @@
+//! The order in which kept tracks may move: from bottom to top, or split nets first and then the farthest to go.
+
 ghost use Rattle.greedy_column.specs.Lines.{held_lines, net_on};
 ghost use Rattle.greedy_column.specs.Moving.{AreOrdered, IsOrderAhead, IsOrderOfMoves, behind, behind_on, is_split};
 ghost use Rattle.greedy_column.specs.Uses.{next_after};
@@ -16,9 +18,9 @@ use std::alloc::{AllocError, Global};
 
 // A line whose track is to move, and how much of the channel lies behind it on the way to the next pins.
 #[derive(Clone, Copy, Debug)]
-pub struct Waiting {
-    pub line: u32,
-    pub behind: u32,
+pub(crate) struct Waiting {
+    pub(crate) line: u32,
+    pub(crate) behind: u32,
 }
 
 // Lines of split nets, and others.
@@ -29,7 +31,7 @@ struct Parted {
 }
 
 // The order in which the kept tracks may move.
-pub fn order_of_moves(
+pub(crate) fn order_of_moves(
     alloc: Global,
     manner: Manner,
     ahead: &Ahead,

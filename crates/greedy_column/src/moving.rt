@@ -1,3 +1,5 @@
+//! Moves of nets from kept tracks to free ones, each picked by the chooser and drawn as a vertical.
+
 ghost use Rattle.greedy_column.specs.Uses.{next_after};
 ghost use Rattle.greedy_column.specs.Lines.{net_on, own_lines};
 ghost use Rattle.greedy_column.specs.Replay.{moved};
@@ -17,7 +19,7 @@ use choose_core::{Ask, Chooses, Next};
 use std::alloc::{AllocError, Global};
 
 // The piece between two lines.
-pub fn piece_between(net: u32, one: u32, other: u32) -> Span
+pub(crate) fn piece_between(net: u32, one: u32, other: u32) -> Span
     ensures { result ≡ piece_between net one other }
 {
     Span {
@@ -77,7 +79,7 @@ impl<C: Chooses> Moment<'_, C> {
     }
 
     // The moves of a column, as lines, in their order, by which the kept tracks are carried along.
-    pub fn move_all(
+    pub(crate) fn move_all(
         &self,
         tracks: &Tracks,
         lines: &[u32],
@@ -145,7 +147,7 @@ fn go_to(
 }
 
 // The ids of the moves' lines.
-pub fn move_ids(
+pub(crate) fn move_ids(
     alloc: Global,
     tracks: &Tracks,
     moves: &[(u32, u32)],
@@ -159,7 +161,7 @@ pub fn move_ids(
 }
 
 // Carries the net of each move from one track to another.
-pub fn carry(tracks: &mut [Track], moves: &[(u32, u32)])
+pub(crate) fn carry(tracks: &mut [Track], moves: &[(u32, u32)])
     ensures { tracks.new ≡ moved moves.now tracks.old }
 {
     let mut rest = moves;
@@ -186,7 +188,7 @@ pub fn held_by(tracks: &[Track], id: u32) -> u32
 }
 
 // Gives the track of an id to a net.
-pub fn hold(tracks: &mut [Track], id: u32, net: u32)
+pub(crate) fn hold(tracks: &mut [Track], id: u32, net: u32)
     ensures { tracks.new ≡ hold id net tracks.old }
 {
     for track in tracks.iter_mut() {

@@ -1,3 +1,5 @@
+//! How two pins of different nets enter: both onto open tracks, one onto a new track, or both onto new ones.
+
 ghost use Rattle.greedy_column.specs.Entering.{EntersAbove, EntersBelow, EntersPair, EntersPartners, both_new, newcomer_by, newcomer_of};
 ghost use Rattle.greedy_column.specs.Lines.{above_lowest, below_line, holds_track};
 ghost use Rattle.std.specs.Prelude.{◌≡◌, ◌<◌, ◌+◌, ◌^◌, ℕ, Contains, IfOk, length};
@@ -42,7 +44,7 @@ fn newcomer_of(
 
 impl<C: Chooses> Moment<'_, C> {
     // The entries of two pins of different nets, from the lines that are open to them.
-    pub fn enter_pair(
+    pub(crate) fn enter_pair(
         &self,
         before: &Tracks,
         fresh: u32,

@@ -1,3 +1,5 @@
+//! Two neighbouring tracks of a net as a pair: which pairs verticals join, and which may still be joined.
+
 ghost use Rattle.greedy_column.specs.Ending.{joined_pairs};
 ghost use Rattle.greedy_column.specs.Joining.{ArePairs, neighbours, pair_of, possible_joins};
 ghost use Rattle.std.specs.BTreeMap.{get};
@@ -12,7 +14,7 @@ use std::marker::Model;
 
 // Pairs of tracks of one net, each as the piece between them.
 #[derive(Drop)]
-pub struct Pairs {
+pub(crate) struct Pairs {
     list: Vec<Span>,
 }
 
@@ -30,15 +32,15 @@ impl Model for Pairs {
 
 // Tracks with all two neighbouring ones of a net.
 #[derive(Drop)]
-pub struct Paired<'a> {
-    pub tracks: &'a Tracks,
-    pub pairs: Pairs,
+pub(crate) struct Paired<'a> {
+    pub(crate) tracks: &'a Tracks,
+    pub(crate) pairs: Pairs,
     ghost neighbours: { pairs ≡ neighbours tracks.now },
 }
 
 impl Tracks {
     // These tracks with their neighbours.
-    pub fn paired(&self, alloc: Global) -> Result<Paired<'_>, AllocError>
+    pub(crate) fn paired(&self, alloc: Global) -> Result<Paired<'_>, AllocError>
         ensures { IfOk result (λ paired. paired.tracks.now ≡ self.now) }
     {
         let pairs = self.neighbours(alloc)?;
@@ -49,7 +51,7 @@ impl Tracks {
     }
 
     // All two neighbouring tracks of a net, by ascending lower track.
-    pub fn neighbours(&self, alloc: Global) -> Result<Pairs, AllocError>
+    pub(crate) fn neighbours(&self, alloc: Global) -> Result<Pairs, AllocError>
         ensures { IfOk result (λ pairs. pairs ≡ neighbours self.now) }
     {
         let mut lowest = BTreeMap::new(alloc);
@@ -71,7 +73,7 @@ impl Tracks {
 
 impl Pairs {
     // Lends the pairs.
-    pub fn list(&self) -> &[Span]
+    pub(crate) fn list(&self) -> &[Span]
         ensures list { result.now ≡ self.now }
         ensures are { ArePairs self.now }
     {
@@ -79,7 +81,7 @@ impl Pairs {
     }
 
     // Those that verticals join.
-    pub fn joined(&self, alloc: Global, spans: &[Span]) -> Result<Pairs, AllocError>
+    pub(crate) fn joined(&self, alloc: Global, spans: &[Span]) -> Result<Pairs, AllocError>
         ensures { IfOk result (λ joined. joined ≡ joined_pairs spans.now self.now) }
     {
         let pairs = self.list.iter().copied();
@@ -88,7 +90,7 @@ impl Pairs {
     }
 
     // Those that may be joined.
-    pub fn possible_joins(&self, alloc: Global, spans: &[Span]) -> Result<Pairs, AllocError>
+    pub(crate) fn possible_joins(&self, alloc: Global, spans: &[Span]) -> Result<Pairs, AllocError>
         ensures { IfOk result (λ joins. joins ≡ possible_joins spans.now self.now) }
     {
         let pairs = self.list.iter().copied();

@@ -1,3 +1,5 @@
+//! Where a new track goes in: near the middle of the channel, or near the next pins of its net.
+
 ghost use Rattle.greedy_column.specs.Entering.{any_place, place_for};
 ghost use Rattle.greedy_column.specs.Places.{place_ahead, place_by_edge, place_by_next, place_of_new};
 ghost use Rattle.std.specs.Prelude.{◌≡◌, ◌<◌, ◌≤◌, ◌+◌, ◌^◌, length};
@@ -39,7 +41,7 @@ fn place_ahead(holds: bool, next: Next, edge: Edge, least: u32, most: u32) -> u3
 }
 
 // How many of some tracks lie below a new one for a pin at an edge, which is to have at least and at most so many of them below it.
-pub fn place_of_new(
+pub(crate) fn place_of_new(
     manner: Manner,
     holds: bool,
     next: Next,
@@ -57,7 +59,7 @@ pub fn place_of_new(
 }
 
 // The same for a pin above or below these tracks.
-pub fn place_for(
+pub(crate) fn place_for(
     manner: Manner,
     pin: Pin,
     edge: Edge,
@@ -73,7 +75,7 @@ pub fn place_for(
 }
 
 // The same among all places.
-pub fn any_place(manner: Manner, pin: Pin, edge: Edge, before: &Tracks) -> u32
+pub(crate) fn any_place(manner: Manner, pin: Pin, edge: Edge, before: &Tracks) -> u32
     ensures place { result ≡ any_place manner pin edge before.now }
     ensures within { result ≤ length before.now }
 {

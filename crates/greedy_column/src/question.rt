@@ -1,3 +1,5 @@
+//! What is asked about tracks, how a track is offered as a candidate, and which line is picked.
+
 ghost use Rattle.greedy_column.specs.Lines.{own_lines};
 ghost use Rattle.greedy_column.specs.Offers.{IsPicked, distance, gap_to, least_distance, offer, pull_to};
 ghost use Rattle.std.specs.Prelude.{◌≡◌, ◌<◌, ◌≤◌, ◌+◌, ◌^◌, Contains, IfOk, length, map};
@@ -11,10 +13,10 @@ use std::alloc::{AllocError, Global};
 // What is asked about some tracks: the ask, the line near which a track is wanted, where there is one, and where the net has
 // its next pins.
 #[derive(Clone, Copy, Debug)]
-pub struct Question {
-    pub ask: Ask,
-    pub aim: Option<u32>,
-    pub next: Next,
+pub(crate) struct Question {
+    pub(crate) ask: Ask,
+    pub(crate) aim: Option<u32>,
+    pub(crate) next: Next,
 }
 
 impl Question {
@@ -68,7 +70,7 @@ fn least_distance(line: u32, first: u32, others: &[u32]) -> u32
 
 impl<C: Chooses> Moment<'_, C> {
     // One of these lines of a net that holds other tracks too, picked by the chooser.
-    pub fn pick_line(
+    pub(crate) fn pick_line(
         &self,
         question: Question,
         others: &Lines,
@@ -84,7 +86,7 @@ impl<C: Chooses> Moment<'_, C> {
     }
 
     // One of these lines of a net, beside the tracks that it holds, picked by the chooser.
-    pub fn pick_own(
+    pub(crate) fn pick_own(
         &self,
         question: Question,
         tracks: &Tracks,

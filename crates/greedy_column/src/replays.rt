@@ -1,3 +1,5 @@
+//! The tracks that a column's record makes of those before it: once its pins have entered, and after it.
+
 ghost use Rattle.greedy_column.specs.Lawful.{AreMadeFrom};
 ghost use Rattle.greedy_column.specs.Replay.{entered, freed, moved};
 ghost use Rattle.std.specs.List.Sorted.{IsNonDecreasing};

@@ -1,3 +1,5 @@
+//! Numbers in ascending order, in which one is found by halving.
+
 ghost use Rattle.std.specs.List.Sorted.{IsNonDecreasing};
 ghost use Rattle.std.specs.List.{list_any};
 ghost use Rattle.std.specs.Prelude.{◌≡◌, ◌==◌, ℕ};
@@ -6,7 +8,7 @@ use std::marker::Model;
 
 // Numbers in ascending order.
 #[derive(Drop)]
-pub struct Sorted {
+pub(crate) struct Sorted {
     numbers: Vec<u32>,
 }
 
@@ -23,7 +25,7 @@ impl Model for Sorted {
 
 impl Sorted {
     // These numbers, sorted.
-    pub fn new(mut numbers: Vec<u32>) -> Sorted
+    pub(crate) fn new(mut numbers: Vec<u32>) -> Sorted
         ensures { (number : ℕ) → list_any (λ n. n == number) result ≡ list_any (λ n. n == number) numbers.items }
     {
         numbers.sort_unstable();
@@ -31,7 +33,7 @@ impl Sorted {
     }
 
     // Whether a number is among them.
-    pub fn has(&self, number: u32) -> bool
+    pub(crate) fn has(&self, number: u32) -> bool
         ensures { result ≡ list_any (λ n. n == number) self.now }
     {
         is_among(&self.numbers, number)
@@ -39,7 +41,7 @@ impl Sorted {
 }
 
 // Whether a number is among sorted ones.
-pub fn is_among(sorted: &[u32], number: u32) -> bool
+pub(crate) fn is_among(sorted: &[u32], number: u32) -> bool
     requires { IsNonDecreasing sorted.now }
     ensures { result ≡ list_any (λ n. n == number) sorted.now }
 {

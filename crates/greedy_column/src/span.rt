@@ -1,3 +1,5 @@
+//! Vertical pieces of wire in a column: which join two lines, which stand clear of others, and those of the pins.
+
 ghost use Rattle.greedy_column.specs.Joining.{covers, is_clear, is_joined, passes, span_in};
 ghost use Rattle.greedy_column.specs.Tracks.{ids};
 ghost use Rattle.greedy_column.specs.Verticals.{verticals_of_pins};
@@ -40,7 +42,7 @@ impl Span {
     }
 
     // Whether no vertical of another net shares a point with this piece.
-    pub fn is_clear(self, verticals: &[Span]) -> bool
+    pub(crate) fn is_clear(self, verticals: &[Span]) -> bool
         ensures { result ≡ is_clear verticals.now self }
     {
         verticals

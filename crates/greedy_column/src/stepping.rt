@@ -1,3 +1,5 @@
+//! Takes one column of the sweep, from the state before it to its record and the state after it.
+
 ghost use Rattle.greedy_column.specs.Ahead.{IsAhead};
 ghost use Rattle.greedy_column.specs.Fair.{Fair};
 ghost use Rattle.greedy_column.specs.Follows.{Follows, FollowsOn, entries_of, pin_with};
@@ -46,7 +48,7 @@ fn pin_of(ahead: &Ahead, column: u32, net: u32) -> Pin
 }
 
 // The tracks with those that are made.
-pub fn with_made(mut tracks: Vec<Track>, made: &[Made]) -> Result<Vec<Track>, AllocError>
+pub(crate) fn with_made(mut tracks: Vec<Track>, made: &[Made]) -> Result<Vec<Track>, AllocError>
     requires { (fresh : ℕ) × AreMadeFrom fresh (length tracks.items) made.now }
     ensures made { IfOk result (λ all. all.items ≡ with_made tracks.items made.now) }
     ensures long { IfOk result (λ all. length all.items ≡ length tracks.items + length made.now) }

@@ -1,3 +1,5 @@
+//! The tracks of a column, from the bottom up: the id and the net on each line, and the tracks that a net holds.
+
 ghost use Rattle.greedy_column.specs.Lines.{holds_track, id_on, net_on, own_lines};
 ghost use Rattle.greedy_column.specs.Moving.{without};
 ghost use Rattle.greedy_column.specs.Replay.{freed, moved};
@@ -13,7 +15,7 @@ use std::marker::Model;
 
 // The tracks of a column from bottom to top, so few of them that each line and the upper edge have a number.
 #[derive(Drop)]
-pub struct Tracks {
+pub(crate) struct Tracks {
     list: Vec<Track>,
 }
 
@@ -30,7 +32,7 @@ impl Model for Tracks {
 
 impl Tracks {
     // These tracks.
-    pub fn new(list: Vec<Track>) -> Tracks
+    pub(crate) fn new(list: Vec<Track>) -> Tracks
         requires { length list.items + 2 < 2 ^ 32 }
         ensures { result ≡ list.items }
     {
@@ -38,7 +40,7 @@ impl Tracks {
     }
 
     // Lends the tracks, from bottom to top.
-    pub fn list(&self) -> &[Track]
+    pub(crate) fn list(&self) -> &[Track]
         ensures list { result.now ≡ self.now }
         ensures few { length self.now + 2 < 2 ^ 32 }
     {
@@ -46,14 +48,14 @@ impl Tracks {
     }
 
     // The tracks without their type.
-    pub fn into_list(self) -> Vec<Track>
+    pub(crate) fn into_list(self) -> Vec<Track>
         ensures { result.items ≡ self }
     {
         self.list
     }
 
     // How many there are.
-    pub fn count(&self) -> u32
+    pub(crate) fn count(&self) -> u32
         ensures count { result ≡ length self.now }
         ensures few { result + 2 < 2 ^ 32 }
     {
@@ -61,14 +63,14 @@ impl Tracks {
     }
 
     // The line of the upper edge.
-    pub fn upper_edge(&self) -> u32
+    pub(crate) fn upper_edge(&self) -> u32
         ensures { result ≡ length self.now + 1 }
     {
         self.count() + 1
     }
 
     // Whether a net holds a track.
-    pub fn holds(&self, net: u32) -> bool
+    pub(crate) fn holds(&self, net: u32) -> bool
         ensures { result ≡ holds_track self.now net }
     {
         self.list().iter().any(|track| track.net == net)
@@ -82,7 +84,7 @@ impl Tracks {
     }
 
     // Whether the one track that a net holds is seen to be that on this line.
-    pub fn holds_alone(&self, net: u32, line: u32) -> bool
+    pub(crate) fn holds_alone(&self, net: u32, line: u32) -> bool
         ensures { result ≡ true → without line (own_lines net self.now) ≡ [] }
     {
         if line == 0 {
@@ -98,7 +100,7 @@ impl Tracks {
     }
 
     // The id on a line, 0 where there is no track.
-    pub fn id_on(&self, line: u32) -> u32
+    pub(crate) fn id_on(&self, line: u32) -> u32
         ensures { result ≡ id_on self.now line }
     {
         match self.list().get((line as usize).saturating_sub(1)) {
@@ -108,7 +110,7 @@ impl Tracks {
     }
 
     // The net on a line, 0 where there is no track.
-    pub fn net_on(&self, line: u32) -> u32
+    pub(crate) fn net_on(&self, line: u32) -> u32
         ensures { result ≡ net_on self.now line }
     {
         match self.list().get((line as usize).saturating_sub(1)) {
@@ -118,7 +120,7 @@ impl Tracks {
     }
 
     // The tracks, of which those of these ids are freed.
-    pub fn freed(&self, alloc: Global, ended: &[u32]) -> Result<Tracks, AllocError>
+    pub(crate) fn freed(&self, alloc: Global, ended: &[u32]) -> Result<Tracks, AllocError>
         requires { IsNonDecreasing ended.now }
         ensures { IfOk result (λ kept. kept ≡ freed ended.now self.now) }
     {
@@ -127,7 +129,7 @@ impl Tracks {
     }
 
     // Carries the net of one track to another.
-    pub fn carry(&mut self, from: u32, to: u32)
+    pub(crate) fn carry(&mut self, from: u32, to: u32)
         ensures { self.new ≡ moved ((from, to) ∷ []) self.old }
     {
         carry(&mut self.list, &[(from, to)]);

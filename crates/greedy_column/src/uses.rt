@@ -1,3 +1,5 @@
+//! The columns in which nets have pins and at which edges, sorted by net, and the first one of a net behind a column.
+
 ghost use Rattle.greedy_column.specs.Uses.{AreSorted, is_past, next_after, next_at, use_at, uses_at, uses_from};
 ghost use Rattle.std.specs.List.{AllWithin};
 ghost use Rattle.std.specs.List.Sorted.{IsNonDecreasingBy, IsStableByKey};
@@ -10,14 +12,14 @@ use std::alloc::{AllocError, Global};
 
 // A column in which a net has pins, and at which edges.
 #[derive(Clone, Copy, Debug)]
-pub struct Use {
-    pub net: u32,
-    pub column: u32,
-    pub next: Next,
+pub(crate) struct Use {
+    pub(crate) net: u32,
+    pub(crate) column: u32,
+    pub(crate) next: Next,
 }
 
 // Sorts uses by their nets, each net's in the order in which they stand.
-pub fn sort_by_net(uses: &mut Vec<Use>) -> Result<(), AllocError>
+pub(crate) fn sort_by_net(uses: &mut Vec<Use>) -> Result<(), AllocError>
     ensures sorted { OnOk result (IsNonDecreasingBy (λ u. u.net) uses.new.items) }
     ensures stable { OnOk result (IsStableByKey (λ u. u.net) nat_cmp uses.old.items uses.new.items) }
 {
@@ -26,7 +28,7 @@ pub fn sort_by_net(uses: &mut Vec<Use>) -> Result<(), AllocError>
 }
 
 // The first use that lies behind a column of a net.
-pub fn first_behind(uses: &[Use], net: u32, column: u32) -> Option<Use>
+pub(crate) fn first_behind(uses: &[Use], net: u32, column: u32) -> Option<Use>
     requires { AreSorted uses.now }
     ensures { next_at net result ≡ next_after uses.now column net }
 {
@@ -39,7 +41,7 @@ pub fn first_behind(uses: &[Use], net: u32, column: u32) -> Option<Use>
 }
 
 // The next pins of a net from a use, where it is the net's.
-pub fn next_at(used: Option<Use>, net: u32) -> Next
+pub(crate) fn next_at(used: Option<Use>, net: u32) -> Next
     ensures { result ≡ next_at net used }
 {
     match used {
@@ -49,7 +51,7 @@ pub fn next_at(used: Option<Use>, net: u32) -> Next
 }
 
 // The uses by the pins of all columns, by column.
-pub fn uses_of(alloc: Global, channel: &Channel) -> Result<Vec<Use>, AllocError>
+pub(crate) fn uses_of(alloc: Global, channel: &Channel) -> Result<Vec<Use>, AllocError>
     ensures { IfOk result (λ uses. uses.items ≡ uses_from channel.now.top channel.now.bottom 0) }
 {
     let mut uses = Vec::new(alloc);

@@ -9,7 +9,7 @@ use Rattle.greedy_column.specs.declared.column.Made.{Made}
 use Rattle.greedy_router.specs.Columns.{AreAlike, column_of, columns_in, entered_of}
 use Rattle.greedy_router.specs.declared.columns.Entered.{Entered}
 use Rattle.greedy_router.specs.declared.columns.Parts.{Parts}
-use Rattle.greedy_router.proofs.ZipLaws.{zip-at, zip-length, zip-push}
+use Rattle.std_laws.proofs.Zips.{zip-at, zip-length, zip-push}
 
 -- one column more
 pub alike-push : (parts new : Parts) (done : Column) → AreAlike parts

@@ -8,9 +8,9 @@ use Rattle.greedy_column.specs.Replay.{after, replay_from}
 use Rattle.greedy_column.specs.Lawful.{IsLawful, AreMadeFrom}
 use Rattle.greedy_column.specs.State.{AreNumbered}
 use Rattle.greedy_column.specs.Fair.{AllFair}
-use Rattle.greedy_column.proofs.Members.{in_first, in_later}
 use Rattle.greedy_column.proofs.NoPinLaws.{no_pins, no_pins-made}
 use Rattle.greedy_router.proofs.OrderLaws.{AreNumbered-after}
+use Rattle.std_laws.proofs.Members.{member-head, member-tail}
 
 -- a column makes at most two tracks
 few_made : (top bottom fresh count : ℕ) (made : List Made) → AreMadeFrom fresh count made
@@ -19,9 +19,9 @@ few_made top bottom fresh count [] placed entered = omega arith
 few_made top bottom fresh count (l ∷ []) placed entered = omega arith
 few_made top bottom fresh count (l ∷ (m ∷ [])) placed entered = omega arith
 few_made top bottom fresh count (l ∷ (m ∷ (n ∷ made))) placed entered =
-    let one = entered l (in_first l (m ∷ (n ∷ made))) in
-    let two = entered m (in_later l m (m ∷ (n ∷ made)) (in_first m (n ∷ made))) in
-    let three = entered n (in_later l n (m ∷ (n ∷ made)) (in_later m n (n ∷ made) (in_first n made))) in
+    let one = entered l (member-head l (m ∷ (n ∷ made))) in
+    let two = entered m (member-tail l (m ∷ (n ∷ made)) m (member-head m (n ∷ made))) in
+    let three = entered n (member-tail l (m ∷ (n ∷ made)) n (member-tail m (n ∷ made) n (member-head n made))) in
     let first = placed.0 in
     let second = placed.2.0 in
     let third = placed.2.2.0 in

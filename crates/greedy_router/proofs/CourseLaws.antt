@@ -6,13 +6,13 @@ use Rattle.greedy_column.specs.Tracks.{ids, held_by}
 use Rattle.greedy_column.specs.Replay.{entered, after, free_tracks, replay_from, replay}
 use Rattle.greedy_column.specs.State.{AreNumbered}
 use Rattle.greedy_column.specs.Fair.{Fair, AllFair}
-use Rattle.greedy_column.proofs.Members.{in_first, in_later}
 use Rattle.greedy_column.proofs.IdLaws.{Apart, Apart-from}
 use Rattle.greedy_column.proofs.StateLaws.{IsState-first, nets-free}
 use Rattle.greedy_router.specs.Moments.{tracks_after}
 use Rattle.greedy_router.specs.SweepWiring.{since_after}
 use Rattle.greedy_router.proofs.OrderLaws.{IsEarlier, IsEarlier-entered, AreNumbered-after}
 use Rattle.greedy_router.proofs.CountLaws.{fresh_after, AreNumbered-replay_from}
+use Rattle.std_laws.proofs.Members.{member-head, member-tail}
 
 -- since when each track is held, after some columns
 abbrev pub since_from : Pins → ℕ → List Track → (ℕ → ℕ) → List Column → ℕ → ℕ
@@ -60,7 +60,7 @@ IsAt-from pins column fresh before since (done ∷ columns) numbered fair (suc n
 -- no net holds a track where all are free
 pub held_by-none : (tracks : List Track) → ((t : Track) → Contains tracks t → t.net ≡ 0) → (id : ℕ) → held_by tracks id ≡ 0
 held_by-none [] free id = refl
-held_by-none (t ∷ tracks) free id = step (eqb t.id id) (free t (in_first t tracks)) (held_by-none tracks (λ u member. free u (in_later t u tracks member)) id) where
+held_by-none (t ∷ tracks) free id = step (eqb t.id id) (free t (member-head t tracks)) (held_by-none tracks (λ u member. free u (member-tail t tracks u member)) id) where
   step : (b : Bool) → t.net ≡ 0 → held_by tracks id ≡ 0 → cond b t.net (held_by tracks id) ≡ 0
   step true none rest = none
   step false none rest = rest

@@ -2,7 +2,6 @@ use Rattle.std.proofs.Common.{◌≡◌, ◌⊎◌, inl, inr, ◌<◌, ◌≤◌
 use Rattle.std.proofs.lemmas.Bool.{cases_lt}
 use Rattle.std.proofs.lemmas.List.Elements.{All-nil, All-cons}
 use Rattle.std.specs.List.Sorted.{IsNonDecreasing}
-use Rattle.greedy_column.proofs.FollowLaws.{not_falling}
 use Rattle.channel_model.specs.Pins.{Pins, IsChannel}
 use Rattle.choose_core.specs.declared.candidate.Candidate.{Candidate}
 use Rattle.choose_core.specs.declared.plan.Manner.{Manner}
@@ -21,6 +20,7 @@ use Rattle.greedy_router.specs.Running.{is_past, is_going}
 use Rattle.greedy_router.specs.declared.sweep.Sweep.{Sweep}
 use Rattle.greedy_router.proofs.CountLaws.{fresh_after}
 use Rattle.greedy_router.proofs.SweepLaws.{replay_from-push, AllFair-push, AllFollow-push, tracks_after-push, tracks_after-all, past-is, past-not, going-open, going-held, stopped-parts}
+use Rattle.std_laws.proofs.Increasing.{increasing-rises}
 
 -- the records of a sweep of a channel in a manner, which began with so many free tracks and was not past its limits before the last of them,
 -- and the tracks after it
@@ -44,7 +44,7 @@ ascending-from : (manner : Manner) (may : List Candidate → ℕ → Type 0) (pi
     → AllFollow manner may pins column fresh before columns → All (λ (done : Column). IsNonDecreasing done.ended) columns
 ascending-from manner may pins column fresh before [] follows = All-nil (λ (done : Column). IsNonDecreasing done.ended)
 ascending-from manner may pins column fresh before (done ∷ columns) follows =
-    All-cons (λ (done : Column). IsNonDecreasing done.ended) done columns (not_falling done.ended follows.0.goes_on.ends_told.ascending)
+    All-cons (λ (done : Column). IsNonDecreasing done.ended) done columns (increasing-rises done.ended follows.0.goes_on.ends_told.ascending)
     (ascending-from manner may pins (suc column) (fresh + length done.made) (after pins column done before) columns follows.1)
 
 -- before the first column

@@ -9,23 +9,23 @@ use Rattle.greedy_column.specs.Replay.{entered, freed, after}
 use Rattle.greedy_column.specs.Neighbours.{Holds}
 use Rattle.greedy_column.specs.Lawful.{IsLawful, IsMove}
 use Rattle.greedy_column.specs.State.{AreNumbered}
-use Rattle.greedy_column.proofs.Members.{in_none, in_cases, in_map, in_map_back, any_at, any_from}
 use Rattle.greedy_column.proofs.IdLaws.{Apart, Apart-from, ids-freed}
 use Rattle.greedy_router.specs.SweepWiring.{leaves}
 use Rattle.greedy_router.proofs.OrderLaws.{ids-after}
 use Rattle.greedy_column.proofs.EnteredLaws.{target-free}
 use Rattle.greedy_router.proofs.MovedLaws.{sources, targets, freed-kept, freed-gone, moved-other, moved-gone, moved-to}
+use Rattle.std_laws.proofs.Members.{member-none, member-cases, map-member, map-cases, any-cases, any-member}
 
 -- of what a map keeps apart, what is mapped to one is one
 pub one_of_apart : {X : Type 0} (f : X → ℕ) (xs : List X) (x y : X) → Apart (map f xs) → Contains xs x → Contains xs y → f x ≡ f y → x ≡ y
-one_of_apart f [] x y apart first second same = absurd (in_none x first)
-one_of_apart f (z ∷ zs) x y apart first second same = elim (in_cases z x zs first) [
-  | inl here ↦ elim (in_cases z y zs second) [
+one_of_apart f [] x y apart first second same = absurd (member-none x first)
+one_of_apart f (z ∷ zs) x y apart first second same = elim (member-cases z zs x first) [
+  | inl here ↦ elim (member-cases z zs y second) [
     | inl too ↦ sym here ∙ too
-    | inr later ↦ absurd (apart.0 (subst (λ n. Contains (map f zs) n) (sym (ap f here ∙ same)) (in_map f y zs later)))
+    | inr later ↦ absurd (apart.0 (subst (λ n. Contains (map f zs) n) (sym (ap f here ∙ same)) (map-member f zs y later)))
   ]
-  | inr later ↦ elim (in_cases z y zs second) [
-    | inl here ↦ absurd (apart.0 (subst (λ n. Contains (map f zs) n) (same ∙ ap f (sym here)) (in_map f x zs later)))
+  | inr later ↦ elim (member-cases z zs y second) [
+    | inl here ↦ absurd (apart.0 (subst (λ n. Contains (map f zs) n) (same ∙ ap f (sym here)) (map-member f zs x later)))
     | inr too ↦ one_of_apart f zs x y apart.1 later too same
   ]
 ]
@@ -33,21 +33,21 @@ one_of_apart f (z ∷ zs) x y apart first second same = elim (in_cases z x zs fi
 -- a track that a net leaves ends, or is moved from
 pub leaves-cases : (done : Column) (id : ℕ) → leaves done id ≡ true → Contains done.ended id ⊎ ((new : ℕ) × Contains done.moves (id, new))
 leaves-cases done id left = elim (or_cases (list_any (λ ended. eqb ended id) done.ended) (list_any (λ (move : ℕ × ℕ). eqb move.0 id) done.moves) left) [
-  | inl ends ↦ let found = any_at (λ ended. eqb ended id) done.ended ends in inl (subst (λ i. Contains done.ended i) (eqb-true found.0 id found.2) found.1)
+  | inl ends ↦ let found = any-cases (λ ended. eqb ended id) done.ended ends in inl (subst (λ i. Contains done.ended i) (eqb-true found.0 id found.2) found.1)
   | inr moves ↦
-      let found = any_at (λ (move : ℕ × ℕ). eqb move.0 id) done.moves moves in
+      let found = any-cases (λ (move : ℕ × ℕ). eqb move.0 id) done.moves moves in
       inr (found.0.1, subst (λ i. Contains done.moves (i, found.0.1)) (eqb-true found.0.0 id found.2) found.1)
 ]
 
 pub leaves-ended : (done : Column) (id : ℕ) → Contains done.ended id → leaves done id ≡ true
 leaves-ended done id member =
     or_left (list_any (λ ended. eqb ended id) done.ended) (list_any (λ (move : ℕ × ℕ). eqb move.0 id) done.moves)
-    (any_from (λ ended. eqb ended id) id done.ended member (eq-eqb id id refl))
+    (any-member (λ ended. eqb ended id) done.ended id member (eq-eqb id id refl))
 
 pub leaves-moved : (done : Column) (old new : ℕ) → Contains done.moves (old, new) → leaves done old ≡ true
 leaves-moved done old new member =
     or_right (list_any (λ ended. eqb ended old) done.ended) (list_any (λ (move : ℕ × ℕ). eqb move.0 old) done.moves)
-    (any_from (λ (move : ℕ × ℕ). eqb move.0 old) (old, new) done.moves member (eq-eqb old old refl))
+    (any-member (λ (move : ℕ × ℕ). eqb move.0 old) done.moves (old, new) member (eq-eqb old old refl))
 
 -- where a net on a track that goes on is after the column: on that track or on one to which it moves
 abbrev pub Goes : Column → ℕ → ℕ → Type 0
@@ -79,12 +79,12 @@ module _ (pins : Pins) (column fresh : ℕ) (before : List Track) (done : Column
 
   source_held : (id : ℕ) → Contains (sources done.moves) id → (net : ℕ) × Holds now net id
   source_held id member =
-      let from = in_map_back (λ (m : ℕ × ℕ). m.0) id done.moves member in
+      let from = map-cases (λ (m : ℕ × ℕ). m.0) done.moves id member in
       subst (λ i. (net : ℕ) × Holds now net i) from.2 (move_of from.0 from.1).held
 
   target_free : (id : ℕ) → Contains (targets done.moves) id → Contains (ids now) id × (held_by now id ≡ 0)
   target_free id member =
-      let from = in_map_back (λ (m : ℕ × ℕ). m.1) id done.moves member in
+      let from = map-cases (λ (m : ℕ × ℕ). m.1) done.moves id member in
       subst (λ i. Contains (ids now) i × (held_by now i ≡ 0)) from.2
       (target-free pins column fresh before done numbered lawful from.0.0 from.0.1 (move_of from.0 from.1))
 
@@ -106,19 +106,19 @@ module _ (pins : Pins) (column fresh : ℕ) (before : List Track) (done : Column
         | inl ends ↦
             moved-other done.moves kept id
             (λ member.
-            let from = in_map_back (λ (m : ℕ × ℕ). m.0) id done.moves member in
+            let from = map-cases (λ (m : ℕ × ℕ). m.0) done.moves id member in
             (move_of from.0 from.1).goes_on (subst (λ i. Contains done.ended i) (sym from.2) ends))
             (held_no_target held.0 id held.1)
             ∙ freed-gone done.ended now id ends
         | inr (new, member) ↦
-            moved-gone done.moves kept id (in_kept id held.1.there) (in_map (λ (m : ℕ × ℕ). m.0) (id, new) done.moves member) (held_no_target held.0 id held.1)
+            moved-gone done.moves kept id (in_kept id held.1.there) (map-member (λ (m : ℕ × ℕ). m.0) done.moves (id, new) member) (held_no_target held.0 id held.1)
       ]
 
   not_left : (id : ℕ) → leaves done id ≡ false → (Contains done.ended id → ⊥) × (Contains (sources done.moves) id → ⊥)
   not_left id left = (
     (λ member. cc (leaves-ended done id member, left)),
     (λ member.
-        let from = in_map_back (λ (m : ℕ × ℕ). m.0) id done.moves member in
+        let from = map-cases (λ (m : ℕ × ℕ). m.0) done.moves id member in
         cc (ap (leaves done) from.2, leaves-moved done from.0.0 from.0.1 from.1, left)),
   )
 
@@ -156,7 +156,7 @@ module _ (pins : Pins) (column fresh : ℕ) (before : List Track) (done : Column
       let some = held.net_is in
       elim (cases_Bool (list_any (λ (move : ℕ × ℕ). eqb move.1 new) done.moves)) [
         | inl moves ↦
-            let found = any_at (λ (move : ℕ × ℕ). eqb move.1 new) done.moves moves in
+            let found = any-cases (λ (move : ℕ × ℕ). eqb move.1 new) done.moves moves in
             let member : Contains done.moves (found.0.0, new) = subst (λ i. Contains done.moves (found.0.0, i)) (eqb-true found.0.1 new found.2) found.1 in
             let move = move_of (found.0.0, new) member in
             let own = move.held in
@@ -169,8 +169,8 @@ module _ (pins : Pins) (column fresh : ℕ) (before : List Track) (done : Column
             }
         | inr none ↦
             let no_target : Contains (targets done.moves) new → ⊥ = λ member.
-            let from = in_map_back (λ (m : ℕ × ℕ). m.1) new done.moves member in
-            cc (any_from (λ (move : ℕ × ℕ). eqb move.1 new) from.0 done.moves from.1 (eq-eqb from.0.1 new from.2), none) in
+            let from = map-cases (λ (m : ℕ × ℕ). m.1) done.moves new member in
+            cc (any-member (λ (move : ℕ × ℕ). eqb move.1 new) done.moves from.0 from.1 (eq-eqb from.0.1 new from.2), none) in
             elim (cases_Bool (leaves done new)) [
               | inl left ↦ let free = left-free new left in absurd (omega (arith, some, held.held, free))
               | inr stays ↦
@@ -192,9 +192,9 @@ module _ (pins : Pins) (column fresh : ℕ) (before : List Track) (done : Column
   pub goes-apart : (net other one two new : ℕ) → Holds now net one → Holds now other two → Goes done one new → Goes done two new → one ≡ two
   goes-apart net other one two new first second (inl (same, stays)) (inl (too, also)) = same ∙ sym too
   goes-apart net other one two new first second (inl (same, stays)) (inr member) =
-      absurd (held_no_target net one first (subst (λ i. Contains (targets done.moves) i) (sym same) (in_map (λ (m : ℕ × ℕ). m.1) (two, new) done.moves member)))
+      absurd (held_no_target net one first (subst (λ i. Contains (targets done.moves) i) (sym same) (map-member (λ (m : ℕ × ℕ). m.1) done.moves (two, new) member)))
   goes-apart net other one two new first second (inr member) (inl (same, stays)) =
-      absurd (held_no_target other two second (subst (λ i. Contains (targets done.moves) i) (sym same) (in_map (λ (m : ℕ × ℕ). m.1) (one, new) done.moves member)))
+      absurd (held_no_target other two second (subst (λ i. Contains (targets done.moves) i) (sym same) (map-member (λ (m : ℕ × ℕ). m.1) done.moves (one, new) member)))
   goes-apart net other one two new first second (inr member) (inr too) =
       ap (λ (m : ℕ × ℕ). m.0)
       (one_of_apart (λ (m : ℕ × ℕ). m.1) done.moves (one, new) (two, new) (Apart-from (targets done.moves) lawful.moved_apart) member too refl)
@@ -205,5 +205,5 @@ module _ (pins : Pins) (column fresh : ℕ) (before : List Track) (done : Column
       let from = came-from other id after_it in
       elim from.goes [
         | inl (same, stays) ↦ sym held.held ∙ subst (λ i. held_by now i ≡ other) same from.held.held
-        | inr member ↦ absurd (held_no_target net id held (in_map (λ (m : ℕ × ℕ). m.1) (from.old, id) done.moves member))
+        | inr member ↦ absurd (held_no_target net id held (map-member (λ (m : ℕ × ℕ). m.1) done.moves (from.old, id) member))
       ]

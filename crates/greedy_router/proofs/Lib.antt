@@ -35,7 +35,6 @@ pub mod ReplayLaws
 pub mod WiringLaws
 -- a sweep, record by record
 pub mod SweepLaws
-pub mod ListLaws
 pub mod GoingLaws
 pub mod FewLaws
 -- how a sweep ends
@@ -48,8 +47,6 @@ pub mod EdgeLaws
 pub mod PlanLaws
 -- lists that lie one behind another
 pub mod PackedLaws
--- lists beside each other
-pub mod ZipLaws
 -- the records of columns, from lists that lie together
 pub mod ColumnsLaws
 -- the wiring of a worked sweep

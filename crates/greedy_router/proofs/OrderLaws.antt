@@ -1,5 +1,5 @@
-use Rattle.std.proofs.Common.{◌≡◌, ◌↔◌, inl, inr, ◌<◌, ◌≤◌, ◌+◌, eqb, ltb, leb, ℕ, zero, suc, List, [], ◌∷◌, Bool, true, false, cond, length, filter, refl, sym, subst, ap, ◌∙◌, arith, Contains, eqb-true, eq-eqb, leb-false}
-use Rattle.std.proofs.lemmas.Bool.{cond-true, cond-false, lt-ltb, le-ltb, leb-true, le-leb, lt-leb, cases_Bool}
+use Rattle.std.proofs.Common.{◌≡◌, ◌↔◌, inl, inr, ◌<◌, ◌≤◌, ◌+◌, eqb, ltb, leb, ℕ, suc, List, [], ◌∷◌, Bool, true, false, cond, length, filter, refl, sym, subst, ap, ◌∙◌, arith, Contains, eqb-true, eq-eqb}
+use Rattle.std.proofs.lemmas.Bool.{cond-true, lt-ltb, le-ltb, leb-true, le-leb, lt-leb}
 use Rattle.std.specs.List.{insert}
 use Rattle.channel_model.specs.Pins.{Pins}
 use Rattle.greedy_column.specs.declared.column.Track.{Track}
@@ -11,17 +11,14 @@ use Rattle.greedy_column.specs.Lawful.{AreMadeFrom}
 use Rattle.greedy_column.specs.State.{AreNumbered}
 use Rattle.greedy_column.specs.Fair.{Fair, AllFair}
 use Rattle.greedy_column.specs.Verticals.{Vertical, Port, floor, on, ceiling, line_at, Shares, IsOver}
-use Rattle.greedy_column.proofs.Members.{in_none, in_first, in_later, in_cases, in_filter_back}
 use Rattle.greedy_column.proofs.IdLaws.{ids-insert, ids-entered, ids-freed, ids-moved, AreNumbered-ids, AreNumbered-with_made}
+use Rattle.std_laws.proofs.Members.{member-none, member-head, member-tail, member-cases, filter-from}
+use Rattle.std_laws.proofs.Inserted.{filter-insert}
+use Rattle.std_laws.proofs.Tests.{leb-suc}
 
 -- the ids below a number
 abbrev pub known : ℕ → List ℕ → List ℕ
 known bound order = filter (λ id. ltb id bound) order
-
-filter-insert : {X : Type 0} (p : X → Bool) (x : X) (xs : List X) (k : ℕ) → p x ≡ false → filter p (insert xs k x) ≡ filter p xs
-filter-insert p x xs zero none = cond-false (p x) (x ∷ filter p xs) (filter p xs) none
-filter-insert p x [] (suc k) none = cond-false (p x) (x ∷ []) [] none
-filter-insert p x (z ∷ zs) (suc k) none = ap (λ l. cond (p z) (z ∷ l) l) (filter-insert p x zs k none)
 
 known-with_made : (bound fresh count : ℕ) (tracks : List Track) (made : List Made) → bound ≤ fresh → AreMadeFrom fresh count made
     → known bound (ids (with_made tracks made)) ≡ known bound (ids tracks)
@@ -58,8 +55,8 @@ known-replay_from pins bound column fresh before (done ∷ columns) old fair =
 known-all : (bound : ℕ) (order : List ℕ) → ((id : ℕ) → Contains order id → id < bound) → known bound order ≡ order
 known-all bound [] below = refl
 known-all bound (i ∷ order) below =
-    cond-true (ltb i bound) (i ∷ known bound order) (known bound order) (lt-ltb i bound (below i (in_first i order)))
-    ∙ ap (λ l. i ∷ l) (known-all bound order (λ id member. below id (in_later i id order member)))
+    cond-true (ltb i bound) (i ∷ known bound order) (known bound order) (lt-ltb i bound (below i (member-head i order)))
+    ∙ ap (λ l. i ∷ l) (known-all bound order (λ id member. below id (member-tail i order id member)))
 
 -- an order is that of an earlier moment: without the ids that came later
 pub record IsEarlier (now final : List ℕ) : Type 0 where
@@ -90,21 +87,14 @@ line_of-positive (i ∷ order) id = step (eqb i id) where
   step false = omega arith
 
 pub line_of-within : (order : List ℕ) (id : ℕ) → Contains order id → line_of order id ≤ length order
-line_of-within [] id member = absurd (in_none id member)
-line_of-within (i ∷ order) id member = elim (in_cases i id order member) [
+line_of-within [] id member = absurd (member-none id member)
+line_of-within (i ∷ order) id member = elim (member-cases i order id member) [
   | inl same ↦ subst (λ n. n ≤ suc (length order)) (sym (cond-true (eqb i id) 1 (suc (line_of order id)) (eq-eqb i id same))) (omega arith)
   | inr later ↦ step (eqb i id) (line_of-within order id later)
 ] where
   step : (b : Bool) → line_of order id ≤ length order → cond b 1 (suc (line_of order id)) ≤ suc (length order)
   step true less = omega arith
   step false less = omega arith
-
--- what is in front stays in front when more stands among them
-leb-suc : (a b : ℕ) → leb (suc a) (suc b) ≡ leb a b
-leb-suc a b = elim (cases_Bool (leb a b)) [
-  | inl is ↦ let less = leb-true a b is in le-leb (suc a) (suc b) (omega (arith, less)) ∙ sym is
-  | inr is ↦ let more = leb-false a b is in lt-leb (suc a) (suc b) (omega (arith, more)) ∙ sym is
-]
 
 leb-front : (one other : Bool) (a b c d : ℕ) → 0 < a → 0 < c → leb a b ≡ leb c d
     → leb (cond one 1 (suc a)) (cond other 1 (suc b)) ≡ leb (cond one 1 (suc c)) (cond other 1 (suc d))
@@ -144,7 +134,7 @@ pub record IsDrawn (order : List ℕ) (v : Vertical) : Type 0 where
 module _ (now final : List ℕ) (earlier : IsEarlier now final) where
   is_known : (id : ℕ) → Contains now id → Contains final id × (ltb id earlier.bound ≡ true)
   is_known id member =
-      in_filter_back (λ i. ltb i earlier.bound) id final (subst (λ l. Contains l id) (sym earlier.is) member)
+      filter-from (λ i. ltb i earlier.bound) final id (subst (λ l. Contains l id) (sym earlier.is) member)
 
   pub earlier-in : (id : ℕ) → Contains now id → Contains final id
   earlier-in id member = (is_known id member).0

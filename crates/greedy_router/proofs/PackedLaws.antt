@@ -1,8 +1,7 @@
-use Rattle.std.proofs.Common.{◌≡◌, ◌<◌, ◌≤◌, ◌-◌, ◌++◌, ℕ, zero, suc, List, [], ◌∷◌, Some, ap, arith, drop, get_or, length, refl, take, ◌∙◌}
+use Rattle.std.proofs.Common.{◌≡◌, ◌<◌, ◌≤◌, ◌-◌, ◌++◌, ℕ, zero, suc, List, [], ◌∷◌, Some, ap, arith, get_or, length, refl, ◌∙◌}
 use Rattle.std.specs.Prelude.{slice_get, slice_range}
-use Rattle.std.proofs.Math.Seq.{drop-append_seam, take-length}
-use Rattle.std.proofs.lemmas.List.{drop-append-le, length-append, length-drop, take-append-le}
 use Rattle.greedy_router.specs.Packed.{AreEnds, begin_of, lists_in}
+use Rattle.std_laws.proofs.Slices.{slice_range-append, slice_range-last}
 
 pub ends-within : (from : ℕ) (ends : List ℕ) (all : ℕ) → AreEnds from ends all → from ≤ all
 ends-within from [] all is = omega (arith, is)
@@ -32,25 +31,12 @@ lists-at from (end ∷ ends) items zero less = refl
 lists-at from (end ∷ ends) items (suc zero) less = lists-at end ends items zero (omega (arith, less))
 lists-at from (end ∷ ends) items (suc (suc number)) less = lists-at end ends items (suc number) (omega (arith, less))
 
--- a part of a list lies in a longer list too
-pub range-append : {A : Type 0} (items list : List A) (from to : ℕ) → from ≤ to → to ≤ length items
-    → slice_range (items ++ list) from to ≡ slice_range items from to
-range-append items list from to less within =
-    let long : to - from ≤ length (drop from items) = let is = length-drop from items in omega (arith, is, less, within) in
-    ap (λ l. take (to - from) l) (drop-append-le from items list (omega (arith, less, within))) ∙ take-append-le (to - from) (drop from items) list long
-
--- what is put behind a list is its last part
-pub range-last : {A : Type 0} (items list : List A) → slice_range (items ++ list) (length items) (length (items ++ list)) ≡ list
-range-last items list =
-    let size : length (items ++ list) - length items ≡ length list = let is = length-append items list in omega (arith, is) in
-    ap (λ l. take (length (items ++ list) - length items) l) (drop-append_seam items list) ∙ ap (λ n. take n list) size ∙ take-length list
-
 -- one list more
 pub lists-push : {A : Type 0} (from : ℕ) (ends : List ℕ) (items list : List A) → AreEnds from ends (length items)
     → lists_in from (ends ++ length (items ++ list) ∷ []) (items ++ list) ≡ lists_in from ends items ++ list ∷ []
 lists-push from [] items list is =
-    ap (λ l. l ∷ []) (ap (λ n. slice_range (items ++ list) n (length (items ++ list))) is ∙ range-last items list)
+    ap (λ l. l ∷ []) (ap (λ n. slice_range (items ++ list) n (length (items ++ list))) is ∙ slice_range-last items list)
 lists-push from (end ∷ ends) items list is =
-    let part = range-append items list from end is.0 (ends-within end ends (length items) is.1) in
+    let part = slice_range-append items list from end is.0 (ends-within end ends (length items) is.1) in
     let others = lists-push end ends items list is.1 in
     (λ i. part i ∷ others i)

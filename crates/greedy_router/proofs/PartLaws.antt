@@ -11,10 +11,10 @@ use Rattle.greedy_column.specs.Tracks.{ids}
 use Rattle.greedy_column.specs.Replay.{entered, after, replay_from, free_tracks, replay}
 use Rattle.greedy_column.specs.Verticals.{Vertical, pin_verticals, verticals}
 use Rattle.greedy_column.specs.Fair.{AllFair}
-use Rattle.greedy_column.proofs.Members.{in_none, in_map, in_map_back, in_filter, in_filter_back}
 use Rattle.greedy_router.specs.Moments.{tracks_after}
 use Rattle.greedy_router.specs.SweepWiring.{across, leaves, since_after, along, alongs, has_via, via_there, column_vias, column_segments, segments_from, vias_from, wiring_of}
 use Rattle.greedy_router.proofs.CourseLaws.{since_from, no_column, Course, course_of}
+use Rattle.std_laws.proofs.Members.{member-none, map-member, map-cases, filter-member, filter-from}
 
 -- the segments and the vias of a column
 abbrev segments_at : List ℕ → Pins → ℕ → List Track → (ℕ → ℕ) → Column → List Segment
@@ -28,7 +28,7 @@ vias_at order pins column before done =
 in_segments_from : (order : List ℕ) (pins : Pins) (column : ℕ) (before : List Track) (since : ℕ → ℕ) (columns : List Column) (s : Segment)
     → Contains (segments_from order pins column before since columns) s
     → (n : ℕ) × (n < length columns) × Contains (segments_at order pins (column + n) (replay_from pins column before (take n columns)) (since_from pins column before since (take n columns)) (get_or columns n no_column)) s
-in_segments_from order pins column before since [] s member = absurd (in_none s member)
+in_segments_from order pins column before since [] s member = absurd (member-none s member)
 in_segments_from order pins column before since (done ∷ columns) s member =
     elim (Contains-append_cases (segments_at order pins column before since done)
     (segments_from order pins (suc column) (after pins column done before) (since_after column before since) columns) s member) [
@@ -63,7 +63,7 @@ of_segments_from order pins column before since (done ∷ columns) s (suc n) wit
 in_vias_from : (order : List ℕ) (pins : Pins) (column : ℕ) (before : List Track) (columns : List Column) (v : Via)
     → Contains (vias_from order pins column before columns) v
     → (n : ℕ) × (n < length columns) × Contains (vias_at order pins (column + n) (replay_from pins column before (take n columns)) (get_or columns n no_column)) v
-in_vias_from order pins column before [] v member = absurd (in_none v member)
+in_vias_from order pins column before [] v member = absurd (member-none v member)
 in_vias_from order pins column before (done ∷ columns) v member =
     elim (Contains-append_cases (vias_at order pins column before done) (vias_from order pins (suc column) (after pins column done before) columns) v member) [
       | inl here ↦ let e : column ≡ column + 0 = omega arith in (0, omega arith, subst (λ c. Contains (vias_at order pins c before done) v) e here)
@@ -171,19 +171,19 @@ module _ (begun : ℕ) (pins : Pins) (columns : List Column) (fair : AllFair pin
       elim (Contains-append_cases (map (across order n) (verticals_at pins order course n))
       (alongs order n (now_at pins order course n) (since_after n (before_at n) (since_at n)) (done_at n)) s member) [
         | inl up ↦
-            let from = in_map_back (across order n) s (verticals_at pins order course n) up in
+            let from = map-cases (across order n) (verticals_at pins order course n) s up in
             subst (λ t. Part pins order course n (segment t)) from.2 (across_part from.0 from.1)
         | inr on ↦
-            let from = in_map_back (along_at pins order course n) s (filter (leaves (done_at n)) order) on in
-            let own = in_filter_back (leaves (done_at n)) from.0 order from.1 in
+            let from = map-cases (along_at pins order course n) (filter (leaves (done_at n)) order) s on in
+            let own = filter-from (leaves (done_at n)) order from.0 from.1 in
             subst (λ t. Part pins order course n (segment t)) from.2 (along_part from.0 own.0 own.1)
       ]
 
   via_is_part : (n : ℕ) (v : Via) → Contains (vias_at order pins n (before_at n) (done_at n)) v → Part pins order course n (via v)
   via_is_part n v member =
       let test = has_via order (now_at pins order course n) (pin_verticals pins n (done_at n)) (done_at n) in
-      let from = in_map_back (via_at pins order course n) v (filter test order) member in
-      let own = in_filter_back test from.0 order from.1 in
+      let from = map-cases (via_at pins order course n) (filter test order) v member in
+      let own = filter-from test order from.0 from.1 in
       subst (λ w. Part pins order course n (via w)) from.2 (via_part from.0 own.0 own.1)
 
   across_drawn : (n : ℕ) (v : Vertical) → n < length columns → Contains (verticals_at pins order course n) v → Contains drawn.segments (across order n v)
@@ -191,25 +191,25 @@ module _ (begun : ℕ) (pins : Pins) (columns : List Column) (fair : AllFair pin
       of_segments (across order n v) n within
       (Contains-append_left (map (across order n) (verticals_at pins order course n))
       (alongs order n (now_at pins order course n) (since_after n (before_at n) (since_at n)) (done_at n)) (across order n v)
-      (in_map (across order n) v (verticals_at pins order course n) member))
+      (map-member (across order n) (verticals_at pins order course n) v member))
 
   part_drawn : (n : ℕ) (e : Element) → n < length columns → Part pins order course n e → Contains (elements drawn) e
   part_drawn n e within (across_part v member) =
       Contains-append_left (map segment drawn.segments) (map via drawn.vias) (segment (across order n v))
-      (in_map segment (across order n v) drawn.segments (across_drawn n v within member))
+      (map-member segment drawn.segments (across order n v) (across_drawn n v within member))
   part_drawn n e within (along_part id member left) =
       Contains-append_left (map segment drawn.segments) (map via drawn.vias) (segment (along_at pins order course n id))
-      (in_map segment (along_at pins order course n id) drawn.segments
+      (map-member segment drawn.segments (along_at pins order course n id)
       (of_segments (along_at pins order course n id) n within
       (Contains-append_right (map (across order n) (verticals_at pins order course n))
       (alongs order n (now_at pins order course n) (since_after n (before_at n) (since_at n)) (done_at n)) (along_at pins order course n id)
-      (in_map (along_at pins order course n) id (filter (leaves (done_at n)) order) (in_filter (leaves (done_at n)) id order member left)))))
+      (map-member (along_at pins order course n) (filter (leaves (done_at n)) order) id (filter-member (leaves (done_at n)) order id member left)))))
   part_drawn n e within (via_part id member has) =
       let test = has_via order (now_at pins order course n) (pin_verticals pins n (done_at n)) (done_at n) in
       Contains-append_right (map segment drawn.segments) (map via drawn.vias) (via (via_at pins order course n id))
-      (in_map via (via_at pins order course n id) drawn.vias
+      (map-member via drawn.vias (via_at pins order course n id)
       (of_vias (via_at pins order course n id) n within
-      (in_map (via_at pins order course n) id (filter test order) (in_filter test id order member has))))
+      (map-member (via_at pins order course n) (filter test order) id (filter-member test order id member has))))
 
   -- the wiring of a sweep is drawn by its course
   pub IsDrawnBy-sweep : IsDrawnBy pins order course (wiring_of pins (record { begun = begun; columns = columns; order = order }))
@@ -218,11 +218,11 @@ module _ (begun : ℕ) (pins : Pins) (columns : List Column) (fair : AllFair pin
     tracks = refl;
     part_of = λ e member. elim (Contains-append_cases (map segment drawn.segments) (map via drawn.vias) e member) [
       | inl one ↦
-          let from = in_map_back segment e drawn.segments one in
+          let from = map-cases segment drawn.segments e one in
           let at = in_segments from.0 from.1 in
           (at.0, at.1, subst (λ f. Part pins order course at.0 f) from.2 (segment_part at.0 from.0 at.2))
       | inr one ↦
-          let from = in_map_back via e drawn.vias one in
+          let from = map-cases via drawn.vias e one in
           let at = in_vias from.0 from.1 in
           (at.0, at.1, subst (λ f. Part pins order course at.0 f) from.2 (via_is_part at.0 from.0 at.2))
     ];

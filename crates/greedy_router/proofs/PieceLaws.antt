@@ -12,7 +12,6 @@ use Rattle.greedy_column.specs.Replay.{top_pin, bottom_pin}
 use Rattle.greedy_column.specs.Neighbours.{Holds}
 use Rattle.greedy_column.specs.Lawful.{HasEqualPins}
 use Rattle.greedy_column.specs.Keeping.{GivesUp, GoesOn}
-use Rattle.greedy_column.proofs.Members.{any_at, any_from}
 use Rattle.greedy_router.proofs.OrderLaws.{earlier-in}
 use Rattle.greedy_column.proofs.EnteredLaws.{from-before, top-holds}
 use Rattle.greedy_router.proofs.LeftLaws.{goes-on, goes-somewhere}
@@ -21,14 +20,15 @@ use Rattle.greedy_router.proofs.PartLaws.{now_at, Part, IsDrawnBy}
 use Rattle.greedy_router.proofs.RunLaws.{numbered, lawful, held-now, held-next, came, run-now, run-before}
 use Rattle.greedy_router.proofs.LinkLaws.{run_of, runs_meet, goes_linked}
 use Rattle.greedy_router.proofs.TiedLaws.{RunAt, wire, group_linked, Tied, part_tied, IsAlone, part_alone}
+use Rattle.std_laws.proofs.Members.{any-cases, any-member}
 
 -- a net holds some track, or none
 pub holds-some : (tracks : List Track) (net : ℕ) → 0 < net → ((id : ℕ) × Holds tracks net id) ⊎ ((id : ℕ) → Holds tracks net id → ⊥)
 holds-some tracks net some = elim (cases_Bool (list_any (λ id. eqb (held_by tracks id) net) (ids tracks))) [
   | inl is ↦
-      let found = any_at (λ id. eqb (held_by tracks id) net) (ids tracks) is in
+      let found = any-cases (λ id. eqb (held_by tracks id) net) (ids tracks) is in
       inl (found.0, record { net_is = some; there = found.1; held = eqb-true (held_by tracks found.0) net found.2 })
-  | inr none ↦ inr (λ id held. cc (none, any_from (λ i. eqb (held_by tracks i) net) id (ids tracks) held.there (eq-eqb (held_by tracks id) net held.held)))
+  | inr none ↦ inr (λ id held. cc (none, any-member (λ i. eqb (held_by tracks i) net) (ids tracks) id held.there (eq-eqb (held_by tracks id) net held.held)))
 ]
 
 module _ (pins : Pins) (order : List ℕ) (course : Course pins order) (wiring : Wiring) (drawn : IsDrawnBy pins order course wiring)

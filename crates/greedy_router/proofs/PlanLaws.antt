@@ -14,18 +14,8 @@ use Rattle.greedy_router.specs.Answers.{IsBest, IsPlanned, IsRoutedWithin, IsSma
 use Rattle.greedy_router.specs.Begun.{begun_of}
 use Rattle.greedy_router.specs.Planning.{better, is_smaller, size_of}
 use Rattle.greedy_router.specs.declared.sweep.Routed.{Routed}
-use Rattle.greedy_router.proofs.ListLaws.{each-push}
 use Rattle.greedy_router.proofs.RoutedLaws.{routed-wired, routed-within}
-
--- an element of a list with one more is the last, or was there before
-pub there-last : {X : Type 0} (xs : List X) (x : X) → slice_get (xs ++ x ∷ []) (length xs) ≡ Some x
-there-last [] x = refl
-there-last (y ∷ xs) x = there-last xs x
-
-pub there-before : {X : Type 0} (xs : List X) (x y : X) (k : ℕ) → k < length xs → slice_get (xs ++ x ∷ []) k ≡ slice_get xs k
-there-before [] x y k within = absurd (omega (arith, within))
-there-before (z ∷ xs) x y zero within = refl
-there-before (z ∷ xs) x y (suc k) within = there-before xs x y k (omega (arith, within))
+use Rattle.std_laws.proofs.Places.{each-push, get-pushed, get-before-pushed}
 
 -- what the test of two wirings says
 pub smaller-is : (one other : Wiring) → is_smaller (size_of one) (size_of other) ≡ true → IsSmaller one other
@@ -78,12 +68,12 @@ module _ (tried : List Routed) (best one : Routed) (was : IsBest tried best) whe
   more : (P : ℕ → Routed → Type 0) → ((k : ℕ) (other : Routed) → slice_get tried k ≡ Some other → P k other) → P (length tried) one
       → (k : ℕ) (other : Routed) → slice_get (tried ++ one ∷ []) k ≡ Some other → P k other
   more P earlier now k other there = elim (cases_lt k (length tried)) [
-    | inl before ↦ earlier k other (sym (there-before tried one one k before) ∙ there)
+    | inl before ↦ earlier k other (sym (get-before-pushed tried one one k before) ∙ there)
     | inr past ↦
         let long = length-append tried (one ∷ []) in
         let within = slice_get_within (tried ++ one ∷ []) k other there in
         let last : k ≡ length tried = omega (arith, past, within, long) in
-        let same : one ≡ other = cc (sym (there-last tried one) ∙ ap (slice_get (tried ++ one ∷ [])) (sym last) ∙ there) in
+        let same : one ≡ other = cc (sym (get-pushed tried one) ∙ ap (slice_get (tried ++ one ∷ [])) (sym last) ∙ there) in
         subst (λ n. P n other) (sym last) (subst (λ (r : Routed). P (length tried) r) same now)
   ]
 
@@ -94,7 +84,7 @@ module _ (tried : List Routed) (best one : Routed) (was : IsBest tried best) whe
   pub best-new : IsSmaller one.wiring best.wiring → IsBest (tried ++ one ∷ []) one
   best-new smaller = record {
     place = length tried;
-    there = there-last tried one;
+    there = get-pushed tried one;
     smallest = more (λ k other. IsSmaller other.wiring one.wiring → ⊥)
         (λ k other there less. was.smallest k other there (smaller-trans other.wiring one.wiring best.wiring less smaller))
         (λ less. smaller-itself one.wiring less);
@@ -107,7 +97,7 @@ module _ (tried : List Routed) (best one : Routed) (was : IsBest tried best) whe
   pub best-kept : (IsSmaller one.wiring best.wiring → ⊥) → IsBest (tried ++ one ∷ []) best
   best-kept not_smaller = record {
     place = was.place;
-    there = there-before tried one one was.place place_within ∙ was.there;
+    there = get-before-pushed tried one one was.place place_within ∙ was.there;
     smallest = more (λ k other. IsSmaller other.wiring best.wiring → ⊥) was.smallest not_smaller;
     first = more (λ k other. k < was.place → IsSmaller best.wiring other.wiring) was.first
         (λ before. absurd (omega (arith, before, place_within)));
@@ -152,7 +142,7 @@ module _ (manner : Manner) (may : List Candidate → ℕ → Type 0) (pins : Pin
       let tried : List Routed = was.tried in
       let each : length tried ≡ suc (length others) = was.are_tried.each in
       let there : slice_get ((first ∷ others) ++ share ∷ []) (length tried) ≡ Some share =
-      ap (slice_get ((first ∷ others) ++ share ∷ [])) each ∙ there-last (first ∷ others) share in
+      ap (slice_get ((first ∷ others) ++ share ∷ [])) each ∙ get-pushed (first ∷ others) share in
       record {
         tried = tried ++ one ∷ [];
         are_tried = record {
@@ -160,7 +150,7 @@ module _ (manner : Manner) (may : List Candidate → ℕ → Type 0) (pins : Pin
           routed = each-push (λ p r. IsRoutedWithin manner may pins p r) ((first ∷ others) ++ share ∷ []) tried share one
               (λ k p q here also.
               let before : k < suc (length others) = omega (arith, each, slice_get_within tried k q also) in
-              was.are_tried.routed k p q (sym (there-before (first ∷ others) share share k before) ∙ here) also)
+              was.are_tried.routed k p q (sym (get-before-pushed (first ∷ others) share share k before) ∙ here) also)
               there routed;
         };
         best = best-more tried best one was.best;

@@ -1,7 +1,7 @@
 use Rattle.std.proofs.Common.{◌≡◌, ◌⊎◌, inl, inr, ◌<◌, ◌≤◌, ◌+◌, ◌++◌, eqb, ltb, not, ℕ, suc, List, [], ◌∷◌, Bool, true, false, length, refl, subst, ap, ◌∙◌, arith, eqb-true, eq-eqb}
 use Rattle.std.specs.Prelude.{◌&&◌, ◌||◌}
 use Rattle.std.proofs.lemmas.List.{take-append-le, take_all}
-use Rattle.std.proofs.lemmas.Bool.{and_parts, and_from, or_parts, ltb-true, ltb-false, lt-ltb}
+use Rattle.std.proofs.lemmas.Bool.{and_parts, and_from, or_parts, ltb-true, ltb-false, lt-ltb, not-true}
 use Rattle.channel_model.specs.Pins.{Pins}
 use Rattle.choose_core.specs.declared.candidate.Candidate.{Candidate}
 use Rattle.choose_core.specs.declared.plan.Manner.{Manner}
@@ -79,13 +79,9 @@ past-not tracks taken last most not_past (inr (same, held)) =
     let parts = or_parts (ltb most (length tracks)) (eqb taken last && is_held tracks) not_past in
     let is = and_from (eqb taken last) (is_held tracks) (eq-eqb taken last same) (lt-ltb 0 (held_count tracks) held) in cc (parts.1, is)
 
-not_true : (b : Bool) → not b ≡ true → b ≡ false
-not_true true is = cc
-not_true false is = refl
-
 pub going-open : (tracks : List Track) (taken width last most : ℕ) → is_going tracks taken width last most ≡ true → is_past tracks taken last most ≡ false
 going-open tracks taken width last most going =
-    not_true (is_past tracks taken last most) (and_parts (not (is_past tracks taken last most)) (is_wanted tracks taken width) going).0
+    not-true (is_past tracks taken last most) (and_parts (not (is_past tracks taken last most)) (is_wanted tracks taken width) going).0
 
 pub going-held : (tracks : List Track) (taken width last most : ℕ) → is_going tracks taken width last most ≡ true → width ≤ taken → IsHeld tracks
 going-held tracks taken width last most going past = step (ltb taken width) refl (and_parts (not (is_past tracks taken last most)) (is_wanted tracks taken width) going).1 where

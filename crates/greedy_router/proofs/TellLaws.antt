@@ -1,4 +1,4 @@
-use Rattle.std.proofs.Common.{◌≡◌, ◌<◌, ◌++◌, eqb, leb, ℕ, suc, List, [], ◌∷◌, Bool, true, false, cond, filter, length, map, get_or, refl, sym, ap, ◌∙◌, Contains}
+use Rattle.std.proofs.Common.{◌≡◌, ◌<◌, ◌++◌, eqb, leb, ℕ, suc, List, [], ◌∷◌, cond, length, map, get_or, refl, sym, ap, ◌∙◌, Contains}
 use Rattle.std.specs.List.{list_any}
 use Rattle.std.specs.Prelude.{◌&&◌, ◌||◌}
 use Rattle.std.proofs.lemmas.List.{map-append}
@@ -11,34 +11,10 @@ use Rattle.greedy_column.specs.Joining.{span_in}
 use Rattle.greedy_column.specs.Tracks.{held_by, line_of}
 use Rattle.greedy_column.specs.Replay.{entered, after}
 use Rattle.greedy_column.specs.Verticals.{Vertical, between, verticals, pin_verticals, line_at}
-use Rattle.greedy_column.proofs.Members.{in_first, in_later}
 use Rattle.greedy_router.specs.SweepWiring.{across, leaves, is_of, along, alongs, since_after, meets_track, has_via, via_there, column_vias, segments_from}
 use Rattle.greedy_router.specs.Tables.{Tells, across_on, pair_span, along_by, alongs_by, meets_by, has_via_by, via_by, vias_by, column_segments_by}
-
--- what two functions make of what two tests pick, where they agree on the list
-picked-first : {A : Type 0} (f g : ℕ → A) (x : ℕ) (xs ys : List ℕ) (b c : Bool) → f x ≡ g x → b ≡ c → map f xs ≡ map g ys
-    → map f (cond b (x ∷ xs) xs) ≡ map g (cond c (x ∷ ys) ys)
-picked-first f g x xs ys true true same equal later = λ i. same i ∷ later i
-picked-first f g x xs ys false false same equal later = later
-picked-first f g x xs ys true false same equal later = cc
-picked-first f g x xs ys false true same equal later = cc
-
-pub picked-agree : {A : Type 0} (f g : ℕ → A) (p q : ℕ → Bool) (xs : List ℕ) → ((x : ℕ) → Contains xs x → (f x ≡ g x) × (p x ≡ q x))
-    → map f (filter p xs) ≡ map g (filter q xs)
-picked-agree f g p q [] same = refl
-picked-agree f g p q (x ∷ xs) same =
-    picked-first f g x (filter p xs) (filter q xs) (p x) (q x) (same x (in_first x xs)).0 (same x (in_first x xs)).1
-    (picked-agree f g p q xs (λ y member. same y (in_later x y xs member)))
-
--- two functions, one after the other
-map-twice : {X Y Z : Type 0} (f : X → Y) (g : Y → Z) (xs : List X) → map g (map f xs) ≡ map (λ x. g (f x)) xs
-map-twice f g [] = refl
-map-twice f g (x ∷ xs) = λ i. g (f x) ∷ map-twice f g xs i
-
--- tests that agree on each element
-any-agree : {X Y : Type 0} (h : X → Y) (p : Y → Bool) (q : X → Bool) (xs : List X) → ((x : X) → p (h x) ≡ q x) → list_any p (map h xs) ≡ list_any q xs
-any-agree h p q [] same = refl
-any-agree h p q (x ∷ xs) same = λ i. same x i || any-agree h p q xs same i
+use Rattle.std_laws.proofs.Images.{map-map, picked-agree}
+use Rattle.std_laws.proofs.Searches.{any-agree}
 
 -- the wires along the tracks that are left, from tables
 alongs-told : (order : List ℕ) (column : ℕ) (now : List Track) (nets since : List ℕ) (done : Column) → Tells nets (held_by now)
@@ -80,7 +56,7 @@ vias-told order column now later nets laters spans pins done told later_told wit
 spans-all : (order : List ℕ) (now : List Track) (pins : List Vertical) (joins moves : List (ℕ × ℕ))
     → (map (span_in order) pins ++ map (pair_span now order) joins) ++ map (pair_span now order) moves
     ≡ map (span_in order) ((pins ++ map (between now) joins) ++ map (between now) moves)
-spans-all order now pins joins moves = sym (simp (map-append, map-twice))
+spans-all order now pins joins moves = sym (simp (map-append, map-map))
 
 pub column_segments-told : (order : List ℕ) (pins : Pins) (column : ℕ) (now : List Track) (nets since : List ℕ) (spans : List Span) (done : Column)
     → Tells nets (held_by now) → ((id : ℕ) → Contains order id → id < length nets) → spans ≡ map (span_in order) (pin_verticals pins column done)
@@ -91,7 +67,7 @@ column_segments-told order pins column now nets since spans done told within sam
     ≡ map (across order column) (verticals pins column done now) =
     ap (λ (l : List Span). map (across_on column) ((l ++ map (pair_span now order) done.joins) ++ map (pair_span now order) done.moves)) same
     ∙ ap (λ (l : List Span). map (across_on column) l) (spans-all order now (pin_verticals pins column done) done.joins done.moves)
-    ∙ map-twice (span_in order) (across_on column) (verticals pins column done now) in
+    ∙ map-map (span_in order) (across_on column) (verticals pins column done now) in
     λ i. all i ++ alongs-told order column now nets since done told within i
 
 -- only the ids of the order matter

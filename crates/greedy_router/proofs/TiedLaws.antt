@@ -11,7 +11,6 @@ use Rattle.greedy_column.specs.Replay.{top_pin}
 use Rattle.greedy_column.specs.Verticals.{Vertical, joined_verticals, between, IsOver}
 use Rattle.greedy_column.specs.Neighbours.{Holds, Grouped, alone, along}
 use Rattle.greedy_column.specs.Lawful.{HasEqualPins}
-use Rattle.greedy_column.proofs.Members.{in_map_back}
 use Rattle.greedy_column.proofs.GroupLaws.{one_holder}
 use Rattle.greedy_router.specs.SweepWiring.{across}
 use Rattle.greedy_router.proofs.OrderLaws.{line_of-within}
@@ -23,6 +22,7 @@ use Rattle.greedy_router.proofs.CourseLaws.{Course}
 use Rattle.greedy_router.proofs.PartLaws.{now_at, Part, across_part, along_part, via_part, IsDrawnBy}
 use Rattle.greedy_router.proofs.RunLaws.{numbered, lawful, Run, run-now, begins-within}
 use Rattle.greedy_router.proofs.LinkLaws.{run_of, runs_meet, via_run, across_in, across_via, across_run, in_order, joined_in, joined_run, has_source, move_over}
+use Rattle.std_laws.proofs.Members.{map-cases}
 
 module _ (pins : Pins) (order : List ℕ) (course : Course pins order) (wiring : Wiring) (drawn : IsDrawnBy pins order course wiring)
     (ended : (net id : ℕ) → Holds (course.before course.count) net id → ⊥) where
@@ -115,7 +115,7 @@ module _ (pins : Pins) (order : List ℕ) (course : Course pins order) (wiring :
 
   tied_moved : (n net : ℕ) (v : Vertical) → n < course.count → Contains (map (between (now n)) (course.done n).moves) v → v.net ≡ net → Tied n net (segment (across order n v))
   tied_moved n net v within member same =
-      let from = in_map_back (between (now n)) v (course.done n).moves member in
+      let from = map-cases (between (now n)) (course.done n).moves v member in
       let old : ℕ = from.0.0 in
       let new : ℕ = from.0.1 in
       let move = (lawful pins order course n within).moves old new from.1 in

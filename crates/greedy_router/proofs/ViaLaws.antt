@@ -11,21 +11,21 @@ use Rattle.greedy_column.specs.Verticals.{Vertical, line_at, pin_verticals, betw
 use Rattle.greedy_column.specs.Neighbours.{Holds}
 use Rattle.greedy_column.specs.Lawful.{IsLawful}
 use Rattle.greedy_column.specs.State.{AreNumbered}
-use Rattle.greedy_column.proofs.Members.{in_first, in_later, in_map, in_map_back, any_at, any_from}
 use Rattle.greedy_router.specs.SweepWiring.{is_of, meets_track, has_via, net_there}
 use Rattle.greedy_router.proofs.OrderLaws.{IsEarlier, ports-order, over_before}
 use Rattle.greedy_column.proofs.EnteredLaws.{now-apart, target-free}
 use Rattle.greedy_router.proofs.LeftLaws.{goes-on}
 use Rattle.greedy_column.proofs.VerticalLaws.{join_is, one_on_line, piece_of, vertical_kind}
 use Rattle.greedy_router.proofs.VerticalLaws.{IsUpright, upright}
+use Rattle.std_laws.proofs.Members.{member-head, member-tail, map-member, map-cases, any-cases, any-member}
 
 -- a track that a net holds stands
 pub held-there : (tracks : List Track) (id : ℕ) → 0 < held_by tracks id → Contains (ids tracks) id
 held-there [] id some = absurd (omega (arith, some))
 held-there (t ∷ tracks) id some = step (eqb t.id id) refl some (λ h. held-there tracks id h) where
   step : (b : Bool) → eqb t.id id ≡ b → 0 < cond b t.net (held_by tracks id) → (0 < held_by tracks id → Contains (ids tracks) id) → Contains (t.id ∷ ids tracks) id
-  step true is some later = subst (λ i. Contains (t.id ∷ ids tracks) i) (eqb-true t.id id is) (in_first t.id (ids tracks))
-  step false is some later = in_later t.id id (ids tracks) (later some)
+  step true is some later = subst (λ i. Contains (t.id ∷ ids tracks) i) (eqb-true t.id id is) (member-head t.id (ids tracks))
+  step false is some later = member-tail t.id (ids tracks) id (later some)
 
 -- the net of a wire on a track
 pub net_there-held : (now later : List Track) (net id : ℕ) → Holds now net id → net_there now later id ≡ net
@@ -77,12 +77,12 @@ module _ (pins : Pins) (column fresh : ℕ) (before : List Track) (done : Column
   join_in : (low high : ℕ) → Contains done.joins (low, high) → Contains vs (between now (low, high))
   join_in low high member =
       in_all (between now (low, high)) (Contains-append_right (pin_verticals pins column done) (map (between now) done.joins) (between now (low, high))
-      (in_map (between now) (low, high) done.joins member))
+      (map-member (between now) done.joins (low, high) member))
 
   pub move_in : (old new : ℕ) → Contains done.moves (old, new) → Contains vs (between now (old, new))
   move_in old new member =
       Contains-append_right (joined_verticals pins column done now) (map (between now) done.moves) (between now (old, new))
-      (in_map (between now) (old, new) done.moves member)
+      (map-member (between now) done.moves (old, new) member)
 
   upright_in : (v : Vertical) → Contains vs v → IsUpright pins column before done fresh numbered lawful v
   upright_in v member = upright pins column before done fresh numbered lawful v (vertical_kind pins column before done fresh numbered lawful v member)
@@ -178,10 +178,10 @@ module _ (pins : Pins) (column fresh : ℕ) (before : List Track) (done : Column
   pub via_is : (id : ℕ) → has id → IsVia id
   via_is id test =
       elim (or_cases (list_any (meets_track order now id) (pin_verticals pins column done)) (list_any (is_of id) done.joins || list_any (is_of id) done.moves) test) [
-        | inl pin ↦ let found = any_at (meets_track order now id) (pin_verticals pins column done) pin in on_pin id found.0 found.1 found.2
+        | inl pin ↦ let found = any-cases (meets_track order now id) (pin_verticals pins column done) pin in on_pin id found.0 found.1 found.2
         | inr other ↦ elim (or_cases (list_any (is_of id) done.joins) (list_any (is_of id) done.moves) other) [
-          | inl join ↦ let found = any_at (is_of id) done.joins join in on_join id found.0.0 found.0.1 found.1 found.2
-          | inr move ↦ let found = any_at (is_of id) done.moves move in on_move id found.0.0 found.0.1 found.1 found.2
+          | inl join ↦ let found = any-cases (is_of id) done.joins join in on_join id found.0.0 found.0.1 found.1 found.2
+          | inr move ↦ let found = any-cases (is_of id) done.moves move in on_move id found.0.0 found.0.1 found.1 found.2
         ]
       ]
 
@@ -189,7 +189,7 @@ module _ (pins : Pins) (column fresh : ℕ) (before : List Track) (done : Column
   pub has-pin : (id : ℕ) (v : Vertical) → Contains (pin_verticals pins column done) v → Holds now v.net id → IsOver order v (line_of order id) → has id
   has-pin id v member held over =
       or_left (list_any (meets_track order now id) (pin_verticals pins column done)) (list_any (is_of id) done.joins || list_any (is_of id) done.moves)
-      (any_from (meets_track order now id) v (pin_verticals pins column done) member
+      (any-member (meets_track order now id) (pin_verticals pins column done) v member
       (and_from (eqb v.net (held_by now id)) (leb (line_at order v.low) (line_of order id) && leb (line_of order id) (line_at order v.high)) (eq-eqb v.net (held_by now id) (sym held.held))
       (and_from (leb (line_at order v.low) (line_of order id)) (leb (line_of order id) (line_at order v.high)) (le-leb (line_at order v.low) (line_of order id) over.0)
       (le-leb (line_of order id) (line_at order v.high) over.1))))
@@ -197,12 +197,12 @@ module _ (pins : Pins) (column fresh : ℕ) (before : List Track) (done : Column
   has-join : (id low high : ℕ) → Contains done.joins (low, high) → is_of id (low, high) ≡ true → has id
   has-join id low high member of =
       or_right (list_any (meets_track order now id) (pin_verticals pins column done)) (list_any (is_of id) done.joins || list_any (is_of id) done.moves)
-      (or_left (list_any (is_of id) done.joins) (list_any (is_of id) done.moves) (any_from (is_of id) (low, high) done.joins member of))
+      (or_left (list_any (is_of id) done.joins) (list_any (is_of id) done.moves) (any-member (is_of id) done.joins (low, high) member of))
 
   has-move : (id old new : ℕ) → Contains done.moves (old, new) → is_of id (old, new) ≡ true → has id
   has-move id old new member of =
       or_right (list_any (meets_track order now id) (pin_verticals pins column done)) (list_any (is_of id) done.joins || list_any (is_of id) done.moves)
-      (or_right (list_any (is_of id) done.joins) (list_any (is_of id) done.moves) (any_from (is_of id) (old, new) done.moves member of))
+      (or_right (list_any (is_of id) done.joins) (list_any (is_of id) done.moves) (any-member (is_of id) done.moves (old, new) member of))
 
   pub has-source : (old new : ℕ) → Contains done.moves (old, new) → has old
   has-source old new member = has-move old old new member (or_left (eqb old old) (eqb new old) (eq-eqb old old refl))
@@ -217,7 +217,7 @@ module _ (pins : Pins) (column fresh : ℕ) (before : List Track) (done : Column
         let is = upright_in v (in_all v member) in
         has-pin id v pin held ((over_before (ids now) order earlier v id is.drawn held.there).0 over)
     | inr join ↦
-        let from = in_map_back (between now) v done.joins join in
+        let from = map-cases (between now) done.joins v join in
         let low : ℕ = from.0.0 in
         let high : ℕ = from.0.1 in
         let pair = lawful.joins low high from.1 in

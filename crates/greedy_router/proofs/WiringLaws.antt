@@ -9,7 +9,8 @@ use Rattle.greedy_column.specs.Tracks.{held_by, line_of}
 use Rattle.greedy_column.specs.Replay.{entered, after}
 use Rattle.greedy_column.specs.Verticals.{pin_verticals, verticals}
 use Rattle.greedy_router.specs.SweepWiring.{across, leaves, along, alongs, since_after, column_vias, segments_from, vias_from}
-use Rattle.greedy_router.proofs.TellLaws.{picked-agree, segments_from-agree}
+use Rattle.greedy_router.proofs.TellLaws.{segments_from-agree}
+use Rattle.std_laws.proofs.Images.{picked-agree}
 
 -- one column's segments more
 pub segments-more : (order : List ℕ) (pins : Pins) (column next : ℕ) (before later : List Track) (done : Column) (columns : List Column)

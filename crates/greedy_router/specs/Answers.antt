@@ -1,3 +1,4 @@
+-- what the calls answer
 use Rattle.std.specs.Prelude.{◌≡◌, ◌⊎◌, ◌<◌, ◌≤◌, ◌+◌, Bool, true, false, ℕ, List, [], ◌∷◌, length, slice_get, Some}
 use Rattle.channel_model.specs.Density.{density_of}
 use Rattle.channel_model.specs.Limits.{most_tracks, most_extra}

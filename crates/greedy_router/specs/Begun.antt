@@ -1,3 +1,4 @@
+-- how many free tracks a sweep begins with
 use Rattle.std.specs.Prelude.{◌*◌, ◌/◌, ℕ, length, min}
 use Rattle.channel_model.specs.Density.{cut_density_of}
 use Rattle.channel_model.specs.Limits.{most_tracks}

@@ -1,3 +1,4 @@
+-- the records of columns, from lists that lie together
 use Rattle.std.specs.Prelude.{◌≡◌, ℕ, List, length, map}
 use Rattle.std.specs.List.{zip}
 use Rattle.greedy_column.specs.declared.column.Column.{Column}

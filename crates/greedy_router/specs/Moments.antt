@@ -1,3 +1,4 @@
+-- the tracks after each column of a sweep, and how many of them are held
 use Rattle.std.specs.Prelude.{ℕ, List, take}
 use Rattle.channel_model.specs.Pins.{Pins}
 use Rattle.greedy_column.specs.declared.column.Track.{Track}

@@ -1,3 +1,4 @@
+-- lists that lie one behind another
 use Rattle.std.specs.Prelude.{◌≡◌, ◌<◌, ◌≤◌, ◌^◌, ℕ, zero, suc, List, [], ◌∷◌, get_or, slice_range}
 
 -- lists that lie one behind another from a place on, by where each of them ends

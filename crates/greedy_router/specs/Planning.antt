@@ -1,3 +1,4 @@
+-- which of two routed channels is kept
 use Rattle.std.specs.Prelude.{◌==◌, ◌&&◌, ◌||◌, if◌then◌else◌, nat_lt, Bool}
 use Rattle.channel_model.specs.declared.wiring.Wiring.{Wiring}
 use Rattle.greedy_router.specs.declared.sweep.Routed.{Routed}

@@ -1,3 +1,4 @@
+-- the same as the program has it, beside its facts
 use Rattle.std.specs.Prelude.{◌≡◌, ◌<◌, ◌≤◌, ◌+◌, ◌*◌, ◌^◌, ℕ, Contains, All, length}
 use Rattle.std.specs.List.Sorted.{IsNonDecreasing}
 use Rattle.limits.specs.declared.TheConstants.{MOST_COLUMNS}

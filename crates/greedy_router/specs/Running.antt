@@ -1,3 +1,4 @@
+-- whether a sweep goes on
 use Rattle.std.specs.Prelude.{◌==◌, ◌&&◌, ◌||◌, not, nat_lt, Bool, ℕ, List, length}
 use Rattle.greedy_column.specs.declared.column.Track.{Track}
 use Rattle.greedy_column.specs.Held.{held_count}

@@ -1,3 +1,4 @@
+-- a sweep that was made, and how the channel is routed by it
 use Rattle.std.specs.Prelude.{Bool, true, false}
 use Rattle.channel_model.specs.Pins.{Pins}
 use Rattle.plain_router.specs.Plain.{plain_of}

@@ -1,3 +1,4 @@
+-- the wiring of a sweep that has ended
 use Rattle.std.specs.Prelude.{◌++◌, ◌==◌, ◌&&◌, ◌||◌, if◌then◌else◌, nat_le, Bool, ℕ, suc, List, [], ◌∷◌, filter, map, length}
 use Rattle.std.specs.List.{list_any}
 use Rattle.channel_model.specs.Pins.{Pins}

@@ -1,3 +1,4 @@
+-- the same wiring, from tables by ids
 use Rattle.std.specs.Prelude.{◌≡◌, ◌<◌, ◌++◌, ◌==◌, ◌&&◌, ◌||◌, if◌then◌else◌, nat_le, Bool, ℕ, List, map, filter, length, slice_index}
 use Rattle.std.specs.List.{list_any}
 use Rattle.channel_model.specs.declared.wiring.Segment.{Segment}

@@ -1,3 +1,5 @@
+//! Routes a list of channels, each by the left edges of its nets or by the best sweep of a style's plan.
+
 ghost use Rattle.greedy_router.specs.Answers.{AreRouted, IsRoutedAs};
 ghost use Rattle.std.specs.Prelude.{◌≡◌, IfOk};
 

@@ -10,7 +10,7 @@ use std::marker::Model;
 
 // The tracks that the pins of a column enter, as in `Column`.
 #[derive(Clone, Copy, Debug, PartialEq, Eq)]
-pub struct Entered {
+pub(crate) struct Entered {
     top: u32,
     bottom: u32,
     straight: bool,
@@ -18,7 +18,7 @@ pub struct Entered {
 
 // What columns have, with the lists of one kind together.
 #[derive(Debug, Drop)]
-pub struct Parts {
+pub(crate) struct Parts {
     entered: Vec<Entered>,
     made: PackedLists<Made>,
     joins: PackedLists<(u32, u32)>,

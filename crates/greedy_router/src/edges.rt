@@ -1,3 +1,5 @@
+//! Routes a channel by the left edges of its nets where it has no vertical constraint, and else by a sweep.
+
 ghost use Rattle.channel_model.specs.Limits.{most_extra, most_tracks};
 ghost use Rattle.channel_model.specs.Nets.{nets_of};
 ghost use Rattle.channel_model.specs.Wired.{Wired};
@@ -35,7 +37,7 @@ fn unswept(alloc: Global, wiring: Wiring) -> Routed
 }
 
 // Routes a channel by the left edges of its nets, unless it has a vertical constraint.
-pub fn route_free(alloc: Global, channel: &Channel) -> Result<Option<Routed>, AllocError>
+pub(crate) fn route_free(alloc: Global, channel: &Channel) -> Result<Option<Routed>, AllocError>
     ensures routed { IfOk result (λ found. IfSome found (λ routed. IsEdgeRouted channel.now routed)) }
     ensures wired { IfOk result (λ found. IfSome found (λ routed. Wired channel.now routed.wiring)) }
     ensures within { IfOk result (λ found. IfSome found (λ routed. IsWithinLimits channel.now routed.wiring)) }

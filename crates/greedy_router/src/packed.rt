@@ -1,3 +1,5 @@
+//! Lists one behind another in one piece of memory, with a table of where each of them ends.
+
 ghost use Rattle.greedy_router.specs.Packed.{AreEnds, begin_of, lists_in};
 ghost use Rattle.std.specs.Prelude.{◌≡◌, ◌<◌, ◌≤◌, ◌++◌, ◌∷◌, [], Some, OnErr, OnOk, length, slice_get, slice_range};
 
@@ -10,7 +12,7 @@ const MOST_ITEMS: usize = u32::MAX as usize;
 /// Lists that lie one behind another in one piece of memory, so that each takes little more room than its items. Contracts see the list
 /// of them.
 #[derive(Debug, Drop)]
-pub struct PackedLists<T> {
+pub(crate) struct PackedLists<T> {
     items: Vec<T>,
     // Where each list ends.
     ends: Vec<u32>,
@@ -60,7 +62,7 @@ fn list_at<'a, T>(items: &'a [T], ends: &[u32], number: usize) -> &'a [T]
 
 impl<T: Copy> PackedLists<T> {
     /// No lists. Takes no memory.
-    pub fn new(alloc: Global) -> PackedLists<T>
+    pub(crate) fn new(alloc: Global) -> PackedLists<T>
         ensures { result ≡ [] }
     {
         PackedLists {
@@ -71,7 +73,7 @@ impl<T: Copy> PackedLists<T> {
 
     /// Puts a list behind the others. The one error is want of memory, which is also answered where all lists would have more than 2^32 - 1
     /// items; nothing has changed then.
-    pub fn push(&mut self, list: &[T]) -> Result<(), AllocError>
+    pub(crate) fn push(&mut self, list: &[T]) -> Result<(), AllocError>
         ensures pushed { OnOk result (self.new ≡ self.old ++ list.now ∷ []) }
         ensures err { OnErr result (self.new ≡ self.old) }
     {
@@ -85,7 +87,7 @@ impl<T: Copy> PackedLists<T> {
     }
 
     /// A list by its number, from 0 on. Takes no memory.
-    pub fn at(&self, number: usize) -> &[T]
+    pub(crate) fn at(&self, number: usize) -> &[T]
         requires { number < length self.now }
         ensures { slice_get self.now number ≡ Some result.now }
     {
@@ -93,7 +95,7 @@ impl<T: Copy> PackedLists<T> {
     }
 
     /// Gives back the room that no list takes.
-    pub fn shrink_to_fit(&mut self)
+    pub(crate) fn shrink_to_fit(&mut self)
         ensures { self.new ≡ self.old }
     {
         self.items.shrink_to_fit();

@@ -1,3 +1,5 @@
+//! The segments and the vias of one column of a sweep, on the lines of the final order of tracks.
+
 ghost use Rattle.channel_model.specs.declared.wiring.Segment.{Segment};
 ghost use Rattle.greedy_column.specs.Tracks.{ids};
 ghost use Rattle.greedy_router.specs.SweepWiring.{is_of, leaves};
@@ -13,15 +15,15 @@ use std::alloc::{AllocError, Global};
 // A column of a sweep that is drawn: its record, the tracks once its pins have entered, those of the final order, on whose lines it is
 // drawn, the pieces of its pins, and by ids the nets that hold the tracks, those that hold them after the column, and since when.
 #[derive(Clone, Copy)]
-pub struct Moment<'a> {
-    pub column: u32,
-    pub done: &'a Column,
-    pub entered: &'a [Track],
-    pub order: &'a [Track],
-    pub pins: &'a [Span],
-    pub nets: &'a [u32],
-    pub laters: &'a [u32],
-    pub since: &'a [u32],
+pub(crate) struct Moment<'a> {
+    pub(crate) column: u32,
+    pub(crate) done: &'a Column,
+    pub(crate) entered: &'a [Track],
+    pub(crate) order: &'a [Track],
+    pub(crate) pins: &'a [Span],
+    pub(crate) nets: &'a [u32],
+    pub(crate) laters: &'a [u32],
+    pub(crate) since: &'a [u32],
     ghost few_entered: { length entered.now + 1 < 2 ^ 32 },
     ghost few: { length order.now + 1 < 2 ^ 32 },
 }
@@ -143,7 +145,7 @@ impl Moment<'_> {
     }
 
     // Adds the segments: the verticals, and the wires along the tracks that are left.
-    pub fn push_segments(
+    pub(crate) fn push_segments(
         &self,
         alloc: Global,
         segments: &mut Vec<Segment>,
@@ -212,7 +214,7 @@ impl Moment<'_> {
     }
 
     // Adds the vias.
-    pub fn push_vias(&self, alloc: Global, vias: &mut Vec<Via>) -> Result<(), AllocError>
+    pub(crate) fn push_vias(&self, alloc: Global, vias: &mut Vec<Via>) -> Result<(), AllocError>
         ensures { OnOk result (vias.new.items ≡ vias.old.items ++ vias_by (ids self.now.order.now) self.now.column self.now.nets.now
             self.now.laters.now self.now.pins.now self.now.done.now) }
     {

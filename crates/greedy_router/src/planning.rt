@@ -1,3 +1,5 @@
+//! Routes a channel by each sweep of a plan, and keeps the wiring of fewest tracks and then of fewest columns.
+
 ghost use Rattle.channel_model.specs.Wired.{Wired};
 ghost use Rattle.greedy_router.specs.Answers.{IsPlanned, IsRoutedAs, IsRoutedWithin, IsWithinLimits};
 ghost use Rattle.greedy_router.specs.Planning.{better};
@@ -58,7 +60,7 @@ fn best_run<'s, C: Chooses>(
 }
 
 // Routes a channel by the best sweep of a plan, for all that chooses.
-pub fn route_planned<C: Chooses>(
+pub(crate) fn route_planned<C: Chooses>(
     alloc: Global,
     channel: &Channel,
     chooser: &C,

@@ -1,3 +1,5 @@
+//! Routes a channel by one sweep, or by the plain router where the sweep passes its limits.
+
 ghost use Rattle.channel_model.specs.Limits.{most_extra, most_tracks};
 ghost use Rattle.channel_model.specs.Nets.{nets_of};
 ghost use Rattle.channel_model.specs.Wired.{Wired};
@@ -14,7 +16,7 @@ use choose_core::{Chooser, Chooses};
 use std::alloc::{AllocError, Global};
 
 // Routes a channel by a sweep, for all that chooses.
-pub fn route_with<C: Chooses>(
+pub(crate) fn route_with<C: Chooses>(
     alloc: Global,
     channel: &Channel,
     start: Start,

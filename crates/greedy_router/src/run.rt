@@ -1,3 +1,5 @@
+//! A sweep as it was made, the size of its wiring before that is made, and the routed channel that it gives.
+
 ghost use Rattle.greedy_column.specs.Tracks.{ids};
 ghost use Rattle.std.specs.Prelude.{◌≡◌, IfOk};
 
@@ -15,12 +17,12 @@ use std::marker::Model;
 // A sweep as it was made: the records of its columns, the state after the last of them, and whether it is past its limits. Contracts see
 // the channel, whether the sweep is past its limits, and the sweep.
 #[derive(Drop)]
-pub struct Run<'s> {
-    pub surveyed: &'s Surveyed<'s>,
-    pub begun: u32,
-    pub columns: Vec<Column>,
-    pub state: ColumnState,
-    pub over: bool,
+pub(crate) struct Run<'s> {
+    pub(crate) surveyed: &'s Surveyed<'s>,
+    pub(crate) begun: u32,
+    pub(crate) columns: Vec<Column>,
+    pub(crate) state: ColumnState,
+    pub(crate) over: bool,
 }
 
 impl<'s> Model for Run<'s> {
@@ -49,7 +51,7 @@ impl<'s> Run<'s> {
     ghost use Rattle.std.specs.Prelude.{◌≡◌, IfOk};
 
     // How large the wiring is that the channel is given, before it is made.
-    pub fn size(&self) -> Size
+    pub(crate) fn size(&self) -> Size
         ensures { result ≡ size_of (routed_of self.now).wiring }
     {
         if self.over {
@@ -99,7 +101,7 @@ impl<'s> Run<'s> {
     }
 
     // How the sweep ended, with its wiring where it is not past its limits.
-    pub fn swept(&self, alloc: Global) -> Result<Swept, AllocError>
+    pub(crate) fn swept(&self, alloc: Global) -> Result<Swept, AllocError>
         ensures { IfOk result (λ swept. swept ≡ swept_of self.now) }
     {
         let sweep = self.sweep(alloc)?;
@@ -111,7 +113,7 @@ impl<'s> Run<'s> {
     }
 
     // The channel, routed by the sweep, or by the plain router where the sweep is past its limits.
-    pub fn routed(&self, alloc: Global) -> Result<Routed, AllocError>
+    pub(crate) fn routed(&self, alloc: Global) -> Result<Routed, AllocError>
         ensures { IfOk result (λ routed. routed ≡ routed_of self.now) }
     {
         let surveyed = self.surveyed;

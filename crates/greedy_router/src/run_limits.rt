@@ -1,3 +1,5 @@
+//! How a sweep begins, and to how many tracks and further columns it may go.
+
 use choose_core::Manner;
 
 /// How a sweep begins: in which manner it takes its columns, and with how many free tracks, in hundredths of the channel's cut density and

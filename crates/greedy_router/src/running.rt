@@ -1,3 +1,5 @@
+//! Takes column after column until no net holds a track behind the last pins, or the limits are passed.
+
 ghost use Rattle.greedy_column.specs.Held.{held_count};
 ghost use Rattle.greedy_router.specs.Answers.{IsChannelRouted};
 ghost use Rattle.greedy_router.specs.Begun.{begun_of};
@@ -49,7 +51,7 @@ fn is_going(tracks: &[Track], taken: usize, width: usize, last: usize, most: u32
 }
 
 // Takes columns as long as the sweep goes on.
-pub fn run_columns<'s, C: Chooses>(
+pub(crate) fn run_columns<'s, C: Chooses>(
     alloc: Global,
     surveyed: &'s Surveyed<'s>,
     start: Start,

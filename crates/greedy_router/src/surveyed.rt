@@ -1,3 +1,5 @@
+//! A channel with what all its sweeps ask of it: the number of nets, the cut density, and the nets' next pins.
+
 ghost use Rattle.channel_model.specs.Density.{cut_density_of};
 ghost use Rattle.channel_model.specs.Limits.{most_extra, most_tracks};
 ghost use Rattle.channel_model.specs.Nets.{nets_of};
@@ -13,11 +15,11 @@ use std::alloc::{AllocError, Global};
 
 // A channel with what its sweeps ask of it, which is found once for all of them.
 #[derive(Drop)]
-pub struct Surveyed<'c> {
-    pub channel: &'c Channel,
-    pub nets: u32,
-    pub cut_density: u32,
-    pub ahead: Ahead,
+pub(crate) struct Surveyed<'c> {
+    pub(crate) channel: &'c Channel,
+    pub(crate) nets: u32,
+    pub(crate) cut_density: u32,
+    pub(crate) ahead: Ahead,
     ghost counted: { nets ≡ length (nets_of channel.now) },
     ghost few: { nets ≤ 2 * MOST_COLUMNS },
     ghost dense: { cut_density ≡ cut_density_of channel.now },
@@ -37,7 +39,7 @@ fn net_count(alloc: Global, channel: &Channel) -> Result<u32, AllocError>
 
 impl<'c> Surveyed<'c> {
     // Finds it for a channel.
-    pub fn new(alloc: Global, channel: &'c Channel) -> Result<Surveyed<'c>, AllocError>
+    pub(crate) fn new(alloc: Global, channel: &'c Channel) -> Result<Surveyed<'c>, AllocError>
         ensures { IfOk result (λ surveyed. surveyed.channel.now ≡ channel.now) }
     {
         let nets = net_count(alloc, channel)?;
@@ -51,7 +53,7 @@ impl<'c> Surveyed<'c> {
     }
 
     // How many free tracks a sweep of this share begins with.
-    pub fn begun(&self, share: u32) -> u32
+    pub(crate) fn begun(&self, share: u32) -> u32
         ensures begun { result ≡ begun_of share self.now.channel.now }
         ensures few { result ≤ 4 * MOST_COLUMNS }
     {
@@ -61,7 +63,7 @@ impl<'c> Surveyed<'c> {
     }
 
     // What a router may take for the channel: two tracks for each net, and a column for each beyond the channel's.
-    pub fn limits(&self) -> Limits
+    pub(crate) fn limits(&self) -> Limits
         ensures tracks { result.tracks ≡ most_tracks (length (nets_of self.now.channel.now)) }
         ensures extra { result.extra ≡ most_extra (length (nets_of self.now.channel.now)) }
     {

@@ -1,3 +1,5 @@
+//! A sweep of a channel, how it ended, and a routed channel: its wiring, which router that is of, and its sweep.
+
 use crate::columns::Columns;
 use channel_model::Wiring;
 use geom_core::Items;
@@ -40,9 +42,9 @@ pub struct Routed {
 
 // How many tracks and columns a wiring has.
 #[derive(Clone, Copy)]
-pub struct Size {
-    pub tracks: u32,
-    pub columns: u32,
+pub(crate) struct Size {
+    pub(crate) tracks: u32,
+    pub(crate) columns: u32,
 }
 
 impl Size {
@@ -50,7 +52,7 @@ impl Size {
     ghost use Rattle.std.specs.Prelude.{◌≡◌};
 
     // Whether there are fewer tracks than in another, or as many and fewer columns.
-    pub fn is_smaller(self, other: Size) -> bool
+    pub(crate) fn is_smaller(self, other: Size) -> bool
         ensures { result ≡ is_smaller self other }
     {
         self.tracks < other.tracks || (self.tracks == other.tracks && self.columns < other.columns)

@@ -1,3 +1,5 @@
+//! Sweeps a channel from the left, first its own columns and then further ones, within limits.
+
 ghost use Rattle.greedy_router.specs.Answers.{IsSwept, sweep_of};
 ghost use Rattle.greedy_router.specs.Begun.{begun_of};
 ghost use Rattle.greedy_router.specs.Sweeps.{Lessens};

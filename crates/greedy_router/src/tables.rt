@@ -1,3 +1,5 @@
+//! Tables by the ids of tracks: which net holds each track, and since which column.
+
 ghost use Rattle.greedy_column.specs.Tracks.{held_by};
 ghost use Rattle.greedy_router.specs.SweepWiring.{since_after};
 ghost use Rattle.greedy_router.specs.Tables.{Tells, since_by};
@@ -7,7 +9,7 @@ use greedy_column::Track;
 use std::alloc::{AllocError, Global};
 
 // What a table has for an id, 0 past its end.
-pub fn entry(table: &[u32], id: u32) -> u32
+pub(crate) fn entry(table: &[u32], id: u32) -> u32
     ensures { result ≡ slice_index table.now id }
 {
     match table.get(id as usize) {
@@ -37,7 +39,11 @@ fn put(table: &mut [u32], id: u32, value: u32)
 }
 
 // The nets that hold tracks, by the ids below `room`.
-pub fn nets_by_id(alloc: Global, tracks: &[Track], room: usize) -> Result<Vec<u32>, AllocError>
+pub(crate) fn nets_by_id(
+    alloc: Global,
+    tracks: &[Track],
+    room: usize,
+) -> Result<Vec<u32>, AllocError>
     ensures tells { IfOk result (λ nets. Tells nets.items (held_by tracks.now)) }
     ensures long { IfOk result (λ nets. length nets.items ≡ room) }
 {
@@ -62,7 +68,7 @@ fn note_column(since: &mut [u32], nets: &[u32], column: u32)
 }
 
 // Notes the column for the tracks that were free before it.
-pub fn note_free(
+pub(crate) fn note_free(
     alloc: Global,
     since: &mut [u32],
     before: &[Track],

@@ -1,3 +1,5 @@
+//! Draws a sweep that has ended: goes through its columns once more, and adds the segments and vias of each.
+
 ghost use Rattle.greedy_column.specs.Lawful.{AreMadeFrom};
 ghost use Rattle.greedy_column.specs.Joining.{span_in};
 ghost use Rattle.greedy_column.specs.Replay.{after, entered, free_tracks};
@@ -17,9 +19,9 @@ use std::alloc::{AllocError, Global};
 
 // The segments and the vias of some columns.
 #[derive(Drop)]
-pub struct Wires {
-    pub segments: Vec<Segment>,
-    pub vias: Vec<Via>,
+pub(crate) struct Wires {
+    pub(crate) segments: Vec<Segment>,
+    pub(crate) vias: Vec<Via>,
 }
 
 // A column of a sweep that is wired: its record, and the tracks before it, once its pins have entered and after it. It is drawn on the lines
@@ -135,7 +137,7 @@ fn first_tracks(alloc: Global, run: &Run) -> Result<Vec<Track>, AllocError>
 }
 
 // The segments and the vias of all columns of a run.
-pub fn wire_columns(alloc: Global, run: &Run) -> Result<Wires, AllocError>
+pub(crate) fn wire_columns(alloc: Global, run: &Run) -> Result<Wires, AllocError>
     ensures segments { IfOk result (λ wires. wires.segments.items
         ≡ segments_from run.now.sweep.order run.now.pins 0 (free_tracks run.now.sweep.begun) (λ id. 0) run.now.sweep.columns) }
     ensures vias { IfOk result (λ wires. wires.vias.items

@@ -1,22 +1,16 @@
-use Rattle.std.proofs.Common.{◌≡◌, ◌+◌, ◌<◌, ℕ, zero, suc, List, [], ◌∷◌, ◌++◌, Bool, true, false, ◌&&◌, not, eqb, length, map, Some, refl, ap, subst, sym, ◌∙◌, inl, inr, arith}
+use Rattle.std.proofs.Common.{◌≡◌, ◌+◌, ◌<◌, ℕ, zero, suc, List, [], ◌++◌, Bool, true, false, ◌&&◌, not, eqb, length, map, Some, refl, ap, subst, sym, ◌∙◌, inl, inr, arith}
 use Rattle.std.specs.Prelude.{slice_index}
 use Rattle.std.specs.List.{slice_get}
 use Rattle.std.proofs.lemmas.Bool.{and_left, cases_Bool, cases_lt, eq-eqb, eqb-true, not-false}
 use Rattle.std.proofs.lemmas.Option.{slice_get_within}
-use Rattle.list_facts.proofs.Places.{at-place}
 use Rattle.layout_check.specs.Groups.{differing, differing_pairs, pairs_below}
 use Rattle.layout_check.specs.NetFaults.{pairs_of_firsts}
 use Rattle.layout_check.proofs.Firsts.{AreGrouped, differing-picked, does, firsts-differing, place}
-use Rattle.layout_check.proofs.Picking.{first-at, none-picked, picked-none}
-
--- two lists, one behind the other, that are empty
-pub both-empty : {X : Type 0} (xs ys : List X) → xs ++ ys ≡ [] → (xs ≡ []) × (ys ≡ [])
-both-empty [] ys none = (refl, none)
-both-empty (x ∷ xs) ys none = let never : ⊥ = cc in absurd never
-
-pub none-mapped : {X Y : Type 0} (f : X → Y) (xs : List X) → map f xs ≡ [] → xs ≡ []
-none-mapped f [] none = refl
-none-mapped f (x ∷ xs) none = let never : ⊥ = cc in absurd never
+use Rattle.layout_check.proofs.Picking.{none-picked, picked-none}
+use Rattle.std_laws.proofs.Places.{at-place}
+use Rattle.std_laws.proofs.Searches.{first-at}
+use Rattle.std_laws.proofs.Slices.{both-empty}
+use Rattle.std_laws.proofs.Images.{none-mapped}
 
 none-below : (n : ℕ) (firsts kinds : List ℕ) → pairs_below n firsts kinds ≡ [] → (k : ℕ) → k < n → differing firsts kinds k ≡ []
 none-below zero firsts kinds none k within = absurd (omega arith)

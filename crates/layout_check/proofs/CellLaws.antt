@@ -9,9 +9,7 @@ use Rattle.std.proofs.lemmas.Bool.Decides.{Decides-int_eq}
 use Rattle.std.proofs.lemmas.List.Sorted.{list_any-IsPermutation}
 use Rattle.std.proofs.lemmas.Map.Keys.{IsDistinct-IsPermutation}
 use Rattle.std.proofs.lemmas.Option.{slice_get-map}
-use Rattle.list_facts.proofs.Different.{any-get, place-get}
-use Rattle.list_facts.proofs.Members.{contains-get, find-member, find-passes, find-some, get-contains}
-use Rattle.list_facts.proofs.Mentioned.{bytes_one, bytes_same, names-flip}
+use Rattle.list_facts.proofs.Different.{place-get}
 use Rattle.geom_core.specs.Extent.{Extent}
 use Rattle.geom_core.specs.Moving.{moved_shape}
 use Rattle.geom_core.specs.declared.layout.Cell.{Cell}
@@ -28,9 +26,13 @@ use Rattle.rule_check.proofs.Laws.{failing-none}
 use Rattle.layout_check.specs.CellFaults.{are_shapes, doubled, is_copy_for, is_copy_of, is_copy_of_kind, is_extent, is_shape, misdrawn, missing, strange}
 use Rattle.layout_check.specs.Findings.{cell_findings}
 use Rattle.layout_check.specs.declared.finding.Finding.TheVariants.{Missing, Doubled, Strange, Drawing}
-use Rattle.layout_check.proofs.Alike.{both-empty, none-mapped}
 use Rattle.layout_check.proofs.Repeats.{different-none, none-repeated}
 use Rattle.layout_check.proofs.SameMembers.{same-members}
+use Rattle.std_laws.proofs.Searches.{any-get}
+use Rattle.std_laws.proofs.Members.{contains-get, find-member, find-passes, find-some, get-contains}
+use Rattle.std_laws.proofs.Bytes.{bytes_one, bytes_same, bytes-flips}
+use Rattle.std_laws.proofs.Slices.{both-empty}
+use Rattle.std_laws.proofs.Images.{none-mapped}
 
 -- tests of rectangles and shapes
 true-extent : (e f : Extent) → is_extent e f ≡ true → e ≡ f
@@ -179,7 +181,7 @@ match-cells r d l good match =
     members-none (instance_names d) (cell_names l)
     (λ k x is. sym (list_any-IsPermutation (bytes_eq x) (instance_names d) (cell_names l) match.names) ∙ any-get (instance_names d) k x is) in
     let none_doubled : doubled l ≡ [] =
-    different-none (cell_names l) (IsDistinct-IsPermutation bytes_eq names-flip (instance_names d) (cell_names l) match.names good.different_instances) in
+    different-none (cell_names l) (IsDistinct-IsPermutation bytes_eq bytes-flips (instance_names d) (cell_names l) match.names good.different_instances) in
     let none_strange : strange d l ≡ [] =
     members-none (cell_names l) (instance_names d)
     (λ k x is. list_any-IsPermutation (bytes_eq x) (instance_names d) (cell_names l) match.names ∙ any-get (cell_names l) k x is) in

@@ -5,12 +5,13 @@ use Rattle.std.proofs.lemmas.Bool.{both_ways, cases_lt, eq-eqb, ne_eqb}
 use Rattle.std.proofs.lemmas.List.{append-nil, length-append}
 use Rattle.std.proofs.lemmas.List.Folds.{list_any-append}
 use Rattle.std.proofs.lemmas.Option.{get_or_from_slice_get, slice_get_within}
-use Rattle.list_facts.proofs.Places.{at-place, get-front}
 use Rattle.rule_check.specs.Failing.{failing_from}
-use Rattle.rule_check.proofs.Crowding.{at-zip, length-zip}
 use Rattle.layout_check.specs.Groups.{differing, differing_pairs, pairs_below}
 use Rattle.layout_check.specs.NetFaults.{pairs_of_firsts, pairs_of_firsts_from}
-use Rattle.layout_check.proofs.Picking.{before-first, failing-picked, first-at, none-before, picked, picked-later, picked-none}
+use Rattle.layout_check.proofs.Picking.{failing-picked, picked, picked-later, picked-none}
+use Rattle.std_laws.proofs.Places.{at-place, get-front}
+use Rattle.std_laws.proofs.Zips.{at-zip, length-zip}
+use Rattle.std_laws.proofs.Searches.{before-first, first-at, none-before}
 
 abbrev unless : Bool → List (ℕ × ℕ) → List (ℕ × ℕ)
 unless t pairs = if t then [] else pairs

@@ -1,4 +1,4 @@
-use Rattle.std.proofs.Common.{◌≡◌, ◌↔◌, ℕ, List, [], ◌++◌, map, take, lit<, ap, ap₂, ◌∙◌}
+use Rattle.std.proofs.Common.{◌≡◌, ◌↔◌, ℕ, List, [], ◌++◌, map, take, lit<, ap, ap₂}
 use Rattle.std.specs.Prelude.{All}
 use Rattle.std.specs.List.{zip}
 use Rattle.geom_core.specs.declared.layout.Layout.{Layout}
@@ -18,10 +18,11 @@ use Rattle.layout_check.specs.Findings.{Findings, bare_findings, cell_findings, 
 use Rattle.layout_check.specs.Findings.Findings.{of_cells, of_nets}
 use Rattle.layout_check.specs.declared.finding.Finding.{Finding}
 use Rattle.layout_check.specs.declared.finding.Finding.TheVariants.{Overlap, OutOfRow, Narrow, Close, BareCut}
-use Rattle.layout_check.proofs.Alike.{both-empty, none-mapped}
 use Rattle.layout_check.proofs.CellLaws.{cells-match, match-cells}
 use Rattle.layout_check.proofs.NetLaws.{join-none, none-join}
-use Rattle.layout_check.proofs.SpaceLaws.{none-taken, spaced-failing}
+use Rattle.layout_check.proofs.SpaceLaws.{spaced-failing}
+use Rattle.std_laws.proofs.Slices.{both-empty, none-taken, empty-five, five-empty}
+use Rattle.std_laws.proofs.Images.{none-mapped}
 
 -- of pairs the first thousand are none just where all are none
 told-none : (f : ℕ × ℕ → Finding) (pairs : List (ℕ × ℕ)) → map f (take 1000 pairs) ≡ [] → pairs ≡ []
@@ -29,20 +30,6 @@ told-none f pairs none = none-taken 1000 pairs (lit< tt) (none-mapped f (take 10
 
 none-told : (f : ℕ × ℕ → Finding) (pairs : List (ℕ × ℕ)) → pairs ≡ [] → map f (take 1000 pairs) ≡ []
 none-told f pairs none = ap (λ (ps : List (ℕ × ℕ)). map f (take 1000 ps)) none
-
--- a list of five parts
-five-empty : {X : Type 0} (a b c d e : List X) → a ++ b ++ c ++ d ++ e ≡ [] → (a ≡ []) × (b ≡ []) × (c ≡ []) × (d ≡ []) × (e ≡ [])
-five-empty a b c d e none =
-    let last = both-empty (a ++ b ++ c ++ d) e none in
-    let fourth = both-empty (a ++ b ++ c) d last.0 in
-    let third = both-empty (a ++ b) c fourth.0 in
-    let second = both-empty a b third.0 in
-    (second.0, second.1, third.1, fourth.1, last.1)
-
-empty-five : {X : Type 0} (a b c d e : List X) → a ≡ [] → b ≡ [] → c ≡ [] → d ≡ [] → e ≡ [] → a ++ b ++ c ++ d ++ e ≡ []
-empty-five {X} a b c d e a_is b_is c_is d_is e_is =
-    ap (λ (l : List X). l ++ b ++ c ++ d ++ e) a_is ∙ ap (λ (l : List X). l ++ c ++ d ++ e) b_is ∙ ap (λ (l : List X). l ++ d ++ e) c_is
-    ∙ ap (λ (l : List X). l ++ e) d_is ∙ e_is
 
 module _ (r : RuleValues) (d : Netlist) (l : Layout) (good : IsNetlist d) (inside : All (λ (s : Shape). HasInside s.rect) l.shapes) where
   rows-none : row_findings r l ≡ [] → InRows r l

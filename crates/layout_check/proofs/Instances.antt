@@ -3,11 +3,11 @@ use Rattle.std.specs.List.{find, list_any, slice_get}
 use Rattle.std.specs.Str.{bytes_eq}
 use Rattle.std.proofs.lemmas.List.Folds.{find_at}
 use Rattle.list_facts.specs.Names.{mentions, place_among}
-use Rattle.list_facts.proofs.Mentioned.{any-mentions, names-flip}
+use Rattle.list_facts.proofs.Mentioned.{any-mentions}
 use Rattle.design_model.specs.declared.design.Inst.{Inst}
 use Rattle.rule_check.specs.Failing.{failing, failing_from}
-use Rattle.layout_check.proofs.PinGroups.{place-map}
-use Rattle.layout_check.proofs.Repeats.{place-same}
+use Rattle.std_laws.proofs.Bytes.{bytes-flips}
+use Rattle.std_laws.proofs.Searches.{place-map, place-same}
 
 -- the instance of a name stands at the name's place
 pub find-place : (insts : List Inst) (name : List ℕ)
@@ -15,7 +15,7 @@ pub find-place : (insts : List Inst) (name : List ℕ)
 find-place insts name =
     find_at (λ (i : Inst). bytes_eq i.name name) insts
     ∙ ap (slice_get insts)
-    (place-same (λ (i : Inst). bytes_eq i.name name) (λ (i : Inst). bytes_eq name i.name) insts (λ n i is. names-flip i.name name)
+    (place-same (λ (i : Inst). bytes_eq i.name name) (λ (i : Inst). bytes_eq name i.name) insts (λ n i is. bytes-flips i.name name)
     ∙ sym (place-map (λ (i : Inst). i.name) (bytes_eq name) insts))
 
 failing-same : {A : Type 0} (p q : A → Bool) → ((x : A) → p x ≡ q x) → (n : ℕ) (xs : List A) → failing_from p n xs ≡ failing_from q n xs

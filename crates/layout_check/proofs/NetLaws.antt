@@ -1,7 +1,6 @@
 use Rattle.std.proofs.Common.{◌≡◌, ◌↔◌, ℕ, List, [], ◌++◌, Some, map, ap₂}
 use Rattle.std.specs.Prelude.{Contains}
 use Rattle.std.specs.List.{slice_get}
-use Rattle.list_facts.proofs.Members.{contains-get, get-contains}
 use Rattle.geom_core.specs.declared.layout.Layout.{Layout}
 use Rattle.tech_rules.specs.Rules.{RuleValues}
 use Rattle.design_model.specs.Joined.{PinsJoined}
@@ -12,8 +11,10 @@ use Rattle.geom_extract.specs.declared.joined.Extract.{Extract}
 use Rattle.layout_check.specs.Findings.{net_findings}
 use Rattle.layout_check.specs.NetFaults.{opened, shorted}
 use Rattle.layout_check.specs.declared.finding.Finding.TheVariants.{Opened, Short}
-use Rattle.layout_check.proofs.Alike.{both-empty, none-mapped}
 use Rattle.layout_check.proofs.PinGroups.{opened-none, shorted-none}
+use Rattle.std_laws.proofs.Members.{contains-get, get-contains}
+use Rattle.std_laws.proofs.Slices.{both-empty}
+use Rattle.std_laws.proofs.Images.{none-mapped}
 
 -- pins are joined just where they are of one net
 abbrev pub JoinNets : RuleValues → Netlist → Layout → Type 0

@@ -1,42 +1,20 @@
-use Rattle.std.proofs.Common.{◌≡◌, ◌+◌, ◌<◌, ◌↔◌, ℕ, List, [], ◌∷◌, Bool, true, not, cond, eqb, length, map, Some, refl, ap, ap₂, sym, ◌∙◌, arith}
+use Rattle.std.proofs.Common.{◌≡◌, ◌<◌, ◌↔◌, ℕ, List, [], Bool, not, eqb, length, map, Some, ap, ap₂, sym, ◌∙◌, arith}
 use Rattle.std.specs.Prelude.{slice_index}
-use Rattle.std.specs.List.{position_or_len, slice_get, zip}
+use Rattle.std.specs.List.{slice_get}
 use Rattle.std.specs.Option.{option_map}
-use Rattle.std.proofs.lemmas.Bool.{eq-eqb, eqb-true}
-use Rattle.std.proofs.lemmas.Bool.Decides.{nat_tests}
+use Rattle.std.proofs.lemmas.Bool.{eqb-true}
 use Rattle.std.proofs.lemmas.List.{length-map}
 use Rattle.std.proofs.lemmas.Option.{get_or_from_slice_get, same_Some, slice_get-get_or, slice_get-map, slice_get_within}
 use Rattle.design_model.specs.Netlist.{Netlist}
 use Rattle.design_model.specs.declared.design.Pin.{Pin}
 use Rattle.layout_check.specs.Groups.{differing_pairs, first_of, firsts_of}
 use Rattle.layout_check.specs.NetFaults.{opened, pins_by_class, shorted}
-use Rattle.list_facts.proofs.Places.{at-place}
-use Rattle.rule_check.proofs.Crowding.{at-zip, zip-at}
 use Rattle.layout_check.proofs.Alike.{alike-none, none-alike}
 use Rattle.layout_check.proofs.Firsts.{AreGrouped, firsts-differing}
-
--- the place of the first image that passes a test
-pub place-map : {A B : Type 0} (f : A → B) (p : B → Bool) (xs : List A) → position_or_len p (map f xs) ≡ position_or_len (λ x. p (f x)) xs
-place-map f p [] = refl
-place-map f p (x ∷ xs) = ap (λ (n : ℕ). cond (not (p (f x))) (1 + n) 0) (place-map f p xs)
-
-pub map-firsts : {A B : Type 0} (xs : List A) (ys : List B) → length xs ≡ length ys → map (λ (p : A × B). p.0) (zip xs ys) ≡ xs
-map-firsts [] [] long = refl
-map-firsts [] (y ∷ ys) long = refl
-map-firsts (x ∷ xs) [] long = absurd (omega arith)
-map-firsts {A} (x ∷ xs) (y ∷ ys) long = ap (λ (zs : List A). x ∷ zs) (map-firsts xs ys (omega arith))
-
-pub map-seconds : {A B : Type 0} (xs : List A) (ys : List B) → length xs ≡ length ys → map (λ (p : A × B). p.1) (zip xs ys) ≡ ys
-map-seconds [] [] long = refl
-map-seconds [] (y ∷ ys) long = absurd (omega arith)
-map-seconds (x ∷ xs) [] long = absurd (omega arith)
-map-seconds {B = B} (x ∷ xs) (y ∷ ys) long = ap (λ (zs : List B). y ∷ zs) (map-seconds xs ys (omega arith))
-
-eq-flips : (a b : ℕ) → eqb a b ≡ eqb b a
-eq-flips a b = grind (arith, nat_tests)
-
-pub eq-own : (a : ℕ) → eqb a a ≡ true
-eq-own a = eq-eqb a a refl
+use Rattle.std_laws.proofs.Places.{at-place}
+use Rattle.std_laws.proofs.Zips.{at-zip, zip-at, map-firsts, map-seconds}
+use Rattle.std_laws.proofs.Searches.{place-map}
+use Rattle.std_laws.proofs.Tests.{eqb-flips, eqb-itself}
 
 module _ {A : Type 0} (key kind : A → ℕ) (all : List A) where
   -- whether two are of different kinds
@@ -44,7 +22,7 @@ module _ {A : Type 0} (key kind : A → ℕ) (all : List A) where
   kinds_differ x y = not (eqb (kind x) (kind y))
 
   -- groups by numbers
-  pub numbers-grouped : AreGrouped key eqb eqb-true eq-own kinds_differ all (firsts_of (map key all)) (map kind all)
+  pub numbers-grouped : AreGrouped key eqb eqb-true eqb-itself kinds_differ all (firsts_of (map key all)) (map kind all)
   numbers-grouped = record {
     long_firsts = length-map (map key all) (first_of (map key all)) ∙ length-map all key;
     long_kinds = length-map all kind;
@@ -56,7 +34,7 @@ module _ {A : Type 0} (key kind : A → ℕ) (all : List A) where
     agrees = λ i j x y less x_is y_is same.
         let first : slice_index (map kind all) i ≡ kind x = get_or_from_slice_get (map kind all) i (kind x) 0 (slice_get-map kind all i ∙ ap (option_map kind) x_is) in
         let second : slice_index (map kind all) j ≡ kind y = get_or_from_slice_get (map kind all) j (kind y) 0 (slice_get-map kind all j ∙ ap (option_map kind) y_is) in
-        ap not (eq-flips (kind x) (kind y) ∙ ap₂ eqb (sym second) (sym first));
+        ap not (eqb-flips (kind x) (kind y) ∙ ap₂ eqb (sym second) (sym first));
   }
 
 -- the nets and the classes of pins
@@ -73,7 +51,7 @@ module _ (d : Netlist) (classes : List ℕ) (long : length classes ≡ length d.
   -- what is open is told by the firsts of nets
   pub opened-differing : opened d classes ≡ differing_pairs (firsts_of (map (λ (p : Pin). p.net) d.pins)) classes
   opened-differing =
-      firsts-differing (λ (p : ℕ × ℕ). p.0) eqb eqb-true eq-own (kinds_differ (λ (p : ℕ × ℕ). p.0) (λ (p : ℕ × ℕ). p.1) (pins_by_class d classes)) (pins_by_class d classes)
+      firsts-differing (λ (p : ℕ × ℕ). p.0) eqb eqb-true eqb-itself (kinds_differ (λ (p : ℕ × ℕ). p.0) (λ (p : ℕ × ℕ). p.1) (pins_by_class d classes)) (pins_by_class d classes)
       (firsts_of (map (λ (p : ℕ × ℕ). p.0) (pins_by_class d classes))) (map (λ (p : ℕ × ℕ). p.1) (pins_by_class d classes))
       (numbers-grouped (λ (p : ℕ × ℕ). p.0) (λ (p : ℕ × ℕ). p.1) (pins_by_class d classes))
       ∙ ap₂ (λ (ns cs : List ℕ). differing_pairs (firsts_of ns) cs) nets-are classes-are
@@ -81,7 +59,7 @@ module _ (d : Netlist) (classes : List ℕ) (long : length classes ≡ length d.
   -- and what is short, by those of classes
   pub shorted-differing : shorted d classes ≡ differing_pairs (firsts_of classes) (map (λ (p : Pin). p.net) d.pins)
   shorted-differing =
-      firsts-differing (λ (p : ℕ × ℕ). p.1) eqb eqb-true eq-own (kinds_differ (λ (p : ℕ × ℕ). p.1) (λ (p : ℕ × ℕ). p.0) (pins_by_class d classes)) (pins_by_class d classes)
+      firsts-differing (λ (p : ℕ × ℕ). p.1) eqb eqb-true eqb-itself (kinds_differ (λ (p : ℕ × ℕ). p.1) (λ (p : ℕ × ℕ). p.0) (pins_by_class d classes)) (pins_by_class d classes)
       (firsts_of (map (λ (p : ℕ × ℕ). p.1) (pins_by_class d classes))) (map (λ (p : ℕ × ℕ). p.0) (pins_by_class d classes))
       (numbers-grouped (λ (p : ℕ × ℕ). p.1) (λ (p : ℕ × ℕ). p.0) (pins_by_class d classes))
       ∙ ap₂ (λ (cs ns : List ℕ). differing_pairs (firsts_of cs) ns) classes-are nets-are
@@ -114,11 +92,11 @@ module _ (d : Netlist) (classes : List ℕ) (long : length classes ≡ length d.
   opened-none = (
     λ none i j p q p_is q_is same.
         sym (class-read i)
-        ∙ none-alike (λ (row : ℕ × ℕ). row.0) eqb eqb-true eq-own (kinds_differ (λ (row : ℕ × ℕ). row.0) (λ (row : ℕ × ℕ). row.1) (pins_by_class d classes)) (pins_by_class d classes) _ _
+        ∙ none-alike (λ (row : ℕ × ℕ). row.0) eqb eqb-true eqb-itself (kinds_differ (λ (row : ℕ × ℕ). row.0) (λ (row : ℕ × ℕ). row.1) (pins_by_class d classes)) (pins_by_class d classes) _ _
         (numbers-grouped (λ (row : ℕ × ℕ). row.0) (λ (row : ℕ × ℕ). row.1) (pins_by_class d classes)) none i j (p.net, slice_index classes i) (q.net, slice_index classes j)
         (row-at i p p_is) (row-at j q q_is) same
         ∙ class-read j,
-    λ alike. alike-none (λ (row : ℕ × ℕ). row.0) eqb eqb-true eq-own (kinds_differ (λ (row : ℕ × ℕ). row.0) (λ (row : ℕ × ℕ). row.1) (pins_by_class d classes)) (pins_by_class d classes) _ _
+    λ alike. alike-none (λ (row : ℕ × ℕ). row.0) eqb eqb-true eqb-itself (kinds_differ (λ (row : ℕ × ℕ). row.0) (λ (row : ℕ × ℕ). row.1) (pins_by_class d classes)) (pins_by_class d classes) _ _
         (numbers-grouped (λ (row : ℕ × ℕ). row.0) (λ (row : ℕ × ℕ). row.1) (pins_by_class d classes))
         (λ i j x y x_is y_is same.
         let p = at-row i x x_is in
@@ -132,11 +110,11 @@ module _ (d : Netlist) (classes : List ℕ) (long : length classes ≡ length d.
   shorted-none = (
     λ none i j p q p_is q_is same.
         sym (net-read i p p_is)
-        ∙ none-alike (λ (row : ℕ × ℕ). row.1) eqb eqb-true eq-own (kinds_differ (λ (row : ℕ × ℕ). row.1) (λ (row : ℕ × ℕ). row.0) (pins_by_class d classes)) (pins_by_class d classes) _ _
+        ∙ none-alike (λ (row : ℕ × ℕ). row.1) eqb eqb-true eqb-itself (kinds_differ (λ (row : ℕ × ℕ). row.1) (λ (row : ℕ × ℕ). row.0) (pins_by_class d classes)) (pins_by_class d classes) _ _
         (numbers-grouped (λ (row : ℕ × ℕ). row.1) (λ (row : ℕ × ℕ). row.0) (pins_by_class d classes)) none i j (p.net, slice_index classes i) (q.net, slice_index classes j)
         (row-at i p p_is) (row-at j q q_is) same
         ∙ net-read j q q_is,
-    λ alike. alike-none (λ (row : ℕ × ℕ). row.1) eqb eqb-true eq-own (kinds_differ (λ (row : ℕ × ℕ). row.1) (λ (row : ℕ × ℕ). row.0) (pins_by_class d classes)) (pins_by_class d classes) _ _
+    λ alike. alike-none (λ (row : ℕ × ℕ). row.1) eqb eqb-true eqb-itself (kinds_differ (λ (row : ℕ × ℕ). row.1) (λ (row : ℕ × ℕ). row.0) (pins_by_class d classes)) (pins_by_class d classes) _ _
         (numbers-grouped (λ (row : ℕ × ℕ). row.1) (λ (row : ℕ × ℕ). row.0) (pins_by_class d classes))
         (λ i j x y x_is y_is same.
         let p = at-row i x x_is in

@@ -1,6 +1,6 @@
-use Rattle.std.proofs.Common.{◌≡◌, ◌<◌, ◌+◌, ℕ, suc, List, [], ◌∷◌, Bool, true, not, cond, eqb, length, map, Some, refl, ap, subst, sym, ◌∙◌, inl, inr, arith}
+use Rattle.std.proofs.Common.{◌≡◌, ◌<◌, ◌+◌, ℕ, List, [], Bool, true, not, eqb, length, map, Some, ap, subst, sym, ◌∙◌, inl, inr, arith}
 use Rattle.std.specs.Prelude.{slice_index}
-use Rattle.std.specs.List.{IsDistinct, list_any, position_or_len, range_with_len, slice_get}
+use Rattle.std.specs.List.{IsDistinct, list_any, range_with_len, slice_get}
 use Rattle.std.specs.Option.{option_map}
 use Rattle.std.specs.Str.{bytes_eq}
 use Rattle.std.proofs.lemmas.Bool.{cases_Bool, eq-eqb, false_from_ne_true, ne_eqb}
@@ -9,20 +9,14 @@ use Rattle.std.proofs.lemmas.List.FromFn.{get_or-range_with_len, length-range_wi
 use Rattle.std.proofs.lemmas.Map.Keys.{IsDistinct-from_apart}
 use Rattle.std.proofs.lemmas.Option.{get_or_from_slice_get, slice_get-get_or, slice_get-map, slice_get_within}
 use Rattle.list_facts.specs.Names.{mentions, place_among}
-use Rattle.list_facts.proofs.Different.{any-get, place-get}
-use Rattle.list_facts.proofs.Mentioned.{any-mentions, bytes_one, bytes_same, get-place}
+use Rattle.list_facts.proofs.Different.{place-get}
+use Rattle.list_facts.proofs.Mentioned.{any-mentions, get-place}
 use Rattle.layout_check.specs.Groups.{differing_pairs, first_of, firsts_of}
 use Rattle.layout_check.specs.NetFaults.{pairs_of_firsts}
 use Rattle.layout_check.proofs.Alike.{alike-none, none-alike}
 use Rattle.layout_check.proofs.Firsts.{AreGrouped, firsts-differing}
-use Rattle.layout_check.proofs.PinGroups.{place-map}
-
--- tests that agree on the members find the same place
-pub place-same : {A : Type 0} (p q : A → Bool) (xs : List A) → ((i : ℕ) (x : A) → slice_get xs i ≡ Some x → p x ≡ q x) → position_or_len p xs ≡ position_or_len q xs
-place-same p q [] same = refl
-place-same p q (x ∷ xs) same =
-    ap (λ t. cond (not t) (1 + position_or_len p xs) 0) (same 0 x refl)
-    ∙ ap (λ (n : ℕ). cond (not (q x)) (1 + n) 0) (place-same p q xs (λ i y is. same (suc i) y is))
+use Rattle.std_laws.proofs.Searches.{any-get, place-map, place-same}
+use Rattle.std_laws.proofs.Bytes.{bytes_one, bytes_same}
 
 module _ (names : List (List ℕ)) where
   -- the number of a name

@@ -6,10 +6,10 @@ use Rattle.std.specs.Str.{bytes_eq}
 use Rattle.std.proofs.lemmas.Bool.{both_ways}
 use Rattle.std.proofs.lemmas.List.Sorted.{Contains-permutation, IsPermutation-cons, IsPermutation-refl, IsPermutation-remove, IsPermutation-sym, IsPermutation-trans}
 use Rattle.std.proofs.lemmas.Map.Keys.{IsDistinct-head, IsDistinct-IsPermutation, IsDistinct-tail}
-use Rattle.list_facts.proofs.Every.{every-get}
-use Rattle.list_facts.proofs.Members.{contains-get, member-cases, member-head, member-tail}
-use Rattle.list_facts.proofs.Mentioned.{bytes_same, names-flip}
-use Rattle.rule_check.proofs.FailingLaws.{empty-none, none-empty}
+use Rattle.rule_check.proofs.FailingLaws.{none-empty}
+use Rattle.std_laws.proofs.Every.{every-get}
+use Rattle.std_laws.proofs.Members.{contains-get, member-cases, member-head, member-tail, empty-none}
+use Rattle.std_laws.proofs.Bytes.{bytes_same, bytes-flips}
 
 -- the first of different names is none of the others
 not-behind : (x : List ℕ) (xs : List (List ℕ)) → IsDistinct bytes_eq (x ∷ xs) → ¬ Contains xs x
@@ -26,7 +26,7 @@ same-members (x ∷ xs) ys dx dy into back =
     let at : Contains ys x = into x (member-head x xs) in
     let rest : List (List ℕ) = remove ys at.0 in
     let moved : IsPermutation ys (x ∷ rest) = IsPermutation-remove ys at.0 x at.1 (sym at.2) in
-    let different : IsDistinct bytes_eq (x ∷ rest) = IsDistinct-IsPermutation bytes_eq names-flip ys (x ∷ rest) moved dy in
+    let different : IsDistinct bytes_eq (x ∷ rest) = IsDistinct-IsPermutation bytes_eq bytes-flips ys (x ∷ rest) moved dy in
     let later : IsPermutation xs rest =
     same-members xs rest (IsDistinct-tail bytes_eq x xs dx) (IsDistinct-tail bytes_eq x rest different)
     (λ y among. elim (member-cases x rest y (Contains-permutation ys (x ∷ rest) y moved (into y (member-tail x xs y among)))) [

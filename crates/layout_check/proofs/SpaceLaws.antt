@@ -1,12 +1,10 @@
-use Rattle.std.proofs.Common.{◌≡◌, ◌⊎◌, ◌<◌, ◌≤ℤ◌, ◌<ℤ◌, ◌+ℤ◌, ◌↔◌, ℕ, zero, suc, ℤ, pos, List, [], ◌∷◌, Bool, true, false, ◌&&◌, ◌||◌, not, eqb, Some, length, take, refl, ap, subst, sym, ◌∙◌, inl, inr, arith}
+use Rattle.std.proofs.Common.{◌≡◌, ◌⊎◌, ◌<◌, ◌≤ℤ◌, ◌<ℤ◌, ◌+ℤ◌, ◌↔◌, ℕ, ℤ, pos, List, [], Bool, true, false, ◌&&◌, ◌||◌, not, eqb, Some, length, refl, ap, subst, sym, ◌∙◌, inl, inr, arith}
 use Rattle.std.specs.Prelude.{All, int_lt, slice_index}
 use Rattle.std.specs.List.{slice_get, zip}
 use Rattle.std.specs.Str.{bytes_eq}
 use Rattle.std.proofs.lemmas.Bool.{and_cases, and_left, and_right, and_from, cases_Bool, cases_order, eq-eqb, false_from_ne_true, ne_eqb, not_from_false, or_from, or_parts}
 use Rattle.std.proofs.lemmas.Int.{by_lt_z, ints}
 use Rattle.std.proofs.lemmas.Option.{get_or_from_slice_get, slice_get_within, slice_get-get_or}
-use Rattle.list_facts.proofs.Members.{all-get}
-use Rattle.list_facts.proofs.Mentioned.{bytes_one, bytes_same}
 use Rattle.geom_core.specs.Extent.{Extent}
 use Rattle.geom_core.specs.Rectangles.{Apart, gap_between}
 use Rattle.geom_core.specs.Rectangles.Apart.{left_of, right_of, under, above}
@@ -24,8 +22,10 @@ use Rattle.geom_extract.specs.Extracts.{IsExtract}
 use Rattle.geom_extract.specs.declared.joined.Extract.{Extract}
 use Rattle.rule_check.specs.Crowded.{are_too_close, is_crowded_on}
 use Rattle.rule_check.specs.Failing.{failing_pairs}
-use Rattle.rule_check.proofs.Crowding.{at-zip, zip-at}
 use Rattle.rule_check.proofs.Laws.{failing_pairs-none}
+use Rattle.std_laws.proofs.Members.{all-get}
+use Rattle.std_laws.proofs.Bytes.{bytes_one, bytes_same}
+use Rattle.std_laws.proofs.Zips.{at-zip, zip-at}
 
 -- stretches whose gap is not below d lie that far apart
 gap-apart : (d low high other_low other_high : ℤ) → pos 0 ≤ℤ d → low <ℤ high → other_low <ℤ other_high
@@ -91,11 +91,6 @@ crowded-on r layer space s t none first second =
     let on_first : bytes_eq s.layer layer ≡ true = subst (λ (name : List ℕ). bytes_eq s.layer name ≡ true) first (bytes_same s.layer) in
     let on_second : bytes_eq t.layer layer ≡ true = subst (λ (name : List ℕ). bytes_eq t.layer name ≡ true) second (bytes_same t.layer) in
     sym (ap (λ u. u && is_close (length_in r space) s.rect t.rect) (and_from (bytes_eq s.layer layer) (bytes_eq t.layer layer) on_first on_second)) ∙ none
-
-pub none-taken : {X : Type 0} (n : ℕ) (xs : List X) → 0 < n → take n xs ≡ [] → xs ≡ []
-none-taken n [] some none = refl
-none-taken zero (x ∷ xs) some none = absurd (omega arith)
-none-taken (suc n) (x ∷ xs) some none = let never : ⊥ = cc in absurd never
 
 module _ (r : RuleValues) (d : Netlist) (l : Layout) (e : Extract) (extract : IsExtract r d l e) (inside : All (λ (s : Shape). HasInside s.rect) l.shapes) where
   abbrev class : ℕ → ℕ

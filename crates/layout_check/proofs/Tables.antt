@@ -1,24 +1,17 @@
 use Rattle.std.proofs.Common.{◌≡◌, ◌+◌, ◌<◌, ◌≤◌, ℕ, zero, suc, List, [], ◌∷◌, ◌++◌, Bool, true, false, if◌then◌else◌, ◌&&◌, not, cond, eqb, Option, Some, None, length, map, take, drop, set, refl, ap, ap₂, sym, ◌∙◌, inl, inr, arith}
 use Rattle.std.specs.Prelude.{All, slice_index, slice_index_or, unwrap_or}
 use Rattle.std.specs.List.{position_from, position_or_len, slice_get, zip}
-use Rattle.std.proofs.Math.Seq.{take-append_seam}
 use Rattle.std.proofs.lemmas.Bool.{cases_eq, eq-eqb, ne_eqb}
-use Rattle.std.proofs.lemmas.List.{length-map, length-set, length-take-le, take-append-drop, take_all}
+use Rattle.std.proofs.lemmas.List.{length-map, length-set, take_all}
 use Rattle.std.proofs.lemmas.List.Elements.{All-map}
 use Rattle.std.proofs.lemmas.Option.{slice_get-get_or, slice_get_within}
-use Rattle.list_facts.proofs.Places.{drop-here, take-here}
 use Rattle.list_facts.specs.Lists.{list_there, with_item}
 use Rattle.rule_check.specs.Failing.{failing, failing_from}
-use Rattle.rule_check.proofs.Crowding.{length-zip, zip-at}
 use Rattle.layout_check.specs.Groups.{differing, differs_from, first_of, firsts_of, pairs_below, pairs_in}
-use Rattle.layout_check.proofs.Picking.{first-at}
-
-pub length-here : {X : Type 0} (xs : List X) (k : ℕ) (x : X) → slice_get xs k ≡ Some x → length (take k xs) ≡ k
-length-here xs k x is = let within : k < length xs = slice_get_within xs k x is in length-take-le k xs (omega arith)
-
--- a list round a member of it
-pub split-here : {X : Type 0} (xs : List X) (k : ℕ) (x : X) → slice_get xs k ≡ Some x → xs ≡ take k xs ++ x ∷ drop (suc k) xs
-split-here xs k x is = sym (take-append-drop k xs) ∙ ap (λ rest. take k xs ++ rest) (drop-here xs k x is)
+use Rattle.std_laws.proofs.Places.{take-here, get-set-same, get-set-other}
+use Rattle.std_laws.proofs.Zips.{length-zip, zip-at}
+use Rattle.std_laws.proofs.Searches.{first-at, position-front}
+use Rattle.std_laws.proofs.Slices.{split-here, length-here}
 
 -- one more member is asked whether it fails
 failing-push : {A : Type 0} (fails : A → Bool) (n : ℕ) (xs : List A) (y : A)
@@ -136,20 +129,6 @@ position-push p n (x ∷ xs) y = by (p x) (position-push p (n + 1) xs y)
         let more : n + 1 + length xs ≡ n + suc (length xs) = omega arith in
         later ∙ ap (or_next (position_from p (n + 1) xs) (p y)) more
 
--- the place of a member that passes is the one that is found before it, or its own
-position-front : {A : Type 0} (p : A → Bool) (n : ℕ) (xs rest : List A) (y : A) → p y ≡ true
-    → unwrap_or (position_from p n xs) (n + length xs) ≡ n + position_or_len p (xs ++ y ∷ rest)
-position-front p n [] rest y passes = ap (λ t. n + cond (not t) (1 + position_or_len p rest) 0) (sym passes)
-position-front p n (x ∷ xs) rest y passes = by (p x) (position-front p (n + 1) xs rest y passes)
-  where
-    by : (t : Bool) → unwrap_or (position_from p (n + 1) xs) (n + 1 + length xs) ≡ n + 1 + position_or_len p (xs ++ y ∷ rest)
-        → unwrap_or (cond t (Some n) (position_from p (n + 1) xs)) (n + suc (length xs)) ≡ n + cond (not t) (1 + position_or_len p (xs ++ y ∷ rest)) 0
-    by true later = let none : n ≡ n + 0 = omega arith in none
-    by false later =
-        let more : n + 1 + length xs ≡ n + suc (length xs) = omega arith in
-        let one : n + 1 + position_or_len p (xs ++ y ∷ rest) ≡ n + (1 + position_or_len p (xs ++ y ∷ rest)) = omega arith in
-        ap (unwrap_or (position_from p (n + 1) xs)) (sym more) ∙ later ∙ one
-
 pub first-read : (groups : List ℕ) (k g : ℕ) → slice_get groups k ≡ Some g → unwrap_or (position_from (λ (h : ℕ). eqb g h) 0 (take k groups)) k ≡ first_of groups g
 first-read groups k g is =
     let long : k ≡ 0 + length (take k groups) = omega (arith, length-here groups k g is) in
@@ -157,21 +136,6 @@ first-read groups k g is =
     ap (unwrap_or (position_from (λ (h : ℕ). eqb g h) 0 (take k groups))) long
     ∙ position-front (λ (h : ℕ). eqb g h) 0 (take k groups) (drop (suc k) groups) g (eq-eqb g g refl)
     ∙ none ∙ ap (position_or_len (λ (h : ℕ). eqb g h)) (sym (split-here groups k g is))
-
-set-same : {X : Type 0} (xs : List X) (n : ℕ) (x : X) → n < length xs → slice_get (set xs n x) n ≡ Some x
-set-same [] n x within = absurd (omega arith)
-set-same (y ∷ ys) zero x within = refl
-set-same (y ∷ ys) (suc n) x within = set-same ys n x (omega arith)
-
-set-other : {X : Type 0} (xs : List X) (n i : ℕ) (x : X) → (i ≡ n → ⊥) → slice_get (set xs n x) i ≡ slice_get xs i
-set-other [] n i x apart = refl
-set-other (y ∷ ys) zero zero x apart = absurd (apart refl)
-set-other (y ∷ ys) zero (suc i) x apart = refl
-set-other (y ∷ ys) (suc n) zero x apart = refl
-set-other (y ∷ ys) (suc n) (suc i) x apart = set-other ys n i x (λ same. apart (ap suc same))
-
-pub seam : {X : Type 0} (items new : List X) (len : ℕ) → len ≡ length items → length new ≡ length items → take len (new ++ drop (length new) items) ≡ new
-seam items new len is long = ap (λ (m : ℕ). take m (new ++ drop (length new) items)) (is ∙ sym long) ∙ take-append_seam new (drop (length new) items)
 
 -- a table has for each group the first among so many members, and then among one more
 pub table-step : (groups : List ℕ) (k h first : ℕ) (items new : List (Option ℕ)) → slice_get groups k ≡ Some h → h < length items
@@ -186,11 +150,11 @@ table-step groups k h first items new is within table reads put g below =
     ∙ ap (or_next (position_from (λ (m : ℕ). eqb g m) 0 (take k groups)) (eqb g h)) last in
     elim (cases_eq g h) [
       | inl same ↦
-          ap (λ (l : List (Option ℕ)). slice_get l g) put ∙ ap (slice_get (set items h (Some first))) same ∙ set-same items h (Some first) within
+          ap (λ (l : List (Option ℕ)). slice_get l g) put ∙ ap (slice_get (set items h (Some first))) same ∙ get-set-same items h (Some first) within
           ∙ ap (λ (o : Option ℕ). Some o) (ap (λ (n : ℕ). Some n) (reads ∙ ap (λ (m : ℕ). unwrap_or (position_from (λ (n : ℕ). eqb m n) 0 (take k groups)) k) (sym same))
           ∙ or-here (position_from (λ (m : ℕ). eqb g m) 0 (take k groups)) (eqb g h) k (eq-eqb g h same) ∙ sym more)
       | inr apart ↦
-          ap (λ (l : List (Option ℕ)). slice_get l g) put ∙ set-other items h g (Some first) apart ∙ table g (omega arith)
+          ap (λ (l : List (Option ℕ)). slice_get l g) put ∙ get-set-other items h g (Some first) apart ∙ table g (omega arith)
           ∙ ap (λ (o : Option ℕ). Some o) (or-stays (position_from (λ (m : ℕ). eqb g m) 0 (take k groups)) (eqb g h) k (ne_eqb g h apart) ∙ sym more)
     ]
   where

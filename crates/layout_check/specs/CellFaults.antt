@@ -1,3 +1,4 @@
+-- cells that are missing, doubled, strange or drawn otherwise
 use Rattle.std.specs.Prelude.{ℕ, ◌==◌, List, [], ◌∷◌, map, find, Bool, true, false, not, ◌&&◌, Option, None, Some, slice_get}
 use Rattle.std.specs.List.{list_any}
 use Rattle.std.specs.Ordering.{int_eq}

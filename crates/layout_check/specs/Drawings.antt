@@ -1,3 +1,4 @@
+-- the drawings of kinds, and cells with their shapes
 use Rattle.std.specs.Prelude.{◌≡◌, ℕ, ◌==◌, List, map, length, All, Bool, ◌&&◌}
 use Rattle.std.specs.Str.{bytes_eq}
 use Rattle.geom_core.specs.Moving.{moved_shape}

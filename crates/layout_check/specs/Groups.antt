@@ -1,3 +1,4 @@
+-- groups of numbers, their firsts, and members that differ from these
 use Rattle.std.specs.Prelude.{ℕ, zero, suc, ◌==◌, List, [], ◌++◌, length, map, Bool, not, ◌&&◌, slice_get, slice_index}
 use Rattle.std.specs.List.{position_or_len, zip}
 use Rattle.list_facts.specs.Lists.{list_there}

@@ -1,3 +1,4 @@
+-- layouts that can be checked
 use Rattle.std.specs.Prelude.{ℕ, ◌+◌, ◌<◌, ◌≤◌, ◌^◌, length, All}
 use Rattle.geom_core.specs.Reach.{IsInReach, IsShapeInReach}
 use Rattle.geom_core.specs.declared.layout.Cell.{Cell}

@@ -1,3 +1,4 @@
+-- nets that are open or short
 use Rattle.std.specs.Prelude.{ℕ, ◌+◌, ◌==◌, List, [], ◌∷◌, ◌++◌, map, Bool, not, ◌&&◌, if◌then◌else◌}
 use Rattle.std.specs.List.{list_any, zip}
 use Rattle.design_model.specs.Netlist.{Netlist}

@@ -1,3 +1,4 @@
+-- findings of a kind
 use Rattle.std.specs.Prelude.{ℕ}
 use Rattle.layout_check.specs.declared.finding.Finding.{Finding}
 use Rattle.layout_check.specs.declared.finding.Finding.TheVariants.{Missing, Doubled, Strange, Drawing, Overlap, OutOfRow, Narrow, Close, BareCut, Opened, Short}

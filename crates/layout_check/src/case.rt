@@ -9,17 +9,17 @@ use tech_rules::Rules;
 
 /// A layout that is judged for a design under rules: its lengths are within reach, and the cells of the design have room for their pins.
 #[derive(Clone, Copy)]
-pub struct Case<'c> {
-    pub layout: &'c Layout,
-    pub design: &'c Design,
-    pub rules: &'c Rules,
+pub(crate) struct Case<'c> {
+    pub(crate) layout: &'c Layout,
+    pub(crate) design: &'c Design,
+    pub(crate) rules: &'c Rules,
     ghost measured: { IsMeasured layout.now },
     ghost room: { HasRoom rules.now design.now },
 }
 
 impl<'c> Case<'c> {
     /// The shapes of the layout, as a mask that can be judged. Takes no memory.
-    pub fn mask(&self) -> Mask<'_>
+    pub(crate) fn mask(&self) -> Mask<'_>
         ensures { result ≡ self.now.layout.now.shapes }
     {
         Mask::new(self.layout.shapes.items())

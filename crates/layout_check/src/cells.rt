@@ -1,3 +1,5 @@
+//! Instances without a cell, cells without an instance or of one name, and cells that are no copies of their kinds.
+
 ghost use Rattle.design_model.specs.CellsMatch.{cell_names, instance_names};
 ghost use Rattle.design_model.specs.declared.design.Inst.{Inst};
 ghost use Rattle.layout_check.specs.CellFaults.{is_copy_for, misdrawn};
@@ -41,7 +43,7 @@ struct Drawn<'n, 'c, 'l, 's, 't> {
 
 /// What is wrong with the cells of a layout: instances without a cell, names of several cells, cells without an instance, and cells that
 /// are no copies of their kinds. The one error is want of memory.
-pub fn cell_findings(alloc: Global, case: &Case) -> Result<Vec<Finding>, AllocError>
+pub(crate) fn cell_findings(alloc: Global, case: &Case) -> Result<Vec<Finding>, AllocError>
     ensures { IfOk result (λ v. v.items ≡ cell_findings case.now.rules.now case.now.design.now case.now.layout.now) }
 {
     let design = case.design;

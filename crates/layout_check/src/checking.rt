@@ -1,3 +1,5 @@
+//! All that is wrong with a layout, kind by kind; open and short nets are sought only where the cells are right.
+
 ghost use Rattle.design_model.specs.Good.{Good};
 ghost use Rattle.design_model.specs.Room.{HasRoom};
 ghost use Rattle.layout_check.specs.Findings.{cell_findings, Findings};

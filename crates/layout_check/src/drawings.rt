@@ -1,3 +1,5 @@
+//! The drawing of each cell kind, and whether a cell is a copy of one under its turn.
+
 ghost use Rattle.geom_core.specs.Moving.{moved_shape};
 ghost use Rattle.geom_core.specs.Reach.{IsInReach, IsShapeInReach};
 ghost use Rattle.layout_check.specs.CellFaults.{are_shapes, is_extent, is_shape};
@@ -11,7 +13,7 @@ use geom_core::{Cell, Items, Layout, Name, Rect, Shape, Turn, moved};
 use std::alloc::{AllocError, Global};
 
 /// The drawing of each kind of a design. The one error is want of memory.
-pub fn drawings(alloc: Global, case: &Case) -> Result<Vec<Items<Shape>>, AllocError>
+pub(crate) fn drawings(alloc: Global, case: &Case) -> Result<Vec<Items<Shape>>, AllocError>
     ensures is { IfOk result (λ v. v.items ≡ drawings_of case.now.rules.now case.now.design.now) }
     ensures kinds { IfOk result (λ v. AreForKinds case.now.design.now v.items) }
 {
@@ -27,7 +29,7 @@ pub fn drawings(alloc: Global, case: &Case) -> Result<Vec<Items<Shape>>, AllocEr
 }
 
 /// Whether a cell is a copy of the symbol of this name, upright, mirrored perhaps, with the shapes of a drawing under its turn as its own.
-pub fn is_copy_with(layout: &Layout, name: &Name, drawing: &[Shape], cell: &Cell) -> bool
+pub(crate) fn is_copy_with(layout: &Layout, name: &Name, drawing: &[Shape], cell: &Cell) -> bool
     requires cell { IsCellAmong (length layout.now.shapes) cell.now }
     requires reach { All IsShapeInReach drawing.now }
     ensures { result ≡ is_copy_with layout.now name.now drawing.now cell.now }

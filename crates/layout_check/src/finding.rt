@@ -1,3 +1,5 @@
+//! The kinds of findings on cells, outlines, wires, cuts and nets, in the order in which they are told.
+
 /// What is wrong with a layout, in the order in which it is told. The numbers are those of instances and pins of the design, and of cells
 /// and shapes of the layout, from 0 on.
 #[derive(Clone, Copy, Debug, PartialEq, Eq)]

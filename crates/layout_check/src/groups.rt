@@ -1,3 +1,5 @@
+//! The first member of each group, with each later one of the group that is of another kind.
+
 ghost use Rattle.layout_check.specs.Groups.{differing, differing_pairs, firsts_of, pairs_in};
 ghost use Rattle.std.specs.Prelude.{◌≡◌, ◌<◌, ◌^◌, ◌++◌, ℕ, length, map, set, slice_get, unwrap_or, All, IfOk, OnOk, Some};
 
@@ -6,15 +8,18 @@ use std::alloc::{AllocError, Global};
 
 /// Members by the numbers of their groups and of their kinds; there are fewer than 2^32.
 #[derive(Clone, Copy)]
-pub struct Members<'m> {
-    pub groups: &'m [u32],
-    pub kinds: &'m [u32],
+pub(crate) struct Members<'m> {
+    pub(crate) groups: &'m [u32],
+    pub(crate) kinds: &'m [u32],
     ghost few: { length groups.now < 2 ^ 32 },
     ghost each: { length kinds.now ≡ length groups.now },
 }
 
 /// The first member of each group with each later one of the group that is of another kind, in order. The one error is want of memory.
-pub fn differing_pairs(alloc: Global, members: &Members) -> Result<Vec<(u32, u32)>, AllocError>
+pub(crate) fn differing_pairs(
+    alloc: Global,
+    members: &Members,
+) -> Result<Vec<(u32, u32)>, AllocError>
     ensures { IfOk result (λ v. v.items ≡ differing_pairs (firsts_of members.now.groups.now) members.now.kinds.now) }
 {
     let firsts = firsts_of(alloc, members)?;

@@ -1,3 +1,5 @@
+//! The names of cells and instances, and which of them are missing, doubled or strange.
+
 ghost use Rattle.design_model.specs.CellsMatch.{cell_names, instance_names};
 ghost use Rattle.layout_check.specs.NetFaults.{pairs_of_firsts};
 ghost use Rattle.layout_check.specs.declared.finding.Finding.TheVariants.{Doubled, Missing, Strange};
@@ -19,16 +21,16 @@ use std::alloc::{AllocError, Global};
 
 /// Fewer than 2^32 names, with the different ones of them in the order of their first mention.
 #[derive(Clone, Copy)]
-pub struct Names<'l, 's, 't> {
-    pub list: &'l [&'t [u8]],
-    pub set: &'s IndexSet<&'t [u8]>,
+pub(crate) struct Names<'l, 's, 't> {
+    pub(crate) list: &'l [&'t [u8]],
+    pub(crate) set: &'s IndexSet<&'t [u8]>,
     ghost few: { length list.now < 2 ^ 32 },
     ghost fewer: { length (texts set.now.keys) ≤ length list.now },
     ghost mentioned: { texts set.now.keys ≡ mentions (texts list.now) },
 }
 
 /// The names of the cells of a layout, in their order. The one error is want of memory.
-pub fn cell_names<'a>(alloc: Global, layout: &'a Layout) -> Result<Vec<&'a [u8]>, AllocError>
+pub(crate) fn cell_names<'a>(alloc: Global, layout: &'a Layout) -> Result<Vec<&'a [u8]>, AllocError>
     ensures { IfOk result (λ v. texts v.items ≡ cell_names layout.now) }
 {
     let mut names = Vec::new(alloc);
@@ -39,7 +41,10 @@ pub fn cell_names<'a>(alloc: Global, layout: &'a Layout) -> Result<Vec<&'a [u8]>
 }
 
 /// The names of the instances of a design, in their order. The one error is want of memory.
-pub fn instance_names<'a>(alloc: Global, design: &'a Design) -> Result<Vec<&'a [u8]>, AllocError>
+pub(crate) fn instance_names<'a>(
+    alloc: Global,
+    design: &'a Design,
+) -> Result<Vec<&'a [u8]>, AllocError>
     ensures { IfOk result (λ v. texts v.items ≡ instance_names design.now) }
 {
     let mut names = Vec::new(alloc);
@@ -50,7 +55,10 @@ pub fn instance_names<'a>(alloc: Global, design: &'a Design) -> Result<Vec<&'a [
 }
 
 /// The different names of a list. The one error is want of memory.
-pub fn different<'a>(alloc: Global, names: &[&'a [u8]]) -> Result<IndexSet<&'a [u8]>, AllocError>
+pub(crate) fn different<'a>(
+    alloc: Global,
+    names: &[&'a [u8]],
+) -> Result<IndexSet<&'a [u8]>, AllocError>
     ensures mentioned { IfOk result (λ set. texts set.keys ≡ mentions (texts names.now)) }
     ensures fewer { IfOk result (λ set. length (texts set.keys) ≤ length names.now) }
 {
@@ -73,7 +81,7 @@ fn not_among(alloc: Global, names: &Names, others: &Names) -> Result<Vec<u32>, A
 }
 
 /// Tells which of these names of instances no cell has. The one error is want of memory.
-pub fn tell_missing(
+pub(crate) fn tell_missing(
     alloc: Global,
     findings: &mut Vec<Finding>,
     instances: &Names,
@@ -86,7 +94,7 @@ pub fn tell_missing(
 }
 
 /// Tells which of these names of cells no instance has. The one error is want of memory.
-pub fn tell_strange(
+pub(crate) fn tell_strange(
     alloc: Global,
     findings: &mut Vec<Finding>,
     cells: &Names,
@@ -99,7 +107,7 @@ pub fn tell_strange(
 }
 
 /// Tells which of these names of cells repeat an earlier one. The one error is want of memory.
-pub fn tell_doubled(
+pub(crate) fn tell_doubled(
     alloc: Global,
     findings: &mut Vec<Finding>,
     cells: &Names,

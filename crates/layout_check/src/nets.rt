@@ -1,3 +1,5 @@
+//! Pins of one net that are not joined, and joined pins of different nets.
+
 ghost use Rattle.design_model.specs.declared.design.Pin.{Pin as PinOf};
 ghost use Rattle.layout_check.specs.Findings.{net_findings};
 ghost use Rattle.std.specs.Prelude.{◌≡◌, ◌++◌, length, map, IfOk, OnOk};
@@ -9,7 +11,7 @@ use design_model::Design;
 use std::alloc::{AllocError, Global};
 
 /// Tells which pins are open and which are short, by the classes of all pins. The one error is want of memory.
-pub fn tell_nets(
+pub(crate) fn tell_nets(
     alloc: Global,
     findings: &mut Vec<Finding>,
     design: &Design,

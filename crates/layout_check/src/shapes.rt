@@ -1,3 +1,5 @@
+//! Findings on outlines that overlap or are out of row, narrow wires, close shapes and bare cuts.
+
 ghost use Rattle.close_rects.specs.Items.{HasInside};
 ghost use Rattle.layout_check.specs.Findings.{bare_findings, close_findings, narrow_findings, row_findings};
 ghost use Rattle.std.specs.Prelude.{◌≡◌, ◌++◌, length, All, OnOk};
@@ -10,7 +12,11 @@ use rule_check::{bare_cuts, close_pairs, narrow, out_of_row, overlaps};
 use std::alloc::{AllocError, Global};
 
 /// Tells which outlines overlap, and which are out of row. The one error is want of memory.
-pub fn tell_rows(alloc: Global, findings: &mut Vec<Finding>, case: &Case) -> Result<(), AllocError>
+pub(crate) fn tell_rows(
+    alloc: Global,
+    findings: &mut Vec<Finding>,
+    case: &Case,
+) -> Result<(), AllocError>
     ensures { OnOk result (findings.new.items ≡ findings.old.items ++ row_findings case.now.rules.now case.now.layout.now) }
 {
     let mask = case.mask();
@@ -21,7 +27,7 @@ pub fn tell_rows(alloc: Global, findings: &mut Vec<Finding>, case: &Case) -> Res
 }
 
 /// Tells which wires and cuts are too narrow. The one error is want of memory.
-pub fn tell_narrow(
+pub(crate) fn tell_narrow(
     alloc: Global,
     findings: &mut Vec<Finding>,
     case: &Case,
@@ -33,7 +39,7 @@ pub fn tell_narrow(
 }
 
 /// Tells which shapes of different classes are too close; there is a class for each shape. The one error is want of memory.
-pub fn tell_close(
+pub(crate) fn tell_close(
     alloc: Global,
     findings: &mut Vec<Finding>,
     case: &Case,
@@ -47,7 +53,11 @@ pub fn tell_close(
 }
 
 /// Tells which cuts are bare. The one error is want of memory.
-pub fn tell_bare(alloc: Global, findings: &mut Vec<Finding>, case: &Case) -> Result<(), AllocError>
+pub(crate) fn tell_bare(
+    alloc: Global,
+    findings: &mut Vec<Finding>,
+    case: &Case,
+) -> Result<(), AllocError>
     ensures { OnOk result (findings.new.items ≡ findings.old.items ++ bare_findings case.now.rules.now case.now.layout.now) }
 {
     let numbers = bare_cuts(alloc, &case.mask(), case.rules)?;
@@ -55,7 +65,7 @@ pub fn tell_bare(alloc: Global, findings: &mut Vec<Finding>, case: &Case) -> Res
 }
 
 /// Reads a side of each shape, which tells a proof that each has an inside, as every `Rect` has.
-pub fn read_sides(shapes: &[Shape])
+pub(crate) fn read_sides(shapes: &[Shape])
     ensures { All (λ s. HasInside s.rect) shapes.now }
 {
     for k in 0..shapes.len() {

@@ -1,3 +1,5 @@
+//! Findings of one number and of two, each kind put behind those told before.
+
 ghost use Rattle.layout_check.specs.Telling.{of_number, of_pair};
 ghost use Rattle.std.specs.Prelude.{◌≡◌, ◌++◌, ◌∷◌, [], map, not, if◌then◌else◌, OnOk};
 
@@ -6,7 +8,7 @@ use std::alloc::AllocError;
 
 /// A kind of findings that tell of one number each.
 #[derive(Clone, Copy)]
-pub enum OfNumber {
+pub(crate) enum OfNumber {
     Missing,
     Strange,
     Drawing,
@@ -16,7 +18,7 @@ pub enum OfNumber {
 
 /// A kind of findings that tell of two numbers each.
 #[derive(Clone, Copy)]
-pub enum OfPair {
+pub(crate) enum OfPair {
     Doubled,
     Overlap,
     OutOfRow,
@@ -26,7 +28,7 @@ pub enum OfPair {
 }
 
 /// Puts a finding of this kind at the end for each number. The one error is want of memory.
-pub fn put_numbers(
+pub(crate) fn put_numbers(
     findings: &mut Vec<Finding>,
     kind: OfNumber,
     numbers: &[u32],
@@ -40,7 +42,7 @@ pub fn put_numbers(
 }
 
 /// Puts a finding of this kind at the end for each pair. The one error is want of memory.
-pub fn put_pairs(
+pub(crate) fn put_pairs(
     findings: &mut Vec<Finding>,
     kind: OfPair,
     pairs: &[(u32, u32)],
@@ -79,7 +81,11 @@ fn pair_finding(kind: OfPair, first: u32, later: u32) -> Finding
 }
 
 /// Puts a number at the end, unless something is well with it. The one error is want of memory.
-pub fn push_unless(numbers: &mut Vec<u32>, number: u32, is_well: bool) -> Result<(), AllocError>
+pub(crate) fn push_unless(
+    numbers: &mut Vec<u32>,
+    number: u32,
+    is_well: bool,
+) -> Result<(), AllocError>
     ensures { OnOk result (numbers.new.items ≡ (if not is_well then numbers.old.items ++ number ∷ [] else numbers.old.items)) }
 {
     if !is_well {

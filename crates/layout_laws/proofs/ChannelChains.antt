@@ -1,5 +1,4 @@
-use Rattle.std.proofs.Common.{◌≡◌, inl, inr, refl, sym, ◌∙◌, subst, ℕ, List, [], ◌∷◌, Contains, arith}
-use Rattle.std.proofs.lemmas.List.Elements.{All-nil, All-cons, All-contains}
+use Rattle.std.proofs.Common.{◌≡◌, inl, inr, refl, sym, ◌∙◌, subst, ℕ, List, Contains, arith}
 use Rattle.channel_model.specs.declared.wiring.Via.{Via}
 use Rattle.channel_model.specs.declared.wiring.Wiring.{Wiring}
 use Rattle.channel_model.specs.Elements.{Layer, vertical, horizontal, Element, segment, via, elements, Meets}
@@ -16,22 +15,12 @@ use Rattle.wire_geom.specs.declared.drawn.Drawn.{Drawn}
 use Rattle.wire_geom.proofs.DrawingLaws.{drawing_contact}
 use Rattle.layout_laws.proofs.Chains.{AreChained, itself}
 use Rattle.layout_laws.proofs.ChainLaws.{AreChained-trans, AreChained-sym, touch-chained}
+use Rattle.std_laws.proofs.Members.{member-only, each-of_three}
 
 -- the layers that wirings have are layers of wires
 wire-named : (r : RuleValues) (layer : Layer) → IsWire r (layer_name r layer)
 wire-named r vertical = inr refl
 wire-named r horizontal = inl refl
-
--- members of lists of one and of three
-only-one : {A : Type 0} (x a : A) → Contains (x ∷ []) a → x ≡ a
-only-one {A} x a member =
-    let none : List A = [] in
-    All-contains (λ (y : A). x ≡ y) (x ∷ none) a (All-cons (λ (y : A). x ≡ y) x none refl (All-nil (λ (y : A). x ≡ y))) member
-
-each-of_three : {A : Type 0} (P : A → Type 0) (x y z a : A) → P x → P y → P z → Contains (x ∷ (y ∷ (z ∷ []))) a → P a
-each-of_three {A} P x y z a first second third member =
-    let none : List A = [] in
-    All-contains P (x ∷ (y ∷ (z ∷ none))) a (All-cons P x (y ∷ (z ∷ none)) first (All-cons P y (z ∷ none) second (All-cons P z none third (All-nil P)))) member
 
 module _ (pins : Pins) (wiring : Wiring) (wired : Wired pins wiring) (r : RuleValues) (valid : ValidRules r) (base : ℕ) (d : Netlist) (l : Layout) (ds : List Drawn)
     (among : (a : Drawn) → Contains (drawing r base wiring) a → Contains ds a) where
@@ -75,7 +64,7 @@ module _ (pins : Pins) (wiring : Wiring) (wired : Wired pins wiring) (r : RuleVa
   element_chained : (e : Element) → Contains (elements wiring) e → (a b : Drawn) → Of e a → Of e b → To a b
   element_chained (segment s) listed a b in_a in_b =
       let x : Drawn = drawn_of r (segment_piece r base wiring.tracks s) in
-      subst (λ (y : Drawn). To a y) (sym (only-one x a in_a) ∙ only-one x b in_b) itself
+      subst (λ (y : Drawn). To a y) (sym (member-only x a in_a) ∙ member-only x b in_b) itself
   element_chained (via v) listed a b in_a in_b =
       AreChained-trans (to_cut v listed a in_a) (AreChained-sym (is_among (via v) b listed in_b) (to_cut v listed b in_b))
 

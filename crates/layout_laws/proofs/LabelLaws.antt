@@ -1,7 +1,6 @@
 use Rattle.std.proofs.Common.{◌≡◌, ap, sym, ◌∙◌, subst, inl, inr, ℕ, List, Contains, Some}
 use Rattle.std.proofs.lemmas.Option.{same_Some}
 use Rattle.std.specs.Prelude.{◌↔◌, slice_get}
-use Rattle.list_facts.proofs.Members.{map-member, get-contains, map-cases, member-place}
 use Rattle.geom_core.specs.declared.layout.Layout.{Layout}
 use Rattle.geom_core.specs.declared.layout.Shape.{Shape}
 use Rattle.geom_core.specs.Rectangles.{HasSides, IsSquare, Apart}
@@ -18,9 +17,9 @@ use Rattle.wire_geom.specs.declared.drawn.Drawn.{Drawn}
 use Rattle.layout_laws.proofs.Chains.{AreChained, itself, by_touch, by_tie}
 use Rattle.layout_laws.proofs.Labels.{IsLabelled}
 use Rattle.layout_laws.proofs.Uprights.{IsWired}
-use Rattle.layout_laws.proofs.ListPlaces.{at-map}
-use Rattle.wire_geom.proofs.ListLaws.{map-at}
 use Rattle.layout_laws.proofs.TouchLaws.{wire-touches, cut-touches, touch-net, touch-turned}
+use Rattle.std_laws.proofs.Members.{map-member, get-contains, map-cases, member-place}
+use Rattle.std_laws.proofs.Places.{map-get, map-at}
 
 module _ (r : RuleValues) (d : Netlist) (l : Layout) (ds : List Drawn) (net_at : ℕ → ℕ → ℕ) (labelled : IsLabelled r d l ds net_at) where
   -- where a rectangle stands, its shape does
@@ -29,7 +28,7 @@ module _ (r : RuleValues) (d : Netlist) (l : Layout) (ds : List Drawn) (net_at :
 
   -- where a shape stands, its rectangle does
   drawn-at : (i : ℕ) (s : Shape) → slice_get l.shapes i ≡ Some s → (a : Drawn) × (slice_get ds i ≡ Some a) × (a.shape ≡ s)
-  drawn-at i s at = at-map (λ (x : Drawn). x.shape) ds i s (ap (λ (shapes : List Shape). slice_get shapes i) (sym labelled.pins.shapes) ∙ at)
+  drawn-at i s at = map-get (λ (x : Drawn). x.shape) ds i s (ap (λ (shapes : List Shape). slice_get shapes i) (sym labelled.pins.shapes) ∙ at)
 
   -- each shape is that of a rectangle
   drawn-of : (s : Shape) → Contains l.shapes s → (a : Drawn) × Contains ds a × (a.shape ≡ s)

@@ -1,7 +1,5 @@
 -- rectangles that meet, lie apart or enclose one another
 pub mod Rectangles
--- the places of elements in lists
-pub mod ListPlaces
 -- rectangles that touch are of one net
 pub mod TouchLaws
 -- a layout whose shapes have nets is wide, keeps its spaces, and joins the pins of each net

@@ -20,6 +20,7 @@ use Rattle.wire_geom.proofs.GridLaws.{centre-step}
 use Rattle.wire_geom.proofs.ScaleLaws.{scaled-order, scaled-gap}
 use Rattle.layout_laws.specs.Heights.{channel_height}
 use Rattle.layout_laws.proofs.Strips.{Stays, Strip, IsTall, Agree}
+use Rattle.std_laws.proofs.Members.{each-appended}
 
 -- a gap is one in either order
 pub Apart-sym : (r : RuleValues) (space : ℕ) (a b : Drawn) → Apart (length_in r space) a.shape.rect b.shape.rect → Apart (length_in r space) b.shape.rect a.shape.rect
@@ -27,15 +28,6 @@ Apart-sym r space a b (left_of e) = right_of e
 Apart-sym r space a b (right_of e) = left_of e
 Apart-sym r space a b (under e) = higher e
 Apart-sym r space a b (higher e) = under e
-
--- what holds of each rectangle of two lists holds of each of both
-each_of : {A : Type 0} (P : A → Type 0) (ds es : List A) → ((d : A) → Contains ds d → P d) → ((d : A) → Contains es d → P d)
-    → (d : A) → Contains (ds ++ es) d → P d
-each_of P ds es first second d member =
-    elim (Contains-append_cases ds es d member) [
-      | inl here ↦ first d here
-      | inr later ↦ second d later
-    ]
 
 -- vertical wires in a column and in a later one keep their space
 pub columns-gap : (r : RuleValues) → ValidRules r → (c d : ℕ) (a b : Drawn) → c < d → StandsIn r c a → StandsIn r d b
@@ -79,13 +71,13 @@ covered_right r ds es layer cut c = record {
 -- two wide lists are one
 pub AreWide-append : (r : RuleValues) (ds es : List Drawn) → AreWide r ds → AreWide r es → AreWide r (ds ++ es)
 AreWide-append r ds es first second = record {
-  horizontal = each_of _ ds es first.horizontal second.horizontal;
-  vertical = each_of _ ds es first.vertical second.vertical;
-  cut = each_of _ ds es first.cut second.cut;
-  in_horizontal = each_of (λ (d : Drawn). d.shape.layer ≡ r.cut.layer → IsCovered r (ds ++ es) r.horizontal.layer d) ds es
+  horizontal = each-appended _ ds es first.horizontal second.horizontal;
+  vertical = each-appended _ ds es first.vertical second.vertical;
+  cut = each-appended _ ds es first.cut second.cut;
+  in_horizontal = each-appended (λ (d : Drawn). d.shape.layer ≡ r.cut.layer → IsCovered r (ds ++ es) r.horizontal.layer d) ds es
       (λ d member on. covered_left r ds es r.horizontal.layer d (first.in_horizontal d member on))
       (λ d member on. covered_right r ds es r.horizontal.layer d (second.in_horizontal d member on));
-  in_vertical = each_of (λ (d : Drawn). d.shape.layer ≡ r.cut.layer → IsCovered r (ds ++ es) r.vertical.layer d) ds es
+  in_vertical = each-appended (λ (d : Drawn). d.shape.layer ≡ r.cut.layer → IsCovered r (ds ++ es) r.vertical.layer d) ds es
       (λ d member on. covered_left r ds es r.vertical.layer d (first.in_vertical d member on))
       (λ d member on. covered_right r ds es r.vertical.layer d (second.in_vertical d member on));
 }

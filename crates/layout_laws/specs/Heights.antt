@@ -1,3 +1,4 @@
+-- how high a channel is
 use Rattle.std.specs.Prelude.{ℕ, ◌+◌, ◌*◌}
 use Rattle.channel_model.specs.declared.wiring.Wiring.{Wiring}
 use Rattle.tech_rules.specs.Rules.{RuleValues}

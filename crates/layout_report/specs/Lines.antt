@@ -1,3 +1,4 @@
+-- lines of words
 use Rattle.std.specs.Prelude.{ℕ, List, [], ◌∷◌, ◌++◌, codes}
 
 -- what stands after a word: a blank where more words follow, else what ends the line

@@ -1,3 +1,4 @@
+-- the YAL text of a design made from a number: five cell kinds, and instances on nets drawn from a seed
 use Rattle.std.specs.Prelude.{ℕ, zero, suc, ◌+◌, ◌*◌, ◌/◌, ◌%◌, ◌==◌, List, [], ◌∷◌, ◌++◌, codes, if◌then◌else◌}
 use Rattle.std.specs.Fmt.{decimal}
 use Rattle.tech_rules.specs.Rules.{RuleValues}

@@ -1,3 +1,4 @@
+-- what is told of a layout that was made
 use Rattle.std.specs.Prelude.{ℕ, ◌+◌, List, [], ◌∷◌, ◌++◌, codes}
 use Rattle.std.specs.Fmt.{decimal}
 use Rattle.greedy_router.specs.declared.sweep.By.{By}

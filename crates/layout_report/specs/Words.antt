@@ -1,3 +1,4 @@
+-- the random words of a seed, and the design that is made from it
 use Rattle.std.specs.Prelude.{ℕ, zero, suc}
 use Rattle.rand_pcg.specs.Lcg.{Lcg, increment_of, started}
 use Rattle.rand_pcg.specs.Pcg.{multiplier_64, pcg32}

@@ -32,7 +32,7 @@ fn put_number(into: &mut [u8; 128], at: usize, n: u64) -> usize
 
 /// Writes the line of a word of at most 8 bytes and a number to the front of `into`, and gives its length.
 #[tactic(auto, unfolding(crate::specs::SummaryText::counted))]
-pub fn count_line(word: &[u8], n: u64, into: &mut [u8; 128]) -> usize
+pub(crate) fn count_line(word: &[u8], n: u64, into: &mut [u8; 128]) -> usize
     requires { length word.now ≤ 8 }
     ensures text { take result into.new ≡ counted word.now n }
     ensures fits { result ≤ 128 }
@@ -44,7 +44,7 @@ pub fn count_line(word: &[u8], n: u64, into: &mut [u8; 128]) -> usize
 
 /// Writes the line of a layout's size.
 #[tactic(auto, unfolding(crate::specs::SummaryText::size_text))]
-pub fn size_line(summary: &Summary, into: &mut [u8; 128]) -> usize
+pub(crate) fn size_line(summary: &Summary, into: &mut [u8; 128]) -> usize
     ensures text { take result into.new ≡ size_text summary.now }
     ensures fits { result ≤ 128 }
 {
@@ -67,7 +67,7 @@ fn by_word(by: By) -> &'static [u8]
 
 /// Writes the line of the channel of this number.
 #[tactic(auto, unfolding(crate::specs::SummaryText::channel_text))]
-pub fn channel_line(number: u64, channel: &ChannelLine, into: &mut [u8; 128]) -> usize
+pub(crate) fn channel_line(number: u64, channel: &ChannelLine, into: &mut [u8; 128]) -> usize
     ensures text { take result into.new ≡ channel_text number channel.now }
     ensures fits { result ≤ 128 }
 {

@@ -1,3 +1,5 @@
+//! The numbers of cells, nets, rows and feeds of a layout, the tracks of its channels, its size and its cost.
+
 use geom_core::Items;
 use greedy_router::By;
 

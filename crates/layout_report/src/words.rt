@@ -8,10 +8,10 @@ use rand_pcg::Lcg64Xsh32;
 
 /// The random words of a seed, one after another.
 #[derive(Drop)]
-pub struct Words {
-    pub seed: u64,
+pub(crate) struct Words {
+    pub(crate) seed: u64,
     /// The number of the next word, from 0 on.
-    pub number: u64,
+    pub(crate) number: u64,
     rng: Lcg64Xsh32,
     ghost in_step: { rng ≡ after_words seed number },
 }
@@ -19,7 +19,7 @@ pub struct Words {
 impl Words {
     /// The words of this seed, from the first one on.
     #[tactic(auto, unfolding(crate::specs::Words::after_words))]
-    pub fn new(seed: u64) -> Words
+    pub(crate) fn new(seed: u64) -> Words
         ensures seed { result.seed ≡ seed }
         ensures number { result.number ≡ 0 }
     {
@@ -32,7 +32,7 @@ impl Words {
 
     /// The next word.
     #[tactic(auto, using(crate::proofs::WordLaws::after_words_more), unfolding(crate::specs::Words::word))]
-    pub fn next(&mut self) -> u32
+    pub(crate) fn next(&mut self) -> u32
         requires few { self.old.number < 2 ^ 32 }
         ensures word { result ≡ word self.old.seed self.old.number }
         ensures number { self.new.number ≡ self.old.number + 1 }

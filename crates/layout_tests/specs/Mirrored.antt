@@ -1,3 +1,4 @@
+-- rows whose seats are mirrored
 use Rattle.std.specs.Prelude.{List, map, not}
 use Rattle.row_model.specs.declared.rows.Seat.{Seat}
 

@@ -39,7 +39,7 @@ fn turned_rows(alloc: Global, rows: &[Items<Seat>]) -> Result<Vec<Items<Seat>>, 
 }
 
 /// The same rows with each cell turned over. They hold the instances that the rows held.
-pub fn mirrored(alloc: Global, rows: &Rows) -> Result<Rows, AllocError>
+pub(crate) fn mirrored(alloc: Global, rows: &Rows) -> Result<Rows, AllocError>
     ensures is { IfOk result (λ made. made ≡ turned_rows rows.now) }
     ensures placed { IfOk result (λ made. (d : Netlist) → ArePlaced d rows.now → ArePlaced d made) }
 {

@@ -10,7 +10,7 @@ use plain_router::plain;
 use std::alloc::{AllocError, Global};
 
 /// The wirings of all channels, in their order, by the plain router: each connects its channel. The one error is want of memory.
-pub fn route_channels(alloc: Global, channels: &[Channel]) -> Result<Vec<Wiring>, AllocError>
+pub(crate) fn route_channels(alloc: Global, channels: &[Channel]) -> Result<Vec<Wiring>, AllocError>
     ensures stated { IfOk result (λ wirings. wirings.items ≡ map plain_of channels.now) }
     ensures wired { IfOk result (λ _. (k : ℕ) (pins : Pins) → slice_get channels.now k ≡ Some pins → Wired pins (plain_of pins)) }
 {

@@ -27,20 +27,25 @@ const LEAN: &str =
 
 /// Calls, the number of rows that they go into, and whether each cell is mirrored there.
 #[derive(Clone, Copy)]
-pub struct Rowed {
-    pub calls: &'static str,
-    pub rows: u32,
-    pub mirrored: bool,
+pub(crate) struct Rowed {
+    pub(crate) calls: &'static str,
+    pub(crate) rows: u32,
+    pub(crate) mirrored: bool,
 }
 
 /// The design of the sample cells and LEAN with these calls.
-pub fn designed_with(alloc: Global, calls: &str) -> Result<Design, SampleFault> {
+pub(crate) fn designed_with(alloc: Global, calls: &str) -> Result<Design, SampleFault> {
     let modules = format!(in alloc; "{CELLS}{LEAN}").map_err(|_| SampleFault::Memory)?;
     designed(alloc, modules.as_str(), calls)
 }
 
 /// The rows that a design begins with, or these with each cell mirrored.
-pub fn rows_of(alloc: Global, design: &Design, count: u32, mirror: bool) -> Result<Rows, AllocError>
+pub(crate) fn rows_of(
+    alloc: Global,
+    design: &Design,
+    count: u32,
+    mirror: bool,
+) -> Result<Rows, AllocError>
     requires some { 0 < count }
     requires few { count ≤ 512 }
     ensures { IfOk result (λ made. ArePlaced design.now made) }
@@ -75,9 +80,9 @@ fn wirings_for(
 
 /// A layout: what is stacked, and its text.
 #[derive(Drop)]
-pub struct Shown {
-    pub placed: Placed,
-    pub text: Vec<u8>,
+pub(crate) struct Shown {
+    pub(crate) placed: Placed,
+    pub(crate) text: Vec<u8>,
 }
 
 /// The layout of a routed design; None where it has no text.
@@ -174,13 +179,13 @@ fn shown_in(alloc: Global, design: &Design, rowed: Rowed) -> Result<Option<Shown
 }
 
 /// The layout of calls in rows; None where they have none.
-pub fn layout_for(alloc: Global, rowed: Rowed) -> Result<Option<Shown>, SampleFault> {
+pub(crate) fn layout_for(alloc: Global, rowed: Rowed) -> Result<Option<Shown>, SampleFault> {
     let design = designed_with(alloc, rowed.calls)?;
     shown_in(alloc, &design, rowed)
 }
 
 /// Whether a text is made of these pieces.
-pub fn is_made_of(text: &[u8], pieces: &[&str]) -> bool {
+pub(crate) fn is_made_of(text: &[u8], pieces: &[&str]) -> bool {
     let mut rest = text;
     for piece in pieces {
         match rest.strip_prefix(piece.as_bytes()) {

@@ -69,7 +69,7 @@ fn text_laid(
 }
 
 /// The text of a routed design; None where that fails.
-pub fn text_written(
+pub(crate) fn text_written(
     alloc: Global,
     design: &Design,
     fed: &FedRows,

@@ -1,14 +1,8 @@
-use Rattle.std.proofs.Common.{◌≡◌, ◌<◌, ◌+◌, ◌++◌, Bool, false, eqb, ℕ, zero, suc, List, [], ◌∷◌, inl, inr, refl, sym, ap, ap₂, ◌∙◌, arith, All, Contains, get_or, filter, add-one}
-use Rattle.std.proofs.lemmas.Bool.{cases_eq, eqb-false, eq-eqb, ne_eqb, cond-true, cond-false}
+use Rattle.std.proofs.Common.{◌≡◌, ◌<◌, ◌+◌, ◌++◌, Bool, ℕ, zero, suc, List, [], ◌∷◌, inl, inr, refl, sym, ap, ap₂, ◌∙◌, arith, All, Contains, filter, add-one}
+use Rattle.std.proofs.lemmas.Bool.{cases_eq}
 use Rattle.std.proofs.lemmas.List.{append_assoc}
-use Rattle.std.proofs.lemmas.List.Elements.{All-nil, All-append, Contains-append_left, Contains-append_right, Contains-get_or, filter-append}
-use Rattle.std.specs.List.{IsDistinct, AllByRecursion}
-use Rattle.list_facts.proofs.Members.{member-cases}
+use Rattle.std.proofs.lemmas.List.Elements.{All-nil, All-append, Contains-append_left, Contains-append_right, filter-append}
 use Rattle.left_edge.specs.EdgeWiring.{by_column}
-
--- what holds of each member holds of all
-pub All-from_members : {A : Type 0} (P : A → Type 0) (xs : List A) → ((x : A) → Contains xs x → P x) → All P xs
-All-from_members P xs each = λ k d within. each (get_or xs k d) (Contains-get_or xs k d within)
 
 -- what holds of what is made of each column holds of all
 pub All-by_column : {A : Type 0} (P : A → Type 0) (f : ℕ → List A) (n : ℕ) → ((column : ℕ) → column < n → All P (f column)) → All P (by_column f n)
@@ -34,26 +28,6 @@ filter-by_column {A} p f none (suc n) =
 -- a step of a loop over the columns
 pub by_column-more : {A : Type 0} (f : ℕ → List A) (n : ℕ) (start : List A) → (start ++ by_column f n) ++ f n ≡ start ++ by_column f (n + 1)
 by_column-more f n start = rw add-one (append_assoc start (by_column f n) (f n))
-
--- of different numbers one is kept
-pub filter-one : (xs : List ℕ) (n : ℕ) → IsDistinct eqb xs → Contains xs n → filter (λ x. eqb x n) xs ≡ n ∷ []
-unfolding IsDistinct
-filter-one [] n different there = absurd (omega (arith, there.1))
-filter-one (x ∷ xs) n different there =
-    elim (cases_eq x n) [
-      | inl same ↦
-          cond-true (eqb x n) (x ∷ filter (λ y. eqb y n) xs) (filter (λ y. eqb y n) xs) (eq-eqb x n same)
-          ∙ ap₂ (λ (y : ℕ) (ys : List ℕ). y ∷ ys) same (none xs (rw same at different.0))
-      | inr other ↦
-          cond-false (eqb x n) (x ∷ filter (λ y. eqb y n) xs) (filter (λ y. eqb y n) xs) (ne_eqb x n other)
-          ∙ filter-one xs n different.1 (elim (member-cases x xs n there) [ inl same ↦ absurd (other same) | inr later ↦ later ])
-    ]
-  where
-    none : (ys : List ℕ) → AllByRecursion (λ y. eqb n y ≡ false) ys → filter (λ y. eqb y n) ys ≡ []
-    none [] all = refl
-    none (y ∷ ys) all =
-        cond-false (eqb y n) (y ∷ filter (λ z. eqb z n) ys) (filter (λ z. eqb z n) ys) (ne_eqb y n (λ same. eqb-false n y all.0 (sym same)))
-        ∙ none ys all.1
 
 pub by_column-push : {A : Type 0} (f : ℕ → List A) (n : ℕ) (items start : List A) (a : A) → items ≡ start ++ by_column f n → f n ≡ a ∷ []
     → items ++ a ∷ [] ≡ start ++ by_column f (n + 1)

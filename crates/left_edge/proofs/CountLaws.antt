@@ -14,13 +14,14 @@ use Rattle.channel_model.specs.Pins.{Pins, IsChannel}
 use Rattle.channel_model.specs.Nets.{StandsIn, nets_of}
 use Rattle.channel_model.specs.Density.{is_over, spans_of, greatest, density_of}
 use Rattle.channel_model.proofs.NetsOf.{nets-are}
-use Rattle.list_facts.proofs.Members.{member-head, member-tail, filter-member, filter-from}
 use Rattle.left_edge.specs.Columns.{IsUnconstrained, net_at}
 use Rattle.left_edge.specs.Spans.{span, nets_over}
 use Rattle.left_edge.specs.Tracks.{begins, is_past, lasts, level_of, track_count}
 use Rattle.left_edge.proofs.ColumnLaws.{stands_at}
 use Rattle.left_edge.proofs.SpanLaws.{has_span}
-use Rattle.left_edge.proofs.TrackLaws.{holder, begins-true, past-false, lasts-begin, lasts-same, lasts-none, with_net-at, with_net-other, length-with_net, position-le}
+use Rattle.left_edge.proofs.TrackLaws.{holder, begins-true, past-false, lasts-begin, lasts-same, lasts-none, with_net-at, with_net-other, length-with_net}
+use Rattle.std_laws.proofs.Members.{member-head, member-tail, filter-member, filter-from}
+use Rattle.std_laws.proofs.Searches.{position-le}
 
 -- a span is over a column
 pub over-true : (column : ℕ) (reach : Reach) → is_over column reach ≡ true → (reach.first ≤ column) × (column ≤ reach.last)

@@ -1,7 +1,7 @@
-use Rattle.std.proofs.Common.{◌≡◌, ◌<◌, ◌≤◌, ◌+◌, ◌-◌, Bool, true, false, cond, eqb, ltb, ℕ, suc, List, [], ◌∷◌, inl, inr, refl, sym, ap, subst, ◌∙◌, arith, get_or, length, map, count_by, max, All, Contains, add-one}
-use Rattle.std.proofs.lemmas.Bool.{cases_eq, cases_lt, cond-true, cond-false, eq-eqb, ne_eqb, both_ways}
+use Rattle.std.proofs.Common.{◌≡◌, ◌<◌, ◌≤◌, ◌+◌, ◌-◌, Bool, true, false, cond, eqb, ltb, ℕ, suc, List, inl, inr, refl, sym, ap, subst, ◌∙◌, arith, get_or, length, map, count_by, max, All, Contains, add-one}
+use Rattle.std.proofs.lemmas.Bool.{cases_lt, cond-true, cond-false, ne_eqb, both_ways}
 use Rattle.std.proofs.lemmas.Bool.Decides.{nat_tests}
-use Rattle.std.proofs.lemmas.List.Sums.{sum_by-cons, length-filter}
+use Rattle.std.proofs.lemmas.List.Sums.{length-filter}
 use Rattle.std.specs.List.{IsDistinct}
 use Rattle.channel_model.specs.declared.reach.Reach.{Reach}
 use Rattle.channel_model.specs.Pins.{Pins, IsChannel}
@@ -10,18 +10,20 @@ use Rattle.channel_model.specs.Reach.{IsReach}
 use Rattle.channel_model.specs.Density.{is_over, spans_of, greatest, density_of}
 use Rattle.channel_model.proofs.NetsOf.{nets-are}
 use Rattle.channel_model.proofs.DensityLaws.{is_carried, swept, spans_of-within}
-use Rattle.list_facts.proofs.Members.{member-head, member-tail}
 use Rattle.left_edge.specs.Columns.{IsUnconstrained, net_at}
 use Rattle.left_edge.specs.Spans.{span, nets_over, IsFullest}
 use Rattle.left_edge.specs.Tracks.{begins, ends}
 use Rattle.left_edge.proofs.ColumnLaws.{stands_at}
 use Rattle.left_edge.proofs.SpanLaws.{has_span}
 use Rattle.left_edge.proofs.TrackLaws.{begins-true, begins-from, ends-true, ends-from, lasts-few}
-use Rattle.left_edge.proofs.ListLaws.{distinct_ascending, greatest-bound}
-use Rattle.left_edge.proofs.ByColumnLaws.{filter-one}
+use Rattle.left_edge.proofs.ListLaws.{greatest-bound}
 use Rattle.left_edge.proofs.CountLaws.{spans_of-nets, count-map, count_over, over_from}
 use Rattle.std.proofs.lemmas.List.Elements.{Contains-get_or}
 use Rattle.left_edge.proofs.SingleLaws.{tracks-density}
+use Rattle.std_laws.proofs.Increasing.{increasing-distinct}
+use Rattle.std_laws.proofs.Distinct.{filter-one}
+use Rattle.std_laws.proofs.Counts.{counted-same, counted-none}
+use Rattle.std_laws.proofs.Tests.{eqb-agree}
 
 -- the greatest value of a function below a number, and the first place of it
 pub record IsFirstMost (f : ℕ → ℕ) (n most column : ℕ) : Type 0 where
@@ -66,41 +68,22 @@ first_most-more f n most column was =
     not_less : (a b : ℕ) → b ≤ a → ltb a b ≡ false
     not_less a b h = grind (arith, nat_tests)
 
--- tests that agree count alike
-count_same : (p q : ℕ → Bool) (xs : List ℕ) → ((x : ℕ) → Contains xs x → p x ≡ q x) → count_by p xs ≡ count_by q xs
-count_same p q [] same = refl
-count_same p q (x ∷ xs) same =
-    let here : ◌≡◌ {A = ℕ} (cond (p x) 1 0) (cond (q x) 1 0) = ap (λ (b : Bool). cond b 1 0) (same x (member-head x xs)) in
-    let rest = count_same p q xs (λ y there. same y (member-tail x xs y there)) in
-    sum_by-cons (λ y. cond (p y) 1 0) x xs ∙ omega arith ∙ sym (sum_by-cons (λ y. cond (q y) 1 0) x xs)
-
-count_none : (xs : List ℕ) → count_by (λ x. false) xs ≡ 0
-count_none [] = refl
-count_none (x ∷ xs) = omega (arith, count_none xs, sum_by-cons (λ (y : ℕ). cond false 1 0) x xs)
-
-same_tests : (a b n m : ℕ) → (a ≡ b → n ≡ m) → (n ≡ m → a ≡ b) → eqb a b ≡ eqb n m
-same_tests a b n m there back =
-    elim (cases_eq a b) [
-      | inl same ↦ eq-eqb a b same ∙ sym (eq-eqb n m (there same))
-      | inr other ↦ ne_eqb a b other ∙ sym (ne_eqb n m (λ same. other (back same)))
-    ]
-
 -- of different numbers at most one has a value that only one may have
 count_one : (f : ℕ → ℕ) (c m : ℕ) (xs : List ℕ) (b : Bool) → IsDistinct eqb xs → ((x : ℕ) → Contains xs x → f x ≡ c → (x ≡ m) × (b ≡ true))
     → (b ≡ true → Contains xs m × (f m ≡ c)) → count_by (λ x. eqb (f x) c) xs ≡ cond b 1 0
 count_one f c m xs true different only there =
     let at = there refl in
-    count_same (λ x. eqb (f x) c) (λ x. eqb x m) xs (λ x member. same_tests (f x) c x m (λ same. (only x member same).0) (λ same. ap f same ∙ at.1))
+    counted-same (λ x. eqb (f x) c) (λ x. eqb x m) xs (λ x member. eqb-agree (f x) c x m (λ same. (only x member same).0) (λ same. ap f same ∙ at.1))
     ∙ sym (length-filter (λ x. eqb x m) xs) ∙ ap length (filter-one xs m different at.0)
 count_one f c m xs false different only there =
-    count_same (λ x. eqb (f x) c) (λ x. false) xs (λ x member. ne_eqb (f x) c (λ same. both_ways false refl (only x member same).1)) ∙ count_none xs
+    counted-same (λ x. eqb (f x) c) (λ x. false) xs (λ x member. ne_eqb (f x) c (λ same. both_ways false refl (only x member same).1)) ∙ counted-none xs
 
 module _ (pins : Pins) (channel : IsChannel pins) (free : IsUnconstrained pins) where
   abbrev spans : List Reach
   spans = map (span pins) (nets_of pins)
 
   different : IsDistinct eqb (nets_of pins)
-  different = distinct_ascending (nets_of pins) (nets-are pins).ascending
+  different = increasing-distinct (nets_of pins) (nets-are pins).ascending
 
   -- one net begins in a column, or none
   pub count_begins : (column : ℕ) → count_by (λ s. eqb s.first column) spans ≡ cond (begins pins column) 1 0

@@ -11,12 +11,13 @@ use Rattle.channel_model.specs.Density.{is_over, spans_of, density_of}
 use Rattle.channel_model.specs.Elements.{horizontal, segment, via, elements}
 use Rattle.channel_model.specs.Wired.{Wired}
 use Rattle.channel_model.proofs.NetsOf.{nets-are}
-use Rattle.list_facts.proofs.Members.{member-head, filter-from, map-member}
 use Rattle.left_edge.specs.Columns.{IsUnconstrained}
 use Rattle.left_edge.specs.Spans.{nets_over}
 use Rattle.left_edge.specs.Single.{is_along_of, AreCovered, IsLeast}
-use Rattle.left_edge.proofs.ListLaws.{distinct_ascending, greatest-reached, enough}
+use Rattle.left_edge.proofs.ListLaws.{greatest-reached, enough}
 use Rattle.left_edge.proofs.CountLaws.{count_over, over_from}
+use Rattle.std_laws.proofs.Members.{member-head, filter-from, map-member}
+use Rattle.std_laws.proofs.Increasing.{increasing-distinct}
 
 module _ (pins : Pins) (channel : IsChannel pins) (free : IsUnconstrained pins) (wiring : Wiring) (wired : Wired pins wiring) (covered : AreCovered pins wiring) where
   -- a net over a column lies on a track there
@@ -67,7 +68,7 @@ module _ (pins : Pins) (channel : IsChannel pins) (free : IsUnconstrained pins) 
   over_few : (column : ℕ) → length (nets_over pins column) ≤ wiring.tracks
   over_few column =
       enough (LiesOn column) wiring.tracks (λ n m level one other. one_net column n m level one other) (nets_over pins column) (lies_on column)
-      (distinct_ascending (nets_over pins column) (IsStrictlyIncreasing-filter _ (nets_of pins) (nets-are pins).ascending))
+      (increasing-distinct (nets_over pins column) (IsStrictlyIncreasing-filter _ (nets_of pins) (nets-are pins).ascending))
 
   pub least_tracks : density_of pins ≤ wiring.tracks
   least_tracks =

@@ -1,18 +1,10 @@
 use Rattle.std.proofs.Common.{◌≡◌, ◌<◌, ◌≤◌, false, eqb, ℕ, zero, suc, List, [], ◌∷◌, inl, inr, refl, sym, ap, subst, ◌∙◌, arith, length, max, Contains}
 use Rattle.std.proofs.lemmas.Bool.{cases_eq, eqb-true, eqb-false, ne_eqb}
-use Rattle.std.proofs.lemmas.List.Kept.{AllPairs-from_increasing}
-use Rattle.std.proofs.lemmas.Map.Keys.{IsDistinct-from_apart}
 use Rattle.std.proofs.lemmas.Map.Steps.{length-le_from_distinct_below}
 use Rattle.std.proofs.lemmas.Map.Views.{Contains-from_any}
 use Rattle.std.specs.List.{IsDistinct, AllByRecursion}
-use Rattle.std.specs.List.Sorted.{IsStrictlyIncreasing}
 use Rattle.channel_model.specs.Density.{greatest}
-use Rattle.list_facts.proofs.Members.{member-head, member-tail, member-cases}
-
--- ascending numbers are different
-pub distinct_ascending : (xs : List ℕ) → IsStrictlyIncreasing xs → IsDistinct eqb xs
-distinct_ascending xs ascending =
-    IsDistinct-from_apart eqb xs (λ i j d before within. ne_eqb _ _ (λ same. omega (arith, AllPairs-from_increasing xs ascending i j d before within)))
+use Rattle.std_laws.proofs.Members.{member-head, member-tail, member-cases}
 
 -- a function's values do not pass the greatest of them, and where that is not 0 it is one of them
 pub greatest-bound : (f : ℕ → ℕ) (n k : ℕ) → k < n → f k ≤ greatest f n

@@ -2,7 +2,6 @@ use Rattle.std.proofs.Common.{◌≡◌, ◌<◌, ◌≤◌, ◌+◌, ◌-◌, �
 use Rattle.std.proofs.lemmas.Bool.{cond_both, eqb-false}
 use Rattle.std.proofs.lemmas.Bool.Decides.{nat_tests}
 use Rattle.std.proofs.lemmas.List.Elements.{All-nil, All-append, All-map}
-use Rattle.list_facts.proofs.Members.{All-of_one}
 use Rattle.channel_model.specs.declared.wiring.Segment.{Segment}
 use Rattle.channel_model.specs.declared.wiring.Segment.TheVariants.{Across}
 use Rattle.channel_model.specs.declared.wiring.Via.{Via}
@@ -18,7 +17,9 @@ use Rattle.left_edge.specs.EdgeWiring.{by_column, bottom_across, top_across, bot
 use Rattle.left_edge.proofs.ColumnLaws.{net_at-bottom, net_at-top, net_at-within, stands_at}
 use Rattle.left_edge.proofs.SpanLaws.{IsSpanOf, has_span}
 use Rattle.left_edge.proofs.TrackLaws.{Stands, held, lasts-rise, same_net}
-use Rattle.left_edge.proofs.ByColumnLaws.{All-from_members, All-by_column}
+use Rattle.left_edge.proofs.ByColumnLaws.{All-by_column}
+use Rattle.std_laws.proofs.Members.{All-of_one}
+use Rattle.std_laws.proofs.Every.{All-from_members}
 
 module _ (pins : Pins) where
   -- whose a point of a layer is: of the net of its column, or of the net whose span covers it on its track

@@ -7,17 +7,18 @@ use Rattle.channel_model.specs.Pins.{Pins, IsChannel}
 use Rattle.channel_model.specs.Nets.{nets_of}
 use Rattle.channel_model.specs.Density.{density_of}
 use Rattle.channel_model.proofs.NetsOf.{nets-are}
-use Rattle.list_facts.proofs.Ranges.{filter-map}
 use Rattle.left_edge.specs.Columns.{IsUnconstrained}
 use Rattle.left_edge.specs.Spans.{span}
 use Rattle.left_edge.specs.Tracks.{track_count}
 use Rattle.left_edge.specs.EdgeWiring.{by_column, bottom_across, top_across, along, edge_wiring}
 use Rattle.left_edge.specs.Single.{is_along_of, AreCovered, IsSingle}
-use Rattle.left_edge.proofs.ListLaws.{distinct_ascending}
-use Rattle.left_edge.proofs.ByColumnLaws.{filter-by_column, filter-one}
+use Rattle.left_edge.proofs.ByColumnLaws.{filter-by_column}
 use Rattle.left_edge.proofs.CountLaws.{tracks_at_most}
 use Rattle.left_edge.proofs.LeastLaws.{density-is_least}
 use Rattle.left_edge.proofs.WiredLaws.{edge_wired}
+use Rattle.std_laws.proofs.Images.{filter-map}
+use Rattle.std_laws.proofs.Increasing.{increasing-distinct}
+use Rattle.std_laws.proofs.Distinct.{filter-one}
 
 -- no Across is an Along
 none_bottom : (pins : Pins) (net column : ℕ) → filter (is_along_of net) (bottom_across pins column) ≡ []
@@ -43,7 +44,7 @@ edge_single pins net stands =
     let no_top : filter p top ≡ none = filter-by_column p (top_across pins) (none_top pins net) w in
     let one : filter p rest ≡ along pins net ∷ none =
     filter-map p (along pins) (nets_of pins)
-    ∙ ap (map (along pins)) (filter-one (nets_of pins) net (distinct_ascending (nets_of pins) (nets-are pins).ascending) ((nets-are pins).listed net stands)) in
+    ∙ ap (map (along pins)) (filter-one (nets_of pins) net (increasing-distinct (nets_of pins) (nets-are pins).ascending) ((nets-are pins).listed net stands)) in
     let front : filter p (bottom ++ top) ≡ none =
     filter-append p bottom top ∙ ap₂ (λ (xs ys : List Segment). xs ++ ys) no_bottom no_top in
     (_, filter-append p (bottom ++ top) rest ∙ ap₂ (λ (xs ys : List Segment). xs ++ ys) front one)

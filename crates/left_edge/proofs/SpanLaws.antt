@@ -10,7 +10,7 @@ use Rattle.channel_model.proofs.ReachLaws.{ReachesAll, reach_of-all}
 use Rattle.left_edge.specs.Columns.{IsUnconstrained, net_at}
 use Rattle.left_edge.specs.Spans.{span}
 use Rattle.left_edge.proofs.ColumnLaws.{net_at-bottom, net_at-top, net_at-cases, net_at-within, column_of, stands_at}
-use Rattle.list_facts.proofs.Members.{member-head, member-tail}
+use Rattle.std_laws.proofs.Members.{member-head, member-tail}
 
 -- a reach has all columns of a net, which begin and end it
 pub record IsSpanOf (pins : Pins) (net : ℕ) (reach : Reach) : Type 0 where

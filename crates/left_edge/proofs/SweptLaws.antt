@@ -10,7 +10,6 @@ use Rattle.std.specs.Ordering.{nat_cmp}
 use Rattle.channel_model.specs.Pins.{Pins, IsChannel}
 use Rattle.channel_model.specs.Nets.{nets_of}
 use Rattle.channel_model.proofs.NetsOf.{nets-are}
-use Rattle.channel_model.proofs.PlaceLaws.{same_place}
 use Rattle.left_edge.specs.declared.sweep.Sweep.{Sweep}
 use Rattle.left_edge.specs.Columns.{IsUnconstrained, net_at}
 use Rattle.left_edge.specs.Spans.{span}
@@ -19,6 +18,7 @@ use Rattle.left_edge.specs.Tracks.{begins, ends, is_past, with_net, lasts, level
 use Rattle.left_edge.proofs.ColumnLaws.{stands_at}
 use Rattle.left_edge.proofs.SpanLaws.{IsSpanOf, has_span}
 use Rattle.left_edge.proofs.TrackLaws.{Stands, holder, Held, held, begins-true, begins-from, ends-true, ends-from, not_past-from, lasts-begin, lasts-same, lasts-none, level_of-begin, with_net-at, with_net-other, length-with_net}
+use Rattle.std_laws.proofs.Increasing.{increasing-same}
 
 -- tests of numbers
 both-true : (level count : ℕ) (past : Bool) → level < count → (ltb level count && past) ≡ past
@@ -216,7 +216,7 @@ module _ (pins : Pins) (channel : IsChannel pins) (free : IsUnconstrained pins) 
               let first : (span pins (get_or nets k 0)).first ≢ column = λ first.
               let stands = stands_place k inside in
               let here : net_at pins column ≡ get_or nets k 0 = ap (net_at pins) (sym first) ∙ stands.starts in
-              other (same_place nets k place (nets-are pins).ascending inside within (sym here ∙ sym at)) in
+              other (increasing-same nets k place (nets-are pins).ascending inside within (sym here ∙ sym at)) in
               rw (get_or-set_other old.levels.items place k level 0 other) (was.levels k inside (omega arith))
         ]
 

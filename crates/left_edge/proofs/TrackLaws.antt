@@ -1,22 +1,13 @@
 use Rattle.std.proofs.Common.{◌≡◌, ◌≢◌, ◌<◌, ◌≤◌, ◌+◌, ◌&&◌, Bool, true, false, not, cond, eqb, ltb, ℕ, zero, suc, List, [], ◌∷◌, inl, inr, refl, sym, ap, subst, ◌∙◌, arith, get_or, length, max}
 use Rattle.std.proofs.lemmas.Bool.{cases_Bool, cases_eq, cases_lt, cond-true, cond-false}
 use Rattle.std.proofs.lemmas.Bool.Decides.{nat_tests}
-use Rattle.std.proofs.lemmas.List.Sums.{prefix_len-le-length, passes_at_first}
+use Rattle.std.proofs.lemmas.List.Sums.{passes_at_first}
 use Rattle.std.specs.List.{position_or_len}
 use Rattle.channel_model.specs.Pins.{Pins}
 use Rattle.left_edge.specs.Columns.{net_at}
 use Rattle.left_edge.specs.Spans.{span}
 use Rattle.left_edge.specs.Tracks.{begins, ends, is_past, with_net, lasts, level_of}
-
-position-cons : (p : ℕ → Bool) (x : ℕ) (ls : List ℕ) → position_or_len p (x ∷ ls) ≡ cond (p x) 0 (suc (position_or_len p ls))
-position-cons p x ls = by (p x)
-  where
-    next : 1 + position_or_len p ls ≡ suc (position_or_len p ls)
-    next = omega arith
-
-    by : (b : Bool) → cond (not b) (1 + position_or_len p ls) 0 ≡ cond b 0 (suc (position_or_len p ls))
-    by true = refl
-    by false = next
+use Rattle.std_laws.proofs.Searches.{position-cons, position-le}
 
 -- a net on its track
 pub with_net-at : (p : ℕ → Bool) (net : ℕ) (ls : List ℕ) → get_or (with_net p net ls) (position_or_len p ls) 0 ≡ net
@@ -50,9 +41,6 @@ length-with_net p net (x ∷ ls) = rw (position-cons p x ls) (by (p x) (length-w
         → length (cond b (net ∷ ls) (x ∷ with_net p net ls)) ≡ max (suc (length ls)) (cond b 0 (suc (position_or_len p ls)) + 1)
     by true rest = omega arith
     by false rest = omega arith
-
-pub position-le : (p : ℕ → Bool) (ls : List ℕ) → position_or_len p ls ≤ length ls
-position-le p ls = prefix_len-le-length (λ x. not (p x)) ls
 
 -- a column where a net begins, and one where none does
 pub begins-true : (pins : Pins) (column : ℕ) → begins pins column ≡ true → (0 < net_at pins column) × ((span pins (net_at pins column)).first ≡ column)

@@ -11,7 +11,6 @@ use Rattle.channel_model.specs.Nets.{StandsIn, nets_of}
 use Rattle.channel_model.specs.Elements.{vertical, horizontal, Element, segment, via, elements, net_of}
 use Rattle.channel_model.specs.Wired.{Linked, itself, onward, Wired}
 use Rattle.channel_model.proofs.NetsOf.{nets-are}
-use Rattle.list_facts.proofs.Members.{member-head, map-member}
 use Rattle.left_edge.specs.Columns.{IsUnconstrained}
 use Rattle.left_edge.specs.Tracks.{track_of, track_count}
 use Rattle.left_edge.specs.EdgeWiring.{by_column, bottom_across, top_across, bottom_via, top_via, via_at, along, edge_wiring}
@@ -19,6 +18,7 @@ use Rattle.left_edge.proofs.ColumnLaws.{net_at-bottom}
 use Rattle.left_edge.proofs.ChainLaws.{Linked-trans, Linked-step, Linked-sym}
 use Rattle.left_edge.proofs.ByColumnLaws.{Contains-by_column}
 use Rattle.left_edge.proofs.OwnerLaws.{Sound, HasPin, pin_stands, owner_same, low_track, pin_within, pin_covered, bottom_pin, top_pin, All-segments, All-vias, all_sound}
+use Rattle.std_laws.proofs.Members.{member-head, map-member}
 
 module _ (pins : Pins) (channel : IsChannel pins) (free : IsUnconstrained pins) where
   abbrev wiring : Wiring

@@ -1,3 +1,4 @@
+-- the net of a column, and columns with pins of two nets
 use Rattle.std.specs.Prelude.{◌≢◌, ◌<◌, ◌==◌, if◌then◌else◌, ℕ, slice_index}
 use Rattle.channel_model.specs.Pins.{Pins}
 

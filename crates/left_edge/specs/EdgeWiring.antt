@@ -1,3 +1,4 @@
+-- the wiring
 use Rattle.std.specs.Prelude.{◌+◌, ◌++◌, ◌==◌, ◌||◌, not, if◌then◌else◌, ℕ, zero, suc, List, [], ◌∷◌, length, map, slice_index}
 use Rattle.channel_model.specs.declared.wiring.Segment.{Segment}
 use Rattle.channel_model.specs.declared.wiring.Segment.TheVariants.{Across, Along}

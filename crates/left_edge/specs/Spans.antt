@@ -1,3 +1,4 @@
+-- from where to where a net reaches, the nets over a column, and the fullest column
 use Rattle.std.specs.Prelude.{◌≡◌, ◌<◌, ℕ, List, length, filter, unwrap_or}
 use Rattle.channel_model.specs.declared.reach.Reach.{Reach}
 use Rattle.channel_model.specs.Pins.{Pins}

@@ -1,3 +1,4 @@
+-- which track a net is given
 use Rattle.std.specs.Prelude.{◌+◌, ◌==◌, ◌&&◌, not, if◌then◌else◌, Bool, ℕ, zero, suc, List, [], ◌∷◌, length, nat_lt}
 use Rattle.std.specs.List.{position_or_len}
 use Rattle.channel_model.specs.Pins.{Pins}

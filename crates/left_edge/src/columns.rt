@@ -1,3 +1,5 @@
+//! The net of each column of a channel, and the first column with pins of two different nets.
+
 ghost use Rattle.channel_model.specs.Pins.{IsChannel};
 ghost use Rattle.left_edge.specs.Columns.{IsConstrained, IsFirstConstrained, IsUnconstrained, net_at};
 ghost use Rattle.std.specs.Prelude.{◌≡◌, ◌<◌, ◌↔◌, ℕ, IfOk, IfSome, IfNone, IsTrue, length, slice_index, vec_len};
@@ -7,7 +9,7 @@ use channel_model::{Channel, place_of};
 use std::alloc::{AllocError, Global};
 
 /// The first column with pins of two different nets.
-pub fn first_constrained(channel: &Channel) -> Option<u32>
+pub(crate) fn first_constrained(channel: &Channel) -> Option<u32>
     ensures channel { IsChannel channel.now }
     ensures first { IfSome result (IsFirstConstrained channel.now) }
     ensures none { IfNone result (IsUnconstrained channel.now) }
@@ -31,7 +33,7 @@ fn is_constrained(channel: &Channel, column: usize) -> bool
 }
 
 /// The net with the pins of a column of a channel without constraints, 0 where there are none.
-pub fn net_at(channel: &Channel, column: usize) -> u32
+pub(crate) fn net_at(channel: &Channel, column: usize) -> u32
     requires { column < length channel.now.top }
     ensures { result ≡ net_at channel.now column }
 {
@@ -44,7 +46,7 @@ pub fn net_at(channel: &Channel, column: usize) -> u32
 }
 
 /// The place of the net of a column among the nets of the channel, in O(log N) time for N nets.
-pub fn net_place(spanned: &Spanned, column: usize) -> usize
+pub(crate) fn net_place(spanned: &Spanned, column: usize) -> usize
     requires within { column < length spanned.now.channel.now.top }
     requires some { 0 < net_at spanned.now.channel.now column }
     ensures place { result < length spanned.now.nets.now }
@@ -54,7 +56,7 @@ pub fn net_place(spanned: &Spanned, column: usize) -> usize
 }
 
 /// The net of each column.
-pub fn column_nets(alloc: Global, channel: &Channel) -> Result<Vec<u32>, AllocError>
+pub(crate) fn column_nets(alloc: Global, channel: &Channel) -> Result<Vec<u32>, AllocError>
     ensures long { IfOk result (λ nets. length nets.items ≡ length channel.now.top) }
     ensures nets { IfOk result (λ nets. (k : ℕ) → k < length channel.now.top → slice_index nets.items k ≡ net_at channel.now k) }
 {

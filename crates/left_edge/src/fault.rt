@@ -1,3 +1,5 @@
+//! Why a channel is not wired by left edges: a column has pins of two nets, or memory ran out.
+
 use std::alloc::AllocError;
 use thiserror::Error;
 

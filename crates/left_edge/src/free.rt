@@ -10,9 +10,9 @@ use channel_model::{Channel, Reach};
 
 /// A channel in which no column has pins of two nets, and its nets in number order.
 #[derive(Clone, Copy)]
-pub struct Free<'c> {
-    pub channel: &'c Channel,
-    pub nets: &'c [u32],
+pub(crate) struct Free<'c> {
+    pub(crate) channel: &'c Channel,
+    pub(crate) nets: &'c [u32],
     ghost valid: { IsChannel channel.now },
     ghost free: { IsUnconstrained channel.now },
     ghost listed: { nets.now ≡ nets_of channel.now },
@@ -20,10 +20,10 @@ pub struct Free<'c> {
 
 /// The same with the span of each net, by its place: from its first to its last pin column.
 #[derive(Clone, Copy)]
-pub struct Spanned<'c> {
-    pub channel: &'c Channel,
-    pub nets: &'c [u32],
-    pub spans: &'c [Reach],
+pub(crate) struct Spanned<'c> {
+    pub(crate) channel: &'c Channel,
+    pub(crate) nets: &'c [u32],
+    pub(crate) spans: &'c [Reach],
     ghost valid: { IsChannel channel.now },
     ghost free: { IsUnconstrained channel.now },
     ghost listed: { nets.now ≡ nets_of channel.now },
@@ -32,12 +32,12 @@ pub struct Spanned<'c> {
 
 /// The same with how many tracks there are, and how many of them lie below that of each net, by its place.
 #[derive(Clone, Copy)]
-pub struct Leveled<'c> {
-    pub channel: &'c Channel,
-    pub nets: &'c [u32],
-    pub spans: &'c [Reach],
-    pub levels: &'c [u32],
-    pub tracks: u32,
+pub(crate) struct Leveled<'c> {
+    pub(crate) channel: &'c Channel,
+    pub(crate) nets: &'c [u32],
+    pub(crate) spans: &'c [Reach],
+    pub(crate) levels: &'c [u32],
+    pub(crate) tracks: u32,
     ghost valid: { IsChannel channel.now },
     ghost free: { IsUnconstrained channel.now },
     ghost listed: { nets.now ≡ nets_of channel.now },

@@ -1,3 +1,5 @@
+//! The first of the columns over which the most nets lie.
+
 ghost use Rattle.channel_model.specs.Density.{density_of};
 ghost use Rattle.left_edge.specs.Spans.{IsFullest};
 ghost use Rattle.std.specs.Prelude.{◌≡◌, ◌<◌, ◌≤◌, ◌^◌, ◌+◌, ◌-◌, if◌then◌else◌, max, nat_lt};
@@ -36,7 +38,7 @@ impl Fullness {
 }
 
 /// The first of the columns over which the most nets are, 0 where there are no nets, in O(W log N) time for W columns and N nets.
-pub fn fullest_column(spanned: &Spanned) -> u32
+pub(crate) fn fullest_column(spanned: &Spanned) -> u32
     ensures fullest { 0 < density_of spanned.now.channel.now → IsFullest spanned.now.channel.now result }
     ensures none { density_of spanned.now.channel.now ≡ 0 → result ≡ 0 }
 {

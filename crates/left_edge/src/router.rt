@@ -1,3 +1,5 @@
+//! The wiring of a channel by the left-edge rule, with a column that as many nets cross as there are tracks.
+
 ghost use Rattle.channel_model.specs.Density.{density_of};
 ghost use Rattle.channel_model.specs.Wired.{Wired};
 ghost use Rattle.left_edge.specs.Columns.{IsFirstConstrained};

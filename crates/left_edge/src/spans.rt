@@ -1,3 +1,5 @@
+//! The span of each net, whether it begins or ends in a column, and the nets whose spans cover one.
+
 ghost use Rattle.left_edge.specs.Spans.{nets_over, span};
 ghost use Rattle.channel_model.specs.Density.{is_over};
 ghost use Rattle.left_edge.specs.Tracks.{begins, ends};
@@ -9,7 +11,7 @@ use channel_model::{Reach, reaches};
 use std::alloc::{AllocError, Global};
 
 /// From the first to the last pin column of each net, by place, in O(W log N) time for W columns and N nets.
-pub fn net_spans(alloc: Global, free: &Free) -> Result<Vec<Reach>, AllocError>
+pub(crate) fn net_spans(alloc: Global, free: &Free) -> Result<Vec<Reach>, AllocError>
     ensures { IfOk result (λ spans. spans.items ≡ map (span free.now.channel.now) free.now.nets.now) }
 {
     let columns = column_nets(alloc, free.channel)?;
@@ -29,7 +31,7 @@ fn spans_of(alloc: Global, reaches: &[Option<Reach>]) -> Result<Vec<Reach>, Allo
 }
 
 /// Whether the net of a column has its first pin there.
-pub fn is_begin(spanned: &Spanned, column: usize) -> bool
+pub(crate) fn is_begin(spanned: &Spanned, column: usize) -> bool
     requires { column < length spanned.now.channel.now.top }
     ensures { result ≡ begins spanned.now.channel.now column }
 {
@@ -38,7 +40,7 @@ pub fn is_begin(spanned: &Spanned, column: usize) -> bool
 }
 
 /// Whether the net of a column has its last pin there.
-pub fn is_end(spanned: &Spanned, column: usize) -> bool
+pub(crate) fn is_end(spanned: &Spanned, column: usize) -> bool
     requires { column < length spanned.now.channel.now.top }
     ensures { result ≡ ends spanned.now.channel.now column }
 {
@@ -47,7 +49,11 @@ pub fn is_end(spanned: &Spanned, column: usize) -> bool
 }
 
 /// The nets whose spans cover a column.
-pub fn nets_over(alloc: Global, spanned: &Spanned, column: u32) -> Result<Vec<u32>, AllocError>
+pub(crate) fn nets_over(
+    alloc: Global,
+    spanned: &Spanned,
+    column: u32,
+) -> Result<Vec<u32>, AllocError>
     ensures { IfOk result (λ over. over.items ≡ nets_over spanned.now.channel.now column) }
 {
     let mut over = Vec::new(alloc);

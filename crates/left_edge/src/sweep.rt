@@ -1,3 +1,5 @@
+//! Gives each net the lowest track that is free in its first column, from left to right.
+
 ghost use Rattle.left_edge.specs.Swept.{IsSwept};
 ghost use Rattle.left_edge.specs.Tracks.{level_of, track_count};
 ghost use Rattle.std.specs.BTreeSet.{contains};
@@ -12,9 +14,9 @@ use std::collections::BTreeSet;
 
 /// How many tracks there are, and how many of them lie below that of each net, by place.
 #[derive(Drop)]
-pub struct Levels {
-    pub count: u32,
-    pub of_nets: Vec<u32>,
+pub(crate) struct Levels {
+    pub(crate) count: u32,
+    pub(crate) of_nets: Vec<u32>,
 }
 
 // The tracks as the sweep comes to a column: how many there are, which of them are free, and those of the nets that have begun. A track is
@@ -92,7 +94,7 @@ impl Sweep {
 }
 
 /// Gives each net the lowest track that is free in its first column, in O(W log N) time for W columns and N nets.
-pub fn sweep_columns(alloc: Global, spanned: &Spanned) -> Result<Levels, AllocError>
+pub(crate) fn sweep_columns(alloc: Global, spanned: &Spanned) -> Result<Levels, AllocError>
     ensures count { IfOk result (λ levels. levels.count ≡ track_count spanned.now.channel.now) }
     ensures levels { IfOk result (λ levels. levels.of_nets.items ≡ map (level_of spanned.now.channel.now) spanned.now.nets.now) }
 {

@@ -1,3 +1,5 @@
+//! The wires from the pins to the tracks of their nets, the wires along the tracks, and the vias between them.
+
 ghost use Rattle.left_edge.specs.EdgeWiring.{along, bottom_across, bottom_via, by_column, top_across, top_via};
 ghost use Rattle.left_edge.specs.Tracks.{track_of};
 ghost use Rattle.std.specs.Prelude.{◌≡◌, ◌++◌, ◌==◌, ◌||◌, not, OnOk, Contains, length, map};
@@ -15,7 +17,10 @@ fn track_of(leveled: &Leveled, net: u32) -> u32
 }
 
 /// Brings each bottom pin up to its net's track.
-pub fn wire_bottom_pins(segments: &mut Vec<Segment>, leveled: &Leveled) -> Result<(), AllocError>
+pub(crate) fn wire_bottom_pins(
+    segments: &mut Vec<Segment>,
+    leveled: &Leveled,
+) -> Result<(), AllocError>
     ensures { OnOk result (segments.new.items ≡ segments.old.items ++ by_column (bottom_across leveled.now.channel.now) (length leveled.now.channel.now.top)) }
 {
     let channel = leveled.channel;
@@ -37,7 +42,10 @@ pub fn wire_bottom_pins(segments: &mut Vec<Segment>, leveled: &Leveled) -> Resul
 }
 
 /// Brings each top pin down to its net's track.
-pub fn wire_top_pins(segments: &mut Vec<Segment>, leveled: &Leveled) -> Result<(), AllocError>
+pub(crate) fn wire_top_pins(
+    segments: &mut Vec<Segment>,
+    leveled: &Leveled,
+) -> Result<(), AllocError>
     ensures { OnOk result (segments.new.items ≡ segments.old.items ++ by_column (top_across leveled.now.channel.now) (length leveled.now.channel.now.top)) }
 {
     let channel = leveled.channel;
@@ -59,7 +67,7 @@ pub fn wire_top_pins(segments: &mut Vec<Segment>, leveled: &Leveled) -> Result<(
 }
 
 /// Lays each net on its track.
-pub fn lay_nets(segments: &mut Vec<Segment>, leveled: &Leveled) -> Result<(), AllocError>
+pub(crate) fn lay_nets(segments: &mut Vec<Segment>, leveled: &Leveled) -> Result<(), AllocError>
     ensures { OnOk result (segments.new.items ≡ segments.old.items ++ map (along leveled.now.channel.now) leveled.now.nets.now) }
 {
     for place in 0..leveled.nets.len() {
@@ -76,7 +84,7 @@ pub fn lay_nets(segments: &mut Vec<Segment>, leveled: &Leveled) -> Result<(), Al
 }
 
 /// Sets a via where a bottom pin meets its net's track.
-pub fn set_bottom_vias(vias: &mut Vec<Via>, leveled: &Leveled) -> Result<(), AllocError>
+pub(crate) fn set_bottom_vias(vias: &mut Vec<Via>, leveled: &Leveled) -> Result<(), AllocError>
     ensures { OnOk result (vias.new.items ≡ vias.old.items ++ by_column (bottom_via leveled.now.channel.now) (length leveled.now.channel.now.top)) }
 {
     let channel = leveled.channel;
@@ -100,7 +108,7 @@ fn has_top_via(top: u32, bottom: u32) -> bool
 }
 
 /// Sets a via where a top pin meets its net's track, unless a bottom pin of the column has set it.
-pub fn set_top_vias(vias: &mut Vec<Via>, leveled: &Leveled) -> Result<(), AllocError>
+pub(crate) fn set_top_vias(vias: &mut Vec<Via>, leveled: &Leveled) -> Result<(), AllocError>
     ensures { OnOk result (vias.new.items ≡ vias.old.items ++ by_column (top_via leveled.now.channel.now) (length leveled.now.channel.now.top)) }
 {
     let channel = leveled.channel;

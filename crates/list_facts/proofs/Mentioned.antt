@@ -1,28 +1,10 @@
-use Rattle.std.proofs.Common.{◌≡◌, ℕ, suc, ◌+◌, ◌<◌, List, [], ◌∷◌, ◌++◌, length, Bool, true, false, not, cond, ◌||◌, Some, fold, refl, ap, sym, ◌∙◌, subst, arith}
-use Rattle.std.proofs.lemmas.Bool.{both_ways}
+use Rattle.std.proofs.Common.{◌≡◌, ℕ, ◌+◌, ◌<◌, List, [], ◌∷◌, ◌++◌, length, Bool, true, false, not, cond, ◌||◌, Some, fold, refl, ap, sym, ◌∙◌, subst, arith}
 use Rattle.std.proofs.lemmas.List.Folds.{list_any-append}
-use Rattle.std.proofs.lemmas.Slice.Eq.{bytes_eq-Decides}
 use Rattle.std.specs.List.{list_any, slice_get}
 use Rattle.std.specs.Str.{bytes_eq}
 use Rattle.list_facts.specs.Names.{mention, place_among}
-
--- a name is equal to itself by the test
-pub bytes_same : (w : List ℕ) → bytes_eq w w ≡ true
-bytes_same w = (bytes_eq-Decides w w).1 refl
-
--- names that the test takes for one are one
-pub bytes_one : (v w : List ℕ) → bytes_eq v w ≡ true → v ≡ w
-bytes_one v w = (bytes_eq-Decides v w).0
-
--- the test takes two names for one in either order
-pub names-flip : (v w : List ℕ) → bytes_eq v w ≡ bytes_eq w v
-names-flip v w = by (bytes_eq v w) (bytes_eq w v) refl refl
-  where
-    by : (a b : Bool) → bytes_eq v w ≡ a → bytes_eq w v ≡ b → a ≡ b
-    by true true one other = refl
-    by false false one other = refl
-    by true false one other = absurd (both_ways (bytes_eq w v) other (subst (λ (x : List ℕ). bytes_eq x v ≡ true) (bytes_one v w one) (bytes_same v)))
-    by false true one other = absurd (both_ways (bytes_eq v w) one (subst (λ (x : List ℕ). bytes_eq x w ≡ true) (bytes_one w v other) (bytes_same w)))
+use Rattle.std_laws.proofs.Bytes.{bytes_one}
+use Rattle.std_laws.proofs.Numbers.{one-more}
 
 -- a name that is among names has its place below their number
 pub place-below : (names : List (List ℕ)) (w : List ℕ) → list_any (bytes_eq w) names ≡ true → place_among names w < length names
@@ -33,9 +15,6 @@ place-below (x ∷ xs) w = by (bytes_eq w x) (λ h. place-below xs w h)
         → cond (not b) (1 + place_among xs w) 0 < length (x ∷ xs)
     by true below h = omega arith
     by false below h = omega (arith, below h)
-
-pub one-more : (n : ℕ) → 1 + n ≡ suc n
-one-more n = omega arith
 
 -- and that name stands there
 pub get-place : (names : List (List ℕ)) (w : List ℕ) → list_any (bytes_eq w) names ≡ true → slice_get names (place_among names w) ≡ Some w

@@ -1,6 +1,4 @@
-use Rattle.std.proofs.Common.{◌≡◌, ℕ, suc, ◌+◌, ◌≤◌, List, [], ◌∷◌, ◌++◌, length, Bool, true, false, not, cond, ◌||◌, Some, None, nat_lt, refl, ap, arith, position}
-use Rattle.std.proofs.lemmas.Bool.Decides.{nat_tests}
-use Rattle.std.proofs.lemmas.List.Sums.{prefix_len-le-length}
+use Rattle.std.proofs.Common.{◌≡◌, ℕ, suc, ◌+◌, List, [], ◌∷◌, ◌++◌, length, Bool, true, false, not, cond, ◌||◌, refl, ap}
 use Rattle.std.specs.Borrow.{Bor}
 use Rattle.std.specs.List.{list_any, position_or_len}
 use Rattle.std.specs.Str.{bytes_eq}
@@ -38,22 +36,3 @@ texts-insert keys name =
     by : (b : Bool) → texts (cond b keys (keys ++ name ∷ [])) ≡ cond b (texts keys) (texts keys ++ name.now ∷ [])
     by true = refl
     by false = texts-append keys (name ∷ [])
-
--- a place that was found is the first
-pub first-place : {X : Type 0} (p : X → Bool) (xs : List X) (n : ℕ) → position p xs ≡ Some n → position_or_len p xs ≡ n
-first-place p xs n = by (nat_lt (position_or_len p xs) (length xs))
-  where
-    by : (b : Bool) → cond b (Some (position_or_len p xs)) None ≡ Some n → position_or_len p xs ≡ n
-    by true h = cc
-    by false h = cc
-
-at-end : (a b : ℕ) → nat_lt a b ≡ false → a ≤ b → a ≡ b
-at-end a b is few = grind (arith, nat_tests)
-
--- where no place was found, it is the number of names
-pub no-place : {X : Type 0} (p : X → Bool) (xs : List X) → position p xs ≡ None → position_or_len p xs ≡ length xs
-no-place p xs = by (nat_lt (position_or_len p xs) (length xs)) refl
-  where
-    by : (b : Bool) → nat_lt (position_or_len p xs) (length xs) ≡ b → cond b (Some (position_or_len p xs)) None ≡ None → position_or_len p xs ≡ length xs
-    by true is h = cc
-    by false is h = let few : position_or_len p xs ≤ length xs = prefix_len-le-length (λ x. not (p x)) xs in at-end (position_or_len p xs) (length xs) is few

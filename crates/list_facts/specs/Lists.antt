@@ -1,3 +1,4 @@
+-- lists by their numbers
 use Rattle.std.specs.Prelude.{List, [], ◌∷◌, ◌++◌, Bool, true, false, Option, None, Some}
 
 -- a list with an item behind it, if this is so

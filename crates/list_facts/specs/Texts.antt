@@ -1,3 +1,4 @@
+-- a set of borrowed names, as its texts
 use Rattle.std.specs.Prelude.{ℕ, List, map}
 use Rattle.std.specs.Borrow.{Bor}
 

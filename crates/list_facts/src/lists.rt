@@ -1,3 +1,5 @@
+//! Lists by numbers from 0 on, each of which grows at its end.
+
 ghost use Rattle.list_facts.specs.Lists.{list_there, with_item};
 ghost use Rattle.std.specs.Option.{option_map};
 ghost use Rattle.std.specs.Prelude.{◌≡◌, ◌==◌, ◌<◌, [], ℕ, List, Some, slice_get, IfOk, OnOk};

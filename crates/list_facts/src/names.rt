@@ -1,3 +1,5 @@
+//! The number of a name in a set kept in the order of first mention, and whether it is new there.
+
 ghost use Rattle.list_facts.specs.Names.{mention, place_among};
 ghost use Rattle.list_facts.specs.Texts.{texts};
 ghost use Rattle.std.specs.List.{list_any};

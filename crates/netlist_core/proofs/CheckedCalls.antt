@@ -1,6 +1,6 @@
+use Rattle.netlist_core.specs.declared.fault.DesignFault.TheVariants as faults
 use Rattle.std.proofs.Common.{◌≡◌, ◌≤◌, ℕ, List, [], ◌∷◌, length, None, Result, Ok, Err, ap, sym, subst, arith}
 use Rattle.std.specs.List.{AllByRecursion, filter}
-use Rattle.list_facts.proofs.Every.{every-filtered}
 use Rattle.yal_reader.specs.Kept.{IsKeptModule}
 use Rattle.yal_reader.specs.declared.file.Call.{Call}
 use Rattle.yal_reader.specs.declared.file.Module.{Module}
@@ -10,11 +10,11 @@ use Rattle.netlist_core.specs.OnGrid.{used_modules}
 use Rattle.netlist_core.specs.Read.{AreCalls, AreModules}
 use Rattle.netlist_core.specs.Signals.{PinWord, all_signals}
 use Rattle.netlist_core.specs.declared.fault.DesignFault.{DesignFault}
-use Rattle.netlist_core.specs.declared.fault.DesignFault.TheVariants as faults
 use Rattle.netlist_core.proofs.PinPlaces.{called-all, places-all}
 use Rattle.netlist_core.proofs.StandardModules.{used-standard}
 use Rattle.netlist_core.proofs.UsesOfKinds.{kinds-called}
 use Rattle.netlist_core.proofs.UsedNames.{few-used, used-different, used-every}
+use Rattle.std_laws.proofs.Every.{every-filtered}
 
 -- what the checks of calls give
 checked : (modules : List Module) (calls : List Call) → AreModules modules → AreCalls calls → calls_fault modules calls ≡ None

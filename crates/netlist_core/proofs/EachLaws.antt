@@ -1,9 +1,9 @@
+use Rattle.netlist_core.specs.declared.fault.DesignFault.TheVariants as faults
 use Rattle.std.proofs.Common.{◌≡◌, ℕ, List, [], ◌∷◌, ◌++◌, length, Result, Ok, Err, refl, ap, sym, ◌∙◌, subst, append_assoc, drop, ◌≤◌}
-use Rattle.std.proofs.lemmas.List.{drop_all}
+use Rattle.std.proofs.lemmas.List.{drop_all, append-nil}
 use Rattle.std.specs.List.{AllZip}
 use Rattle.netlist_core.specs.Answers.{◌>>=◌, Agrees, each}
 use Rattle.netlist_core.specs.declared.fault.DesignFault.{DesignFault}
-use Rattle.netlist_core.specs.declared.fault.DesignFault.TheVariants as faults
 
 -- an answer of a list with more items in front
 abbrev pub after_front : {B : Type 0} → List B → Result (List B) DesignFault → Result (List B) DesignFault
@@ -56,12 +56,8 @@ pub agrees-stop : {X Y U V : Type 0} (v : X → Y) (w : U → V) (fault : Design
 agrees-stop v w faults.Memory one all step h = tt
 agrees-stop v w fault one all step h = step h
 
-append_nil : {B : Type 0} (l : List B) → l ++ [] ≡ l
-append_nil [] = refl
-append_nil (x ∷ xs) = ap (λ l. x ∷ l) (append_nil xs)
-
 -- the end of the list
 pub each-end : {A B : Type 0} (f : A → Result B DesignFault) (front : List B) (xs : List A) (n : ℕ) → length xs ≤ n
     → after_front front (each f (drop n xs)) ≡ Ok front
 unfolding each
-each-end {B = B} f front xs n past = ap (λ rest. after_front front (each f rest)) (drop_all n xs past) ∙ ap (λ (l : List B). Ok l) (append_nil front)
+each-end {B = B} f front xs n past = ap (λ rest. after_front front (each f rest)) (drop_all n xs past) ∙ ap (λ (l : List B). Ok l) (append-nil front)

@@ -9,7 +9,6 @@ use Rattle.yal_reader.specs.declared.file.Module.{Module}
 use Rattle.yal_reader.specs.declared.file.Line.{Line}
 use Rattle.list_facts.specs.Names.{place_among}
 use Rattle.list_facts.specs.Texts.{texts}
-use Rattle.list_facts.proofs.Mentioned.{one-more}
 use Rattle.list_facts.proofs.Different.{length-mentions}
 use Rattle.netlist_core.specs.Calls.{module_named}
 use Rattle.netlist_core.specs.Cells.{line_names, terminal_in, terminals_of, terminal_names, power_names}
@@ -17,6 +16,7 @@ use Rattle.netlist_core.specs.LibraryView.{IsLibrary}
 use Rattle.netlist_core.specs.Read.{AreModules}
 use Rattle.design_model.specs.declared.design.Terminal.{Terminal}
 use Rattle.netlist_core.specs.declared.library.Library.TheInside.{Inside}
+use Rattle.std_laws.proofs.Numbers.{one-more}
 
 -- a module stands where its name does
 pub found-at : (ms : List Module) (name : List ℕ) → slice_get ms (place_among (module_names ms) name) ≡ module_named ms name

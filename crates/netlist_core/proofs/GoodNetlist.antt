@@ -9,8 +9,7 @@ use Rattle.yal_reader.specs.Kept.{IsKeptCall, IsKeptModule, call_names, is_stand
 use Rattle.yal_reader.specs.declared.file.Call.{Call}
 use Rattle.yal_reader.specs.declared.file.Module.{Module}
 use Rattle.list_facts.specs.Names.{place_among}
-use Rattle.list_facts.proofs.Different.{distinct-mentions, distinct-none}
-use Rattle.list_facts.proofs.Every.{every-map, every-weaker}
+use Rattle.list_facts.proofs.Different.{distinct-mentions}
 use Rattle.list_facts.proofs.Mentioned.{place-below}
 use Rattle.netlist_core.specs.Answers.{◌>>=◌}
 use Rattle.netlist_core.specs.Cells.{terminals_of}
@@ -26,6 +25,8 @@ use Rattle.netlist_core.proofs.EachLaws.{each-zip}
 use Rattle.netlist_core.proofs.KindLaws.{kind-good, kind-low, kind-terminals}
 use Rattle.netlist_core.proofs.NetLaws.{nets-range, nets-used}
 use Rattle.netlist_core.proofs.PinPlaces.{pins-used, zip-terminals}
+use Rattle.std_laws.proofs.Distinct.{distinct-none}
+use Rattle.std_laws.proofs.Every.{every-map, every-weaker, all-zip-length, all-zip-weaker}
 
 -- what the kind of a used module has
 record Suits (height : ℕ) (m : ℕ × Module) (k : CellKind) : Type 0 where
@@ -42,18 +43,6 @@ suits rules valid used kinds is =
       low = λ kept. kind-low rules (height_of used) m.0 m.1 k kept at;
       terminals = kind-terminals rules (height_of used) m.0 m.1 k at;
     }) used kinds is
-
-zip-length : {A B : Type 0} (R : A → B → Type 0) (xs : List A) (ys : List B) → AllZip R xs ys → length ys ≡ length xs
-zip-length R [] [] h = refl
-zip-length R [] (y ∷ ys) h = absurd h
-zip-length R (x ∷ xs) [] h = absurd h
-zip-length R (x ∷ xs) (y ∷ ys) h = let more = zip-length R xs ys h.1 in omega arith
-
-zip-weaker : {A B : Type 0} (R S : A → B → Type 0) → ((a : A) (b : B) → R a b → S a b) → (xs : List A) (ys : List B) → AllZip R xs ys → AllZip S xs ys
-zip-weaker R S f [] [] h = tt
-zip-weaker R S f [] (y ∷ ys) h = h
-zip-weaker R S f (x ∷ xs) [] h = h
-zip-weaker R S f (x ∷ xs) (y ∷ ys) h = (f x y h.0, zip-weaker R S f xs ys h.1)
 
 good-kinds : (height : ℕ) (used : List (ℕ × Module)) (kinds : List CellKind) → AllZip (Suits height) used kinds
     → AllByRecursion (λ (m : ℕ × Module). IsKeptModule m.1) used → AllByRecursion (λ (m : ℕ × Module). is_standard m.1.kind ≡ true) used → AllByRecursion IsKind kinds
@@ -86,7 +75,7 @@ pub good-netlist : (rules : RuleValues) → ValidRules rules → (used : List (�
     → IsChecked used signals calls → kinds_for rules used ≡ Ok kinds → IsNetlist (design_of used signals calls kinds)
 good-netlist rules valid used signals calls kinds checked is =
     let suit = suits rules valid used kinds is in
-    let count : length kinds ≡ length used = zip-length (Suits (height_of used)) used kinds suit in
+    let count : length kinds ≡ length used = all-zip-length (Suits (height_of used)) used kinds suit in
     record {
       few_kinds = subst (λ n. n < 2 ^ 32) (sym count) checked.few_modules;
       called = subst (λ k. (n : ℕ) → n < k → list_any (λ (i : Inst). i.kind == n) (map (inst_in (used_names used)) calls) ≡ true) (sym count) checked.uses;
@@ -104,7 +93,7 @@ good-netlist rules valid used signals calls kinds checked is =
       different_instances = subst (λ names. IsDistinct bytes_eq names) (sym (names-of (used_names used) calls)) checked.read.different;
       different_nets = different-nets signals;
       pins = places-of-pins (nets_of signals) signals ∙ checked.pins
-          ∙ sym (pins-used used kinds (zip-terminals used kinds (zip-weaker (Suits (height_of used)) _ (λ m k suit. suit.terminals) used kinds suit)) 0 calls);
+          ∙ sym (pins-used used kinds (zip-terminals used kinds (all-zip-weaker (Suits (height_of used)) _ (λ m k suit. suit.terminals) used kinds suit)) 0 calls);
       nets = All-from_recursion (λ (p : Pin). (0 < p.net) × (p.net ≤ length (nets_of signals))) (map (pin_in (nets_of signals)) signals) (nets-range signals);
       used = nets-used signals;
     }

@@ -1,12 +1,9 @@
-use Rattle.std.proofs.Common.{◌≡◌, ℕ, zero, suc, ◌*◌, ◌/◌, ◌%◌, ◌<◌, ◌≤◌, List, [], ◌∷◌, true, false, Ok, All, refl, ap, sym, ◌∙◌, subst, arith}
+use Rattle.std.proofs.Common.{◌≡◌, ℕ, zero, suc, ◌*◌, ◌/◌, ◌%◌, ◌<◌, ◌≤◌, List, [], true, false, Ok, refl, ap, sym, ◌∙◌, subst, arith}
 use Rattle.std.proofs.Math.Nat.{mul-le-mul_right, mul-div-le}
 use Rattle.std.proofs.lemmas.List.{length-map}
-use Rattle.std.proofs.lemmas.List.Elements.{All-nil, All-cons}
-use Rattle.std.specs.List.{AllByRecursion}
 use Rattle.tech_rules.specs.Rules.{RuleValues, ValidRules}
 use Rattle.yal_reader.specs.Kept.{IsKeptModule, is_standard}
 use Rattle.yal_reader.specs.declared.file.Module.{Module}
-use Rattle.list_facts.proofs.Every.{every-weaker}
 use Rattle.netlist_core.specs.Cells.{grid_at, kind_at, kind_of, power_names, spots_of, terminal_in, terminal_names, terminals_of}
 use Rattle.design_model.specs.Netlist.{IsKind, IsPosition}
 use Rattle.design_model.specs.Room.{least_height}
@@ -19,10 +16,7 @@ use Rattle.netlist_core.proofs.KindParts.{IsFaultless, IsGridded, IsMade, faultl
 use Rattle.netlist_core.proofs.OutlineLaws.{IsSmall, outline-small}
 use Rattle.netlist_core.proofs.PositionLaws.{positions-hold, positions-reach}
 use Rattle.netlist_core.proofs.TerminalLaws.{IsFree, IsNamed, free-spots, known-lines, terminal-named, terminal-spot}
-
-every-all : {X : Type 0} (P : X → Type 0) (xs : List X) → AllByRecursion P xs → All P xs
-every-all P [] h = All-nil P
-every-all P (x ∷ xs) h = All-cons P x xs h.0 (every-all P xs h.1)
+use Rattle.std_laws.proofs.Every.{every-weaker, every-all}
 
 -- whole columns, of a width that is above 0, are at least one
 some-columns : (width pitch : ℕ) → 0 < width → width % pitch ≡ 0 → 2 ≤ pitch → 0 < width / pitch

@@ -9,16 +9,19 @@ use Rattle.std.specs.Str.{bytes_eq}
 use Rattle.yal_reader.specs.declared.file.Call.{Call}
 use Rattle.yal_reader.specs.declared.file.Module.{Module}
 use Rattle.list_facts.specs.Names.{place_among}
-use Rattle.list_facts.proofs.Different.{any-get, distinct-mentions, length-mentions, distinct-none, place-get}
-use Rattle.list_facts.proofs.Every.{every-append, every-get, every-own}
-use Rattle.list_facts.proofs.Mentioned.{any-mentions, bytes_one, get-place, place-below}
-use Rattle.list_facts.proofs.Places.{get-front}
+use Rattle.list_facts.proofs.Different.{distinct-mentions, length-mentions, place-get}
+use Rattle.list_facts.proofs.Mentioned.{any-mentions, get-place, place-below}
 use Rattle.netlist_core.specs.Calls.{terminals_in, module_named}
 use Rattle.design_model.specs.SameNet.{SameNet}
 use Rattle.netlist_core.specs.SignalWords.{word_of}
 use Rattle.netlist_core.specs.Signals.{PinWord, all_signals, nets_of, pin_in, signals_from, signals_of, words_of}
 use Rattle.design_model.specs.declared.design.Pin.{Pin}
 use Rattle.design_model.specs.declared.design.Terminal.{Terminal}
+use Rattle.std_laws.proofs.Searches.{any-get}
+use Rattle.std_laws.proofs.Distinct.{distinct-none}
+use Rattle.std_laws.proofs.Every.{every-append, every-get, every-own}
+use Rattle.std_laws.proofs.Bytes.{bytes_one}
+use Rattle.std_laws.proofs.Places.{get-front}
 
 -- a word that stands at a pin is the word of a net
 any-net : (signals : List PinWord) (w : List ℕ) → list_any (bytes_eq w) (words_of signals) ≡ true → list_any (bytes_eq w) (nets_of signals) ≡ true

@@ -1,7 +1,5 @@
-use Rattle.std.proofs.Common.{◌≡◌, ℕ, zero, suc, ◌<◌, ◌≤◌, ℤ, pos, negsuc, ◌-ℤ◌, ◌≤ℤ◌, List, [], ◌∷◌, Bool, true, false, None, Some, refl, ap, subst, of_z, w64, arith}
+use Rattle.std.proofs.Common.{◌≡◌, ℕ, ◌<◌, ◌≤◌, ℤ, pos, negsuc, ◌-ℤ◌, ◌≤ℤ◌, List, [], ◌∷◌, Bool, true, false, None, Some, refl, subst, arith}
 use Rattle.std.proofs.lemmas.Int.{ints}
-use Rattle.std.specs.Bool.{Decides}
-use Rattle.std.specs.Cmp.{signed_Decides}
 use Rattle.std.specs.Int.{int_min}
 use Rattle.std.specs.List.{AllByRecursion}
 use Rattle.std.specs.Ordering.{int_eq}
@@ -9,25 +7,15 @@ use Rattle.std.specs.Prelude.{unsigned_abs, if◌then◌else◌}
 use Rattle.yal_reader.specs.Kept.{IsNear}
 use Rattle.netlist_core.specs.Outline.{between, has_turns, outline_of}
 use Rattle.netlist_core.specs.declared.outline.Outline.{Outline}
-
--- values in equal variants are equal
-pub some-one : {X : Type 0} {x y : X} → Some x ≡ Some y → x ≡ y
-some-one h = cc
+use Rattle.std.proofs.lemmas.Option.{same_Some}
+use Rattle.std_laws.proofs.Integers.{int-apart, int-distance}
 
 -- the outline that `between` makes
 pub made : (x y x' y' left low : ℤ) (width height : ℕ) → int_eq x x' ≡ false → int_eq y y' ≡ false
     → left ≡ int_min x x' → low ≡ int_min y y' → width ≡ unsigned_abs (x -ℤ x') → height ≡ unsigned_abs (y -ℤ y')
     → Some (record { left = left; low = low; width = width; height = height }) ≡ between x y x' y'
 unfolding between
-made x y x' y' left low width height apart above l b w h = rw (apart, above, l, b, w, h) refl
-
--- numbers of which one is not the other are not found equal
-pub apart : (x y : ℤ) → (of_z w64 x ≡ of_z w64 y → ⊥) → int_eq x y ≡ false
-apart x y differ = by (int_eq x y) (signed_Decides x y)
-  where
-    by : (b : Bool) → Decides b (x ≡ y) → b ≡ false
-    by true h = absurd (differ (ap (of_z w64) (h.0 refl)))
-    by false h = refl
+made x y x' y' left low width height int-apart above l b w h = rw (int-apart, above, l, b, w, h) refl
 
 -- the sides of an outline are above 0 and at most 200,000,000
 pub record IsSmall (o : Outline) : Type 0 where
@@ -44,32 +32,15 @@ near-apart x y hx hy =
     let d : y ≤ℤ pos 100000000 = hy.high in
     omega (arith, ints)
 
--- numbers that are not found equal are some way apart
-pub some-apart : (x y : ℤ) → int_eq x y ≡ false → 0 < unsigned_abs (x -ℤ y)
-some-apart x y h = by (unsigned_abs (x -ℤ y)) refl
-  where
-    differ : x ≡ y → ⊥
-    differ e = no ((signed_Decides x y).1 e)
-      where
-        no : int_eq x y ≡ true → ⊥
-        no is = cc
-
-    same : unsigned_abs (x -ℤ y) ≡ 0 → x ≡ y
-    same e = omega (arith, ints)
-
-    by : (n : ℕ) → unsigned_abs (x -ℤ y) ≡ n → 0 < n
-    by zero e = absurd (differ (same e))
-    by (suc n) e = omega arith
-
 small-between : (x y x' y' : ℤ) (o : Outline) → IsNear x → IsNear y → IsNear x' → IsNear y' → between x y x' y' ≡ Some o → IsSmall o
 unfolding between
 small-between x y x' y' o hx hy hx' hy' = by (int_eq x x') refl (int_eq y y') refl
   where
     made-small : int_eq x x' ≡ false → int_eq y y' ≡ false → IsSmall (record { left = int_min x x'; low = int_min y y'; width = unsigned_abs (x -ℤ x'); height = unsigned_abs (y -ℤ y') })
     made-small a b = record {
-      wide = some-apart x x' a;
+      wide = int-distance x x' a;
       width = near-apart x x' hx hx';
-      high = some-apart y y' b;
+      high = int-distance y y' b;
       height = near-apart y y' hy hy';
     }
 
@@ -77,7 +48,7 @@ small-between x y x' y' o hx hy hx' hy' = by (int_eq x x') refl (int_eq y y') re
         → (if a then None else if b then None else Some (record { left = int_min x x'; low = int_min y y'; width = unsigned_abs (x -ℤ x'); height = unsigned_abs (y -ℤ y') })) ≡ Some o → IsSmall o
     by true ha b hb h = cc
     by false ha true hb h = cc
-    by false ha false hb h = subst IsSmall (some-one h) (made-small ha hb)
+    by false ha false hb h = subst IsSmall (same_Some _ _ h) (made-small ha hb)
 
 -- what an outline that corners have is
 pub outline-small : (corners : List ℤ) (o : Outline) → AllByRecursion IsNear corners → outline_of corners ≡ Some o → IsSmall o

@@ -1,3 +1,4 @@
+use Rattle.netlist_core.specs.declared.fault.DesignFault.TheVariants as faults
 use Rattle.std.proofs.Common.{◌≡◌, ℕ, zero, suc, ◌+◌, List, [], ◌∷◌, ◌++◌, length, map, Bool, true, false, not, cond, eqb, Option, Some, None, is_some, refl, ap, ◌∙◌, arith}
 use Rattle.std.proofs.lemmas.Bool.Decides.{nat_tests}
 use Rattle.std.proofs.lemmas.List.{map-append}
@@ -7,7 +8,6 @@ use Rattle.yal_reader.specs.Kept.{is_standard}
 use Rattle.yal_reader.specs.declared.file.Call.{Call}
 use Rattle.yal_reader.specs.declared.file.Module.{Module}
 use Rattle.list_facts.specs.Names.{place_among}
-use Rattle.list_facts.proofs.Every.{every-own, every-weaker}
 use Rattle.netlist_core.specs.Answers.{first_fault, or_fault}
 use Rattle.netlist_core.specs.Calls.{call_fault, calls_fault, fault_in, module_named, terminals_in}
 use Rattle.netlist_core.specs.Cells.{terminals_of}
@@ -18,8 +18,8 @@ use Rattle.netlist_core.specs.Signals.{all_signals, signals_from, signals_of}
 use Rattle.design_model.specs.declared.design.CellKind.{CellKind}
 use Rattle.design_model.specs.declared.design.Terminal.{Terminal}
 use Rattle.netlist_core.specs.declared.fault.DesignFault.{DesignFault}
-use Rattle.netlist_core.specs.declared.fault.DesignFault.TheVariants as faults
 use Rattle.netlist_core.proofs.UsedNames.{any-used, found-used}
+use Rattle.std_laws.proofs.Every.{every-own, every-weaker}
 
 -- where an instance has a word for each terminal, its words stand at its pins
 pub places-from : (i t : ℕ) (ts : List Terminal) (ws : List (List ℕ)) → length ws ≡ length ts → map pin_place (signals_from i t ts ws) ≡ pins_from i t ts

@@ -6,7 +6,7 @@ use Rattle.yal_reader.specs.declared.file.Spot.{Spot}
 use Rattle.netlist_core.specs.Cells.{column_of, edge_of, placed, position_of, position_onto, positions_of}
 use Rattle.design_model.specs.declared.design.Position.{Position}
 use Rattle.netlist_core.specs.declared.outline.Outline.{Outline}
-use Rattle.netlist_core.proofs.OutlineLaws.{some-one}
+use Rattle.std.proofs.lemmas.Option.{same_Some}
 
 -- a column that is found is one of the columns
 pub column-within : (pitch columns : ℕ) (left x : ℤ) (column : ℕ) → column_of pitch columns left x ≡ Some column → column < columns
@@ -19,7 +19,7 @@ column-within pitch columns left x column =
     by : (a b c : Bool) → nat_lt (unsigned_abs (x -ℤ left) / pitch) columns ≡ c
         → (if a then None else if b && c then Some (unsigned_abs (x -ℤ left) / pitch) else None) ≡ Some column → column < columns
     by true b c is h = cc
-    by false true true is h = subst (λ (n : ℕ). n < columns) (some-one h) (below is)
+    by false true true is h = subst (λ (n : ℕ). n < columns) (same_Some _ _ h) (below is)
     by false true false is h = cc
     by false false c is h = cc
 
@@ -34,7 +34,7 @@ position-at pitch box s p =
   where
     by : (e : Option Bool) (c : Option ℕ) → column_of pitch (box.width / pitch) box.left s.1.x ≡ c → placed s.0 e c ≡ Some p → IsAt (box.width / pitch) s p
     by (Some top) (Some column) is h =
-        subst (λ (q : Position). IsAt (box.width / pitch) s q) (some-one h)
+        subst (λ (q : Position). IsAt (box.width / pitch) s q) (same_Some _ _ h)
         (record { terminal = refl; column = column-within pitch (box.width / pitch) box.left s.1.x column is })
     by (Some top) None is h = cc
     by None c is h = cc
@@ -53,7 +53,7 @@ positions-first pitch box s ss ps = by (position_of pitch box s) refl (positions
   where
     by : (o : Option Position) → position_of pitch box s ≡ o → (rest : Option (List Position)) → positions_of pitch box ss ≡ rest
         → position_onto o rest ≡ Some ps → IsFirst pitch box s ss ps
-    by (Some p) is (Some qs) are h = record { first = p; others = qs; at = position-at pitch box s p is; rest = are; all = some-one h }
+    by (Some p) is (Some qs) are h = record { first = p; others = qs; at = position-at pitch box s p is; rest = are; all = same_Some _ _ h }
     by (Some p) is None are h = cc
     by None is rest are h = cc
 
@@ -61,7 +61,7 @@ positions-first pitch box s ss ps = by (position_of pitch box s) refl (positions
 pub positions-hold : (P : ℕ → Type 0) (pitch : ℕ) (box : Outline) (ss : List (ℕ × Spot)) (ps : List Position) → positions_of pitch box ss ≡ Some ps
     → AllByRecursion (λ (s : ℕ × Spot). P s.0) ss → AllByRecursion (λ (p : Position). P p.terminal × (p.column < box.width / pitch)) ps
 positions-hold P pitch box [] ps h all =
-    subst (λ (qs : List Position). AllByRecursion (λ (p : Position). P p.terminal × (p.column < box.width / pitch)) qs) (some-one h) tt
+    subst (λ (qs : List Position). AllByRecursion (λ (p : Position). P p.terminal × (p.column < box.width / pitch)) qs) (same_Some _ _ h) tt
 positions-hold P pitch box (s ∷ ss) ps h all =
     let f : IsFirst pitch box s ss ps = positions-first pitch box s ss ps h in
     subst (λ (qs : List Position). AllByRecursion (λ (p : Position). P p.terminal × (p.column < box.width / pitch)) qs) f.all
@@ -70,7 +70,7 @@ positions-hold P pitch box (s ∷ ss) ps h all =
 -- a terminal that has a spot has a position
 pub positions-reach : (n pitch : ℕ) (box : Outline) (ss : List (ℕ × Spot)) (ps : List Position) → positions_of pitch box ss ≡ Some ps
     → list_any (λ (s : ℕ × Spot). s.0 == n) ss ≡ list_any (λ (p : Position). p.terminal == n) ps
-positions-reach n pitch box [] ps h = ap (λ (qs : List Position). list_any (λ (p : Position). p.terminal == n) qs) (some-one h)
+positions-reach n pitch box [] ps h = ap (λ (qs : List Position). list_any (λ (p : Position). p.terminal == n) qs) (same_Some _ _ h)
 positions-reach n pitch box (s ∷ ss) ps h =
     let f : IsFirst pitch box s ss ps = positions-first pitch box s ss ps h in
     ap (λ (b : Bool). (s.0 == n) || b) (positions-reach n pitch box ss f.others f.rest)

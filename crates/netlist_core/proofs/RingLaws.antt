@@ -1,34 +1,21 @@
 use Rattle.std.proofs.Common.{◌≡◌, ◌↔◌, ℕ, ◌<◌, ℤ, pos, ◌+ℤ◌, ◌-ℤ◌, List, [], ◌∷◌, Bool, true, false, ◌&&◌, ◌||◌, Option, None, Some, refl, ap, sym, ◌∙◌, subst, arith}
 use Rattle.std.proofs.lemmas.Int.{ints}
-use Rattle.std.specs.Bool.{Decides}
-use Rattle.std.specs.Cmp.{signed_Decides}
 use Rattle.std.specs.Int.{int_min}
 use Rattle.std.specs.Ordering.{int_eq}
 use Rattle.std.specs.Prelude.{unsigned_abs, int_lt, if◌then◌else◌}
 use Rattle.netlist_core.specs.Outline.{are_pairs, between, has_turns, outline_of, AreEnds, upward, downward, IsRing, along_x, along_y, HasCorners, IsOutlineOf}
 use Rattle.netlist_core.specs.declared.outline.Outline.{Outline}
-use Rattle.netlist_core.proofs.OutlineLaws.{made, some-apart, some-one}
-
-under : (x x' : ℤ) → int_lt x' x ≡ true → x ≡ x' +ℤ pos (unsigned_abs (x -ℤ x'))
-under x x' h = grind (arith, ints)
-
-over : (x x' : ℤ) → int_lt x' x ≡ false → x' ≡ x +ℤ pos (unsigned_abs (x -ℤ x'))
-over x x' h = grind (arith, ints)
+use Rattle.netlist_core.proofs.OutlineLaws.{made}
+use Rattle.std_laws.proofs.Integers.{int-distance, int-under, int-over, int-equal, int-itself, int-differ}
+use Rattle.std.proofs.lemmas.Option.{same_Some}
 
 -- the ends of a side, by which is the lower
 ends-of : (x x' : ℤ) → AreEnds (int_min x x') (unsigned_abs (x -ℤ x')) x x'
 ends-of x x' = by (int_lt x' x) refl
   where
     by : (b : Bool) → int_lt x' x ≡ b → AreEnds (if b then x' else x) (unsigned_abs (x -ℤ x')) x x'
-    by true is = downward (under x x' is) refl
-    by false is = upward refl (over x x' is)
-
--- numbers that are found equal are equal
-equal-of : (x y : ℤ) → int_eq x y ≡ true → x ≡ y
-equal-of x y = (signed_Decides x y).0
-
-equal-self : (x : ℤ) → int_eq x x ≡ true
-equal-self x = (signed_Decides x x).1 refl
+    by true is = downward (int-under x x' is) refl
+    by false is = upward refl (int-over x x' is)
 
 -- four pairs of equal numbers
 pub record Equals (p p' q q' r r' s s' : ℤ) : Type 0 where
@@ -43,7 +30,7 @@ pairs-of p p' q q' r r' s s' = by (int_eq p p') refl (int_eq q q') refl (int_eq 
   where
     by : (a : Bool) → int_eq p p' ≡ a → (b : Bool) → int_eq q q' ≡ b → (c : Bool) → int_eq r r' ≡ c → (d : Bool) → int_eq s s' ≡ d
         → (a && b && c && d) ≡ true → Equals p p' q q' r r' s s'
-    by true a true b true c true d h = record { first = equal-of p p' a; second = equal-of q q' b; third = equal-of r r' c; fourth = equal-of s s' d }
+    by true a true b true c true d h = record { first = int-equal p p' a; second = int-equal q q' b; third = int-equal r r' c; fourth = int-equal s s' d }
     by true a true b true c false d h = cc
     by true a true b false c e d h = cc
     by true a false b f c e d h = cc
@@ -51,7 +38,7 @@ pairs-of p p' q q' r r' s s' = by (int_eq p p') refl (int_eq q q') refl (int_eq 
 
 self-pairs : (p q r s : ℤ) → are_pairs p p q q r r s s ≡ true
 unfolding are_pairs
-self-pairs p q r s = rw (equal-self p, equal-self q, equal-self r, equal-self s) refl
+self-pairs p q r s = rw (int-itself p, int-itself q, int-itself r, int-itself s) refl
 
 -- an outline between corners that are not on one line
 pub record IsBetween (x y x' y' : ℤ) (o : Outline) : Type 0 where
@@ -68,15 +55,15 @@ between-of x y x' y' o = by (int_eq x x') refl (int_eq y y') refl
         → IsBetween x y x' y' o
     by true ha b hb h = cc
     by false ha true hb h = cc
-    by false ha false hb h = record { beside = ha; above = hb; box = some-one h }
+    by false ha false hb h = record { beside = ha; above = hb; box = same_Some _ _ h }
 
 -- the outline has the corners that it lies between
 has-ring : (x y x' y' : ℤ) (o : Outline) (corners : List ℤ) → IsBetween x y x' y' o
     → ((b : Outline) → AreEnds b.left b.width x x' → AreEnds b.low b.height y y' → IsRing b corners) → HasCorners o corners
 has-ring x y x' y' o corners is ring =
     subst (λ (b : Outline). HasCorners b corners) is.box (record {
-      wide = some-apart x x' is.beside;
-      high = some-apart y y' is.above;
+      wide = int-distance x x' is.beside;
+      high = int-distance y y' is.above;
       ring = ring (record { left = int_min x x'; low = int_min y y'; width = unsigned_abs (x -ℤ x'); height = unsigned_abs (y -ℤ y') }) (ends-of x x') (ends-of y y');
     })
 
@@ -120,16 +107,9 @@ pub record IsSide (from : ℤ) (size : ℕ) (a b : ℤ) : Type 0 where
   pub least : from ≡ int_min a b
   pub length : size ≡ unsigned_abs (a -ℤ b)
 
-not-equal : (a b : ℤ) → (a ≡ b → ⊥) → int_eq a b ≡ false
-not-equal a b differ = by (int_eq a b) (signed_Decides a b)
-  where
-    by : (r : Bool) → Decides r (a ≡ b) → r ≡ false
-    by true h = absurd (differ (h.0 refl))
-    by false h = refl
-
 side-up : (from : ℤ) (size : ℕ) → 0 < size → IsSide from size from (from +ℤ pos size)
 side-up from size some = record {
-  differ = not-equal from (from +ℤ pos size) (λ (e : from ≡ from +ℤ pos size). omega (arith, ints));
+  differ = int-differ from (from +ℤ pos size) (λ (e : from ≡ from +ℤ pos size). omega (arith, ints));
   least = least;
   length = omega (arith, ints);
 }
@@ -139,7 +119,7 @@ side-up from size some = record {
 
 side-down : (from : ℤ) (size : ℕ) → 0 < size → IsSide from size (from +ℤ pos size) from
 side-down from size some = record {
-  differ = not-equal (from +ℤ pos size) from (λ (e : from +ℤ pos size ≡ from). omega (arith, ints));
+  differ = int-differ (from +ℤ pos size) from (λ (e : from +ℤ pos size ≡ from). omega (arith, ints));
   least = least;
   length = omega (arith, ints);
 }

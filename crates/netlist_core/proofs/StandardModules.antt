@@ -1,3 +1,4 @@
+use Rattle.netlist_core.specs.declared.fault.DesignFault.TheVariants as faults
 use Rattle.std.proofs.Common.{◌≡◌, ℕ, ◌+◌, List, [], ◌∷◌, length, Bool, true, false, not, cond, eqb, ◌||◌, Option, Some, None, refl, ap, sym, ◌∙◌}
 use Rattle.std.proofs.lemmas.Option.{slice_get-map}
 use Rattle.std.specs.List.{AllByRecursion, IsDistinct, list_any, slice_get}
@@ -7,16 +8,15 @@ use Rattle.yal_reader.specs.Kept.{is_standard, module_names}
 use Rattle.yal_reader.specs.declared.file.Call.{Call}
 use Rattle.yal_reader.specs.declared.file.Module.{Module}
 use Rattle.list_facts.proofs.Different.{place-get}
-use Rattle.list_facts.proofs.Every.{every-from-get}
-use Rattle.list_facts.proofs.Mentioned.{bytes_one}
 use Rattle.netlist_core.specs.Answers.{first_fault}
 use Rattle.netlist_core.specs.Calls.{call_fault, calls_fault, fault_in, module_named}
 use Rattle.netlist_core.specs.Cells.{terminals_of}
 use Rattle.netlist_core.specs.OnGrid.{called_names, used_modules}
-use Rattle.netlist_core.specs.declared.fault.DesignFault.TheVariants as faults
 use Rattle.netlist_core.proofs.FoundModules.{found-at}
 use Rattle.netlist_core.proofs.PinPlaces.{no-first, no-second}
 use Rattle.netlist_core.proofs.UsedNames.{used_from}
+use Rattle.std_laws.proofs.Every.{every-from-get}
+use Rattle.std_laws.proofs.Bytes.{bytes_one}
 
 -- whether there is a module, and it is a STANDARD one
 abbrev pub is_standard_one : Option Module → Bool

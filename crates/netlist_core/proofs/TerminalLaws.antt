@@ -1,23 +1,22 @@
 use Rattle.std.proofs.Common.{◌≡◌, ℕ, ◌==◌, ◌<◌, List, [], ◌∷◌, length, Bool, true, false, not, cond, ◌&&◌, ◌||◌, Option, Some, None, is_some, map, refl, ap, sym, ◌∙◌, subst, eq-eqb}
-use Rattle.std.proofs.lemmas.Option.{slice_get-map}
+use Rattle.std.proofs.lemmas.Option.{slice_get-map, same_Some}
 use Rattle.std.specs.List.{AllByRecursion, list_any, filter_map, cons_option, slice_get}
 use Rattle.std.specs.Option.{option_map}
 use Rattle.std.specs.Str.{bytes_eq}
 use Rattle.list_facts.specs.Names.{mentions, place_among}
-use Rattle.list_facts.proofs.Different.{any-get, distinct-mentions, distinct-none, place-get}
-use Rattle.list_facts.proofs.Every.{every-own, every-weaker}
-use Rattle.list_facts.proofs.Mentioned.{any-mentions, bytes_same, bytes_one, get-place, place-below}
+use Rattle.list_facts.proofs.Different.{distinct-mentions, place-get}
+use Rattle.list_facts.proofs.Mentioned.{any-mentions, get-place, place-below}
 use Rattle.yal_reader.specs.Kept.{is_power, is_standard, IsKeptLine}
 use Rattle.yal_reader.specs.declared.file.Kind.{Kind}
 use Rattle.yal_reader.specs.declared.file.Line.{Line}
 use Rattle.yal_reader.specs.declared.file.Spot.{Spot}
 use Rattle.netlist_core.specs.Cells.{line_names, power_lines, power_names, spot_of, spots_of, terminal_in, terminal_names, terminals_of}
 use Rattle.design_model.specs.declared.design.Terminal.{Terminal}
-use Rattle.netlist_core.proofs.OutlineLaws.{some-one}
-
-or-true : (a b : Bool) → b ≡ true → (a || b) ≡ true
-or-true true b h = refl
-or-true false b h = h
+use Rattle.std_laws.proofs.Searches.{any-get}
+use Rattle.std_laws.proofs.Distinct.{distinct-none}
+use Rattle.std_laws.proofs.Every.{every-own, every-weaker}
+use Rattle.std_laws.proofs.Bytes.{bytes_same, bytes_one}
+use Rattle.std.proofs.lemmas.Bool.{or_right}
 
 -- a name is among the mentions of names just where it is among the names
 any-of : (names : List (List ℕ)) (w : List ℕ) → list_any (bytes_eq w) (mentions names) ≡ list_any (bytes_eq w) names
@@ -32,7 +31,7 @@ free-place : (names power : List (List ℕ)) (v : List ℕ) → list_any (bytes_
     → IsFree names power (place_among names v)
 free-place names power v known none = record {
   within = place-below names v known;
-  free = λ w is. subst (λ (u : List ℕ). list_any (bytes_eq u) power ≡ false) (some-one (sym (get-place names v known) ∙ is)) none;
+  free = λ w is. subst (λ (u : List ℕ). list_any (bytes_eq u) power ≡ false) (same_Some _ _ (sym (get-place names v known) ∙ is)) none;
 }
 
 free-spot : (names power : List (List ℕ)) (l : Line) (s : ℕ × Spot) → list_any (bytes_eq l.name) names ≡ true
@@ -44,7 +43,7 @@ free-spot names power l s known = by (list_any (bytes_eq l.name) power) refl l.s
     by true is o h = cc
     by false is None h = cc
     by false is (Some t) h =
-        subst (λ (r : ℕ × Spot). IsFree names power r.0) (some-one h) (free-place names power l.name known is)
+        subst (λ (r : ℕ × Spot). IsFree names power r.0) (same_Some _ _ h) (free-place names power l.name known is)
 
 -- each spot's terminal is free
 pub free-spots : (names power : List (List ℕ)) (lines : List Line) → AllByRecursion (λ (l : Line). list_any (bytes_eq l.name) names ≡ true) lines
@@ -69,7 +68,7 @@ own-power (l ∷ ls) = by (is_power l.flow) refl (own-power ls)
   where
     later : (m : Line) → (is_power m.flow ≡ true → list_any (bytes_eq m.name) (line_names (power_lines ls)) ≡ true)
         → is_power m.flow ≡ true → list_any (bytes_eq m.name) (l.name ∷ line_names (power_lines ls)) ≡ true
-    later m h power = or-true (bytes_eq m.name l.name) (list_any (bytes_eq m.name) (line_names (power_lines ls))) (h power)
+    later m h power = or_right (bytes_eq m.name l.name) (list_any (bytes_eq m.name) (line_names (power_lines ls))) (h power)
 
     by : (b : Bool) → is_power l.flow ≡ b
         → AllByRecursion (λ (m : Line). is_power m.flow ≡ true → list_any (bytes_eq m.name) (line_names (power_lines ls)) ≡ true) ls
@@ -121,7 +120,7 @@ spot-found names power kind w standard none (l ∷ ls) kept known = by (bytes_eq
     skip : (o : Option (ℕ × Spot)) → list_any (λ (s : ℕ × Spot). s.0 == place_among names w) (filter_map (spot_of names power) ls) ≡ true
         → list_any (λ (s : ℕ × Spot). s.0 == place_among names w) (cons_option o (filter_map (spot_of names power) ls)) ≡ true
     skip None h = h
-    skip (Some s) h = or-true (s.0 == place_among names w) _ h
+    skip (Some s) h = or_right (s.0 == place_among names w) _ h
 
     not-power : (b : Bool) → bytes_eq w l.name ≡ true → is_power l.flow ≡ b → (is_power l.flow ≡ true → list_any (bytes_eq l.name) power ≡ true) → is_power l.flow ≡ false
     not-power true same is each =
@@ -150,7 +149,7 @@ terminal-named names power n t h = by (slice_get names n) refl (sym (slice_get-m
   where
     by : (o : Option (List ℕ)) → slice_get names n ≡ o → option_map (terminal_in power) o ≡ Some t → IsNamed names power n t
     by None is h = cc
-    by (Some w) is h = record { name = w; stands = is; powered = ap (λ (u : Terminal). u.power) (some-one h) }
+    by (Some w) is h = record { name = w; stands = is; powered = ap (λ (u : Terminal). u.power) (same_Some _ _ h) }
 
 -- each terminal that is no power terminal has a spot in a STANDARD module
 pub terminal-spot : (kind : Kind) (lines : List Line) → is_standard kind ≡ true → AllByRecursion (IsKeptLine kind) lines

@@ -5,11 +5,13 @@ use Rattle.yal_reader.specs.Kept.{module_names}
 use Rattle.yal_reader.specs.declared.file.Call.{Call}
 use Rattle.yal_reader.specs.declared.file.Module.{Module}
 use Rattle.list_facts.specs.Names.{mentions, place_among}
-use Rattle.list_facts.proofs.Different.{distinct-filter}
-use Rattle.list_facts.proofs.Mentioned.{any-mentions, bytes_one, one-more}
+use Rattle.list_facts.proofs.Mentioned.{any-mentions}
 use Rattle.netlist_core.specs.Calls.{module_named}
 use Rattle.netlist_core.specs.Checked.{module_at}
 use Rattle.netlist_core.specs.OnGrid.{called_names, is_used, used_modules, used_names}
+use Rattle.std_laws.proofs.Distinct.{distinct-filter}
+use Rattle.std_laws.proofs.Bytes.{bytes_one}
+use Rattle.std_laws.proofs.Numbers.{one-more}
 
 -- a name is called just where it is among the different names that are called
 pub called-mentions : (calls : List Call) (name : List ℕ) → list_any (bytes_eq name) (mentions (called_names calls)) ≡ list_any (bytes_eq name) (called_names calls)

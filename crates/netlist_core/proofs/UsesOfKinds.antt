@@ -1,4 +1,4 @@
-use Rattle.std.proofs.Common.{◌≡◌, ◌<◌, ℕ, List, [], ◌∷◌, length, map, filter, Bool, true, false, cond, ◌||◌, ◌==◌, option_map, refl, ap, sym, ◌∙◌, arith, inl, inr, eq-eqb}
+use Rattle.std.proofs.Common.{◌≡◌, ◌<◌, ℕ, List, [], ◌∷◌, length, map, Bool, true, false, ◌||◌, ◌==◌, option_map, refl, ap, sym, ◌∙◌, arith, inl, inr, eq-eqb}
 use Rattle.std.specs.List.{AllByRecursion, IsDistinct, enumerate_from, list_any}
 use Rattle.std.specs.Str.{bytes_eq}
 use Rattle.std.proofs.lemmas.Option.{slice_get_cases, slice_get-map}
@@ -7,24 +7,16 @@ use Rattle.yal_reader.specs.declared.file.Call.{Call}
 use Rattle.yal_reader.specs.declared.file.Module.{Module}
 use Rattle.list_facts.specs.Names.{place_among}
 use Rattle.list_facts.proofs.Different.{place-get}
-use Rattle.list_facts.proofs.Every.{every-get}
-use Rattle.list_facts.proofs.Mentioned.{bytes_one}
 use Rattle.netlist_core.specs.OnGrid.{called_names, inst_in, is_used, used_modules, used_names}
 use Rattle.design_model.specs.declared.design.Inst.{Inst}
 use Rattle.netlist_core.proofs.UsedNames.{used-different}
-
-filter-passes : {X : Type 0} (p : X → Bool) (xs : List X) → AllByRecursion (λ x. p x ≡ true) (filter p xs)
-filter-passes p [] = tt
-filter-passes p (x ∷ xs) = by (p x) refl (filter-passes p xs)
-  where
-    by : (b : Bool) → p x ≡ b → AllByRecursion (λ y. p y ≡ true) (filter p xs) → AllByRecursion (λ y. p y ≡ true) (cond b (x ∷ filter p xs) (filter p xs))
-    by true is more = (is, more)
-    by false is more = more
+use Rattle.std_laws.proofs.Every.{every-get, every-passes}
+use Rattle.std_laws.proofs.Bytes.{bytes_one}
 
 -- each used module is called
 used-called : (modules : List Module) (calls : List Call) → AllByRecursion (λ (m : ℕ × Module). is_used calls m ≡ true) (used_modules modules calls)
 unfolding used_modules
-used-called modules calls = filter-passes (is_used calls) (enumerate_from 0 modules)
+used-called modules calls = every-passes (is_used calls) (enumerate_from 0 modules)
 
 -- where a name with this place is called, an instance has the kind of that number
 pub instance-of : (names : List (List ℕ)) (w : List ℕ) (n : ℕ) → place_among names w ≡ n → (calls : List Call)

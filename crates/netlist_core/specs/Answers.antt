@@ -1,3 +1,4 @@
+-- answers that may be a fault, and how the program's answers agree with them
 use Rattle.std.specs.Prelude.{◌≡◌, ℕ, ◌+◌, List, [], ◌∷◌, Option, None, Some, Result, Ok, Err}
 use Rattle.netlist_core.specs.declared.fault.DesignFault.{DesignFault}
 use Rattle.netlist_core.specs.declared.fault.DesignFault.TheVariants as faults

@@ -1,3 +1,4 @@
+-- calls of modules, and what may be wrong with them
 use Rattle.std.specs.Prelude.{ℕ, List, [], ◌∷◌, length, Bool, not, ◌==◌, nat_lt, find, if◌then◌else◌, Option, None, Some, Result, Ok, Err}
 use Rattle.std.specs.Str.{bytes_eq}
 use Rattle.yal_reader.specs.Kept.{is_standard, is_parent}

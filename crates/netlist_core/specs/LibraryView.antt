@@ -1,3 +1,4 @@
+-- modules found by their names
 use Rattle.std.specs.Prelude.{◌≡◌, List, map}
 use Rattle.yal_reader.specs.Kept.{module_names}
 use Rattle.yal_reader.specs.declared.file.Module.{Module}

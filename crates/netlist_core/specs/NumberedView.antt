@@ -1,3 +1,4 @@
+-- used modules with their numbers
 use Rattle.std.specs.Prelude.{ℕ, ◌<◌, ◌^◌, length}
 use Rattle.yal_reader.specs.Kept.{IsKeptModule}
 use Rattle.yal_reader.specs.declared.file.Module.{Module}

@@ -1,3 +1,4 @@
+-- the checked design of a file, or the first refusal
 use Rattle.std.specs.Prelude.{ℕ, List, [], ◌∷◌, length, map, filter, Bool, Result, Ok}
 use Rattle.std.specs.List.{enumerate_from, list_any}
 use Rattle.std.specs.Str.{bytes_eq}

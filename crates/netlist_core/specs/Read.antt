@@ -1,3 +1,4 @@
+-- what the modules of a file and the calls of its PARENT have
 use Rattle.std.specs.Prelude.{◌≤◌, ◌-◌, ◌^◌, List, length}
 use Rattle.std.specs.List.{AllByRecursion, IsDistinct}
 use Rattle.std.specs.Str.{bytes_eq}

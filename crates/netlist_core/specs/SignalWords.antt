@@ -1,3 +1,4 @@
+-- the signal words of pins
 use Rattle.std.specs.Prelude.{List, ℕ, [], ◌∷◌, filter, Option, slice_get}
 use Rattle.std.specs.Option.{option_and_then}
 use Rattle.yal_reader.specs.declared.file.Call.{Call}

@@ -1,3 +1,4 @@
+-- the terminals of lines
 use Rattle.std.specs.Prelude.{◌≡◌, ◌<◌, ◌^◌, length}
 use Rattle.list_facts.specs.Texts.{texts}
 use Rattle.netlist_core.specs.Cells.{power_names, terminal_names}

@@ -1,3 +1,5 @@
+//! The calls of a PARENT, the first fault among them, and the instances that they make.
+
 ghost use Rattle.list_facts.specs.Names.{mentions};
 ghost use Rattle.list_facts.specs.Texts.{texts};
 ghost use Rattle.netlist_core.specs.Calls.{call_fault, calls_fault};
@@ -17,8 +19,8 @@ use yal_reader::{Call, Kind, Module};
 
 /// The calls of a PARENT that was read, no more than a design may have instances. Contracts see the list of them.
 #[derive(Drop)]
-pub struct Calls<'a> {
-    pub calls: &'a [Call],
+pub(crate) struct Calls<'a> {
+    pub(crate) calls: &'a [Call],
 }
 
 impl<'a> Model for Calls<'a> {
@@ -38,7 +40,7 @@ impl<'a> Calls<'a> {
     ghost use Rattle.std.specs.Prelude.{◌≡◌};
 
     /// The calls, in the order of the file.
-    pub fn items(&self) -> &'a [Call]
+    pub(crate) fn items(&self) -> &'a [Call]
         ensures is { result.now ≡ self.now }
         ensures read { AreCalls self.now }
     {
@@ -48,7 +50,7 @@ impl<'a> Calls<'a> {
 
 /// What is wrong with the call that makes instance i, if anything. Takes no memory.
 #[tactic(auto, unfolding(crate::specs::Calls::call_fault))]
-pub fn call_fault(library: &Library, i: u32, call: &Call) -> Option<DesignFault>
+pub(crate) fn call_fault(library: &Library, i: u32, call: &Call) -> Option<DesignFault>
     ensures { result ≡ call_fault library.now i call.now }
 {
     let Some((module, terminals)) = library.find(call.module.items()) else {
@@ -72,7 +74,7 @@ fn is_standard(module: &Module) -> bool
 
 /// The first thing that is wrong with these calls, if anything. Takes no memory.
 #[tactic(auto, unfolding(crate::specs::Calls::calls_fault))]
-pub fn calls_fault(library: &Library, calls: &Calls) -> Option<DesignFault>
+pub(crate) fn calls_fault(library: &Library, calls: &Calls) -> Option<DesignFault>
     ensures { result ≡ calls_fault library.now calls.now }
 {
     let mut i = 0;
@@ -89,7 +91,10 @@ pub fn calls_fault(library: &Library, calls: &Calls) -> Option<DesignFault>
 }
 
 /// The names of the modules that are called, each once. The one error is want of memory.
-pub fn called_names<'a>(alloc: Global, calls: &'a [Call]) -> Result<IndexSet<&'a [u8]>, AllocError>
+pub(crate) fn called_names<'a>(
+    alloc: Global,
+    calls: &'a [Call],
+) -> Result<IndexSet<&'a [u8]>, AllocError>
     ensures { IfOk result (λ names. texts names.keys ≡ mentions (called_names calls.entry.now)) }
 {
     let mut names = IndexSet::new(alloc);
@@ -100,7 +105,11 @@ pub fn called_names<'a>(alloc: Global, calls: &'a [Call]) -> Result<IndexSet<&'a
 }
 
 /// The instances that calls make, where these are the names of the used modules. The one error is want of memory.
-pub fn instances_of(alloc: Global, names: &Names, calls: &[Call]) -> Result<Vec<Inst>, AllocError>
+pub(crate) fn instances_of(
+    alloc: Global,
+    names: &Names,
+    calls: &[Call],
+) -> Result<Vec<Inst>, AllocError>
     ensures { IfOk result (λ instances. instances.items ≡ map (inst_in names.now) calls.now) }
 {
     let mut instances = Vec::with_capacity(alloc, calls.len())?;

@@ -1,3 +1,5 @@
+//! The cell kind of a module: width in columns, terminals and positions, or why it does not fit the grid.
+
 ghost use Rattle.netlist_core.specs.Answers.{Agrees};
 ghost use Rattle.netlist_core.specs.Cells.{grid_of, height_of_module, kind_fault, kind_of};
 ghost use Rattle.std.specs.Prelude.{◌≡◌, IfOk};
@@ -13,7 +15,7 @@ use std::alloc::{AllocError, Global};
 use tech_rules::Rules;
 
 /// The height of a module in units, or 0 where its corners are no rectangle. Takes no memory.
-pub fn height_of_module(numbered: &Numbered) -> u32
+pub(crate) fn height_of_module(numbered: &Numbered) -> u32
     ensures { result ≡ height_of_module numbered.now.1 }
 {
     match outline_of(numbered.corners()) {
@@ -28,7 +30,7 @@ pub fn height_of_module(numbered: &Numbered) -> u32
 /// WrongLayer where a position's layer is not the rules' word, ASCII case aside: the first of these that holds. Positions of
 /// power terminals do not count.
 #[tactic(auto, unfolding(crate::specs::Cells::kind_of))]
-pub fn kind_of(
+pub(crate) fn kind_of(
     alloc: Global,
     rules: &Rules,
     height: u32,

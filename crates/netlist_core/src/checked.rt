@@ -1,3 +1,5 @@
+//! Calls without a fault, with their signals and used modules, and the design that they make on the grid.
+
 ghost use Rattle.netlist_core.specs.Answers.{Agrees};
 ghost use Rattle.netlist_core.specs.OnGrid.{used_design, used_names};
 ghost use Rattle.netlist_core.specs.Signals.{nets_of, pin_in};
@@ -19,10 +21,10 @@ use yal_reader::Call;
 
 /// Calls, the words at their pins and the modules that they use, of which only the places on the grid are not checked.
 #[derive(Drop)]
-pub struct Checked<'a> {
-    pub used: Vec<Numbered<'a>>,
-    pub signals: Vec<Signal<'a>>,
-    pub calls: &'a [Call],
+pub(crate) struct Checked<'a> {
+    pub(crate) used: Vec<Numbered<'a>>,
+    pub(crate) signals: Vec<Signal<'a>>,
+    pub(crate) calls: &'a [Call],
 }
 
 impl<'a> Model for Checked<'a> {
@@ -45,7 +47,11 @@ fn used_names<'a>(alloc: Global, checked: &Checked<'a>) -> Result<Names<'a>, All
 
 /// The design of checked calls, or why one of their modules is no kind.
 #[tactic(auto, unfolding(crate::specs::OnGrid::used_design))]
-pub fn used_design(alloc: Global, rules: &Rules, checked: &Checked) -> Result<Design, DesignFault>
+pub(crate) fn used_design(
+    alloc: Global,
+    rules: &Rules,
+    checked: &Checked,
+) -> Result<Design, DesignFault>
     ensures is { Agrees (λ design. design) result (used_design rules.now checked.now.used checked.now.signals checked.now.calls) }
     ensures pins { IfOk result (λ design. design.pins ≡ map (pin_in (nets_of checked.now.signals)) checked.now.signals) }
 {

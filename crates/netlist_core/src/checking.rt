@@ -1,3 +1,5 @@
+//! The checked design of a YAL file under rules, or the first fault in the order of the checks.
+
 ghost use Rattle.netlist_core.specs.Answers.{unless, Agrees};
 ghost use Rattle.netlist_core.specs.Calls.{over};
 ghost use Rattle.netlist_core.specs.OnGrid.{calls_design, on_grid, used_design, used_modules};

@@ -1,12 +1,14 @@
+//! The modules of a file together with the calls of its PARENT that fit them.
+
 use crate::calls::Calls;
 use crate::library::Library;
 use std::marker::Model;
 
 /// The modules of a file and the calls of its PARENT, each of which fits the module that it calls.
 #[derive(Drop)]
-pub struct Circuit<'a> {
-    pub library: Library<'a>,
-    pub calls: Calls<'a>,
+pub(crate) struct Circuit<'a> {
+    pub(crate) library: Library<'a>,
+    pub(crate) calls: Calls<'a>,
 }
 
 impl<'a> Model for Circuit<'a> {

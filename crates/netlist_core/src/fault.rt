@@ -1,3 +1,5 @@
+//! Why a file is refused as a design, with the number of the instance or module at fault.
+
 use std::alloc::{AllocError, AllocFailed};
 use thiserror::Error;
 

@@ -1,3 +1,5 @@
+//! The modules of a file, found by name, with the terminals of each.
+
 ghost use Rattle.list_facts.specs.Names.{mentions};
 ghost use Rattle.list_facts.specs.Texts.{texts};
 ghost use Rattle.netlist_core.specs.Calls.{module_named, terminals_in};
@@ -20,7 +22,7 @@ use yal_reader::Module;
 
 /// The modules of a file with their names, by which they are found, and the terminals of each.
 #[derive(Drop)]
-pub struct Library<'a> {
+pub(crate) struct Library<'a> {
     modules: Modules<'a>,
     names: IndexSet<&'a [u8]>,
     terminals: Vec<Items<Terminal>>,
@@ -41,7 +43,7 @@ impl<'a> Model for Library<'a> {
 
 impl<'a> Library<'a> {
     /// The library of these modules. The one error is want of memory.
-    pub fn new(alloc: Global, modules: Modules<'a>) -> Result<Library<'a>, AllocError>
+    pub(crate) fn new(alloc: Global, modules: Modules<'a>) -> Result<Library<'a>, AllocError>
         ensures { IfOk result (λ library. library ≡ modules.entry) }
     {
         let names = names_of(alloc, modules.items())?;
@@ -54,7 +56,7 @@ impl<'a> Library<'a> {
     }
 
     /// The modules.
-    pub fn modules(&self) -> &Modules<'a>
+    pub(crate) fn modules(&self) -> &Modules<'a>
         ensures is { result.now ≡ self.now }
         ensures read { AreModules self.now }
     {
@@ -63,7 +65,7 @@ impl<'a> Library<'a> {
     }
 
     /// The module of this name with its terminals, or None where there is no such module. Takes no memory.
-    pub fn find(&self, name: &[u8]) -> Option<(&Module, &[Terminal])>
+    pub(crate) fn find(&self, name: &[u8]) -> Option<(&Module, &[Terminal])>
         ensures is { option_map (λ f. f.0.now) result ≡ module_named self.now name.now }
         ensures terminals { IfSome result (λ f. f.1.now ≡ terminals_in (Some f.0.now)) }
         ensures few { IfSome result (λ f. length f.1.now < 2 ^ 32) }
@@ -79,7 +81,7 @@ impl<'a> Library<'a> {
     }
 
     /// The terminals of the module of this name, or none where there is no such module. Takes no memory.
-    pub fn terminals(&self, name: &[u8]) -> &[Terminal]
+    pub(crate) fn terminals(&self, name: &[u8]) -> &[Terminal]
         ensures is { result.now ≡ terminals_in (module_named self.now name.now) }
         ensures few { length result.now < 2 ^ 32 }
     {

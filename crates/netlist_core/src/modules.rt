@@ -1,3 +1,5 @@
+//! The modules of a file, and the one PARENT among them.
+
 ghost use Rattle.netlist_core.specs.Answers.{Agrees};
 ghost use Rattle.netlist_core.specs.Calls.{is_parent_module, only_parent};
 ghost use Rattle.std.specs.Prelude.{◌≡◌, filter};
@@ -8,8 +10,8 @@ use yal_reader::{Call, Kind, Module};
 
 /// The modules of a file that was read, which contracts see as the list of them.
 #[derive(Drop)]
-pub struct Modules<'a> {
-    pub modules: &'a [Module],
+pub(crate) struct Modules<'a> {
+    pub(crate) modules: &'a [Module],
 }
 
 impl<'a> Model for Modules<'a> {
@@ -29,7 +31,7 @@ impl<'a> Modules<'a> {
     ghost use Rattle.std.specs.Prelude.{◌≡◌};
 
     /// The modules, in the order of the file.
-    pub fn items(&self) -> &'a [Module]
+    pub(crate) fn items(&self) -> &'a [Module]
         ensures is { result.now ≡ self.now }
         ensures read { AreModules self.now }
     {
@@ -39,7 +41,7 @@ impl<'a> Modules<'a> {
 
 /// The PARENT of a file that was read, which contracts see as the module.
 #[derive(Drop)]
-pub struct Parent<'a> {
+pub(crate) struct Parent<'a> {
     module: &'a Module,
 }
 
@@ -61,7 +63,7 @@ impl<'a> Parent<'a> {
     ghost use Rattle.yal_reader.specs.Kept.{call_names, IsKeptCall};
 
     /// The calls that it makes, in the order of the file.
-    pub fn calls(&self) -> &'a [Call]
+    pub(crate) fn calls(&self) -> &'a [Call]
         ensures is { result.now ≡ self.now.calls }
         ensures kept { AllByRecursion IsKeptCall self.now.calls }
         ensures different { IsDistinct bytes_eq (call_names self.now.calls) }
@@ -72,7 +74,7 @@ impl<'a> Parent<'a> {
 }
 
 /// The one PARENT of these modules. Takes no memory.
-pub fn the_parent<'a>(modules: &Modules<'a>) -> Result<Parent<'a>, DesignFault>
+pub(crate) fn the_parent<'a>(modules: &Modules<'a>) -> Result<Parent<'a>, DesignFault>
     ensures { Agrees (λ m. m) result (only_parent (filter is_parent_module modules.now)) }
 {
     let mut parent: Option<&Module> = None;

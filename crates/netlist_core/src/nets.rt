@@ -1,3 +1,5 @@
+//! The nets of a design, one for each signal word, and its pins with the numbers of their nets.
+
 ghost use Rattle.list_facts.specs.Texts.{texts};
 ghost use Rattle.netlist_core.specs.Signals.{nets_of, pin_in};
 ghost use Rattle.std.specs.Prelude.{◌≡◌, map, IfOk};
@@ -69,13 +71,13 @@ impl<'a> Nets<'a> {
 
 /// The pins and the nets of a design.
 #[derive(Drop)]
-pub struct Connections {
-    pub pins: Vec<Pin>,
-    pub nets: Vec<Name>,
+pub(crate) struct Connections {
+    pub(crate) pins: Vec<Pin>,
+    pub(crate) nets: Vec<Name>,
 }
 
 /// The pins of checked calls, and the nets that their words make. The one error is want of memory.
-pub fn connections_of(alloc: Global, checked: &Checked) -> Result<Connections, AllocError>
+pub(crate) fn connections_of(alloc: Global, checked: &Checked) -> Result<Connections, AllocError>
     ensures pins { IfOk result (λ c. c.pins.items ≡ map (pin_in (nets_of checked.now.signals)) checked.now.signals) }
     ensures nets { IfOk result (λ c. c.nets.items ≡ nets_of checked.now.signals) }
 {

@@ -1,11 +1,13 @@
+//! A module with its number in the file.
+
 use std::marker::Model;
 use yal_reader::Module;
 
 /// A module with its number in the file, which contracts see as a pair.
 #[derive(Drop)]
-pub struct Numbered<'a> {
-    pub number: u32,
-    pub module: &'a Module,
+pub(crate) struct Numbered<'a> {
+    pub(crate) number: u32,
+    pub(crate) module: &'a Module,
 }
 
 impl<'a> Model for Numbered<'a> {
@@ -27,7 +29,7 @@ impl<'a> Numbered<'a> {
     ghost use Rattle.yal_reader.specs.Kept.{IsNear};
 
     /// The corners of the module, as the numbers of the text.
-    pub fn corners(&self) -> &'a [i64]
+    pub(crate) fn corners(&self) -> &'a [i64]
         ensures is { result.now ≡ self.now.1.corners }
         ensures near { AllByRecursion IsNear result.now }
     {

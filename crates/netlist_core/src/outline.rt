@@ -1,3 +1,5 @@
+//! The rectangle of a module, from the four corners of its DIMENSIONS.
+
 ghost use Rattle.netlist_core.specs.Outline.{are_pairs, between, has_turns, IsOutlineOf, outline_of};
 ghost use Rattle.std.specs.List.{AllByRecursion};
 ghost use Rattle.std.specs.Prelude.{◌≡◌};
@@ -5,11 +7,11 @@ ghost use Rattle.yal_reader.specs.Kept.{IsNear};
 
 /// The rectangle of a module, in units: its least x and y, and its sides, which are above 0.
 #[derive(Clone, Copy, Debug, PartialEq, Eq)]
-pub struct Outline {
-    pub left: i64,
-    pub low: i64,
-    pub width: u32,
-    pub height: u32,
+pub(crate) struct Outline {
+    pub(crate) left: i64,
+    pub(crate) low: i64,
+    pub(crate) width: u32,
+    pub(crate) height: u32,
 }
 
 // A corner of a module that was read.
@@ -23,7 +25,7 @@ struct Corner {
 
 /// The outline whose four corners these are, as pairs of x and y in order, in either direction and from any corner on; None
 /// where they are no corners of a rectangle with sides along the axes, in order. Takes no memory.
-pub fn outline_of(corners: &[i64]) -> Option<Outline>
+pub(crate) fn outline_of(corners: &[i64]) -> Option<Outline>
     requires { AllByRecursion IsNear corners.now }
     ensures is { result ≡ outline_of corners.now }
     ensures corners { IsOutlineOf corners.now result }

@@ -1,3 +1,5 @@
+//! The columns and edges at which terminals stand, clashes between positions, and the layer of spots.
+
 ghost use Rattle.netlist_core.specs.Cells.{clashes, edge_of, is_on_layer, same_point};
 ghost use Rattle.std.specs.List.{list_all, list_any};
 ghost use Rattle.std.specs.Prelude.{◌≡◌, ◌<◌, [], ◌++◌, ◌∷◌, not, IfOk, IsTrue};
@@ -11,16 +13,16 @@ use std::alloc::{AllocError, Global};
 
 /// Where a position meets the cell's edge: at the top or at the bottom, in the middle of a column.
 #[derive(Clone, Copy, Debug, PartialEq, Eq, Hash)]
-pub struct Point {
-    pub top: bool,
-    pub column: u32,
+pub(crate) struct Point {
+    pub(crate) top: bool,
+    pub(crate) column: u32,
 }
 
 /// The columns of an outline, from its left side on, each as wide as the pitch.
 #[derive(Clone, Copy)]
-pub struct Columns {
-    pub outline: Outline,
-    pub pitch: u32,
+pub(crate) struct Columns {
+    pub(crate) outline: Outline,
+    pub(crate) pitch: u32,
     ghost wide: { 0 < pitch },
 }
 
@@ -30,7 +32,7 @@ impl Columns {
     ghost use Rattle.std.specs.Prelude.{◌≡◌, ◌/◌, IfOk, Vec};
 
     /// How many columns are whole.
-    pub fn count(self) -> u32
+    pub(crate) fn count(self) -> u32
         ensures { result ≡ self.outline.width / self.pitch }
     {
         self.outline.width / self.pitch
@@ -39,7 +41,7 @@ impl Columns {
     /// The positions at these spots of a module with this outline; None where the width is not whole columns or a spot is off
     /// the grid: not on the top or the bottom edge, or not in the middle of a column inside. The one error is want of memory.
     #[tactic(auto, unfolding(crate::specs::Cells::grid_positions))]
-    pub fn grid_positions(
+    pub(crate) fn grid_positions(
         self,
         alloc: Global,
         spots: &[NumberedSpot],
@@ -119,7 +121,7 @@ fn edge_of(height: u32, low: i64, y: i64) -> Option<bool>
 }
 
 /// Whether two of these positions share a point. The one error is want of memory.
-pub fn has_clash(alloc: Global, positions: &[Position]) -> Result<bool, AllocError>
+pub(crate) fn has_clash(alloc: Global, positions: &[Position]) -> Result<bool, AllocError>
     ensures { IfOk result (λ clash. clash ≡ clashes [] positions.now) }
 {
     let mut points = IndexSet::new(alloc);
@@ -149,7 +151,7 @@ fn is_new(points: &mut IndexSet<Point>, point: Point) -> Result<bool, AllocError
 }
 
 /// Whether each of these spots is on the layer with this word, ASCII case aside. Takes no memory.
-pub fn are_on_layer(word: &[u8], spots: &[NumberedSpot]) -> bool
+pub(crate) fn are_on_layer(word: &[u8], spots: &[NumberedSpot]) -> bool
     ensures { result ≡ list_all (is_on_layer word.now) spots.now }
 {
     for spot in spots {

@@ -1,3 +1,5 @@
+//! The signal words of calls, each with the instance and the terminal of its pin.
+
 ghost use Rattle.netlist_core.specs.Signals.{all_signals, call_signals};
 ghost use Rattle.std.specs.Prelude.{◌≡◌, ◌++◌, IfOk, OnOk};
 
@@ -9,10 +11,10 @@ use yal_reader::Call;
 
 /// A signal word at a pin, which contracts see as a `PinWord`.
 #[derive(Drop)]
-pub struct Signal<'a> {
-    pub instance: u32,
-    pub terminal: u32,
-    pub word: &'a [u8],
+pub(crate) struct Signal<'a> {
+    pub(crate) instance: u32,
+    pub(crate) terminal: u32,
+    pub(crate) word: &'a [u8],
 }
 
 impl<'a> Model for Signal<'a> {
@@ -55,7 +57,7 @@ fn add_signals<'a>(
 
 /// The words at the pins of these calls, by instance, then by terminal. The one error is want of memory.
 #[tactic(auto, unfolding(crate::specs::Signals::all_signals))]
-pub fn signals_of<'a>(
+pub(crate) fn signals_of<'a>(
     alloc: Global,
     library: &Library,
     calls: &Calls<'a>,

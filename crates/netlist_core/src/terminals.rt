@@ -1,3 +1,5 @@
+//! The terminals of a module from its lines, which of them are power, and the spots of the others.
+
 ghost use Rattle.list_facts.specs.Texts.{texts};
 ghost use Rattle.netlist_core.specs.Cells.{power_names, terminal_in, terminal_names};
 ghost use Rattle.std.specs.Prelude.{◌≡◌, IfOk, map};
@@ -14,9 +16,9 @@ use yal_reader::{Flow, Line, Spot};
 
 /// A spot of a line, and the number of the line's terminal.
 #[derive(Drop)]
-pub struct NumberedSpot<'a> {
-    pub terminal: u32,
-    pub spot: &'a Spot,
+pub(crate) struct NumberedSpot<'a> {
+    pub(crate) terminal: u32,
+    pub(crate) spot: &'a Spot,
 }
 
 impl<'a> Model for NumberedSpot<'a> {
@@ -30,7 +32,7 @@ impl<'a> Model for NumberedSpot<'a> {
 
 /// The lines of a module, fewer than 2^32, with the names of its terminals and those of its power terminals. Contracts see the lines.
 #[derive(Drop)]
-pub struct Terminals<'a> {
+pub(crate) struct Terminals<'a> {
     lines: &'a [Line],
     names: Names<'a>,
     power: IndexSet<&'a [u8]>,
@@ -54,7 +56,7 @@ impl<'a> Terminals<'a> {
     ghost use Rattle.std.specs.Prelude.{◌≡◌, ◌<◌, ◌^◌, length, IfOk};
 
     /// The terminals of these lines. The one error is want of memory.
-    pub fn new(alloc: Global, lines: &'a [Line]) -> Result<Terminals<'a>, AllocError>
+    pub(crate) fn new(alloc: Global, lines: &'a [Line]) -> Result<Terminals<'a>, AllocError>
         requires { length lines.now < 2 ^ 32 }
         ensures { IfOk result (λ terminals. terminals ≡ lines.entry.now) }
     {
@@ -69,7 +71,7 @@ impl<'a> Terminals<'a> {
     }
 
     /// The terminals, in the order of their first mention. The one error is want of memory.
-    pub fn list(&self, alloc: Global) -> Result<Vec<Terminal>, AllocError>
+    pub(crate) fn list(&self, alloc: Global) -> Result<Vec<Terminal>, AllocError>
         ensures { IfOk result (λ list. list.items ≡ terminals_of self.now) }
     {
         terminals_named(alloc, &self.names, &self.power)
@@ -77,7 +79,7 @@ impl<'a> Terminals<'a> {
 
     /// The spots of the lines with the numbers of their terminals, in the order of the lines, without those of power terminals.
     /// The one error is want of memory.
-    pub fn spots(&self, alloc: Global) -> Result<Vec<NumberedSpot<'a>>, AllocError>
+    pub(crate) fn spots(&self, alloc: Global) -> Result<Vec<NumberedSpot<'a>>, AllocError>
         ensures { IfOk result (λ spots. spots.items ≡ spots_of self.now) }
     {
         let mut spots = Vec::new(alloc);

@@ -1,3 +1,5 @@
+//! The modules that are called, their common height, and the cell kinds that they make.
+
 ghost use Rattle.list_facts.specs.Names.{mentions};
 ghost use Rattle.list_facts.specs.Texts.{texts};
 ghost use Rattle.netlist_core.specs.Answers.{Agrees};
@@ -18,7 +20,7 @@ use yal_reader::Call;
 
 /// The modules that are called, in the order of the file. The one error is want of memory.
 #[tactic(auto, unfolding(crate::specs::OnGrid::used_modules))]
-pub fn used_modules<'a>(
+pub(crate) fn used_modules<'a>(
     alloc: Global,
     modules: &Modules<'a>,
     calls: &[Call],
@@ -41,7 +43,10 @@ pub fn used_modules<'a>(
 }
 
 /// The names of these modules. The one error is want of memory.
-pub fn names_of<'a>(alloc: Global, used: &[Numbered<'a>]) -> Result<IndexSet<&'a [u8]>, AllocError>
+pub(crate) fn names_of<'a>(
+    alloc: Global,
+    used: &[Numbered<'a>],
+) -> Result<IndexSet<&'a [u8]>, AllocError>
     ensures { IfOk result (λ names. texts names.keys ≡ mentions (used_names used.now)) }
 {
     let mut names = IndexSet::new(alloc);
@@ -53,7 +58,7 @@ pub fn names_of<'a>(alloc: Global, used: &[Numbered<'a>]) -> Result<IndexSet<&'a
 
 /// The height of the first of these modules, or 0 where there is none. Takes no memory.
 #[tactic(auto, unfolding(crate::specs::OnGrid::height_of))]
-pub fn height_of(used: &[Numbered]) -> u32
+pub(crate) fn height_of(used: &[Numbered]) -> u32
     ensures { result ≡ height_of used.now }
 {
     match used {
@@ -65,7 +70,7 @@ pub fn height_of(used: &[Numbered]) -> u32
 /// The kinds of these modules, or the first refusal of one: NoShape, OffGrid, Height, TooLow, PinClash or WrongLayer with its
 /// number in the file.
 #[tactic(auto, unfolding(crate::specs::OnGrid::kinds_for))]
-pub fn kinds_of(
+pub(crate) fn kinds_of(
     alloc: Global,
     rules: &Rules,
     used: &[Numbered],

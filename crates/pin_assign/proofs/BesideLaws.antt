@@ -2,7 +2,6 @@ use Rattle.std.specs.List.{slice_get}
 use Rattle.std.specs.Option.{option_map}
 use Rattle.std.proofs.Common.{◌≡◌, ℕ, ◌+◌, List, [], ◌∷◌, Bool, Some, refl, ap, sym, ◌∙◌, inl, inr, arith, Contains, suc, true, false, not, Option, subst}
 use Rattle.std.proofs.lemmas.Option.{slice_get-map}
-use Rattle.list_facts.proofs.Members.{member-cases, member-head, member-tail}
 use Rattle.design_model.specs.Netlist.{Netlist}
 use Rattle.design_model.specs.declared.design.Pin.{Pin}
 use Rattle.row_model.specs.Stands.{edge_column, turned_column}
@@ -16,6 +15,7 @@ use Rattle.pin_assign.proofs.Sources.{Source, StandsOver, first_over, later_over
 use Rattle.pin_assign.specs.Entering.{enters}
 use Rattle.pin_assign.proofs.TablePlaces.{HasOver, TablePlace, StandsAt, channel_facing, row_beside}
 use Rattle.pin_assign.specs.Tables.{row_below}
+use Rattle.std_laws.proofs.Members.{member-cases, member-head, member-tail}
 
 -- a cause along items stands in a column
 pub record Standing (d : Netlist) (top : Bool) (cause : Source) (items : List Item) (left : ℕ) : Type 0 where

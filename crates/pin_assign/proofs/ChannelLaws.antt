@@ -4,9 +4,6 @@ use Rattle.std.proofs.Common.{◌≡◌, ◌<◌, ◌≤◌, ℕ, List, length, 
 use Rattle.std.proofs.lemmas.List.Kept.{IsStrictlyIncreasing-filter}
 use Rattle.std.proofs.lemmas.Option.{slice_get_within}
 use Rattle.std.proofs.lemmas.List.Elements.{Contains-append_right}
-use Rattle.list_facts.proofs.Ranges.{range-increasing}
-use Rattle.list_facts.proofs.Members.{filter-from, filter-member, range-contains, contains-get, member-head}
-use Rattle.list_facts.proofs.Places.{at-place}
 use Rattle.channel_model.specs.Nets.{AreNets, StandsIn}
 use Rattle.channel_model.specs.Pins.{IsChannel, Pins}
 use Rattle.design_model.specs.Netlist.{Netlist, IsNetlist}
@@ -36,6 +33,9 @@ use Rattle.pin_assign.proofs.PlaceLaws.{TwoPlaces, paired-from-places}
 use Rattle.pin_assign.proofs.StandLaws.{place-cause, place-effect, place-once}
 use Rattle.pin_assign.proofs.TwiceLaws.{cause-inside, enters-twice}
 use Rattle.pin_assign.proofs.WidthLaws.{table-bottom_length, table-top_length}
+use Rattle.std_laws.proofs.Ranges.{range-increasing}
+use Rattle.std_laws.proofs.Members.{filter-from, filter-member, range-contains, contains-get, member-head}
+use Rattle.std_laws.proofs.Places.{at-place}
 
 -- the nets of a channel stand in the order of their numbers
 pub nets-increasing : (d : Netlist) (rows : List (List Seat)) (channel : ℕ) → IsStrictlyIncreasing (nets_in d rows channel)

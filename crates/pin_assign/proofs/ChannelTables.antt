@@ -1,6 +1,5 @@
 use Rattle.std.proofs.Common.{◌≡◌, ap, sym, ◌∙◌, subst, ◌<◌, ◌+◌, ℕ, List, length, Some, arith}
 use Rattle.std.proofs.lemmas.List.FromFn.{length-map-range_with_len}
-use Rattle.list_facts.proofs.Ranges.{image-at, image-of, image-within}
 use Rattle.channel_model.specs.Nets.{nets_of}
 use Rattle.channel_model.specs.Pins.{Pins}
 use Rattle.channel_model.proofs.NetsOf.{nets-one}
@@ -13,6 +12,7 @@ use Rattle.pin_assign.specs.ChannelTables.{AreTablesFor}
 use Rattle.pin_assign.specs.Tables.{table_of, tables_of}
 use Rattle.pin_assign.proofs.ChannelLaws.{table-nets}
 use Rattle.pin_assign.proofs.WidthLaws.{table-top_length}
+use Rattle.std_laws.proofs.Ranges.{image-at, image-of, image-within}
 
 module _ (d : Netlist) (good : IsNetlist d) (rows : List (List Seat)) (placed : ArePlaced d rows) where
   -- the tables of rows with feeds are for them

@@ -2,7 +2,6 @@ use Rattle.std.proofs.Common.{◌≡◌, ◌<◌, ℕ, Bool, true, false, ◌&&�
 use Rattle.std.proofs.lemmas.Bool.Decides.{nat_tests}
 use Rattle.std.proofs.lemmas.Option.{same_Some}
 use Rattle.std.specs.List.{find, slice_get}
-use Rattle.list_facts.proofs.Members.{all-get, contains-get, find-passes, get-contains}
 use Rattle.design_model.specs.Netlist.{Netlist, IsNetlist, IsPosition}
 use Rattle.design_model.specs.declared.design.CellKind.{CellKind}
 use Rattle.design_model.specs.declared.design.Pin.{Pin}
@@ -10,6 +9,7 @@ use Rattle.design_model.specs.declared.design.Position.{Position}
 use Rattle.row_model.specs.Stands.{edge_column, is_on, positions_in, positions_of, turned_column}
 use Rattle.row_model.specs.Widths.{columns_of, kind_of}
 use Rattle.row_model.proofs.WidthLaws.{kind-good}
+use Rattle.std_laws.proofs.Members.{all-get, contains-get, find-passes, get-contains}
 
 -- a column of a cell stands in the cell's columns, mirrored or not
 pub turned-within : (mirror : Bool) (columns column : ℕ) → column < columns → turned_column mirror columns column < columns

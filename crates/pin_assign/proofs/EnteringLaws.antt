@@ -1,6 +1,5 @@
 use Rattle.std.proofs.Common.{◌≡◌, ◌≢◌, ◌⊎◌, ℕ, max, inl, inr, refl, sym, subst, ap, ◌∙◌, arith, List, Bool, true, false, Option, Some, None, Contains}
 use Rattle.std.proofs.lemmas.Bool.Decides.{nat_tests}
-use Rattle.list_facts.proofs.Members.{find-passes}
 use Rattle.design_model.specs.Netlist.{IsNetlist, Netlist}
 use Rattle.design_model.specs.declared.design.Pin.{Pin}
 use Rattle.row_model.specs.Stands.{row_of}
@@ -16,6 +15,7 @@ use Rattle.feed_cells.proofs.NetLaws.{across-beside}
 use Rattle.feed_cells.proofs.CrossingLaws.{in-net, many-channels, one-channel, pin-ordered, touches-between}
 use Rattle.pin_assign.proofs.Causes.{CrossesBy, EntersBy, IsEntered, Passes}
 use Rattle.pin_assign.specs.Entering.{enters}
+use Rattle.std_laws.proofs.Members.{find-passes}
 
 -- the pins of a net with one channel, by the net's crossing
 pub all-touch : (d : Netlist) (rows : List (List Seat)) (net b : ℕ) → crossing_of d rows net ≡ One b → AllTouch d rows (pins_of d net) b

@@ -4,7 +4,6 @@ use Rattle.std.proofs.lemmas.Bool.Decides.{nat_tests}
 use Rattle.std.proofs.lemmas.List.{get_or_append_left, get_or-append_right}
 use Rattle.std.proofs.lemmas.List.FromFn.{get_or-map-range_with_len}
 use Rattle.std.specs.List.{find}
-use Rattle.list_facts.proofs.Members.{find-passes, find-some}
 use Rattle.design_model.specs.Netlist.{Netlist, IsNetlist}
 use Rattle.design_model.specs.declared.design.Pin.{Pin}
 use Rattle.row_model.specs.Stands.{edge_column, turned_column}
@@ -20,6 +19,7 @@ use Rattle.pin_assign.specs.Tables.{enters_in, item_entries, net_in, row_entries
 use Rattle.pin_assign.proofs.CauseLaws.{over-once, own-turned}
 use Rattle.pin_assign.proofs.EdgeLaws.{turned-within}
 use Rattle.pin_assign.proofs.WidthLaws.{item-length}
+use Rattle.std_laws.proofs.Members.{find-passes, find-some}
 
 -- a net among the entries of items side by side, the first of which begins in column `left`, that stands in a column of their row
 pub record HasNet (entries : List ℕ) (left at net : ℕ) : Type 0 where

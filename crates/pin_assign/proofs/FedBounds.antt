@@ -4,7 +4,6 @@ use Rattle.std.proofs.lemmas.List.Sums.{sum_by-cons}
 use Rattle.std.proofs.lemmas.List.FromFn.{length-range_with_len}
 use Rattle.std.proofs.lemmas.List.{length-map}
 use Rattle.std.proofs.Math.Nat.{mul-le-mul}
-use Rattle.list_facts.proofs.Counts.{filter-short}
 use Rattle.tech_rules.specs.Rules.{RuleValues}
 use Rattle.design_model.specs.Netlist.{IsNetlist, Netlist}
 use Rattle.design_model.proofs.DesignPins.{nets-few}
@@ -17,6 +16,7 @@ use Rattle.feed_cells.proofs.FedLaws.{fed-long}
 use Rattle.feed_cells.proofs.FedWidths.{row-narrow}
 use Rattle.pin_assign.specs.Bounds.{channels_height}
 use Rattle.pin_assign.specs.Bounded.{AreBounded, AreFewNets}
+use Rattle.std_laws.proofs.Counts.{filter-short}
 
 -- the height of channels, one and the others
 pub height-more : (r : RuleValues) (n : ℕ) (nets : List ℕ) → channels_height r (n ∷ nets) ≡ (2 * n + 1) * r.grid.track + channels_height r nets

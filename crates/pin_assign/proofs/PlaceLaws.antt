@@ -1,8 +1,8 @@
 use Rattle.std.proofs.Common.{◌≡◌, ◌≢◌, ◌<◌, ◌≤◌, ℕ, Bool, true, false, refl, ap, sym, ◌∙◌, inl, inr, arith}
 use Rattle.std.proofs.lemmas.Bool.{cases_eq}
-use Rattle.list_facts.proofs.Counts.{times, times-apart, times-one, times-place}
 use Rattle.channel_model.specs.Pins.{ArePaired, Pins, pin_count}
 use Rattle.pin_assign.proofs.TablePlaces.{TablePlace, entry_at}
+use Rattle.std_laws.proofs.Counts.{times, times-apart, times-one, times-place}
 
 abbrev place_at : Bool → ℕ → TablePlace
 place_at upper column = record { upper = upper; column = column }

@@ -7,9 +7,6 @@ use Rattle.std.proofs.lemmas.Option.{slice_get_past}
 use Rattle.std.specs.List.{AllByRecursion, find, flat_map, range_with_len}
 use Rattle.std.specs.Option.{option_and_then}
 use Rattle.list_facts.specs.Lists.{list_there}
-use Rattle.list_facts.proofs.Every.{every-filtered}
-use Rattle.list_facts.proofs.Members.{find-filter}
-use Rattle.list_facts.proofs.Ranges.{filter-map}
 use Rattle.channel_model.specs.Pins.{IsChannel}
 use Rattle.design_model.specs.Netlist.{IsNetlist, Netlist}
 use Rattle.design_model.specs.declared.design.Inst.{Inst}
@@ -27,6 +24,9 @@ use Rattle.row_model.specs.PinPlaces.{pin_place_at}
 use Rattle.pin_assign.specs.Tabled.{AreTabled, is_laid, laid, laid_entries, of_instance, tabled_entries}
 use Rattle.pin_assign.specs.Tables.{cell_entries, enters_in, is_in_column, item_entries, net_in, padded, row_below, row_entries, table_of}
 use Rattle.pin_assign.proofs.ChannelLaws.{table-channel}
+use Rattle.std_laws.proofs.Every.{every-filtered}
+use Rattle.std_laws.proofs.Members.{find-filter}
+use Rattle.std_laws.proofs.Images.{filter-map}
 
 -- an entry, or another where it is none
 abbrev entry_or : ℕ → ℕ → ℕ

@@ -1,7 +1,6 @@
 use Rattle.std.proofs.Common.{◌≡◌, ◌⊎◌, ◌<◌, ◌≤◌, ◌+◌, ◌-◌, not, ℕ, max, inl, inr, refl, sym, subst, ap, ◌∙◌, arith, List, ◌∷◌, Bool, true, false, eqb, Contains, length, map}
 use Rattle.std.proofs.lemmas.Bool.{both_ways, cases_eq, eqb-true}
 use Rattle.design_model.proofs.DesignPins.{first-two, kept-ascending}
-use Rattle.list_facts.proofs.Members.{member-head, member-tail}
 use Rattle.design_model.specs.Netlist.{IsNetlist, Netlist}
 use Rattle.design_model.specs.PinOrder.{IsAscending, pin_pair}
 use Rattle.design_model.specs.declared.design.Pin.{Pin}
@@ -17,6 +16,7 @@ use Rattle.feed_cells.proofs.CrossingLaws.{channels-within, fed-across, from-acr
 use Rattle.feed_cells.proofs.NetLaws.{across-beside}
 use Rattle.pin_assign.proofs.Causes.{AreDifferent, Cause, CrossesBy, EntersBy, EntersTwice, IsEntered, by_both, by_feed, by_pin, by_pins, over_both}
 use Rattle.pin_assign.proofs.EnteringLaws.{all-touch, are-spread, crossed-by, enter-lowest, enter-one, entered-is, same-edge}
+use Rattle.std_laws.proofs.Members.{member-head, member-tail}
 
 -- two pins that enter one channel, over whichever edges
 two-pins : (d : Netlist) (rows : List (List Seat)) (net channel : ℕ) (p q : Pin) → AreDifferent p q

@@ -1,3 +1,4 @@
+-- sizes of rows with feeds that keep the bound of a layout below 2 ^ 64
 use Rattle.std.specs.Prelude.{◌≤◌, ℕ, List, length}
 use Rattle.std.specs.List.{AllByRecursion}
 use Rattle.limits.specs.declared.TheConstants.{MOST_PINS, MOST_PLACED_ROWS}

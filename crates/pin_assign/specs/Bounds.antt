@@ -1,3 +1,4 @@
+-- the size that a layout is within
 use Rattle.std.specs.Prelude.{ℕ, ◌+◌, ◌*◌, List, length, map, sum, fold, max}
 use Rattle.tech_rules.specs.Rules.{RuleValues}
 use Rattle.channel_model.specs.Limits.{most_extra, most_tracks}

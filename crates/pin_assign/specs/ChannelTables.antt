@@ -1,3 +1,4 @@
+-- how many channels there are, how wide they are, and how many nets they have
 use Rattle.std.specs.Prelude.{◌≡◌, ℕ, ◌+◌, List, length, Some, slice_get}
 use Rattle.channel_model.specs.Nets.{nets_of}
 use Rattle.channel_model.specs.Pins.{Pins}

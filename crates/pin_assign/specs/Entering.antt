@@ -1,3 +1,4 @@
+-- which pin enters which channel
 use Rattle.std.specs.Prelude.{◌==◌, ℕ, ◌+◌, max, List, Bool, false, ◌&&◌, ◌||◌}
 use Rattle.design_model.specs.Netlist.{Netlist}
 use Rattle.design_model.specs.declared.design.Pin.{Pin}

@@ -1,3 +1,4 @@
+-- what enters a channel, by a table of the instances' pins
 use Rattle.std.specs.Prelude.{◌≡◌, ◌==◌, ◌+◌, ◌<◌, ℕ, List, [], ◌∷◌, max, map, filter, fold, length, Bool, false, ◌&&◌, ◌||◌, if◌then◌else◌, Some, slice_get}
 use Rattle.std.specs.List.{range_with_len}
 use Rattle.list_facts.specs.Lists.{list_there}

@@ -1,3 +1,4 @@
+-- the tables of the channels
 use Rattle.std.specs.Prelude.{◌==◌, ℕ, zero, suc, ◌+◌, ◌-◌, List, [], ◌∷◌, ◌++◌, map, length, replicate, Bool, true, false, ◌&&◌, Option, None, Some, slice_get}
 use Rattle.std.specs.List.{find, flat_map, range_with_len}
 use Rattle.channel_model.specs.Pins.{Pins}

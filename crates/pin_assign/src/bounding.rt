@@ -1,3 +1,5 @@
+//! How large a layout of given rows can become, from the number of nets in each channel.
+
 ghost use Rattle.feed_cells.specs.Fed.{IsFed};
 ghost use Rattle.pin_assign.specs.Bounded.{AreBounded, AreFewNets};
 ghost use Rattle.pin_assign.specs.Bounds.{bound_of, channels_height, most_nets};

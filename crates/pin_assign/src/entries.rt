@@ -1,3 +1,5 @@
+//! The nets that a row enters into a channel over an edge, column by column, from its cells' pins and its feeds.
+
 ghost use Rattle.pin_assign.specs.Tabled.{enters_as, laid, laid_entries, tabled_entries};
 ghost use Rattle.pin_assign.specs.Tables.{padded};
 ghost use Rattle.std.specs.List.{flat_map};
@@ -13,7 +15,7 @@ use std::alloc::{AllocError, Global};
 /// The entries of a row into a channel over an edge, the upper where `top` holds, padded to so many columns, by a table of the instances' pins. The one
 /// error is want of memory. Takes steps as the number of columns and of pins.
 #[tactic(auto, unfolding(crate::specs::Tabled::tabled_entries))]
-pub fn row_entries(
+pub(crate) fn row_entries(
     alloc: Global,
     design: &Design,
     table: &Lists<PlacedPin>,

@@ -1,3 +1,5 @@
+//! The channels between rows with feeds, from the lowest up, with the net of each entry at both edges.
+
 ghost use Rattle.feed_cells.specs.Fed.{IsFed, cells_in};
 ghost use Rattle.feed_cells.specs.Placement.{placement_of};
 ghost use Rattle.pin_assign.specs.ChannelTables.{AreTablesFor};

@@ -11,7 +11,7 @@ use std::alloc::{AllocError, Global};
 use tech_rules::StartBy;
 
 /// So many rows of a design, with their feeds.
-pub fn fed_rows_of(alloc: Global, design: &Design, count: u32) -> Result<FedRows, AllocError>
+pub(crate) fn fed_rows_of(alloc: Global, design: &Design, count: u32) -> Result<FedRows, AllocError>
     requires some { 0 < count }
     requires few { count ≤ 512 }
     ensures { IfOk result (IsFed design.now) }

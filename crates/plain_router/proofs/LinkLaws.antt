@@ -1,6 +1,5 @@
 use Rattle.std.proofs.Common.{◌≡◌, ◌<◌, ◌≤◌, ℕ, List, Option, Some, None, refl, arith, All, Contains, get_or}
 use Rattle.std.proofs.lemmas.List.Elements.{All-nil}
-use Rattle.list_facts.proofs.Members.{All-of_one}
 use Rattle.channel_model.specs.declared.reach.Reach.{Reach}
 use Rattle.channel_model.specs.declared.wiring.Segment.{Segment}
 use Rattle.channel_model.specs.declared.wiring.Segment.TheVariants.{Across, Along}
@@ -11,8 +10,9 @@ use Rattle.channel_model.specs.Wired.{Linked, itself, onward}
 use Rattle.channel_model.proofs.ReachLaws.{ReachesAll}
 use Rattle.plain_router.specs.declared.router.Lane.{Lane}
 use Rattle.plain_router.specs.Plain.{lane_segments, lane_vias}
-use Rattle.plain_router.proofs.PinLaws.{All-of_two, All-of_three}
 use Rattle.plain_router.proofs.ChainLaws.{Linked-step}
+use Rattle.std_laws.proofs.Members.{All-of_one}
+use Rattle.std_laws.proofs.Every.{All-of_two, All-of_three}
 
 -- a via meets an Along of its track that covers its column
 on_track : (net column track from to : ℕ) → from ≤ column → column ≤ to

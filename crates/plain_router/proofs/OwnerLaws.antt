@@ -1,6 +1,5 @@
 use Rattle.std.proofs.Common.{◌≡◌, ◌<◌, ◌≤◌, ◌+◌, ◌*◌, ◌++◌, ◌⊎◌, ℕ, List, Option, Some, None, inl, inr, refl, sym, ap, ◌∙◌, arith, All, Contains, length, get_or, map}
 use Rattle.std.proofs.lemmas.List.Elements.{All-nil, All-append, All-map, Contains-get_or}
-use Rattle.list_facts.proofs.Members.{All-of_one}
 use Rattle.channel_model.specs.declared.reach.Reach.{Reach}
 use Rattle.channel_model.specs.declared.wiring.Segment.TheVariants.{Across, Along}
 use Rattle.channel_model.specs.declared.wiring.Via.{Via}
@@ -12,7 +11,9 @@ use Rattle.channel_model.specs.Wired.{IsOnGrid, KeepsEdges}
 use Rattle.channel_model.proofs.PlaceLaws.{place_of-member, place_of-is}
 use Rattle.channel_model.proofs.ReachLaws.{ReachesAll, reach_of-all}
 use Rattle.plain_router.specs.Plain.{for_pins, for_nets, lane_of, bottom_across, top_across, bottom_via, top_via, lane_segments, lane_vias, net_segments, net_vias, plain_with}
-use Rattle.plain_router.proofs.PinLaws.{All-of_two, All-of_three, All-for_pins, All-for_nets}
+use Rattle.plain_router.proofs.PinLaws.{All-for_pins, All-for_nets}
+use Rattle.std_laws.proofs.Members.{All-of_one}
+use Rattle.std_laws.proofs.Every.{All-of_two, All-of_three}
 
 module _ (pins : Pins) (nets : List ℕ) where
   -- the net to which the plain router gives a point

@@ -1,21 +1,11 @@
 use Rattle.std.proofs.Common.{◌≡◌, ◌<◌, ◌+◌, ◌++◌, cond, eqb, ℕ, zero, suc, List, [], ◌∷◌, inl, inr, refl, ◌∙◌, arith, All, Contains, Option, length, get_or, map, add-one}
-use Rattle.std.proofs.lemmas.Bool.{cases_eq, cond_both, cond-true, cond-false, eqb-false, eq-eqb, ne_eqb}
-use Rattle.std.proofs.lemmas.List.{append_assoc, append-nil, get_or-map}
-use Rattle.std.proofs.lemmas.List.Elements.{All-nil, All-append, All-cons, Contains-append_left, Contains-append_right}
-use Rattle.list_facts.proofs.Members.{All-of_one}
+use Rattle.std.proofs.lemmas.Bool.{cases_eq, cond_both, cond-false, eqb-false, ne_eqb}
+use Rattle.std.proofs.lemmas.List.{append_assoc, get_or-map}
+use Rattle.std.proofs.lemmas.List.Elements.{All-nil, All-append, Contains-append_left, Contains-append_right}
 use Rattle.channel_model.specs.declared.reach.Reach.{Reach}
 use Rattle.channel_model.specs.Reach.{reach_of}
 use Rattle.plain_router.specs.Plain.{for_pins, for_nets}
-
-pub All-of_two : {A : Type 0} (P : A → Type 0) (a b : A) → P a → P b → All P (a ∷ (b ∷ []))
-All-of_two {A} P a b first second =
-    let none : List A = [] in
-    All-cons P a (b ∷ none) first (All-cons P b none second (All-nil P))
-
-pub All-of_three : {A : Type 0} (P : A → Type 0) (a b c : A) → P a → P b → P c → All P (a ∷ (b ∷ (c ∷ [])))
-All-of_three {A} P a b c first second third =
-    let none : List A = [] in
-    All-cons P a (b ∷ (c ∷ none)) first (All-cons P b (c ∷ none) second (All-cons P c none third (All-nil P)))
+use Rattle.std_laws.proofs.Members.{All-of_one}
 
 -- what holds of what is made of each pin holds of all
 pub All-for_pins : {A : Type 0} (P : A → Type 0) (f : ℕ → ℕ → A) (side : List ℕ) (n : ℕ)

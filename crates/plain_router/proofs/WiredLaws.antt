@@ -1,8 +1,7 @@
-use Rattle.std.proofs.Common.{◌≡◌, ◌<◌, ◌+◌, ◌*◌, ◌++◌, ℕ, List, Option, inl, inr, refl, sym, ap, subst, ◌∙◌, arith, All, Contains, length, get_or, map}
+use Rattle.std.proofs.Common.{◌≡◌, ◌<◌, ◌+◌, ◌*◌, ◌++◌, ℕ, List, Option, inl, inr, refl, sym, subst, arith, All, Contains, length, get_or, map}
 use Rattle.std.proofs.lemmas.Bool.{cases_lt}
-use Rattle.std.proofs.lemmas.List.{get_or_past, get_or-map, length-map}
+use Rattle.std.proofs.lemmas.List.{get_or_past}
 use Rattle.std.proofs.lemmas.List.Elements.{All-append, All-map, All-weaker, All-contains, Contains-append_left, Contains-append_right}
-use Rattle.list_facts.proofs.Members.{map-member}
 use Rattle.channel_model.specs.declared.reach.Reach.{Reach}
 use Rattle.channel_model.specs.declared.wiring.Segment.{Segment}
 use Rattle.channel_model.specs.declared.wiring.Via.{Via}
@@ -21,6 +20,7 @@ use Rattle.plain_router.proofs.PinLaws.{All-for_pins, All-for_nets, Contains-for
 use Rattle.plain_router.proofs.ChainLaws.{Linked-trans, Linked-sym}
 use Rattle.plain_router.proofs.OwnerLaws.{Sound, owner_same, all_sound}
 use Rattle.plain_router.proofs.LinkLaws.{home_of, GoesHome, segments_home, vias_home, bottom_via_home, top_via_home, bottom_across_home, top_across_home}
+use Rattle.std_laws.proofs.Members.{map-member}
 
 module _ (pins : Pins) (nets : List ℕ) (channel : IsChannel pins) (are : AreNets pins nets) where
   abbrev wiring : Wiring

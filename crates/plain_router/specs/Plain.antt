@@ -1,3 +1,4 @@
+-- the wiring of the plain router
 use Rattle.std.specs.Prelude.{◌+◌, ◌*◌, ◌++◌, ◌==◌, if◌then◌else◌, ℕ, zero, suc, List, [], ◌∷◌, length, slice_index, Option, Some, None}
 use Rattle.channel_model.specs.declared.reach.Reach.{Reach}
 use Rattle.channel_model.specs.declared.wiring.Segment.{Segment}

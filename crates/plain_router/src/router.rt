@@ -1,3 +1,5 @@
+//! Pins brought to their net's lower or upper track, and these joined in the net's column right of the channel.
+
 ghost use Rattle.channel_model.specs.Nets.{AreNets};
 ghost use Rattle.channel_model.specs.Wired.{Wired};
 ghost use Rattle.plain_router.specs.Plain.{plain_of, for_pins, for_nets, net_segments, net_vias, bottom_across, top_across, bottom_via, top_via, lane_segments, lane_vias};

@@ -69,14 +69,17 @@ fn modules(alloc: Global, names: &str) -> Result<String, AllocError> {
 }
 
 /// The design of modules and calls with a stroke between them, as `INV | u INV a;`.
-pub fn design_in(alloc: Global, text: &str) -> Result<Design, SampleFault> {
+pub(crate) fn design_in(alloc: Global, text: &str) -> Result<Design, SampleFault> {
     let (names, calls) = text.split_once(" | ").unwrap_or(("", text));
     let modules = modules(alloc, names)?;
     designed(alloc, modules.as_str(), calls)
 }
 
 /// Why there is no such design; nothing where there is one.
-pub fn refusal(alloc: Global, design: &Result<Design, SampleFault>) -> Result<String, AllocError> {
+pub(crate) fn refusal(
+    alloc: Global,
+    design: &Result<Design, SampleFault>,
+) -> Result<String, AllocError> {
     match design {
         Ok(_) => Ok(String::new(alloc)),
         Err(SampleFault::Memory) => Err(AllocError),

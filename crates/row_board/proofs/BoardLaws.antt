@@ -5,7 +5,6 @@ use Rattle.std.proofs.lemmas.Option.{none-some, same_Some, slice_get-map, slice_
 use Rattle.std.specs.List.{slice_get}
 use Rattle.std.specs.Option.{option_map}
 use Rattle.std.specs.Prelude.{nat_eq}
-use Rattle.list_facts.proofs.Counts.{few-numbers}
 use Rattle.design_model.specs.declared.design.Pin.{Pin}
 use Rattle.design_model.specs.Netlist.{IsNetlist, Netlist}
 use Rattle.row_board.specs.Board.{lengths_of, AreSeated}
@@ -20,9 +19,11 @@ use Rattle.row_model.specs.Widths.{columns_of, row_width}
 use Rattle.row_model.specs.declared.rows.Seat.{Seat}
 use Rattle.row_board.proofs.MoveLaws.{cell-told}
 use Rattle.row_board.proofs.PlaceLaws.{row-short, width-few}
-use Rattle.row_board.proofs.PutLaws.{get-put-other, list-same, width-set}
+use Rattle.row_board.proofs.PutLaws.{get-put-other, width-set}
 use Rattle.row_board.proofs.TurnLaws.{turned-width}
 use Rattle.row_model.proofs.SwapLaws.{mirrored-length, swapped-length}
+use Rattle.std_laws.proofs.Counts.{few-numbers}
+use Rattle.std_laws.proofs.Places.{list-same}
 
 -- the width of a row after a seat is put into it
 pub width-whole : (d : Netlist) (row place : ℕ) (seat old : Seat) (number : ℕ) (seats : List Seat) → (number ≡ row → slice_get seats place ≡ Some old)

@@ -5,11 +5,9 @@ use Rattle.std.proofs.lemmas.List.FromFn.{length-range_with_len}
 use Rattle.std.proofs.lemmas.List.Sums.{sum_by-cons}
 use Rattle.std.proofs.lemmas.List.{length-map}
 use Rattle.std.proofs.lemmas.Option.{same_Some}
-use Rattle.std.specs.List.{filter, find, fold, range_with_len, AllByRecursion}
+use Rattle.std.specs.List.{filter, find, range_with_len, AllByRecursion}
 use Rattle.std.specs.Option.{option_map}
-use Rattle.std.specs.Prelude.{max, nat_eq}
-use Rattle.list_facts.proofs.Every.{every-from-get, every-map, every-weaker}
-use Rattle.list_facts.proofs.Members.{all-get, contains-get, find-passes}
+use Rattle.std.specs.Prelude.{nat_eq}
 use Rattle.design_model.specs.Netlist.{IsNetlist, IsPosition, Netlist}
 use Rattle.design_model.specs.declared.design.CellKind.{CellKind}
 use Rattle.design_model.specs.declared.design.Pin.{Pin}
@@ -26,13 +24,11 @@ use Rattle.row_model.proofs.PlacedLaws.{placed-distinct, placed-length}
 use Rattle.row_board.proofs.PlaceLaws.{row-short, width-few}
 use Rattle.row_model.proofs.SeatLaws.{seat-stands}
 use Rattle.row_model.proofs.StandLaws.{stand-is, stand-there}
-use Rattle.row_board.proofs.SumLaws.{sum-small}
 use Rattle.row_model.proofs.WidthLaws.{columns-few, kind-good}
-
--- numbers of at most a bound are at most that far apart
-greatest-few : (most first : ℕ) (ns : List ℕ) → first ≤ most → AllByRecursion (λ (n : ℕ). n ≤ most) ns → fold max first ns ≤ most
-greatest-few most first [] few all = few
-greatest-few most first (n ∷ ns) few all = greatest-few most (max first n) ns (omega (arith, all.0)) all.1
+use Rattle.std_laws.proofs.Every.{every-from-get, every-map, every-weaker}
+use Rattle.std_laws.proofs.Members.{all-get, contains-get, find-passes}
+use Rattle.std_laws.proofs.Sums.{sum-small, sum-none, sum-both, sum-few}
+use Rattle.std_laws.proofs.Greatest.{greatest-few}
 
 spread-few : (most : ℕ) (ns : List ℕ) → AllByRecursion (λ (n : ℕ). n ≤ most) ns → 2 * spread ns ≤ most * length ns
 spread-few most [] all = omega arith
@@ -101,19 +97,6 @@ net-few d rows w good placed few net =
     let weighed = mul-le-mul_left (spread (map (λ (p : Pin). row_of d rows p.instance) (pins_of_net d net))) few.row_cost in
     omega (arith, columns, lines, weighed, length-map (pins_of_net d net) (column_of d rows), length-map (pins_of_net d net) (λ (p : Pin). row_of d rows p.instance))
 
--- each pin is of one net
-sum-two : (f g : ℕ → ℕ) (ns : List ℕ) → sum (map (λ (n : ℕ). f n + g n) ns) ≡ sum (map f ns) + sum (map g ns)
-sum-two f g [] = omega arith
-sum-two f g (n ∷ ns) =
-    let rest = sum-two f g ns in
-    omega (arith, rest, sum_by-cons (λ (n : ℕ). n) (f n + g n) (map (λ (n : ℕ). f n + g n) ns), sum_by-cons (λ (n : ℕ). n) (f n) (map f ns), sum_by-cons (λ (n : ℕ). n) (g n) (map g ns))
-
-pub sum-none : (f : ℕ → ℕ) (a n : ℕ) → ((k : ℕ) → a ≤ k → f k ≡ 0) → sum (map f (range_with_len a n)) ≡ 0
-sum-none f a zero none = refl
-sum-none f a (suc n) none =
-    let rest = sum-none f (a + 1) n (λ k low. none k (omega arith)) in
-    omega (arith, rest, none a (omega arith), sum_by-cons (λ (n : ℕ). n) (f a) (map f (range_with_len (a + 1) n)))
-
 once : (k a n : ℕ) → sum (map (λ (m : ℕ). cond (nat_eq k m) 1 0) (range_with_len a n)) ≤ 1
 once k a zero = omega arith
 once k a (suc n) = by (once k (a + 1) n) (nat_eq k a) refl
@@ -136,7 +119,7 @@ shares : (ps : List Pin) (a n : ℕ) → sum (map (λ (net : ℕ). length (filte
 shares [] a n = omega (arith, sum-none (λ (net : ℕ). 0) a n (λ k low. refl))
 shares (p ∷ ps) a n =
     let rest = shares ps a n in
-    let split = ap sum (each (range_with_len a n)) ∙ sum-two (λ (net : ℕ). cond (nat_eq p.net net) 1 0) (λ (net : ℕ). length (filter (λ (p : Pin). nat_eq p.net net) ps)) (range_with_len a n) in
+    let split = ap sum (each (range_with_len a n)) ∙ sum-both (λ (net : ℕ). cond (nat_eq p.net net) 1 0) (λ (net : ℕ). length (filter (λ (p : Pin). nat_eq p.net net) ps)) (range_with_len a n) in
     omega (arith, rest, split, once p.net a n)
   where
     one : (net : ℕ) → length (filter (λ (p : Pin). nat_eq p.net net) (p ∷ ps)) ≡ cond (nat_eq p.net net) 1 0 + length (filter (λ (p : Pin). nat_eq p.net net) ps)
@@ -150,12 +133,6 @@ shares (p ∷ ps) a n =
         ≡ map (λ (net : ℕ). cond (nat_eq p.net net) 1 0 + length (filter (λ (p : Pin). nat_eq p.net net) ps)) ns
     each [] = refl
     each (n ∷ ns) = ap₂ (λ (x : ℕ) (xs : List ℕ). x ∷ xs) (one n) (each ns)
-
--- twice what all nets cost
-sum-few : (f g : ℕ → ℕ) (most : ℕ) (ns : List ℕ) → ((n : ℕ) → 2 * f n ≤ most * g n) → 2 * sum (map f ns) ≤ most * sum (map g ns)
-sum-few f g most [] few = omega arith
-sum-few f g most (n ∷ ns) few =
-    omega (arith, sum-few f g most ns few, few n, sum_by-cons (λ (n : ℕ). n) (f n) (map f ns), ap (λ (x : ℕ). most * x) (sum_by-cons (λ (n : ℕ). n) (g n) (map g ns)))
 
 nets-few : (d : Netlist) (rows : List (List Seat)) (w : Weighing) → IsNetlist d → ArePlaced d rows → AreFew w
     → sum (map (net_cost d rows w) (range_with_len 1 (length d.nets))) ≤ 200010051300000000

@@ -1,14 +1,9 @@
 use Rattle.std.proofs.Common.{◌≡◌, ◌<◌, ◌≤◌, ℕ, ◌+◌, ◌*◌, List, length, map, set, Bool, true, false, cond, Option, None, Some, refl, ap, ap₂, sym, ◌∙◌, arith}
-use Rattle.std.proofs.lemmas.Bool.Decides.{nat_tests}
 use Rattle.std.proofs.lemmas.List.{length-map}
 use Rattle.std.proofs.lemmas.List.FromFn.{length-range_with_len}
 use Rattle.std.specs.List.{filter, range_with_len, slice_get, AllByRecursion, Contains}
 use Rattle.std.specs.Option.{option_map}
 use Rattle.std.specs.Prelude.{nat_eq}
-use Rattle.list_facts.proofs.Every.{every-filtered, every-from-get, every-get, every-map}
-use Rattle.list_facts.proofs.Members.{any-member, filter-from, filter-member, get-contains, map-member}
-use Rattle.list_facts.proofs.Places.{list-by}
-use Rattle.list_facts.proofs.Ranges.{image-at, map-map, map-same, range-bounds}
 use Rattle.design_model.proofs.DesignPins.{pins-within}
 use Rattle.design_model.specs.Netlist.{IsNetlist, Netlist}
 use Rattle.design_model.specs.declared.design.Pin.{Pin}
@@ -25,7 +20,12 @@ use Rattle.row_model.specs.Widths.{columns_of}
 use Rattle.row_model.specs.declared.rows.Seat.{Seat}
 use Rattle.row_model.specs.Stand.{Stand}
 use Rattle.row_board.proofs.PlaceLaws.{told, IsTold}
-use Rattle.row_board.proofs.StandingLaws.{get-set-other}
+use Rattle.std_laws.proofs.Every.{every-filtered, every-from-get, every-get, every-map}
+use Rattle.std_laws.proofs.Members.{any-member, filter-from, filter-member, get-contains, map-member}
+use Rattle.std_laws.proofs.Places.{list-by, get-set-other}
+use Rattle.std_laws.proofs.Ranges.{image-at, range-bounds}
+use Rattle.std_laws.proofs.Images.{map-map, map-same}
+use Rattle.std_laws.proofs.Tests.{nat_eq-itself}
 
 -- a pin's column by a table is its column in the rows
 column-told : (d : Netlist) (rows : List (List Seat)) (standings : List Spot) (p : Pin) → IsTold d rows standings p.instance → pin_column standings (net_pin d p) ≡ column_of d rows p
@@ -79,14 +79,11 @@ measured-same row_cost old new pins same =
     (λ p is. ap (λ (s : Spot). s.left + cond s.mirror p.mirrored p.upright) (sym is)) pins same)
     (map-same (λ (p : NetPin). standing_of new p.instance ≡ standing_of old p.instance) (pin_row old) (pin_row new) (λ p is. ap (λ (s : Spot). s.row) (sym is)) pins same)
 
-itself : (n : ℕ) → nat_eq n n ≡ true
-itself n = grind (arith, nat_tests)
-
 -- the net of a pin is one of the nets of its instance
 net-listed : (d : Netlist) (p : Pin) (net : ℕ) → Contains (pins_of_net d net) p → has_net (nets_of d p.instance) net ≡ true
 net-listed d p net has =
     let from = filter-from (λ (q : Pin). nat_eq q.net net) d.pins p has in
-    let own = filter-member (λ (q : Pin). nat_eq q.instance p.instance) d.pins p from.0 (itself p.instance) in
+    let own = filter-member (λ (q : Pin). nat_eq q.instance p.instance) d.pins p from.0 (nat_eq-itself p.instance) in
     let listed = map-member (λ (q : Pin). q.net) (filter (λ (q : Pin). nat_eq q.instance p.instance) d.pins) p own in
     any-member (λ (n : ℕ). nat_eq n net) (nets_of d p.instance) p.net listed (from.1)
 

@@ -3,7 +3,7 @@ use Rattle.std.proofs.lemmas.Bool.Decides.{nat_tests}
 use Rattle.std.proofs.lemmas.List.{length-take}
 use Rattle.std.proofs.lemmas.Option.{same_Some, slice_get-get_or, slice_get_within}
 use Rattle.std.specs.List.{slice_get}
-use Rattle.std.specs.Prelude.{nat_eq, nat_le, nat_lt}
+use Rattle.std.specs.Prelude.{nat_eq}
 use Rattle.design_model.specs.Netlist.{IsNetlist, Netlist}
 use Rattle.row_board.specs.Moving.{IsAt, column_behind, left_of, reach_end, row_length, row_there}
 use Rattle.row_model.specs.Rows.{ArePlaced, AreRows}
@@ -13,6 +13,7 @@ use Rattle.row_model.specs.declared.rows.Seat.{Seat}
 use Rattle.row_board.specs.Spot.{Spot}
 use Rattle.row_board.proofs.StandingLaws.{width-more}
 use Rattle.row_board.proofs.PlaceLaws.{one-place, row-here, row-short, told, width-few}
+use Rattle.std_laws.proofs.Tests.{inside-decided}
 
 -- the seat before a place tells its first column
 pub left-step : (d : Netlist) (row place k : ℕ) (seats : List Seat) (s : Seat) (st : Spot) (standings : List Spot) → k + 1 ≡ place → slice_get seats k ≡ Some s
@@ -52,30 +53,10 @@ entered-there d rows row from to seats standings in_row has k low high = λ seat
     let same : seats' ≡ seats = same_Some seats' seats (sym in_row' ∙ in_row) in
     has.each k s low high (ap (λ (l : List Seat). slice_get l k) (sym same) ∙ at) ∙ ap (λ (l : List Seat). Some (standing_at d row k l s)) (sym same)
 
--- a place is in a reach or not
-pub inside : (row from to r k : ℕ) → ((r ≡ row) × (from ≤ k) × (k < to)) ⊎ ((r ≡ row) × (from ≤ k) × (k < to) → ⊥)
-inside row from to r k = split (nat_eq r row) refl (nat_le from k) refl (nat_lt k to) refl
-  where
-    split : (a : Bool) → nat_eq r row ≡ a → (b : Bool) → nat_le from k ≡ b → (e : Bool) → nat_lt k to ≡ e
-        → ((r ≡ row) × (from ≤ k) × (k < to)) ⊎ ((r ≡ row) × (from ≤ k) × (k < to) → ⊥)
-    split true one true two true three = inl (grind (arith, nat_tests), grind (arith, nat_tests), grind (arith, nat_tests))
-    split false one b two e three = inr (λ h. no r row h.0 one)
-      where
-        no : (m n : ℕ) → m ≡ n → nat_eq m n ≡ false → ⊥
-        no m n h test = grind (arith, nat_tests)
-    split true one false two e three = inr (λ h. no from k h.1 two)
-      where
-        no : (m n : ℕ) → m ≤ n → nat_le m n ≡ false → ⊥
-        no m n h test = grind (arith, nat_tests)
-    split true one true two false three = inr (λ h. no k to h.2 three)
-      where
-        no : (m n : ℕ) → m < n → nat_lt m n ≡ false → ⊥
-        no m n h test = grind (arith, nat_tests)
-
 -- what was entered before stays
 pub entered-kept : (d : Netlist) (rows : List (List Seat)) (row from to : ℕ) (seats : List Seat) (old new : List Spot) → AreRows rows → slice_get rows row ≡ Some seats
     → HasEntered d row from to seats new → KeepsOthers from to seats old new → (r k : ℕ) → IsEntered d rows old r k → IsEntered d rows new r k
-entered-kept d rows row from to seats old new different in_row has others r k was = λ seats' s in_row' at. by seats' s in_row' at (inside row from to r k)
+entered-kept d rows row from to seats old new different in_row has others r k was = λ seats' s in_row' at. by seats' s in_row' at (inside-decided row from to r k)
   where
     by : (seats' : List Seat) (s : Seat) → slice_get rows r ≡ Some seats' → slice_get seats' k ≡ Some s → ((r ≡ row) × (from ≤ k) × (k < to)) ⊎ ((r ≡ row) × (from ≤ k) × (k < to) → ⊥)
         → slice_get new s.instance ≡ Some (standing_at d r k seats' s)

@@ -1,5 +1,4 @@
 use Rattle.std.proofs.Common.{◌≡◌, ◌≢◌, ◌<◌, ◌≤◌, ◌⊎◌, inl, inr, ℕ, zero, suc, ◌+◌, ◌-◌, ◌*◌, List, [], ◌∷◌, length, map, take, drop, set, Bool, true, false, cond, Option, Some, refl, ap, ap₂, sym, ◌∙◌, subst, arith}
-use Rattle.std.proofs.Math.Nat.{mul-le-mul_left}
 use Rattle.std.proofs.lemmas.Bool.Decides.{nat_tests}
 use Rattle.std.proofs.lemmas.List.Sums.{sum_by-cons}
 use Rattle.std.proofs.lemmas.List.{length-set}
@@ -18,14 +17,16 @@ use Rattle.row_board.specs.Trial.{seats_between, seats_to}
 use Rattle.row_model.specs.Widths.{columns_of, row_width}
 use Rattle.row_model.specs.declared.rows.Seat.{Seat}
 use Rattle.row_board.specs.Spot.{Spot}
-use Rattle.row_board.proofs.MoveLaws.{cell-told, end-ordered, inside, IsCell}
+use Rattle.row_board.proofs.MoveLaws.{cell-told, end-ordered, IsCell}
 use Rattle.row_board.proofs.OutsideLaws.{outside}
 use Rattle.row_model.proofs.PlacedLaws.{placed-distinct}
 use Rattle.row_board.proofs.PlaceLaws.{seat-stand, told, IsTold}
 use Rattle.row_board.proofs.PutLaws.{get-put-other, get-put-same, is_before, put-length, swap-puts, width-put}
 use Rattle.row_board.proofs.ShareLaws.{hits}
-use Rattle.row_board.proofs.StandingLaws.{get-set-other, get-set-same}
 use Rattle.row_model.proofs.SwapLaws.{swap-placed}
+use Rattle.std_laws.proofs.Tests.{inside-decided}
+use Rattle.std_laws.proofs.Places.{get-set-other, get-set-same}
+use Rattle.std_laws.proofs.Numbers.{product-at-least}
 
 -- an instance of one of some seats is hit
 hits-taken : (n k : ℕ) (seats : List Seat) (s : Seat) → slice_get seats k ≡ Some s → k < n → 1 ≤ hits (take n seats) s.instance
@@ -87,9 +88,6 @@ width-near d ra pa rb pb a b r k seats at_a at_b =
     by true false first last = omega (arith, first, last)
     by false true first last = omega (arith, first, last)
     by false false first last = omega (arith, first, last)
-
-at-least : (x u n : ℕ) → x ≤ u → 1 ≤ n → x ≤ u * n
-at-least x u n low some = let more : u * 1 ≤ u * n = mul-le-mul_left u some in omega (arith, low, more)
 
 -- two seats of rows, the rows after they are exchanged, and tables of both
 record Setting (d : Netlist) (rows new : List (List Seat)) (standings trial : List Spot) (a b end_a end_b : ℕ) (one other : Spot) : Type 0 where
@@ -176,7 +174,7 @@ close-first d rows new standings trial a b end_a end_b one other h =
     (get-put-same other.row other.place (record { instance = a; mirror = one.mirror }) (put_in one.row one.place (record { instance = b; mirror = other.mirror }) other.row seats)
     (omega (arith, long, slice_get_within seats other.place (record { instance = b; mirror = other.mirror }) h.cell_b.at.at)))
     (h.told_a ∙ ap (λ (n : ℕ). Some (record { row = other.row; mirror = one.mirror; place = other.place; left = n })) h.left_b)
-    (at-least _ (difference (columns_of d a) (columns_of d b)) (hits (seats_to rows one end_a) a + hits (seats_to rows other end_b) a)
+    (product-at-least _ (difference (columns_of d a) (columns_of d b)) (hits (seats_to rows one end_a) a + hits (seats_to rows other end_b) a)
     (place-near d rows new standings trial a b end_a end_b one other h other.row other.place seats h.cell_b.at.in_row) (omega (arith, hit)))
 
 close-second : (d : Netlist) (rows new : List (List Seat)) (standings trial : List Spot) (a b end_a end_b : ℕ) (one other : Spot) → Setting d rows new standings trial a b end_a end_b one other
@@ -190,7 +188,7 @@ close-second d rows new standings trial a b end_a end_b one other h =
     (places-apart rows one.row one.place other.row other.place (record { instance = a; mirror = one.mirror }) (record { instance = b; mirror = other.mirror }) h.cell_a.at h.cell_b.at h.apart)
     ∙ get-put-same one.row one.place (record { instance = b; mirror = other.mirror }) seats (slice_get_within seats one.place (record { instance = a; mirror = one.mirror }) h.cell_a.at.at))
     (h.told_b ∙ ap (λ (n : ℕ). Some (record { row = one.row; mirror = other.mirror; place = one.place; left = n })) h.left_a)
-    (at-least _ (difference (columns_of d a) (columns_of d b)) (hits (seats_to rows one end_a) b + hits (seats_to rows other end_b) b)
+    (product-at-least _ (difference (columns_of d a) (columns_of d b)) (hits (seats_to rows one end_a) b + hits (seats_to rows other end_b) b)
     (place-near d rows new standings trial a b end_a end_b one other h one.row one.place seats h.cell_a.at.in_row) (omega (arith, hit)))
 
 close-other : (d : Netlist) (rows new : List (List Seat)) (standings trial : List Spot) (a b end_a end_b : ℕ) (one other : Spot) → Setting d rows new standings trial a b end_a end_b one other
@@ -206,7 +204,7 @@ close-other d rows new standings trial a b end_a end_b one other h i not_a not_b
     ∙ get-put-other one.row one.place (record { instance = b; mirror = other.mirror }) t.standing.row t.standing.place t.seats off_a ∙ t.at in
     made d rows new standings trial a b end_a end_b one other h t.standing.row t.standing.place t.seats s (bound d rows a b end_a end_b one other i) t.in_row at
     (h.kept i not_a not_b ∙ t.told ∙ ap (λ (n : ℕ). Some (record { row = t.standing.row; mirror = t.standing.mirror; place = t.standing.place; left = n })) t.left)
-    (far t (inside one.row one.place end_a t.standing.row t.standing.place) (inside other.row other.place end_b t.standing.row t.standing.place) at
+    (far t (inside-decided one.row one.place end_a t.standing.row t.standing.place) (inside-decided other.row other.place end_b t.standing.row t.standing.place) at
     (place-near d rows new standings trial a b end_a end_b one other h t.standing.row t.standing.place t.seats t.in_row))
   where
     far : (t : IsTold d rows standings i)
@@ -222,10 +220,10 @@ close-other d rows new standings trial a b end_a end_b one other h i not_a not_b
         ≤ bound d rows a b end_a end_b one other i
     far t (inl hit) y at near =
         let some = hits-there rows one end_a t.standing.row t.standing.place t.seats (record { instance = i; mirror = t.standing.mirror }) t.in_row t.at hit.0 hit.1 hit.2 in
-        at-least _ (difference (columns_of d a) (columns_of d b)) (hits (seats_to rows one end_a) i + hits (seats_to rows other end_b) i) near (omega (arith, some))
+        product-at-least _ (difference (columns_of d a) (columns_of d b)) (hits (seats_to rows one end_a) i + hits (seats_to rows other end_b) i) near (omega (arith, some))
     far t (inr miss) (inl hit) at near =
         let some = hits-there rows other end_b t.standing.row t.standing.place t.seats (record { instance = i; mirror = t.standing.mirror }) t.in_row t.at hit.0 hit.1 hit.2 in
-        at-least _ (difference (columns_of d a) (columns_of d b)) (hits (seats_to rows one end_a) i + hits (seats_to rows other end_b) i) near (omega (arith, some))
+        product-at-least _ (difference (columns_of d a) (columns_of d b)) (hits (seats_to rows one end_a) i + hits (seats_to rows other end_b) i) near (omega (arith, some))
     far t (inr miss) (inr miss_too) at near =
         let entered = outside d rows new standings one.row one.place other.row other.place (record { instance = a; mirror = one.mirror }) (record { instance = b; mirror = other.mirror }) false end_a end_b
         h.entered h.cell_a.at h.cell_b.at h.apart h.puts (λ e. cc) h.to h.to' h.low_a h.low_b t.standing.row t.standing.place miss miss_too

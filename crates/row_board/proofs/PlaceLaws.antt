@@ -5,9 +5,6 @@ use Rattle.std.proofs.lemmas.Option.{get_or_from_slice_get, none-some, same_Some
 use Rattle.std.specs.List.{IsDistinct, slice_get}
 use Rattle.std.specs.Option.{option_map}
 use Rattle.std.specs.Prelude.{nat_eq}
-use Rattle.list_facts.proofs.Distinct.{first-distinct, second-distinct}
-use Rattle.list_facts.proofs.Every.{every-get}
-use Rattle.list_facts.proofs.Places.{at-place, get-front}
 use Rattle.design_model.specs.Netlist.{IsNetlist, Netlist}
 use Rattle.row_board.specs.Moving.{row_there}
 use Rattle.row_model.specs.Rows.{all_instances, ArePlaced, AreRows, instances_in}
@@ -20,20 +17,17 @@ use Rattle.row_model.specs.Stand.{Stand}
 use Rattle.row_model.proofs.PlacedLaws.{placed-distinct, rows-within}
 use Rattle.row_model.proofs.SeatLaws.{seat-stands}
 use Rattle.row_model.proofs.StandLaws.{stand-is, stand-there}
-use Rattle.row_model.proofs.SwapLaws.{apart-places}
 use Rattle.row_model.proofs.WidthLaws.{columns-few, width-cons}
-
--- a list around what stands at a place
-pub split-at : {X : Type 0} (xs : List X) (k : ℕ) (x : X) → slice_get xs k ≡ Some x → xs ≡ take k xs ++ x ∷ drop (suc k) xs
-split-at [] k x at = absurd (none-some x at)
-split-at {X} (y ∷ ys) zero x at = ap (λ (z : X). z ∷ ys) (same_Some y x at)
-split-at {X} (y ∷ ys) (suc k) x at = ap (λ (l : List X). y ∷ l) (split-at ys k x at)
+use Rattle.std_laws.proofs.Distinct.{first-distinct, second-distinct, apart-places}
+use Rattle.std_laws.proofs.Every.{every-get}
+use Rattle.std_laws.proofs.Places.{at-place, get-front}
+use Rattle.std_laws.proofs.Slices.{split-here}
 
 -- a seat is where its instance stands
 pub seat-stand : (d : Netlist) (rows : List (List Seat)) → AreRows rows → (row place : ℕ) (seats : List Seat) (s : Seat) → slice_get rows row ≡ Some seats → slice_get seats place ≡ Some s
     → stand_of d rows s.instance ≡ Some (record { row = row; left = row_width d (take place seats); mirror = s.mirror })
 seat-stand d rows different row place seats s in_row at =
-    seat-stands d rows different row (take place seats) (drop (suc place) seats) s (in_row ∙ ap (λ (l : List Seat). Some l) (split-at seats place s at))
+    seat-stands d rows different row (take place seats) (drop (suc place) seats) s (in_row ∙ ap (λ (l : List Seat). Some l) (split-here seats place s at))
 
 -- the instances of a row are all different
 row-distinct : (rows : List (List Seat)) → AreRows rows → (row : ℕ) (seats : List Seat) → slice_get rows row ≡ Some seats → IsDistinct nat_eq (instances_in seats)

@@ -3,7 +3,6 @@ use Rattle.std.proofs.lemmas.Bool.Decides.{nat_tests}
 use Rattle.std.proofs.lemmas.List.{length-set, take-set-le}
 use Rattle.std.proofs.lemmas.Option.{none-some, same_Some, slice_get-map, slice_get_past, slice_get_within}
 use Rattle.std.specs.List.{slice_get, Contains}
-use Rattle.list_facts.proofs.Members.{find-some, get-contains}
 use Rattle.std.proofs.lemmas.List.Elements.{Contains-append_left, Contains-append_right}
 use Rattle.std.specs.Option.{option_map}
 use Rattle.std.specs.Prelude.{nat_eq, nat_lt}
@@ -15,42 +14,18 @@ use Rattle.row_model.specs.Rows.{AreRows}
 use Rattle.row_board.specs.Standings.{put_in}
 use Rattle.row_model.specs.Widths.{columns_of, row_width}
 use Rattle.row_model.specs.declared.rows.Seat.{Seat}
-use Rattle.row_board.proofs.StandingLaws.{get-set-other, get-set-same}
 use Rattle.row_board.proofs.PlaceLaws.{one-place}
-use Rattle.row_board.proofs.RemeasureLaws.{none-past}
 use Rattle.row_model.proofs.SwapLaws.{seat-found, seats_in}
 use Rattle.row_model.proofs.TwiceLaws.{exchanged-first, exchanged-second, unique-seat}
 use Rattle.row_model.proofs.WidthLaws.{width-cons}
-
--- lists with the same at each place are one
-pub list-same : {X : Type 0} (xs ys : List X) → ((n : ℕ) → slice_get xs n ≡ slice_get ys n) → xs ≡ ys
-list-same [] [] same = refl
-list-same [] (y ∷ ys) same = let no = same 0 in cc
-list-same (x ∷ xs) [] same = let no = same 0 in cc
-list-same {X} (x ∷ xs) (y ∷ ys) same = ap₂ (λ (z : X) (zs : List X). z ∷ zs) (same_Some x y (same 0)) (list-same xs ys (λ n. same (suc n)))
-
--- two places are one or not
-pub same-place : (r s k p : ℕ) → ((r ≡ s) × (k ≡ p)) ⊎ ((r ≡ s) × (k ≡ p) → ⊥)
-same-place r s k p = by (nat_eq r s) refl (nat_eq k p) refl
-  where
-    by : (b : Bool) → nat_eq r s ≡ b → (c : Bool) → nat_eq k p ≡ c → ((r ≡ s) × (k ≡ p)) ⊎ ((r ≡ s) × (k ≡ p) → ⊥)
-    by true one true two = inl (grind (arith, nat_tests), grind (arith, nat_tests))
-    by true one false two = inr (λ h. no k p h.1 two)
-      where
-        no : (m n : ℕ) → m ≡ n → nat_eq m n ≡ false → ⊥
-        no m n h test = grind (arith, nat_tests)
-    by false one c two = inr (λ h. no r s h.0 one)
-      where
-        no : (m n : ℕ) → m ≡ n → nat_eq m n ≡ false → ⊥
-        no m n h test = grind (arith, nat_tests)
-
-itself : (n : ℕ) → nat_eq n n ≡ true
-itself n = grind (arith, nat_tests)
+use Rattle.std_laws.proofs.Members.{find-some, get-contains}
+use Rattle.std_laws.proofs.Places.{get-set-other, get-set-same, get-none, list-same}
+use Rattle.std_laws.proofs.Tests.{nat_eq-itself, pair-decided}
 
 -- what stands at a place of a row after a seat is put somewhere
 pub get-put-same : (row place : ℕ) (seat : Seat) (seats : List Seat) → place < length seats → slice_get (put_in row place seat row seats) place ≡ Some seat
 get-put-same row place seat seats within =
-    ap (λ (b : Bool). slice_get (cond b (set seats place seat) seats) place) (itself row) ∙ get-set-same seats place seat within
+    ap (λ (b : Bool). slice_get (cond b (set seats place seat) seats) place) (nat_eq-itself row) ∙ get-set-same seats place seat within
 
 pub get-put-other : (row place : ℕ) (seat : Seat) (number k : ℕ) (seats : List Seat) → ((number ≡ row) × (k ≡ place) → ⊥) → slice_get (put_in row place seat number seats) k ≡ slice_get seats k
 get-put-other row place seat number k seats other = by (nat_eq number row) refl
@@ -122,7 +97,7 @@ puts-exchange d rows rows1 rows2 ra pa rb pb a b different at_a at_b first secon
   where
     seat : (r k : ℕ) (seats : List Seat) (s : Seat) → slice_get rows r ≡ Some seats → slice_get seats k ≡ Some s
         → slice_get (put_in rb pb a r (put_in ra pa b r seats)) k ≡ Some (exchanged a b s)
-    seat r k seats s in_row at = choose (same-place r rb k pb) (same-place r ra k pa)
+    seat r k seats s in_row at = choose (pair-decided r rb k pb) (pair-decided r ra k pa)
       where
         within : k < length seats
         within = slice_get_within seats k s at
@@ -162,7 +137,7 @@ puts-exchange d rows rows1 rows2 ra pa rb pb a b different at_a at_b first secon
       where
         place : (k : ℕ) (o : Option Seat) → slice_get seats k ≡ o → slice_get (put_in rb pb a r (put_in ra pa b r seats)) k ≡ slice_get (map (exchanged a b) seats) k
         place k None at =
-            let past = none-past seats k at in
+            let past = get-none seats k at in
             let long : length (put_in rb pb a r (put_in ra pa b r seats)) ≡ length seats = put-length rb pb a r (put_in ra pa b r seats) ∙ put-length ra pa b r seats in
             slice_get_past (put_in rb pb a r (put_in ra pa b r seats)) k (omega (arith, long, past))
             ∙ sym (slice_get-map (exchanged a b) seats k ∙ ap (option_map (exchanged a b)) at)
@@ -191,7 +166,7 @@ at-listed rows row place s is = listed rows row place is.seats s is.in_row is.at
 pub seat-there : (rows : List (List Seat)) (row place : ℕ) (s : Seat) → AreRows rows → IsAt rows row place s → seat_of rows s.instance ≡ Some s
 seat-there rows row place s different is =
     let has = at-listed rows row place s is in
-    let some = find-some (λ (x : Seat). nat_eq x.instance s.instance) (seats_in rows) s has (itself s.instance) in
+    let some = find-some (λ (x : Seat). nat_eq x.instance s.instance) (seats_in rows) s has (nat_eq-itself s.instance) in
     let found = seat-found rows s.instance some.0 some.1 in
     some.1 ∙ ap (λ (x : Seat). Some x) (unique-seat rows some.0 s different found.1 has found.0)
 

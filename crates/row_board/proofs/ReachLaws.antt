@@ -12,12 +12,13 @@ use Rattle.row_model.specs.Changes.{mirrored, swapped}
 use Rattle.row_model.specs.Rows.{ArePlaced}
 use Rattle.row_model.specs.Widths.{columns_of}
 use Rattle.row_model.specs.declared.rows.Seat.{Seat}
-use Rattle.row_board.proofs.MoveLaws.{cell-told, end-ordered, end-within, inside}
+use Rattle.row_board.proofs.MoveLaws.{cell-told, end-ordered, end-within}
 use Rattle.row_board.proofs.OutsideLaws.{outside}
 use Rattle.row_board.proofs.PutLaws.{put-length}
 use Rattle.row_model.proofs.PlacedLaws.{placed-distinct}
 use Rattle.row_model.proofs.SwapLaws.{mirror-placed, mirrored-length, swapped-length}
 use Rattle.row_board.proofs.TurnLaws.{outside-one, put-turns, turn-length}
+use Rattle.std_laws.proofs.Tests.{inside-decided}
 
 -- the reaches of two cells that exchanged their places
 pub record AreReaches (d : Netlist) (rows new : List (List Seat)) (standings : List Spot) (a b : ℕ) (even : Bool) (first second : Reach) : Type 0 where
@@ -40,10 +41,6 @@ pub record AreReaches (d : Netlist) (rows new : List (List Seat)) (standings : L
   pub to' : second.to ≡ reach_end even (nat_eq other.row one.row) other.place one.place (row_length (slice_get rows other.row))
   pub swap : new ≡ swapped a b rows
   pub puts : ArePut one.row one.place (record { instance = b; mirror = other.mirror }) other.row other.place (record { instance = a; mirror = one.mirror }) rows new
-
--- cells whose widths are found equal are of one width
-pub alike : (m n x y : ℕ) → m ≡ x → n ≡ y → nat_eq m n ≡ true → x ≡ y
-alike m n x y one two test = grind (arith, nat_tests)
 
 -- a row is as long after the puts as before
 long-put : (rows new : List (List Seat)) (ra pa rb pb : ℕ) (a b : Seat) → ArePut ra pa b rb pb a rows new → (r : ℕ) → row_length (slice_get new r) ≡ row_length (slice_get rows r)
@@ -111,7 +108,7 @@ pub all-entered : (d : Netlist) (rows : List (List Seat)) (old now new : List Sp
     → ((k : ℕ) → second.from ≤ k → k < second.to → IsEntered d rows new second.row k) → ((r k : ℕ) → IsEntered d rows now r k → IsEntered d rows new r k)
     → AreEntered d rows new
 all-entered d rows old now new first second unmoved one kept two kept_too = record {
-  each = λ r k. by r k (inside first.row first.from first.to r k) (inside second.row second.from second.to r k);
+  each = λ r k. by r k (inside-decided first.row first.from first.to r k) (inside-decided second.row second.from second.to r k);
 }
   where
     by : (r k : ℕ) → IsIn first r k ⊎ (IsIn first r k → ⊥) → IsIn second r k ⊎ (IsIn second r k → ⊥) → IsEntered d rows new r k
@@ -123,7 +120,7 @@ all-entered d rows old now new first second unmoved one kept two kept_too = reco
 pub before-second : (d : Netlist) (rows : List (List Seat)) (old now : List Spot) (first second : Reach) → AreUnmoved d rows old first second
     → ((k : ℕ) → first.from ≤ k → k < first.to → IsEntered d rows now first.row k) → ((r k : ℕ) → IsEntered d rows old r k → IsEntered d rows now r k)
     → (k : ℕ) → k + 1 ≡ second.from → IsEntered d rows now second.row k
-before-second d rows old now first second unmoved one kept k is = by (inside first.row first.from first.to second.row k)
+before-second d rows old now first second unmoved one kept k is = by (inside-decided first.row first.from first.to second.row k)
   where
     by : IsIn first second.row k ⊎ (IsIn first second.row k → ⊥) → IsEntered d rows now second.row k
     by (inl here) = subst (λ (n : ℕ). IsEntered d rows now n k) (sym here.0) (one k here.1 here.2)

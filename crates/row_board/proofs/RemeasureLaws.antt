@@ -1,4 +1,4 @@
-use Rattle.std.proofs.Common.{◌≡◌, ◌≢◌, ◌<◌, ◌≤◌, ℕ, zero, suc, List, [], ◌∷◌, length, set, Bool, true, false, cond, ◌||◌, Option, None, Some, refl, ap, sym, ◌∙◌, arith}
+use Rattle.std.proofs.Common.{◌≡◌, ◌≢◌, ◌<◌, ◌≤◌, ℕ, List, ◌∷◌, length, set, Bool, true, false, cond, ◌||◌, Option, None, Some, refl, ap, sym, ◌∙◌, arith}
 use Rattle.std.proofs.lemmas.Bool.Decides.{nat_tests}
 use Rattle.std.proofs.lemmas.List.{set_past}
 use Rattle.std.proofs.lemmas.Option.{slice_get_within}
@@ -6,12 +6,7 @@ use Rattle.std.specs.List.{slice_get}
 use Rattle.std.specs.Option.{option_map}
 use Rattle.std.specs.Prelude.{nat_eq}
 use Rattle.row_board.specs.NetPins.{has_net}
-use Rattle.row_board.proofs.StandingLaws.{get-set-other, get-set-same}
-
-pub none-past : {X : Type 0} (xs : List X) (k : ℕ) → slice_get xs k ≡ None → length xs ≤ k
-none-past [] k none = omega arith
-none-past (x ∷ xs) zero none = cc
-none-past (x ∷ xs) (suc k) none = let rest = none-past xs k none in omega arith
+use Rattle.std_laws.proofs.Places.{get-set-other, get-set-same, get-none}
 
 -- one more net is measured
 pub net-more : (right : ℕ → ℕ) (costs new rest after : List ℕ) (k cost net : ℕ) → rest ≡ k ∷ after → new ≡ set costs k cost → (k ≡ net → cost ≡ right k)
@@ -33,7 +28,7 @@ net-more right costs new rest after k cost net front written is =
         ap (option_map (λ (old : ℕ). cond (has_net after net) (right net) old)) (get-set-other costs k net cost other)
     by true test None at =
         let same : k ≡ net = grind (arith, nat_tests) in
-        let past : length costs ≤ k = none-past costs k (ap (slice_get costs) same ∙ at) in
+        let past : length costs ≤ k = get-none costs k (ap (slice_get costs) same ∙ at) in
         ap (λ (l : List ℕ). option_map (λ (old : ℕ). cond (has_net after net) (right net) old) (slice_get l net)) (set_past costs k cost past)
         ∙ ap (option_map (λ (old : ℕ). cond (has_net after net) (right net) old)) at ∙ sym (ap (option_map (λ (old : ℕ). right net)) at)
     by true test (Some x) at =

@@ -11,20 +11,8 @@ use Rattle.row_model.specs.Widths.{columns_of, row_width}
 use Rattle.row_model.specs.declared.rows.Seat.{Seat}
 use Rattle.row_board.specs.Spot.{Spot}
 use Rattle.row_model.proofs.WidthLaws.{width-cons}
-
--- what stands at a place of a list after another is written there
-pub get-set-same : {X : Type 0} (xs : List X) (i : ℕ) (x : X) → i < length xs → slice_get (set xs i x) i ≡ Some x
-get-set-same [] i x within = absurd (omega arith)
-get-set-same (y ∷ ys) zero x within = refl
-get-set-same (y ∷ ys) (suc i) x within = get-set-same ys i x (omega arith)
-
--- and elsewhere
-pub get-set-other : {X : Type 0} (xs : List X) (i k : ℕ) (x : X) → k ≢ i → slice_get (set xs i x) k ≡ slice_get xs k
-get-set-other [] i k x other = refl
-get-set-other (y ∷ ys) zero zero x other = absurd (other refl)
-get-set-other (y ∷ ys) zero (suc k) x other = refl
-get-set-other (y ∷ ys) (suc i) zero x other = refl
-get-set-other (y ∷ ys) (suc i) (suc k) x other = get-set-other ys i k x (λ h. other (ap suc h))
+use Rattle.std_laws.proofs.Places.{get-set-same, get-set-other}
+use Rattle.std_laws.proofs.Tests.{equal_or_not}
 
 -- the width of one more seat
 pub width-more : (d : Netlist) (seats : List Seat) (k : ℕ) (s : Seat) → slice_get seats k ≡ Some s → row_width d (take (k + 1) seats) ≡ row_width d (take k seats) + columns_of d s.instance
@@ -37,9 +25,6 @@ width-more d (x ∷ xs) (suc k) s at =
     let number : suc k + 1 ≡ suc (k + 1) = omega arith in
     let more = ap (λ (n : ℕ). row_width d (take n (x ∷ xs))) number in
     omega (arith, more, rest, width-cons d x (take (k + 1) xs), width-cons d x (take k xs))
-
-equal_or_not : (i j : ℕ) → (i ≡ j) ⊎ (i ≢ j)
-equal_or_not i j = grind arith
 
 -- one more seat is entered
 pub entered-more : (d : Netlist) (row from place n : ℕ) (seats : List Seat) (s : Seat) (old : List Spot) → HasEntered d row from place seats old → AreApart n seats

@@ -4,8 +4,6 @@ use Rattle.std.proofs.lemmas.List.Elements.{recursion_from_All}
 use Rattle.std.proofs.lemmas.List.Sums.{sum_by-cons}
 use Rattle.std.specs.List.{filter, range_with_len, AllByRecursion}
 use Rattle.std.specs.Prelude.{nat_eq}
-use Rattle.list_facts.proofs.Every.{every-weaker}
-use Rattle.list_facts.proofs.Ranges.{map-map}
 use Rattle.design_model.specs.Netlist.{IsNetlist, Netlist}
 use Rattle.design_model.specs.declared.design.Pin.{Pin}
 use Rattle.row_board.specs.Board.{IsBoard}
@@ -19,6 +17,8 @@ use Rattle.row_board.specs.NetCosts.{table_costs}
 use Rattle.row_board.proofs.CostLaws.{costs-right}
 use Rattle.row_model.specs.declared.rows.Seat.{Seat}
 use Rattle.row_board.specs.Spot.{Spot}
+use Rattle.std_laws.proofs.Every.{every-weaker}
+use Rattle.std_laws.proofs.Images.{map-map}
 
 -- net 0 has no pins
 filter-none : (p : Pin → Bool) (xs : List Pin) → AllByRecursion (λ (x : Pin). p x ≡ false) xs → filter p xs ≡ []

@@ -1,11 +1,9 @@
 use Rattle.std.proofs.Common.{◌≡◌, ◌≢◌, ◌<◌, ◌≤◌, ℕ, ◌+◌, ◌-◌, ◌*◌, List, length, map, set, sum, Bool, true, false, Option, None, Some, refl, ap, ap₂, sym, ◌∙◌, subst, arith}
 use Rattle.std.proofs.Math.Nat.{mul-le-mul_left}
-use Rattle.std.proofs.lemmas.Bool.Decides.{nat_tests}
 use Rattle.std.proofs.lemmas.List.{length-set}
 use Rattle.std.proofs.lemmas.Option.{slice_get_within}
 use Rattle.std.specs.List.{slice_get}
-use Rattle.std.specs.Prelude.{nat_eq, nat_lt}
-use Rattle.list_facts.proofs.Ranges.{map-map}
+use Rattle.std.specs.Prelude.{nat_eq}
 use Rattle.design_model.specs.Netlist.{IsNetlist, Netlist}
 use Rattle.row_board.specs.Board.{IsBoard}
 use Rattle.row_board.specs.Cost.{cost_of, difference, target_of}
@@ -21,22 +19,14 @@ use Rattle.row_model.specs.Widths.{columns_of, row_width}
 use Rattle.row_model.specs.declared.rows.Seat.{Seat}
 use Rattle.row_board.proofs.MoveLaws.{cell-told}
 use Rattle.row_model.proofs.PlacedLaws.{placed-distinct}
-use Rattle.row_board.proofs.PutLaws.{list-same, swap-puts}
-use Rattle.row_board.proofs.RemeasureLaws.{none-past}
-use Rattle.row_board.proofs.StandingLaws.{get-set-other, get-set-same}
+use Rattle.row_board.proofs.PutLaws.{swap-puts}
 use Rattle.row_model.proofs.SwapLaws.{swapped-length}
 use Rattle.row_board.proofs.TotalLaws.{cost-told, nets-sum}
 use Rattle.row_board.proofs.TrialLaws.{trial-costs}
 use Rattle.row_board.proofs.UnevenLaws.{uneven-near}
-
-equal : (m n : ℕ) → nat_eq m n ≡ true → m ≡ n
-equal m n test = grind (arith, nat_tests)
-
-pub above : (m n : ℕ) → nat_lt m n ≡ true → m < n
-above m n test = grind (arith, nat_tests)
-
-differ : (m n : ℕ) → nat_eq m n ≡ false → m ≢ n
-differ m n test = grind (arith, nat_tests)
+use Rattle.std_laws.proofs.Images.{map-map}
+use Rattle.std_laws.proofs.Places.{list-same, get-none, get-set-other, get-set-same}
+use Rattle.std_laws.proofs.Tests.{nat_eq-equal, nat_eq-differ, nat_lt-above}
 
 -- what a table has after two instances trade their places
 pub traded-other : (a b : ℕ) (s : List Spot) (i : ℕ) → i ≢ a → i ≢ b → slice_get (traded a b s) i ≡ slice_get s i
@@ -53,7 +43,7 @@ there : (s : List Spot) (i : ℕ) → i < length s → slice_get s i ≡ Some (s
 there s i within = by (slice_get s i) refl
   where
     by : (o : Option Spot) → slice_get s i ≡ o → o ≡ Some (standing_in o)
-    by None none = let past = none-past s i none in absurd (omega (arith, past, within))
+    by None none = let past = get-none s i none in absurd (omega (arith, past, within))
     by (Some x) at = refl
 
 -- a table has where it tells that an instance stands once that is put there again
@@ -63,7 +53,7 @@ set-there s x i long = by (slice_get s i) refl (slice_get (set x i (standing_of 
     by : (o : Option Spot) → slice_get s i ≡ o → (p : Option Spot) → slice_get (set x i (standing_of s i)) i ≡ p → slice_get (set x i (standing_of s i)) i ≡ slice_get s i
     by None none None at = at ∙ sym none
     by None none (Some y) at =
-        let past = none-past s i none in
+        let past = get-none s i none in
         let within = slice_get_within (set x i (standing_of s i)) i y at in
         absurd (omega (arith, past, within, long, length-set x i (standing_of s i)))
     by (Some y) some p at =
@@ -76,14 +66,14 @@ traded-back a b s = list-same (set (set (traded a b s) a (standing_of s a)) b (s
   where
     by : (i : ℕ) (x : Bool) → nat_eq i b ≡ x → (y : Bool) → nat_eq i a ≡ y → slice_get (set (set (traded a b s) a (standing_of s a)) b (standing_of s b)) i ≡ slice_get s i
     by i true last y is =
-        subst (λ n. slice_get (set (set (traded a b s) a (standing_of s a)) b (standing_of s b)) n ≡ slice_get s n) (sym (equal i b last))
+        subst (λ n. slice_get (set (set (traded a b s) a (standing_of s a)) b (standing_of s b)) n ≡ slice_get s n) (sym (nat_eq-equal i b last))
         (set-there s (set (traded a b s) a (standing_of s a)) b (length-set (traded a b s) a (standing_of s a) ∙ traded-length a b s))
     by i false last true is =
-        get-set-other (set (traded a b s) a (standing_of s a)) b i (standing_of s b) (differ i b last)
-        ∙ subst (λ n. slice_get (set (traded a b s) a (standing_of s a)) n ≡ slice_get s n) (sym (equal i a is)) (set-there s (traded a b s) a (traded-length a b s))
+        get-set-other (set (traded a b s) a (standing_of s a)) b i (standing_of s b) (nat_eq-differ i b last)
+        ∙ subst (λ n. slice_get (set (traded a b s) a (standing_of s a)) n ≡ slice_get s n) (sym (nat_eq-equal i a is)) (set-there s (traded a b s) a (traded-length a b s))
     by i false last false is =
-        get-set-other (set (traded a b s) a (standing_of s a)) b i (standing_of s b) (differ i b last)
-        ∙ get-set-other (traded a b s) a i (standing_of s a) (differ i a is) ∙ traded-other a b s i (differ i a is) (differ i b last)
+        get-set-other (set (traded a b s) a (standing_of s a)) b i (standing_of s b) (nat_eq-differ i b last)
+        ∙ get-set-other (traded a b s) a i (standing_of s a) (nat_eq-differ i a is) ∙ traded-other a b s i (nat_eq-differ i a is) (nat_eq-differ i b last)
 
 pub put-back : (t once twice back : Tabled) (a b : ℕ) (one other : Spot) → one ≡ standing_of t.standings a → other ≡ standing_of t.standings b
     → once ≡ record t { standings = traded a b t.standings } → twice ≡ record once { standings = set once.standings a one } → back ≡ record twice { standings = set twice.standings b other } → back ≡ t
@@ -121,5 +111,5 @@ pub dear-told : (d : Netlist) (rows : List (List Seat)) (w : Weighing) (standing
     → a < length d.instances → b < length d.instances → (before less trial most : ℕ) → before ≡ sum (table_costs d w standings) + w.length_cost * sum (misses_of lengths)
     → less ≡ slack d rows w standings a b → trial ≡ sum (table_costs d w (traded a b standings)) + w.length_cost * sum (misses_of lengths)
     → before < trial - most - less → cost_of d rows w + most < cost_of d (swapped a b rows) w
-dear-told d rows w standings lengths a b good board apart in_a in_b before less trial most is_before is_less is_trial above =
-    omega (arith, above, is_before, is_less, is_trial, cost-told d rows w standings lengths good board, trial-total d rows w standings lengths a b good board apart in_a in_b)
+dear-told d rows w standings lengths a b good board apart in_a in_b before less trial most is_before is_less is_trial nat_lt-above =
+    omega (arith, nat_lt-above, is_before, is_less, is_trial, cost-told d rows w standings lengths good board, trial-total d rows w standings lengths a b good board apart in_a in_b)

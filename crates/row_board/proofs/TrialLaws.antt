@@ -1,12 +1,9 @@
-use Rattle.std.proofs.Common.{◌≡◌, ◌<◌, ◌≤◌, ℕ, zero, suc, ◌+◌, ◌-◌, ◌*◌, List, [], ◌∷◌, length, map, take, drop, sum, Bool, true, false, cond, Option, None, Some, refl, ap, ap₂, sym, ◌∙◌, arith}
+use Rattle.std.proofs.Common.{◌≡◌, ◌<◌, ◌≤◌, ℕ, ◌+◌, ◌-◌, ◌*◌, List, [], ◌∷◌, length, map, drop, sum, Bool, true, false, cond, Option, None, Some, refl, ap, ap₂, sym, ◌∙◌, arith}
 use Rattle.std.proofs.Math.Nat.{mul-le-mul_left}
 use Rattle.std.proofs.lemmas.List.Sums.{sum_by-cons}
 use Rattle.std.proofs.lemmas.List.{length-drop, length-map, length-take}
 use Rattle.std.specs.List.{filter, range_with_len, slice_get, AllByRecursion}
 use Rattle.std.specs.Prelude.{nat_eq}
-use Rattle.list_facts.proofs.Every.{every-get}
-use Rattle.list_facts.proofs.Counts.{filter-short}
-use Rattle.list_facts.proofs.Ranges.{map-map, map-same, range-bounds}
 use Rattle.design_model.specs.Netlist.{IsNetlist, Netlist}
 use Rattle.design_model.specs.declared.design.Pin.{Pin}
 use Rattle.row_model.specs.Changes.{swapped}
@@ -27,8 +24,13 @@ use Rattle.row_board.proofs.CostLaws.{net-pins-within}
 use Rattle.row_board.proofs.NearLaws.{bound, close, IsClose, IsTrial}
 use Rattle.row_model.proofs.PlacedLaws.{rows-within}
 use Rattle.row_board.proofs.PlaceLaws.{row-short}
-use Rattle.row_board.proofs.ShareLaws.{hits, pins-of-seats, shares-by, sum-both, sum-scaled, sum-under}
+use Rattle.row_board.proofs.ShareLaws.{hits, pins-of-seats, shares-by}
 use Rattle.row_board.proofs.ShiftLaws.{spread-near}
+use Rattle.std_laws.proofs.Every.{every-get, every-taken, every-dropped}
+use Rattle.std_laws.proofs.Counts.{filter-short}
+use Rattle.std_laws.proofs.Images.{map-map, map-same}
+use Rattle.std_laws.proofs.Ranges.{range-bounds}
+use Rattle.std_laws.proofs.Sums.{sum-both, sum-scaled, sum-under}
 
 -- a pin's column by a table is no farther from its column in the rows than its instance
 column-close : (d : Netlist) (new : List (List Seat)) (trial : List Spot) (p : Pin) (e : ℕ) → IsClose d new trial p.instance e
@@ -75,16 +77,6 @@ nets-close d new w trial f good near =
     (λ net within. net-close d new w trial f good near net) (range_with_len 0 (length d.nets + 1)) (range-bounds 0 (length d.nets + 1)) in
     let split = sum-both (net_cost d new w) (λ (net : ℕ). sum (map (λ (p : Pin). f p.instance) (pins_of_net d net))) (range_with_len 0 (length d.nets + 1)) in
     omega (arith, each, split, shares-by (λ (p : Pin). f p.instance) d.pins 0 (length d.nets + 1))
-
-every-taken : {X : Type 0} (P : X → Type 0) (n : ℕ) (xs : List X) → AllByRecursion P xs → AllByRecursion P (take n xs)
-every-taken P zero xs all = tt
-every-taken P (suc n) [] all = tt
-every-taken P (suc n) (x ∷ xs) all = (all.0, every-taken P n xs all.1)
-
-every-dropped : {X : Type 0} (P : X → Type 0) (n : ℕ) (xs : List X) → AllByRecursion P xs → AllByRecursion P (drop n xs)
-every-dropped P zero xs all = all
-every-dropped P (suc n) [] all = tt
-every-dropped P (suc n) (x ∷ xs) all = every-dropped P n xs all.1
 
 -- the seats of a reach are of instances of the design
 pub reach-within : (d : Netlist) (rows : List (List Seat)) (one : Spot) (to : ℕ) → IsNetlist d → ArePlaced d rows → AllByRecursion (λ (s : Seat). s.instance < length d.instances) (seats_to rows one to)

@@ -13,8 +13,9 @@ use Rattle.row_model.specs.Widths.{columns_of, row_width}
 use Rattle.row_model.specs.declared.rows.Seat.{Seat}
 use Rattle.row_board.specs.Spot.{Spot}
 use Rattle.row_board.proofs.PlaceLaws.{one-place}
-use Rattle.row_board.proofs.PutLaws.{get-put-other, get-put-same, list-same, put-length, same-place, width-put}
-use Rattle.row_board.proofs.RemeasureLaws.{none-past}
+use Rattle.row_board.proofs.PutLaws.{get-put-other, get-put-same, put-length, width-put}
+use Rattle.std_laws.proofs.Places.{list-same, get-none}
+use Rattle.std_laws.proofs.Tests.{pair-decided}
 
 -- a seat turned over
 abbrev pub flipped : Seat → Seat
@@ -47,7 +48,7 @@ unfolding mirrored
 put-turns d rows new ra pa a different at_a put = list-same new (map (map (turned a.instance)) rows) (λ r. by r (slice_get rows r) refl)
   where
     seat : (r k : ℕ) (seats : List Seat) (s : Seat) → slice_get rows r ≡ Some seats → slice_get seats k ≡ Some s → slice_get (put_in ra pa (flipped a) r seats) k ≡ Some (turned a.instance s)
-    seat r k seats s in_row at = choose (same-place r ra k pa)
+    seat r k seats s in_row at = choose (pair-decided r ra k pa)
       where
         within : k < length seats
         within = slice_get_within seats k s at
@@ -68,7 +69,7 @@ put-turns d rows new ra pa a different at_a put = list-same new (map (map (turne
       where
         place : (k : ℕ) (o : Option Seat) → slice_get seats k ≡ o → slice_get (put_in ra pa (flipped a) r seats) k ≡ slice_get (map (turned a.instance) seats) k
         place k None at =
-            let past = none-past seats k at in
+            let past = get-none seats k at in
             let long : length (put_in ra pa (flipped a) r seats) ≡ length seats = put-length ra pa (flipped a) r seats in
             slice_get_past (put_in ra pa (flipped a) r seats) k (omega (arith, long, past)) ∙ sym (slice_get-map (turned a.instance) seats k ∙ ap (option_map (turned a.instance)) at)
         place k (Some s) at = seat r k seats s in_row at ∙ sym (slice_get-map (turned a.instance) seats k ∙ ap (option_map (turned a.instance)) at)

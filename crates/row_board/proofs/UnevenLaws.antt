@@ -1,5 +1,4 @@
 use Rattle.std.proofs.Common.{◌≡◌, ◌≢◌, ◌≤◌, ℕ, zero, suc, ◌+◌, ◌-◌, ◌*◌, List, [], ◌∷◌, length, map, sum, Bool, true, false, cond, Option, None, Some, refl, ap, ap₂, sym, ◌∙◌, subst, arith}
-use Rattle.std.proofs.lemmas.Bool.Decides.{nat_tests}
 use Rattle.std.proofs.lemmas.List.Sums.{sum_by-cons}
 use Rattle.std.specs.List.{range_with_len, slice_get}
 use Rattle.std.specs.Option.{option_map}
@@ -12,7 +11,8 @@ use Rattle.row_model.specs.Widths.{columns_of, row_width}
 use Rattle.row_model.specs.declared.rows.Seat.{Seat}
 use Rattle.row_board.proofs.BoardLaws.{width-whole}
 use Rattle.row_board.proofs.NearLaws.{second, was}
-use Rattle.row_board.proofs.ShareLaws.{once-by}
+use Rattle.std_laws.proofs.Sums.{sum-once}
+use Rattle.std_laws.proofs.Tests.{nat_eq-flips}
 
 -- a row is about as wide as another, if there is one
 abbrev AreAlike : Netlist → ℕ → Option (List Seat) → Option (List Seat) → Type 0
@@ -57,21 +57,6 @@ rows-near d t u ra rb first (x ∷ xs) (y ∷ ys) near =
     next : (n r : ℕ) → n + suc r ≡ (n + 1) + r
     next n r = omega arith
 
-flipped : (m n : ℕ) → nat_eq m n ≡ nat_eq n m
-flipped m n = by (nat_eq m n) refl (nat_eq n m) refl
-  where
-    by : (x : Bool) → nat_eq m n ≡ x → (y : Bool) → nat_eq n m ≡ y → x ≡ y
-    by true one true two = refl
-    by false one false two = refl
-    by true one false two = absurd (no m n one two)
-      where
-        no : (m n : ℕ) → nat_eq m n ≡ true → nat_eq n m ≡ false → ⊥
-        no m n one two = grind (arith, nat_tests)
-    by false one true two = absurd (no m n one two)
-      where
-        no : (m n : ℕ) → nat_eq m n ≡ false → nat_eq n m ≡ true → ⊥
-        no m n one two = grind (arith, nat_tests)
-
 -- the width of a row after two seats are put
 put-near : (ca cb w w1 w2 : ℕ) (x y : Bool) → w1 ≡ cond x (w + cb - ca) w → w2 ≡ cond y (w1 + ca - cb) w1 → difference w w2 ≤ difference ca cb * (cond x 1 0 + cond y 1 0)
 put-near ca cb w w1 w2 true true one two = omega (arith, one, two)
@@ -88,7 +73,7 @@ uneven-near d rows new ra pa rb pb t a b at_a at_b apart puts =
     let u = difference (columns_of d a.instance) (columns_of d b.instance) in
     let all = rows-near d t u ra rb 0 rows new (λ r. alike r (slice_get rows r) refl) in
     let few = at-most u (sum (map (λ (r : ℕ). cond (nat_eq ra r) 1 0) (range_with_len 0 (length rows)))) (sum (map (λ (r : ℕ). cond (nat_eq rb r) 1 0) (range_with_len 0 (length rows))))
-    (once-by 1 ra 0 (length rows)) (once-by 1 rb 0 (length rows)) in
+    (sum-once 1 ra 0 (length rows)) (sum-once 1 rb 0 (length rows)) in
     omega (arith, all, few)
   where
     at-most : (u m n : ℕ) → m ≤ 1 → n ≤ 1 → u * (m + n) ≤ 2 * u
@@ -114,4 +99,4 @@ uneven-near d rows new ra pa rb pb t a b at_a at_b apart puts =
         flip : (r : ℕ) → cond (nat_eq r ra) 1 0 + cond (nat_eq r rb) 1 0 ≡ marks ra rb (0 + r)
         flip r =
             let same : 0 + r ≡ r = omega arith in
-            ap₂ (λ (x y : Bool). cond x 1 0 + cond y 1 0) (flipped r ra) (flipped r rb) ∙ ap (λ (n : ℕ). marks ra rb n) (sym same)
+            ap₂ (λ (x y : Bool). cond x 1 0 + cond y 1 0) (nat_eq-flips r ra) (nat_eq-flips r rb) ∙ ap (λ (n : ℕ). marks ra rb n) (sym same)

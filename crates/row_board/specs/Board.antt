@@ -1,3 +1,4 @@
+-- tables of placed rows
 use Rattle.std.specs.Prelude.{◌≡◌, List, length, map}
 use Rattle.design_model.specs.Netlist.{Netlist}
 use Rattle.row_board.specs.Cost.{target_of}

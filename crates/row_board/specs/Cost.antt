@@ -1,3 +1,4 @@
+-- what rows cost
 use Rattle.std.specs.Prelude.{ℕ, ◌+◌, ◌-◌, ◌*◌, ◌==◌, List, [], ◌∷◌, map, filter, fold, sum, length}
 use Rattle.std.specs.List.{range_with_len}
 use Rattle.std.specs.Prelude.{max, min}

@@ -1,3 +1,4 @@
+-- what a swap moves
 use Rattle.std.specs.Prelude.{◌≡◌, ◌==◌, ℕ, ◌+◌, ◌-◌, ◌<◌, ◌≤◌, List, slice_get, length, if◌then◌else◌, nat_le, Bool, [], Option, None, Some}
 use Rattle.std.specs.Prelude.{max}
 use Rattle.design_model.specs.Netlist.{Netlist}

@@ -1,3 +1,4 @@
+-- what nets cost by a table of where instances stand
 use Rattle.std.specs.Prelude.{ℕ, ◌+◌, List, length, map}
 use Rattle.std.specs.List.{range_with_len}
 use Rattle.design_model.specs.Netlist.{Netlist}

@@ -1,3 +1,4 @@
+-- nets with their costs as contracts see them, and that each cost is by the table of where instances stand
 use Rattle.std.specs.Prelude.{◌≡◌}
 use Rattle.design_model.specs.Netlist.{IsNetlist}
 use Rattle.row_board.specs.NetCosts.{table_costs, Tabled}

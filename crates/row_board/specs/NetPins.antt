@@ -1,3 +1,4 @@
+-- the pins of nets and the nets of instances
 use Rattle.std.specs.Prelude.{◌≡◌, ℕ, ◌+◌, ◌*◌, ◌<◌, ◌≤◌, ◌==◌, List, length, map, filter, Bool, true, false, if◌then◌else◌, Option, None, Some, slice_get}
 use Rattle.std.specs.List.{list_any}
 use Rattle.design_model.specs.Netlist.{Netlist}

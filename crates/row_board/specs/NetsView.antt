@@ -1,3 +1,4 @@
+-- a design whose pins by net and nets by instance are tabled, and that the tables are its own
 use Rattle.design_model.specs.Netlist.{IsNetlist, Netlist}
 use Rattle.row_board.specs.NetPins.{AreNets, ArePins}
 use Rattle.row_board.specs.declared.nets.Nets.TheInside.{Inside}

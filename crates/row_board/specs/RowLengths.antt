@@ -1,3 +1,4 @@
+-- the widths of rows, and how far they are from their target
 use Rattle.std.specs.Prelude.{ℕ, List}
 
 -- the widths of rows, and the width that each should have

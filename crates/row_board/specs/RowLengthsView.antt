@@ -1,3 +1,4 @@
+-- the widths of rows and their target as contracts see them, and how far each row misses it
 use Rattle.std.specs.Prelude.{◌≡◌, ℕ, ◌≤◌, List, length, map}
 use Rattle.row_board.specs.Cost.{difference}
 use Rattle.row_board.specs.RowLengths.{Lengths}

@@ -1,3 +1,4 @@
+-- rows, and a table of where the instances of a design stand in them
 use Rattle.std.specs.Prelude.{List}
 use Rattle.row_board.specs.NetCosts.{Tabled}
 use Rattle.row_model.specs.declared.rows.Seat.{Seat}

@@ -1,3 +1,4 @@
+-- weighed rows as contracts see them, and that their table of instances and their widths are those of the rows
 use Rattle.design_model.specs.Netlist.{IsNetlist}
 use Rattle.row_board.specs.Board.{IsBoard}
 use Rattle.row_board.specs.WeighedRows.{WeighedRows}

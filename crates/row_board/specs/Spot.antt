@@ -1,3 +1,4 @@
+-- where an instance stands, and tables of that
 use Rattle.std.specs.Prelude.{ℕ, ◌<◌, ◌≤◌, Bool}
 use Rattle.limits.specs.declared.TheConstants.{MOST_PLACED_ROWS}
 

@@ -1,3 +1,4 @@
+-- where an instance stands as contracts see it, and that its row and column are within limits
 use Rattle.row_board.specs.Spot.{Spot, IsNear}
 use Rattle.row_board.specs.declared.standings.Standing.TheInside.{Inside}
 

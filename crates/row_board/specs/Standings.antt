@@ -1,3 +1,4 @@
+-- tables of where instances stand: made from rows, kept outside of some seats, and after two instances trade places
 use Rattle.std.specs.Prelude.{◌≡◌, ◌≢◌, ℕ, ◌<◌, ◌≤◌, ◌==◌, List, take, slice_get, slice_set, if◌then◌else◌, false, Option, None, Some}
 use Rattle.design_model.specs.Netlist.{Netlist}
 use Rattle.row_model.specs.Widths.{row_width}

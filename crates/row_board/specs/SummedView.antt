@@ -1,3 +1,4 @@
+-- numbers with their sum
 use Rattle.std.specs.Prelude.{◌+◌, ◌≡◌, ℕ, ◌≤◌, List, length, sum}
 use Rattle.std.specs.List.{AllByRecursion}
 use Rattle.row_board.specs.declared.summed.Summed.TheInside.{Inside}

@@ -1,3 +1,4 @@
+-- two instances that take each other's place while no other is shifted
 use Rattle.std.specs.Prelude.{ℕ, ◌<◌, ◌^◌, ◌+◌, ◌-◌, ◌*◌, ◌==◌, List, length, map, sum, take, drop, false, slice_get}
 use Rattle.std.specs.List.{AllByRecursion}
 use Rattle.design_model.specs.Netlist.{Netlist}

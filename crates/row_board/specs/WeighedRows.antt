@@ -1,3 +1,4 @@
+-- rows that are weighed
 use Rattle.std.specs.Prelude.{List}
 use Rattle.design_model.specs.Netlist.{Netlist}
 use Rattle.row_board.specs.Weights.{Weighing}

@@ -1,3 +1,4 @@
+-- what annealing weighs
 use Rattle.std.specs.Prelude.{ℕ, ◌≤◌}
 use Rattle.limits.specs.declared.TheConstants.{MOST_WEIGHT}
 

@@ -1,3 +1,4 @@
+-- the weights of annealing as contracts see them, and that they are small
 use Rattle.row_board.specs.Weights.{Weighing, AreFew}
 use Rattle.row_board.specs.declared.weights.Weights.TheInside.{Inside}
 

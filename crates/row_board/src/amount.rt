@@ -1,9 +1,11 @@
+//! A number of at most 2^41, as one net may cost.
+
 use std::marker::Model;
 
 /// A number of at most 2^41, which contracts see as the number.
 #[derive(Clone, Copy)]
-pub struct Amount {
-    pub number: u64,
+pub(crate) struct Amount {
+    pub(crate) number: u64,
 }
 
 impl Model for Amount {

@@ -1,3 +1,5 @@
+//! Makes the table of where each instance stands from rows.
+
 ghost use Rattle.row_board.specs.Board.{AreSeated};
 ghost use Rattle.row_board.specs.Standings.{AreApart, HasEntered, KeepsOthers};
 ghost use Rattle.std.specs.Prelude.{◌≡◌, ◌≤◌, ◌<◌, length, IfOk};
@@ -31,7 +33,7 @@ fn enter_row(design: &Design, row: u16, seats: &[Seat], standings: &mut [Standin
 }
 
 /// Where each instance stands in rows. The one error is want of memory.
-pub fn standings_of(alloc: Global, placed: &PlacedRows) -> Result<Vec<Standing>, AllocError>
+pub(crate) fn standings_of(alloc: Global, placed: &PlacedRows) -> Result<Vec<Standing>, AllocError>
     ensures { IfOk result (λ v. AreSeated placed.now.design placed.now.rows v.items) }
 {
     let design = placed.design();

@@ -1,3 +1,5 @@
+//! The cost of given rows, found from nothing: the wires of their nets, and how far row widths miss the target.
+
 ghost use Rattle.row_board.specs.Cost.{cost_of};
 ghost use Rattle.row_model.specs.Rows.{ArePlaced};
 ghost use Rattle.std.specs.Prelude.{◌≡◌, IfOk};

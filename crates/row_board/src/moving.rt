@@ -1,3 +1,5 @@
+//! Exchanges seats and turns them over, and enters the seats that moved into the table of instances.
+
 ghost use Rattle.row_board.specs.Board.{AreSeated};
 ghost use Rattle.row_board.specs.Moving.{AreExchanged, AreUnmoved, IsReach, in_order, left_of, reach_end, row_length};
 ghost use Rattle.row_board.specs.NetCosts.{Tabled};
@@ -15,15 +17,15 @@ use row_model::{Seat, columns_of};
 
 /// The seats of a row from a place up to another, which a change moves.
 #[derive(Clone, Copy)]
-pub struct Reach {
-    pub row: u16,
-    pub from: usize,
-    pub to: usize,
+pub(crate) struct Reach {
+    pub(crate) row: u16,
+    pub(crate) from: usize,
+    pub(crate) to: usize,
 }
 
 /// Which seats of its row move where the instance that stands there exchanges its place with another. Cells of one width, which are
 /// `even`, move no others.
-pub fn reach_of(rows: &[Items<Seat>], one: Standing, other: Standing, even: bool) -> Reach
+pub(crate) fn reach_of(rows: &[Items<Seat>], one: Standing, other: Standing, even: bool) -> Reach
     ensures row { result.row ≡ one.row }
     ensures from { result.from ≡ one.place }
     ensures to { result.to ≡ reach_end even (one.row == other.row) one.place other.place (row_length (slice_get rows.now one.row)) }
@@ -57,7 +59,7 @@ fn left_of(costs: &NetCosts, seats: &[Seat], place: usize) -> u64
 }
 
 /// Enters where the instances of the seats stand that a change moved. The seat before them is entered.
-pub fn enter_reach(costs: &mut NetCosts, rows: &[Items<Seat>], reach: Reach)
+pub(crate) fn enter_reach(costs: &mut NetCosts, rows: &[Items<Seat>], reach: Reach)
     requires placed { ArePlaced costs.old.design rows.now }
     requires count { length costs.old.standings ≡ length costs.old.design.instances }
     requires reach { IsReach rows.now reach }
@@ -95,7 +97,12 @@ fn in_order(one: Reach, other: Reach) -> (Reach, Reach)
 }
 
 /// Two instances exchange their places, and a table still tells where those before stood: which seats moved, those that begin at the lower place first.
-pub fn exchange_seats(rows: &mut [Items<Seat>], costs: &NetCosts, a: u32, b: u32) -> (Reach, Reach)
+pub(crate) fn exchange_seats(
+    rows: &mut [Items<Seat>],
+    costs: &NetCosts,
+    a: u32,
+    b: u32,
+) -> (Reach, Reach)
     requires seated { AreSeated costs.now.design rows.old costs.now.standings }
     requires apart { a ≢ b }
     requires a { a < length costs.now.design.instances }
@@ -117,7 +124,7 @@ pub fn exchange_seats(rows: &mut [Items<Seat>], costs: &NetCosts, a: u32, b: u32
 }
 
 /// An instance is turned over, and a table still tells how it stood before: which seat changed.
-pub fn turn_seat(rows: &mut [Items<Seat>], costs: &NetCosts, a: u32) -> Reach
+pub(crate) fn turn_seat(rows: &mut [Items<Seat>], costs: &NetCosts, a: u32) -> Reach
     requires seated { AreSeated costs.now.design rows.old costs.now.standings }
     requires a { a < length costs.now.design.instances }
     ensures mirrored { rows.new ≡ mirrored a rows.old }

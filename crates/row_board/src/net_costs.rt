@@ -1,3 +1,5 @@
+//! What each net costs by a table of where instances stand, with the sum, as instances are put elsewhere.
+
 ghost use Rattle.row_board.specs.NetPins.{cost_by, has_net};
 ghost use Rattle.std.specs.List.{range_with_len};
 ghost use Rattle.std.specs.Option.{option_map};
@@ -16,7 +18,7 @@ use std::marker::Model;
 /// What the nets of a design cost by a table of where its instances stand, which is kept while instances are put elsewhere. Contracts see the design, the weights and the
 /// table.
 #[derive(Drop)]
-pub struct NetCosts<'d> {
+pub(crate) struct NetCosts<'d> {
     nets: Nets<'d>,
     weights: Weights,
     standings: Vec<Standing>,
@@ -82,7 +84,7 @@ impl<'d> NetCosts<'d> {
     ghost use Rattle.std.specs.Prelude.{◌≡◌, ◌<◌, ◌≤◌, ◌*◌, length, slice_set, sum, IfOk};
 
     /// What the nets of a design cost by this table. The one error is want of memory.
-    pub fn new(
+    pub(crate) fn new(
         alloc: Global,
         design: &'d Design,
         weights: Weights,
@@ -103,7 +105,7 @@ impl<'d> NetCosts<'d> {
     }
 
     /// The design.
-    pub fn design(&self) -> &'d Design
+    pub(crate) fn design(&self) -> &'d Design
         ensures is { result.now ≡ self.now.design }
         ensures good { IsNetlist self.now.design }
     {
@@ -111,7 +113,7 @@ impl<'d> NetCosts<'d> {
     }
 
     /// What the nets are weighed by.
-    pub fn weights(&self) -> Weights
+    pub(crate) fn weights(&self) -> Weights
         ensures is { result ≡ self.now.weights }
         ensures few { AreFew self.now.weights }
     {
@@ -119,14 +121,14 @@ impl<'d> NetCosts<'d> {
     }
 
     /// Where an instance stands by the table.
-    pub fn standing(&self, instance: u32) -> Standing
+    pub(crate) fn standing(&self, instance: u32) -> Standing
         ensures { result ≡ standing_of self.now.standings instance }
     {
         standing_of(self.standings.as_slice(), instance)
     }
 
     /// The sum of what the nets cost. Takes no memory.
-    pub fn sum(&self) -> u64
+    pub(crate) fn sum(&self) -> u64
         ensures is { result ≡ sum (table_costs self.now.design self.now.weights self.now.standings) }
         ensures small { result ≤ 2199023255552 * (MOST_PINS + 1) }
     {
@@ -134,7 +136,7 @@ impl<'d> NetCosts<'d> {
     }
 
     /// An instance of the table is put there. Takes no memory, and steps as the number of the pins of its nets.
-    pub fn put(&mut self, instance: u32, standing: Standing)
+    pub(crate) fn put(&mut self, instance: u32, standing: Standing)
         ensures { self.new ≡ record self.old { standings = slice_set self.old.standings instance standing } }
     {
         let n = instance as usize;
@@ -151,7 +153,7 @@ impl<'d> NetCosts<'d> {
     }
 
     /// Two instances take each other's place in the table, each with its mirror. No other is shifted. Takes no memory.
-    pub fn trade(&mut self, a: u32, b: u32)
+    pub(crate) fn trade(&mut self, a: u32, b: u32)
         ensures { self.new ≡ record self.old { standings = traded a b self.old.standings } }
     {
         let one = self.standing(a);
@@ -161,7 +163,7 @@ impl<'d> NetCosts<'d> {
     }
 
     /// The number of pins of an instance of the design.
-    pub fn pin_count(&self, instance: u32) -> u64
+    pub(crate) fn pin_count(&self, instance: u32) -> u64
         ensures { instance < length self.now.design.instances → result ≡ length (nets_of self.now.design instance) }
     {
         self.nets.of(instance).len() as u64

@@ -1,3 +1,5 @@
+//! The pins of each net with their offsets in their cells, and what a net costs by where its pins lie.
+
 ghost use Rattle.row_board.specs.NetPins.{
   AreNets,
   ArePins,
@@ -22,10 +24,10 @@ use std::alloc::{AllocError, Global};
 
 /// A pin of a net: its instance, and how far its first position is from the left side of the cell, upright and mirrored.
 #[derive(Clone, Copy, Debug)]
-pub struct NetPin {
-    pub instance: u32,
-    pub upright: u32,
-    pub mirrored: u32,
+pub(crate) struct NetPin {
+    pub(crate) instance: u32,
+    pub(crate) upright: u32,
+    pub(crate) mirrored: u32,
 }
 
 // How far a position stands from the left side of a cell of so many columns.
@@ -52,7 +54,7 @@ fn net_pin(tables: &ColumnTables, pin: Pin) -> NetPin
 }
 
 /// The pins of each net, by the numbers of the nets, from 1. The one error is want of memory; steps as the number of pins and positions.
-pub fn net_pins(alloc: Global, design: &Design) -> Result<Lists<NetPin>, AllocError>
+pub(crate) fn net_pins(alloc: Global, design: &Design) -> Result<Lists<NetPin>, AllocError>
     ensures { IfOk result (λ pins. ArePins design.now pins) }
 {
     let tables = ColumnTables::new(alloc, design)?;
@@ -66,7 +68,7 @@ pub fn net_pins(alloc: Global, design: &Design) -> Result<Lists<NetPin>, AllocEr
 }
 
 /// The nets of the pins of each instance. The one error is want of memory; steps as the number of pins.
-pub fn instance_nets(alloc: Global, design: &Design) -> Result<Lists<u32>, AllocError>
+pub(crate) fn instance_nets(alloc: Global, design: &Design) -> Result<Lists<u32>, AllocError>
     ensures { IfOk result (λ nets. AreNets design.now nets) }
 {
     let mut lists = Lists::new(alloc, design.instances.items().len())?;
@@ -79,7 +81,7 @@ pub fn instance_nets(alloc: Global, design: &Design) -> Result<Lists<u32>, Alloc
 }
 
 /// Where an instance stands by a table, or at the lower left where that has none.
-pub fn standing_of(standings: &[Standing], instance: u32) -> Standing
+pub(crate) fn standing_of(standings: &[Standing], instance: u32) -> Standing
     ensures { result ≡ standing_of standings.now instance }
 {
     match standings.get(instance as usize) {
@@ -109,7 +111,7 @@ fn place_of(standings: &[Standing], pin: NetPin) -> (u64, u64)
 
 /// What a net with these pins costs by a table of where instances stand. Takes no memory, and steps as the number of pins.
 #[tactic(auto, unfolding(crate::specs::NetPins::measured))]
-pub fn measure(pins: &[NetPin], standings: &[Standing], weights: Weights) -> Amount
+pub(crate) fn measure(pins: &[NetPin], standings: &[Standing], weights: Weights) -> Amount
     ensures { result ≡ measured weights.row_cost standings.now pins.now }
 {
     let Some((first, others)) = pins.split_first() else {

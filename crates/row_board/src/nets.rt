@@ -1,3 +1,5 @@
+//! The nets of a design: the pins of each net, and the nets of each instance.
+
 use crate::amount::Amount;
 use crate::net_pins::{NetPin, instance_nets, measure, net_pins};
 use crate::standings::Standing;
@@ -9,7 +11,7 @@ use std::marker::Model;
 
 /// The nets of a design: the pins of each, and those that each instance has a pin of. Contracts see the design.
 #[derive(Drop)]
-pub struct Nets<'d> {
+pub(crate) struct Nets<'d> {
     design: &'d Design,
     pins: Lists<NetPin>,
     nets: Lists<u32>,
@@ -33,7 +35,7 @@ impl<'d> Nets<'d> {
     ghost use Rattle.std.specs.Prelude.{◌≡◌, ◌<◌, ◌≤◌, length, IfOk};
 
     /// The nets of a design. The one error is want of memory.
-    pub fn new(alloc: Global, design: &'d Design) -> Result<Nets<'d>, AllocError>
+    pub(crate) fn new(alloc: Global, design: &'d Design) -> Result<Nets<'d>, AllocError>
         ensures { IfOk result (λ nets. nets ≡ design.entry.now) }
     {
         // The bounds of the design's type are known once a field is read.
@@ -44,7 +46,7 @@ impl<'d> Nets<'d> {
     }
 
     /// The design.
-    pub fn design(&self) -> &'d Design
+    pub(crate) fn design(&self) -> &'d Design
         ensures is { result.now ≡ self.now }
         ensures good { IsNetlist self.now }
     {
@@ -52,14 +54,14 @@ impl<'d> Nets<'d> {
     }
 
     /// The nets of an instance of the design, one for each of its pins.
-    pub fn of(&self, instance: u32) -> &[u32]
+    pub(crate) fn of(&self, instance: u32) -> &[u32]
         ensures { instance < length self.now.instances → result.now ≡ nets_of self.now instance }
     {
         self.nets.at(instance as usize)
     }
 
     /// What a net of the design costs by a table of where instances stand. Takes no memory, and steps as the number of its pins.
-    pub fn cost(&self, net: usize, standings: &[Standing], weights: Weights) -> Amount
+    pub(crate) fn cost(&self, net: usize, standings: &[Standing], weights: Weights) -> Amount
         ensures { net ≤ length self.now.nets → result ≡ cost_by self.now weights standings.now net }
     {
         measure(self.pins.at(net), standings, weights)

@@ -1,3 +1,5 @@
+//! The width of each row in columns, the target for all, and by how many columns they miss it.
+
 ghost use Rattle.row_board.specs.Cost.{difference};
 ghost use Rattle.row_model.specs.Widths.{row_width};
 ghost use Rattle.std.specs.Prelude.{◌≡◌, ◌≤◌, length};
@@ -12,7 +14,7 @@ use std::marker::Model;
 
 /// The widths of rows in columns, and how far they are from the width that each should have. Contracts see the widths and that target.
 #[derive(Drop)]
-pub struct RowLengths {
+pub(crate) struct RowLengths {
     widths: Vec<u64>,
     misses: Summed,
     target: u64,
@@ -31,7 +33,7 @@ impl Model for RowLengths {
 }
 
 /// The difference of two numbers, without sign.
-pub fn difference(a: u64, b: u64) -> u64
+pub(crate) fn difference(a: u64, b: u64) -> u64
     ensures { result ≡ difference a b }
 {
     if a < b { b - a } else { a - b }
@@ -60,7 +62,7 @@ impl RowLengths {
     ghost use Rattle.std.specs.Prelude.{◌≡◌, ◌==◌, ◌+◌, ◌-◌, ◌*◌, ◌≤◌, ◌<◌, ℕ, Some, length, slice_get, sum, if◌then◌else◌, IfOk};
 
     /// The widths of rows, and the target: the width of all instances divided by the number of rows, rounded up. The one error is want of memory.
-    pub fn of(alloc: Global, placed: &PlacedRows) -> Result<RowLengths, AllocError>
+    pub(crate) fn of(alloc: Global, placed: &PlacedRows) -> Result<RowLengths, AllocError>
         ensures { IfOk result (λ lengths. lengths ≡ lengths_of placed.now.design placed.now.rows) }
     {
         let design = placed.design();
@@ -86,7 +88,7 @@ impl RowLengths {
     }
 
     /// A row gets so many columns more, and then so many fewer, where there is this row. Takes no memory.
-    pub fn change(&mut self, row: u16, more: u32, fewer: u32)
+    pub(crate) fn change(&mut self, row: u16, more: u32, fewer: u32)
         requires small { (width : ℕ) → slice_get self.old.widths row ≡ Some width → width ≤ 2000100000000 }
         requires more { more ≤ MOST_KIND_COLUMNS }
         ensures widths { (r : ℕ) → slice_get self.new.widths r ≡ option_map (λ (width : ℕ). if r == row then width + more - fewer else width) (slice_get self.old.widths r) }
@@ -102,7 +104,7 @@ impl RowLengths {
     }
 
     /// By how many columns all rows miss the target. Takes no memory.
-    pub fn unevenness(&self) -> u64
+    pub(crate) fn unevenness(&self) -> u64
         ensures is { result ≡ sum (misses_of self.now) }
         ensures small { result ≤ 2199023255552 * MOST_PLACED_ROWS }
     {

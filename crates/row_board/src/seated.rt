@@ -1,3 +1,5 @@
+//! Rows beside a table that tells where each of their instances stands.
+
 use crate::net_costs::NetCosts;
 use geom_core::Items;
 use row_model::Seat;
@@ -5,9 +7,9 @@ use std::marker::Model;
 
 /// Rows of a design with a table of where each of its instances stands in them, which every value keeps.
 #[derive(Drop)]
-pub struct Seated<'s, 'd> {
-    pub rows: &'s [Items<Seat>],
-    pub costs: &'s NetCosts<'d>,
+pub(crate) struct Seated<'s, 'd> {
+    pub(crate) rows: &'s [Items<Seat>],
+    pub(crate) costs: &'s NetCosts<'d>,
 }
 
 impl<'s, 'd> Model for Seated<'s, 'd> {
@@ -26,7 +28,7 @@ impl<'s, 'd> Seated<'s, 'd> {
     ghost use Rattle.std.specs.Prelude.{◌≡◌};
 
     /// What the nets cost by the table.
-    pub fn costs(&self) -> &'s NetCosts<'d>
+    pub(crate) fn costs(&self) -> &'s NetCosts<'d>
         ensures is { result.now ≡ self.now.table }
         ensures seated { AreSeated self.now.table.design self.now.rows self.now.table.standings }
     {
@@ -34,7 +36,7 @@ impl<'s, 'd> Seated<'s, 'd> {
     }
 
     /// The rows.
-    pub fn rows(&self) -> &'s [Items<Seat>]
+    pub(crate) fn rows(&self) -> &'s [Items<Seat>]
         ensures { result.now ≡ self.now.rows }
     {
         self.rows

@@ -1,3 +1,5 @@
+//! The seats of a row by its number, and a seat put at a place of a row.
+
 ghost use Rattle.row_board.specs.Moving.{row_there};
 ghost use Rattle.row_board.specs.Standings.{put_in};
 ghost use Rattle.std.specs.Option.{option_map};
@@ -8,7 +10,7 @@ use geom_core::Items;
 use row_model::Seat;
 
 /// The seats of a row, none where there is no such row.
-pub fn row_at(rows: &[Items<Seat>], row: u16) -> &[Seat]
+pub(crate) fn row_at(rows: &[Items<Seat>], row: u16) -> &[Seat]
     ensures { result.now ≡ row_there (slice_get rows.now row) }
 {
     match rows.get(row as usize) {
@@ -18,7 +20,7 @@ pub fn row_at(rows: &[Items<Seat>], row: u16) -> &[Seat]
 }
 
 /// Puts a seat where another stands, if there is this place.
-pub fn put(rows: &mut [Items<Seat>], at: Standing, seat: Seat)
+pub(crate) fn put(rows: &mut [Items<Seat>], at: Standing, seat: Seat)
     ensures { (r : ℕ) → slice_get rows.new r ≡ option_map (put_in at.row at.place seat r) (slice_get rows.old r) }
 {
     put_at(rows, at.row, at.place, seat);

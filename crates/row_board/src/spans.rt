@@ -1,3 +1,5 @@
+//! Rows with their cost, in which cells change places or turn over, also only where the cost rises by little enough.
+
 use crate::building::standings_of;
 use crate::moving::{enter_reach, exchange_seats, turn_seat};
 use crate::net_costs::NetCosts;

@@ -1,14 +1,16 @@
+//! Where an instance stands: row, place among the seats, first column, and whether it is mirrored.
+
 use row_model::Seat;
 use std::marker::Model;
 
 /// Where an instance stands: its row, whether it is mirrored, its place among the seats of the row, and the first of its columns there. The row is one of 514, and the column
 /// is at most 2,000,000,000,000, which every value keeps.
 #[derive(Clone, Copy, Debug)]
-pub struct Standing {
-    pub row: u16,
-    pub mirror: bool,
-    pub place: u32,
-    pub left: u64,
+pub(crate) struct Standing {
+    pub(crate) row: u16,
+    pub(crate) mirror: bool,
+    pub(crate) place: u32,
+    pub(crate) left: u64,
 }
 
 impl Model for Standing {
@@ -30,7 +32,7 @@ impl Standing {
     ghost use Rattle.std.specs.Prelude.{◌≡◌};
 
     /// The lower left, where a table tells nothing.
-    pub fn lower_left() -> Standing
+    pub(crate) fn lower_left() -> Standing
         ensures { result ≡ lower_left }
     {
         Standing {
@@ -42,7 +44,7 @@ impl Standing {
     }
 
     /// The seat of an instance that stands so.
-    pub fn seat(self, instance: u32) -> Seat
+    pub(crate) fn seat(self, instance: u32) -> Seat
         ensures { result ≡ record { instance = instance; mirror = self.mirror } }
     {
         Seat {
@@ -52,7 +54,7 @@ impl Standing {
     }
 
     /// This place for another instance, which keeps its own mirror.
-    pub fn taken_by(self, one: Standing) -> Standing
+    pub(crate) fn taken_by(self, one: Standing) -> Standing
         ensures { result ≡ in_place_of self one }
     {
         Standing {

@@ -1,12 +1,14 @@
+//! Seats side by side in a row, and the number of pins of their instances.
+
 use crate::net_costs::NetCosts;
 use row_model::Seat;
 use std::marker::Model;
 
 /// Seats side by side in a row that is placed. Contracts see the design and the seats.
 #[derive(Drop)]
-pub struct Stretch<'s, 'd> {
-    pub costs: &'s NetCosts<'d>,
-    pub seats: &'s [Seat],
+pub(crate) struct Stretch<'s, 'd> {
+    pub(crate) costs: &'s NetCosts<'d>,
+    pub(crate) seats: &'s [Seat],
 }
 
 impl<'s, 'd> Model for Stretch<'s, 'd> {
@@ -27,7 +29,7 @@ impl<'s, 'd> Stretch<'s, 'd> {
     ghost use Rattle.std.specs.Prelude.{◌≡◌, ◌<◌, ◌^◌};
 
     /// The number of pins of the instances. Takes no memory, and steps as the number of seats.
-    pub fn pin_count(&self) -> u64
+    pub(crate) fn pin_count(&self) -> u64
         ensures is { result ≡ pins_in self.now.0 self.now.1 }
         ensures few { result < 2 ^ 32 }
     {

@@ -1,3 +1,5 @@
+//! A list of numbers with its sum, which is kept as they change.
+
 use crate::amount::Amount;
 use limits::MOST_PINS;
 use std::alloc::{AllocError, Global};
@@ -5,7 +7,7 @@ use std::marker::Model;
 
 /// Numbers with their sum, which is kept while they change: at most 200,001 numbers of at most 2^41 each. Contracts see their list.
 #[derive(Drop)]
-pub struct Summed {
+pub(crate) struct Summed {
     items: Vec<u64>,
     sum: u64,
 }
@@ -26,7 +28,7 @@ impl Summed {
     ghost use Rattle.std.specs.Prelude.{◌≡◌, ◌≤◌, ◌<◌, ◌+◌, ◌*◌, ◌++◌, ◌∷◌, [], length, slice_set, sum, OnErr, OnOk};
 
     /// No numbers. Takes no memory.
-    pub fn new(alloc: Global) -> Summed
+    pub(crate) fn new(alloc: Global) -> Summed
         ensures { result ≡ [] }
     {
         Summed {
@@ -36,7 +38,7 @@ impl Summed {
     }
 
     /// Puts a number behind the others. The one error is want of memory.
-    pub fn push(&mut self, amount: Amount) -> Result<(), AllocError>
+    pub(crate) fn push(&mut self, amount: Amount) -> Result<(), AllocError>
         requires { length self.old < MOST_PINS + 1 }
         ensures put { OnOk result (self.new ≡ self.old ++ amount ∷ []) }
         ensures kept { OnErr result (self.new ≡ self.old) }
@@ -47,7 +49,7 @@ impl Summed {
     }
 
     /// Puts a number at a place, where there is this place. Takes no memory.
-    pub fn set(&mut self, at: usize, amount: Amount)
+    pub(crate) fn set(&mut self, at: usize, amount: Amount)
         ensures { self.new ≡ slice_set self.old at amount }
     {
         if at < self.items.len() {
@@ -58,7 +60,7 @@ impl Summed {
     }
 
     /// The sum of the numbers. Takes no memory.
-    pub fn sum(&self) -> u64
+    pub(crate) fn sum(&self) -> u64
         ensures is { result ≡ sum self.now }
         ensures small { result ≤ 2199023255552 * length self.now }
         ensures few { length self.now ≤ MOST_PINS + 1 }

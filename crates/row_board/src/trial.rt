@@ -1,3 +1,5 @@
+//! What a swap would cost if no other cell were shifted, and how much less it may cost with the shifts.
+
 ghost use Rattle.row_board.specs.NetCosts.{table_costs};
 ghost use Rattle.row_board.specs.RowLengthsView.{misses_of};
 ghost use Rattle.row_board.specs.Standings.{standing_of, traded};
@@ -14,7 +16,7 @@ use geom_core::Items;
 use row_model::{Seat, columns_of};
 
 /// What rows cost by their tables: the sum of what the nets cost, and the columns by which the rows miss their target as the weights tell. Takes no memory.
-pub fn total_of(costs: &NetCosts, lengths: &RowLengths) -> u64
+pub(crate) fn total_of(costs: &NetCosts, lengths: &RowLengths) -> u64
     ensures { result ≡ sum (table_costs costs.now.design costs.now.weights costs.now.standings) + costs.now.weights.length_cost * sum (misses_of lengths.now) }
 {
     let length_cost = costs.weights().length_cost;
@@ -22,7 +24,7 @@ pub fn total_of(costs: &NetCosts, lengths: &RowLengths) -> u64
 }
 
 /// What rows cost where two instances take each other's place and no other is shifted. All is as before after that.
-pub fn trial_cost(costs: &mut NetCosts, lengths: &RowLengths, a: u32, b: u32) -> u64
+pub(crate) fn trial_cost(costs: &mut NetCosts, lengths: &RowLengths, a: u32, b: u32) -> u64
     ensures is { result ≡ sum (table_costs costs.old.design costs.old.weights (traded a b costs.old.standings)) + costs.old.weights.length_cost * sum (misses_of lengths.now) }
     ensures same { costs.new ≡ costs.old }
 {
@@ -61,7 +63,7 @@ fn shifted_pins(seated: &Seated, a: u32, b: u32) -> u64
 }
 
 /// By how much rows may cost less after a swap of two instances than where these only take each other's place.
-pub fn slack_of(seated: &Seated, a: u32, b: u32) -> u64
+pub(crate) fn slack_of(seated: &Seated, a: u32, b: u32) -> u64
     ensures { result ≡ slack seated.now.table.design seated.now.rows seated.now.table.weights seated.now.table.standings a b }
 {
     let costs = seated.costs();

@@ -1,3 +1,5 @@
+//! What a row between pins, and a column by which a row misses its width, weigh against a column of wire.
+
 use std::marker::Model;
 
 /// What annealing weighs against a column of wire: a row of distance between a net's pins, and a column by which a row's width differs from the target. Each is at most

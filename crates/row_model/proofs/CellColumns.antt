@@ -3,8 +3,6 @@ use Rattle.std.proofs.lemmas.Bool.{cond-false, ne_eqb}
 use Rattle.std.proofs.lemmas.Option.{none-some, same_Some, slice_get-map}
 use Rattle.std.specs.List.{AllByRecursion, find, range_with_len}
 use Rattle.std.specs.Option.{option_and_then, option_map}
-use Rattle.list_facts.proofs.Members.{all-get, find-filter, find-same}
-use Rattle.list_facts.proofs.Every.{every-from-get, every-weaker}
 use Rattle.design_model.specs.Netlist.{IsKind, IsNetlist, IsPosition, Netlist}
 use Rattle.design_model.specs.declared.design.CellKind.{CellKind}
 use Rattle.design_model.specs.declared.design.Inst.{Inst}
@@ -13,6 +11,8 @@ use Rattle.design_model.specs.declared.design.Position.{Position}
 use Rattle.row_model.specs.Stands.{column_in, is_on, positions_in}
 use Rattle.row_model.specs.PinColumns.{columns_there, kind_columns, nowhere, of_terminal, pin_columns, table_there, terminal_columns}
 use Rattle.row_model.specs.declared.cell_columns.PinColumns.{PinColumns}
+use Rattle.std_laws.proofs.Members.{all-get, find-filter, find-same}
+use Rattle.std_laws.proofs.Every.{every-from-get, every-weaker}
 
 same-columns : (a b : PinColumns) → a.first ≡ b.first → a.bottom ≡ b.bottom → a.top ≡ b.top → a ≡ b
 same-columns a b first bottom top =

@@ -1,5 +1,5 @@
-use Rattle.std.proofs.Common.{◌≡◌, ◌<◌, ℕ, ◌+◌, List, ◌∷◌, ◌++◌, length, map, take, drop, get_or, ap, ◌∙◌, arith, length-drop}
-use Rattle.std.proofs.lemmas.List.{get_or_default, length-map, take-append-le, take_all}
+use Rattle.std.proofs.Common.{◌≡◌, ◌<◌, ℕ, ◌+◌, List, ◌∷◌, ◌++◌, length, map, take, drop, get_or, ap, ◌∙◌, arith}
+use Rattle.std.proofs.lemmas.List.{get_or_default, length-map}
 use Rattle.std.proofs.lemmas.List.Edits.{map_over_more}
 use Rattle.std.proofs.lemmas.List.Folds.{find-append}
 use Rattle.std.specs.List.{find, flat_map}
@@ -7,12 +7,7 @@ use Rattle.std.specs.Option.{option_or}
 use Rattle.std.specs.Prelude.{nat_eq, slice_set}
 use Rattle.row_model.specs.Changes.{seat_of}
 use Rattle.row_model.specs.declared.rows.Seat.{Seat}
-
--- a list that is written over by one of its length is that
-pub overwritten-same : {X : Type 0} (new old : List X) → length new ≡ length old → take (length old) (new ++ drop (length new) old) ≡ new
-overwritten-same new old same =
-    let rest : length (drop (length new) old) ≡ 0 = omega (arith, length-drop (length new) old) in
-    take-append-le (length old) new (drop (length new) old) (omega arith) ∙ take_all (length old) new (omega arith)
+use Rattle.std_laws.proofs.Slices.{overwritten-same}
 
 -- one more seat is written over by its image
 pub seat-more : (f : Seat → Seat) (xs ys : List Seat) (i : ℕ) (d new : Seat) → i < length xs → length ys ≡ length xs → ys ≡ map f (take i xs) ++ drop i xs

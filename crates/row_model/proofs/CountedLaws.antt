@@ -1,11 +1,9 @@
 use Rattle.std.proofs.Common.{◌≡◌, ◌<◌, ◌≤◌, ℕ, zero, suc, ◌+◌, ◌-◌, ◌*◌, ◌/◌, List, ◌++◌, length, map, ap, ap₂, sym, ◌∙◌, subst, arith}
-use Rattle.std.proofs.Math.Nat.{div-mul-le_self, mul-div_cancel, zero-div}
+use Rattle.std.proofs.Math.Nat.{mul-div_cancel, zero-div}
 use Rattle.std.proofs.lemmas.List.FromFn.{length-map-range_with_len}
 use Rattle.std.proofs.lemmas.List.Sorted.{IsPermutation-refl}
-use Rattle.std.proofs.lemmas.Nat.{le-div}
 use Rattle.std.specs.List.{range_with_len}
 use Rattle.std.specs.List.Sorted.{IsPermutation}
-use Rattle.list_facts.proofs.Ranges.{range-split}
 use Rattle.design_model.specs.Netlist.{Netlist}
 use Rattle.row_model.specs.Rows.{all_instances, ArePlaced}
 use Rattle.tech_rules.specs.declared.sections.StartBy.{StartBy}
@@ -13,20 +11,8 @@ use Rattle.tech_rules.specs.declared.sections.StartBy.TheVariants.{Width, Count}
 use Rattle.row_model.specs.Start.{counted_row, counted_rows, rounded_up, seats_from, start_rows}
 use Rattle.row_model.specs.Widths.{all_columns}
 use Rattle.row_model.proofs.StartLaws.{upright-instances, width-placed}
-
--- parts of a whole: they grow, and none is more than the whole
-pub part-grows : (n rows r : ℕ) → 0 < rows → n * r / rows ≤ n * (r + 1) / rows
-part-grows n rows r some =
-    let more : n * r ≤ n * (r + 1) = omega arith in
-    le-div (n * r / rows) (n * (r + 1)) rows some (omega (arith, div-mul-le_self (n * r) rows, more))
-
-grows-on : (f : ℕ → ℕ) → ((r : ℕ) → f r ≤ f (r + 1)) → (r m : ℕ) → f r ≤ f (r + m)
-grows-on f grows r zero = let same : r + 0 ≡ r = omega arith in rw same (omega arith)
-grows-on f grows r (suc m) =
-    let next : r + suc m ≡ (r + m) + 1 = omega arith in
-    let less : f r ≤ f (r + m) = grows-on f grows r m in
-    let last : f (r + m) ≤ f ((r + m) + 1) = grows (r + m) in
-    rw next (omega arith)
+use Rattle.std_laws.proofs.Ranges.{range-split}
+use Rattle.std_laws.proofs.Numbers.{quotient-grows, grows-on}
 
 -- rows from f r up to f (r + 1) hold the numbers in their order
 joined-parts : (f : ℕ → ℕ) → ((r : ℕ) → f r ≤ f (r + 1)) → (r m : ℕ)
@@ -55,7 +41,7 @@ counted-placed d rows some few =
     let end : 0 + rows ≡ rows = omega arith in
     let whole : n * rows / rows ≡ n = mul-div_cancel n some in
     let all : all_instances (counted_rows n rows) ≡ range_with_len (n * 0 / rows) (n * (0 + rows) / rows - n * 0 / rows) =
-    joined-parts (λ (r : ℕ). n * r / rows) (λ r. part-grows n rows r some) 0 rows in
+    joined-parts (λ (r : ℕ). n * r / rows) (λ r. quotient-grows n rows r some) 0 rows in
     let size : n - 0 ≡ n = omega arith in
     let held : all_instances (counted_rows n rows) ≡ range_with_len 0 n = rw (end, none, whole, size) at all in
     record {

@@ -6,17 +6,18 @@ use Rattle.std.proofs.lemmas.List.Sorted.{All-permutation, length_permutation}
 use Rattle.std.proofs.lemmas.Map.Keys.{IsDistinct-IsPermutation}
 use Rattle.std.specs.List.{AllByRecursion, range_with_len}
 use Rattle.std.specs.Prelude.{nat_eq}
-use Rattle.list_facts.proofs.Ranges.{eq-flips, range-bounds, range-distinct}
-use Rattle.list_facts.proofs.Every.{every-left, every-right, every-weaker}
 use Rattle.design_model.specs.Netlist.{IsNetlist, Netlist}
 use Rattle.row_model.specs.NearStands.{AreShort}
 use Rattle.row_model.specs.Rows.{all_instances, ArePlaced, AreRows, instances_in}
 use Rattle.row_model.specs.declared.rows.Seat.{Seat}
+use Rattle.std_laws.proofs.Tests.{nat_eq-flips}
+use Rattle.std_laws.proofs.Ranges.{range-bounds, range-distinct}
+use Rattle.std_laws.proofs.Every.{every-left, every-right, every-weaker}
 
 -- no instance stands twice in placed rows
 pub placed-distinct : (d : Netlist) (rows : List (List Seat)) → ArePlaced d rows → AreRows rows
 placed-distinct d rows placed =
-    IsDistinct-IsPermutation nat_eq eq-flips (range_with_len 0 (length d.instances)) (all_instances rows) placed.once (range-distinct 0 (length d.instances))
+    IsDistinct-IsPermutation nat_eq nat_eq-flips (range_with_len 0 (length d.instances)) (all_instances rows) placed.once (range-distinct 0 (length d.instances))
 
 -- each seat's instance is one of the design's
 pub placed-within : (d : Netlist) (rows : List (List Seat)) → ArePlaced d rows → AllByRecursion (λ (i : ℕ). i < length d.instances) (all_instances rows)

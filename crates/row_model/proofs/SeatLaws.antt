@@ -1,17 +1,17 @@
-use Rattle.std.proofs.Common.{◌≡◌, ℕ, zero, suc, ◌+◌, List, [], ◌∷◌, ◌++◌, Bool, true, false, cond, Option, Some, None, refl, ap, ◌∙◌, subst, arith}
-use Rattle.std.proofs.lemmas.Bool.Decides.{nat_tests}
+use Rattle.std.proofs.Common.{◌≡◌, ℕ, zero, suc, ◌+◌, List, [], ◌∷◌, ◌++◌, Bool, false, cond, Option, Some, None, refl, ap, ◌∙◌, subst, arith}
 use Rattle.std.proofs.lemmas.Option.{none-some, same_Some}
 use Rattle.std.specs.List.{AllByRecursion, IsDistinct, slice_get}
 use Rattle.std.specs.Prelude.{nat_eq}
 use Rattle.row_model.specs.Stand.{Stand}
-use Rattle.list_facts.proofs.Distinct.{first-distinct, numbers-apart, second-distinct}
-use Rattle.list_facts.proofs.Every.{every-at, every-left, every-right, every-weaker}
 use Rattle.design_model.specs.Netlist.{Netlist}
 use Rattle.row_model.specs.Rows.{all_instances, AreRows, instances_in}
 use Rattle.row_model.specs.Stands.{or_else, stand_from, stand_in, stand_of}
 use Rattle.row_model.specs.Widths.{columns_of, row_width}
 use Rattle.row_model.specs.declared.rows.Seat.{Seat}
 use Rattle.row_model.proofs.WidthLaws.{width-cons}
+use Rattle.std_laws.proofs.Distinct.{first-distinct, numbers-apart, second-distinct}
+use Rattle.std_laws.proofs.Every.{every-at, every-left, every-right, every-weaker}
+use Rattle.std_laws.proofs.Tests.{nat_eq-itself}
 
 instances-append : (front back : List Seat) → instances_in (front ++ back) ≡ instances_in front ++ instances_in back
 instances-append [] back = refl
@@ -33,14 +33,11 @@ not-among d row left (s ∷ seats) instance others =
     ap (λ (b : Bool). cond b (Some (record { row = row; left = left; mirror = s.mirror })) (stand_in d row (left + columns_of d s.instance) seats instance)) others.0
     ∙ not-among d row (left + columns_of d s.instance) seats instance others.1
 
-itself : (n : ℕ) → nat_eq n n ≡ true
-itself n = grind (arith, nat_tests)
-
 seat-among : (d : Netlist) (row left : ℕ) (front back : List Seat) (seat : Seat) → AllByRecursion (λ (k : ℕ). nat_eq k seat.instance ≡ false) (instances_in front)
     → stand_in d row left (front ++ seat ∷ back) seat.instance ≡ Some (record { row = row; left = left + row_width d front; mirror = seat.mirror })
 seat-among d row left [] back seat others =
     let begins : left ≡ left + 0 = omega arith in
-    ap (λ (b : Bool). cond b (Some (record { row = row; left = left; mirror = seat.mirror })) (stand_in d row (left + columns_of d seat.instance) back seat.instance)) (itself seat.instance)
+    ap (λ (b : Bool). cond b (Some (record { row = row; left = left; mirror = seat.mirror })) (stand_in d row (left + columns_of d seat.instance) back seat.instance)) (nat_eq-itself seat.instance)
     ∙ ap (λ (n : ℕ). Some (record { row = row; left = n; mirror = seat.mirror })) begins
 seat-among d row left (s ∷ front) back seat others =
     let begins : (left + columns_of d s.instance) + row_width d front ≡ left + row_width d (s ∷ front) = omega (arith, width-cons d s front) in

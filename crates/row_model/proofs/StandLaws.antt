@@ -1,5 +1,4 @@
 use Rattle.std.proofs.Common.{◌≡◌, ◌≢◌, ◌<◌, ℕ, zero, suc, ◌+◌, List, [], ◌∷◌, ◌++◌, length, Bool, true, false, cond, Option, Some, None, refl, ap, sym, ◌∙◌, subst, arith}
-use Rattle.std.proofs.lemmas.Bool.Decides.{nat_tests}
 use Rattle.std.proofs.lemmas.List.Elements.{All-from_recursion}
 use Rattle.std.proofs.lemmas.List.FromFn.{get_or-range_with_len, length-range_with_len}
 use Rattle.std.proofs.lemmas.List.Sorted.{All-permutation, IsPermutation-sym}
@@ -7,12 +6,13 @@ use Rattle.std.proofs.lemmas.Option.{same_Some, slice_get_within}
 use Rattle.std.specs.List.{AllByRecursion, range_with_len, slice_get}
 use Rattle.std.specs.Prelude.{nat_eq}
 use Rattle.row_model.specs.Stand.{Stand}
-use Rattle.list_facts.proofs.Every.{every-append}
 use Rattle.design_model.specs.Netlist.{Netlist}
 use Rattle.row_model.specs.Rows.{all_instances, ArePlaced, instances_in}
 use Rattle.row_model.specs.Stands.{or_else, stand_from, stand_in, stand_of}
 use Rattle.row_model.specs.Widths.{columns_of}
 use Rattle.row_model.specs.declared.rows.Seat.{Seat}
+use Rattle.std_laws.proofs.Every.{every-append}
+use Rattle.std_laws.proofs.Tests.{nat_eq-equal, nat_eq-differ}
 
 -- an instance stands in the row that the stand names: there is its seat
 pub record IsStand (rows : List (List Seat)) (instance : ℕ) (stand : Stand) : Type 0 where
@@ -21,12 +21,6 @@ pub record IsStand (rows : List (List Seat)) (instance : ℕ) (stand : Stand) : 
   pub back : List Seat
   pub at : slice_get rows stand.row ≡ Some (front ++ seat ∷ back)
   pub own : seat.instance ≡ instance
-
-apart : (a b : ℕ) → nat_eq a b ≡ false → a ≢ b
-apart a b test = grind (arith, nat_tests)
-
-equal : (a b : ℕ) → nat_eq a b ≡ true → a ≡ b
-equal a b test = grind (arith, nat_tests)
 
 -- an instance without a stand among seats has none of them
 none-among : (d : Netlist) (row left : ℕ) (seats : List Seat) (instance : ℕ) → stand_in d row left seats instance ≡ None → AllByRecursion (λ (k : ℕ). k ≢ instance) (instances_in seats)
@@ -38,7 +32,7 @@ none-among d row left (s ∷ seats) instance none = by (nat_eq s.instance instan
         → cond b (Some (record { row = row; left = left; mirror = s.mirror })) (stand_in d row (left + columns_of d s.instance) seats instance) ≡ None
         → AllByRecursion (λ (k : ℕ). k ≢ instance) (instances_in (s ∷ seats))
     by true test more none = cc
-    by false test more none = (apart s.instance instance test, more none)
+    by false test more none = (nat_eq-differ s.instance instance test, more none)
 
 none-of-rows : (d : Netlist) (row : ℕ) (rows : List (List Seat)) (instance : ℕ) → stand_from d row rows instance ≡ None → AllByRecursion (λ (k : ℕ). k ≢ instance) (all_instances rows)
 none-of-rows d row [] instance none = tt
@@ -67,7 +61,7 @@ stand-among d row left (s ∷ seats) instance stand there = by (nat_eq s.instanc
         → IsAmong row (s ∷ seats) instance stand
     by true test more there =
         let same = same_Some (record { row = row; left = left; mirror = s.mirror }) stand there in
-        record { front = []; seat = s; back = seats; is = refl; number = sym (ap (λ (a : Stand). a.row) same); own = equal s.instance instance test }
+        record { front = []; seat = s; back = seats; is = refl; number = sym (ap (λ (a : Stand). a.row) same); own = nat_eq-equal s.instance instance test }
     by false test more there =
         let rest = more there in
         record { front = s ∷ rest.front; seat = rest.seat; back = rest.back; is = ap (λ (l : List Seat). s ∷ l) rest.is; number = rest.number; own = rest.own }

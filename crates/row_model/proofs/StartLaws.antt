@@ -5,11 +5,11 @@ use Rattle.std.proofs.lemmas.List.Sorted.{IsPermutation-refl}
 use Rattle.std.specs.List.{range_with_len}
 use Rattle.std.specs.List.Sorted.{IsPermutation}
 use Rattle.std.specs.Prelude.{nat_le}
-use Rattle.list_facts.proofs.Ranges.{range-split}
 use Rattle.design_model.specs.Netlist.{Netlist}
 use Rattle.row_model.specs.Rows.{all_instances, ArePlaced, instances_in}
 use Rattle.row_model.specs.Start.{least_rows, rows_from, seats_from, taken, upright}
 use Rattle.row_model.specs.Widths.{columns_of}
+use Rattle.std_laws.proofs.Ranges.{range-split}
 
 -- where so many rows are too few, the least number of them is among the next
 pub least-next : (area height left k : ℕ) → 0 < left → k * k * height < area → least_rows area height left k ≡ least_rows area height (left - 1) (k + 1)

@@ -1,56 +1,39 @@
-use Rattle.std.proofs.Common.{◌≡◌, ◌≢◌, ◌<◌, ◌⊎◌, ℕ, List, [], ◌∷◌, ◌++◌, length, map, get_or, set, Bool, true, false, cond, Option, None, Some, refl, ap, ap₂, sym, ◌∙◌, subst, inl, inr, arith}
+use Rattle.std.proofs.Common.{◌≡◌, ◌≢◌, ◌<◌, ℕ, List, [], ◌∷◌, ◌++◌, length, map, get_or, set, Bool, true, false, cond, Option, None, Some, refl, ap, ap₂, sym, ◌∙◌, subst, arith}
 use Rattle.std.proofs.lemmas.Bool.Decides.{nat_tests}
 use Rattle.std.proofs.lemmas.List.{ext_get_or, get_or_default, get_or-map, get_or-set_other, get_or-set_same, length-map, map-append}
 use Rattle.std.proofs.Math.ListN.{length-set}
 use Rattle.std.proofs.lemmas.List.Edits.{swap_is}
 use Rattle.std.proofs.lemmas.List.Sorted.{IsPermutation-refl, IsPermutation-swap, IsPermutation-trans}
-use Rattle.std.proofs.lemmas.Map.Keys.{apart_from_distinct, IsDistinct-IsPermutation}
+use Rattle.std.proofs.lemmas.Map.Keys.{IsDistinct-IsPermutation}
 use Rattle.std.specs.List.{flat_map, range_with_len, Contains, IsDistinct}
 use Rattle.std.specs.List.Sorted.{IsPermutation}
 use Rattle.std.specs.Prelude.{nat_eq, not}
-use Rattle.list_facts.proofs.Members.{find-passes, map-member}
-use Rattle.list_facts.proofs.Ranges.{eq-flips}
 use Rattle.design_model.specs.Netlist.{Netlist}
 use Rattle.row_model.specs.Changes.{exchanged, mirrored, seat_of, swapped, turned, with_exchanged}
 use Rattle.row_model.specs.Rows.{all_instances, ArePlaced, AreRows, instances_in}
 use Rattle.row_model.specs.declared.rows.Seat.{Seat}
 use Rattle.row_model.proofs.PlacedLaws.{placed-distinct}
+use Rattle.std_laws.proofs.Members.{find-passes, map-member}
+use Rattle.std_laws.proofs.Tests.{nat_eq-flips, nat_eq-true, nat_eq-false}
+use Rattle.std_laws.proofs.Images.{map-itself}
+use Rattle.std_laws.proofs.Distinct.{apart-places}
 
 -- the one of two numbers where the other stands, and any other number as it is
 abbrev pub renamed : ℕ → ℕ → ℕ → ℕ
 renamed a b n = cond (nat_eq n a) b (cond (nat_eq n b) a n)
 
-same_number : (n m : ℕ) → n ≡ m → nat_eq n m ≡ true
-same_number n m h = grind (arith, nat_tests)
-
-other_number : (n m : ℕ) → n ≢ m → nat_eq n m ≡ false
-other_number n m h = grind (arith, nat_tests)
-
 renamed-first : (a b : ℕ) → renamed a b a ≡ b
-renamed-first a b = rw (same_number a a refl)
+renamed-first a b = rw (nat_eq-true a a refl)
 
 renamed-second : (a b : ℕ) → renamed a b b ≡ a
 renamed-second a b = choose (nat_eq b a) refl
   where
     choose : (t : Bool) → nat_eq b a ≡ t → cond t b (cond (nat_eq b b) a b) ≡ a
     choose true test = grind (arith, nat_tests)
-    choose false test = rw (same_number b b refl)
+    choose false test = rw (nat_eq-true b b refl)
 
 renamed-none : (a b n : ℕ) → n ≢ a → n ≢ b → renamed a b n ≡ n
-renamed-none a b n not_a not_b = rw (other_number n a not_a, other_number n b not_b)
-
-pub apart-places : (xs : List ℕ) (i j d : ℕ) → IsDistinct nat_eq xs → i < length xs → j < length xs → i ≢ j → get_or xs i d ≢ get_or xs j d
-apart-places xs i j d different in_i in_j other same = by (split i j other)
-  where
-    split : (i j : ℕ) → i ≢ j → (i < j) ⊎ (j < i)
-    split i j other = grind arith
-
-    flips : (x y : ℕ) → x ≡ y → nat_eq x y ≡ false → ⊥
-    flips x y h test = grind (arith, nat_tests)
-
-    by : (i < j) ⊎ (j < i) → ⊥
-    by (inl less) = flips (get_or xs i d) (get_or xs j d) same (apart_from_distinct nat_eq xs i j d different less in_j)
-    by (inr less) = flips (get_or xs j d) (get_or xs i d) (sym same) (apart_from_distinct nat_eq xs j i d different less in_i)
+renamed-none a b n not_a not_b = rw (nat_eq-false n a not_a, nat_eq-false n b not_b)
 
 -- of different numbers, two that stand in each other's place
 renamed-places : (xs : List ℕ) (i j a b d k : ℕ) → IsDistinct nat_eq xs → i < length xs → j < length xs → get_or xs i d ≡ a → get_or xs j d ≡ b → k < length xs
@@ -139,10 +122,6 @@ seat-listed : (rows : List (List Seat)) (s : Seat) → Contains (seats_in rows) 
 seat-listed rows s has =
     subst (λ (ns : List ℕ). Contains ns s.instance) (all-instances-flat rows) (map-member (λ (s : Seat). s.instance) (seats_in rows) s has)
 
-same-numbers : (ns : List ℕ) → map (λ (n : ℕ). n) ns ≡ ns
-same-numbers [] = refl
-same-numbers (n ∷ ns) = ap (λ (l : List ℕ). n ∷ l) (same-numbers ns)
-
 -- rows in which two of their seats exchange places have the same instances
 pub exchange-permutes : (rows : List (List Seat)) (a b : Seat) → AreRows rows → Contains (seats_in rows) a → Contains (seats_in rows) b
     → IsPermutation (all_instances rows) (all_instances (map (map (exchanged a b)) rows))
@@ -160,7 +139,7 @@ swap-permutes rows a b different = by (seat_of rows a) (seat_of rows b) refl ref
     by (Some s) (Some t) one two = exchange-permutes rows s t different (seat-found rows a s one).1 (seat-found rows b t two).1
 
 pub turned-same : (rows : List (List Seat)) (a : ℕ) → all_instances (map (map (turned a)) rows) ≡ all_instances rows
-turned-same rows a = all-instances-map (turned a) (λ (n : ℕ). n) (turned-number a) rows ∙ same-numbers (all_instances rows)
+turned-same rows a = all-instances-map (turned a) (λ (n : ℕ). n) (turned-number a) rows ∙ map-itself (all_instances rows)
 
 pub mirrored-same : (rows : List (List Seat)) (a : ℕ) → all_instances (mirrored a rows) ≡ all_instances rows
 unfolding mirrored
@@ -169,7 +148,7 @@ mirrored-same rows a = turned-same rows a
 -- no instance stands twice after two seats exchange their places, and after one is turned over
 pub exchange-rows : (rows : List (List Seat)) (a b : ℕ) (s t : Seat) → AreRows rows → seat_of rows a ≡ Some s → seat_of rows b ≡ Some t → AreRows (map (map (exchanged s t)) rows)
 exchange-rows rows a b s t different one two =
-    IsDistinct-IsPermutation nat_eq eq-flips (all_instances rows) (all_instances (map (map (exchanged s t)) rows))
+    IsDistinct-IsPermutation nat_eq nat_eq-flips (all_instances rows) (all_instances (map (map (exchanged s t)) rows))
     (exchange-permutes rows s t different (seat-found rows a s one).1 (seat-found rows b t two).1) different
 
 pub turned-rows : (rows : List (List Seat)) (a : ℕ) → AreRows rows → AreRows (map (map (turned a)) rows)

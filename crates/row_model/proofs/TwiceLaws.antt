@@ -5,13 +5,15 @@ use Rattle.std.proofs.lemmas.Option.{same_Some}
 use Rattle.std.specs.List.{find, AllByRecursion, Contains, IsDistinct}
 use Rattle.std.specs.Option.{option_map}
 use Rattle.std.specs.Prelude.{nat_eq, not}
-use Rattle.list_facts.proofs.Every.{every-from-get, every-left, every-right}
-use Rattle.list_facts.proofs.Members.{find-same, get-contains}
-use Rattle.list_facts.proofs.Ranges.{eq-flips, map-map}
 use Rattle.row_model.specs.Changes.{exchanged, mirrored, seat_of, swapped, turned, with_exchanged}
 use Rattle.row_model.specs.Rows.{AreRows, instances_in}
 use Rattle.row_model.specs.declared.rows.Seat.{Seat}
-use Rattle.row_model.proofs.SwapLaws.{all-instances-flat, apart-places, exchanged-number, renamed, seat-found, seats_in}
+use Rattle.row_model.proofs.SwapLaws.{all-instances-flat, exchanged-number, renamed, seat-found, seats_in}
+use Rattle.std_laws.proofs.Every.{every-from-get, every-left, every-right}
+use Rattle.std_laws.proofs.Members.{find-same, get-contains}
+use Rattle.std_laws.proofs.Tests.{nat_eq-flips, nat_eq-itself}
+use Rattle.std_laws.proofs.Images.{map-map}
+use Rattle.std_laws.proofs.Distinct.{apart-places}
 
 -- the images of the seats of rows are the seats of the images
 seats-map : (f : Seat → Seat) (rows : List (List Seat)) → seats_in (map (map f) rows) ≡ map f (seats_in rows)
@@ -32,7 +34,7 @@ renamed-test : (a b n : ℕ) → nat_eq (renamed a b n) a ≡ nat_eq n b
 renamed-test a b n = by (nat_eq n a) refl (nat_eq n b) refl
   where
     by : (t : Bool) → nat_eq n a ≡ t → (u : Bool) → nat_eq n b ≡ u → nat_eq (cond t b (cond u a n)) a ≡ u
-    by true one u two = let same : n ≡ a = grind (arith, nat_tests) in eq-flips b a ∙ ap (λ (m : ℕ). nat_eq m b) (sym same) ∙ two
+    by true one u two = let same : n ≡ a = grind (arith, nat_tests) in nat_eq-flips b a ∙ ap (λ (m : ℕ). nat_eq m b) (sym same) ∙ two
     by false one true two = grind (arith, nat_tests)
     by false one false two = one
 
@@ -41,7 +43,7 @@ renamed-back a b n = by (nat_eq n a) refl (nat_eq n b) refl
   where
     by : (t : Bool) → nat_eq n a ≡ t → (u : Bool) → nat_eq n b ≡ u → nat_eq (cond t b (cond u a n)) b ≡ t
     by true one u two = grind (arith, nat_tests)
-    by false one true two = let same : n ≡ b = grind (arith, nat_tests) in eq-flips a b ∙ ap (λ (m : ℕ). nat_eq m a) (sym same) ∙ one
+    by false one true two = let same : n ≡ b = grind (arith, nat_tests) in nat_eq-flips a b ∙ ap (λ (m : ℕ). nat_eq m a) (sym same) ∙ one
     by false one false two = two
 
 -- after two seats exchange places, the seat of the one instance is the image of that of the other
@@ -54,18 +56,15 @@ seat-after rows s t a b tests =
     (find-same (λ (x : Seat). nat_eq (exchanged s t x).instance a) (λ (x : Seat). nat_eq x.instance b)
     (λ x. ap (λ (n : ℕ). nat_eq n a) (exchanged-number s t x) ∙ tests x.instance) (seats_in rows))
 
-itself : (n : ℕ) → nat_eq n n ≡ true
-itself n = grind (arith, nat_tests)
-
 pub exchanged-first : (s t : Seat) → exchanged s t s ≡ t
-exchanged-first s t = ap (λ (b : Bool). cond b t (cond (nat_eq s.instance t.instance) s s)) (itself s.instance)
+exchanged-first s t = ap (λ (b : Bool). cond b t (cond (nat_eq s.instance t.instance) s s)) (nat_eq-itself s.instance)
 
 pub exchanged-second : (s t : Seat) → (s.instance ≡ t.instance → s ≡ t) → exchanged s t t ≡ s
 exchanged-second s t one = by (nat_eq t.instance s.instance) refl
   where
     by : (b : Bool) → nat_eq t.instance s.instance ≡ b → cond b t (cond (nat_eq t.instance t.instance) s t) ≡ s
     by true test = let same : s.instance ≡ t.instance = grind (arith, nat_tests) in sym (one same)
-    by false test = ap (λ (b : Bool). cond b s t) (itself t.instance)
+    by false test = ap (λ (b : Bool). cond b s t) (nat_eq-itself t.instance)
 
 -- seats of one instance, where no instance stands twice, are one
 pub unique-seat : (rows : List (List Seat)) (x s : Seat) → AreRows rows → Contains (seats_in rows) x → Contains (seats_in rows) s → x.instance ≡ s.instance → x ≡ s

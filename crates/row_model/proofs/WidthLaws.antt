@@ -2,12 +2,12 @@ use Rattle.std.proofs.Common.{◌≡◌, ◌≤◌, ℕ, ◌+◌, List, ◌∷�
 use Rattle.std.proofs.lemmas.List.Sums.{sum_by-cons}
 use Rattle.std.proofs.lemmas.Option.{option_and_then_some}
 use Rattle.std.specs.List.{slice_get}
-use Rattle.list_facts.proofs.Members.{all-get}
 use Rattle.design_model.specs.Netlist.{IsKind, IsNetlist, Netlist}
 use Rattle.design_model.specs.declared.design.CellKind.{CellKind}
 use Rattle.design_model.specs.declared.design.Inst.{Inst}
 use Rattle.row_model.specs.Widths.{columns_of, kind_of, row_width, width_of}
 use Rattle.row_model.specs.declared.rows.Seat.{Seat}
+use Rattle.std_laws.proofs.Members.{all-get}
 
 -- the kind of an instance is a kind
 pub kind-good : (d : Netlist) → IsNetlist d → (instance : ℕ) (kind : CellKind) → kind_of d instance ≡ Some kind → IsKind kind

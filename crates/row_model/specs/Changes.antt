@@ -1,3 +1,4 @@
+-- rows after a change
 use Rattle.std.specs.Prelude.{ℕ, ◌==◌, List, map, not, if◌then◌else◌, Option, None, Some}
 use Rattle.std.specs.List.{find, flat_map}
 use Rattle.row_model.specs.declared.rows.Seat.{Seat}

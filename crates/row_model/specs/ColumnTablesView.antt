@@ -1,3 +1,4 @@
+-- a design with a table of pin columns for each cell kind, and that the tables are those of its kinds
 use Rattle.std.specs.Prelude.{◌≡◌, map}
 use Rattle.design_model.specs.Netlist.{IsNetlist, Netlist}
 use Rattle.row_model.specs.PinColumns.{kind_columns}

@@ -1,3 +1,4 @@
+-- rows that are short, and tables of stands
 use Rattle.std.specs.Prelude.{◌≤◌, List, length}
 use Rattle.std.specs.List.{AllByRecursion}
 use Rattle.row_model.specs.declared.rows.Seat.{Seat}

@@ -1,3 +1,4 @@
+-- the columns of pins in their cells
 use Rattle.std.specs.Prelude.{ℕ, ◌==◌, ◌&&◌, List, [], length, map, filter, true, false, Option, None, Some}
 use Rattle.std.specs.List.{find, range_with_len}
 use Rattle.design_model.specs.Netlist.{Netlist}

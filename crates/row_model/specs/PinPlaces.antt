@@ -1,3 +1,4 @@
+-- where a pin stands in rows, which channels it touches, and whether it passes its row
 use Rattle.std.specs.Prelude.{ℕ, ◌+◌, List, Bool, true, false, ◌&&◌, if◌then◌else◌, Option, is_some}
 use Rattle.row_model.specs.Stand.{Stand}
 use Rattle.design_model.specs.Netlist.{Netlist}

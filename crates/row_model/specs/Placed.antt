@@ -1,3 +1,4 @@
+-- a design and rows that hold its instances
 use Rattle.std.specs.Prelude.{List}
 use Rattle.design_model.specs.Netlist.{Netlist}
 use Rattle.row_model.specs.declared.rows.Seat.{Seat}

@@ -1,3 +1,4 @@
+-- a design and rows as contracts see them, and that the rows hold each instance of the design once
 use Rattle.design_model.specs.Netlist.{IsNetlist}
 use Rattle.row_model.specs.Placed.{Placing}
 use Rattle.row_model.specs.Rows.{ArePlaced}

@@ -1,3 +1,4 @@
+-- rows of seats, and rows that hold each instance of a design once
 use Rattle.std.specs.Prelude.{◌<◌, ◌≤◌, ℕ, List, length, map}
 use Rattle.std.specs.List.{flat_map, range_with_len, IsDistinct}
 use Rattle.std.specs.List.Sorted.{IsPermutation}

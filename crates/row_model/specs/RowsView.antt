@@ -1,3 +1,4 @@
+-- rows of seats as contracts see them, in which no instance stands twice
 use Rattle.std.specs.Prelude.{List}
 use Rattle.row_model.specs.Rows.{AreRows}
 use Rattle.row_model.specs.declared.rows.Seat.{Seat}

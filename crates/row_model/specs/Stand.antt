@@ -1,3 +1,4 @@
+-- where instances and pins stand
 use Rattle.std.specs.Prelude.{ℕ, Bool}
 
 -- where an instance stands: its row, the first of its columns there, and whether it is mirrored

@@ -1,3 +1,4 @@
+-- a table of the stands of a design's instances, and what it tells of one
 use Rattle.std.specs.Prelude.{◌≡◌, ℕ, ◌<◌, List, length, Bool, true, false, Option, None, Some, slice_get}
 use Rattle.row_model.specs.Stand.{Stand}
 use Rattle.design_model.specs.Netlist.{Netlist}

@@ -1,3 +1,4 @@
+-- the stand of an instance as contracts see it, and how far right it may begin
 use Rattle.std.specs.Prelude.{◌≤◌}
 use Rattle.row_model.specs.Stand.{Stand}
 use Rattle.row_model.specs.declared.stands.Stand.TheInside.{Inside}

@@ -1,3 +1,4 @@
+-- the widths of instances and rows in columns
 use Rattle.std.specs.Prelude.{ℕ, List, map, sum, length, Option, None, Some, slice_get}
 use Rattle.std.specs.List.{range_with_len}
 use Rattle.std.specs.Option.{option_and_then}

@@ -1,3 +1,5 @@
+//! The columns of a pin in its cell: of its first position, and of the first ones on the lower and upper edge.
+
 ghost use Rattle.row_model.specs.PinColumns.{columns_there, kind_columns, of_terminal, pin_columns, table_there, terminal_columns};
 ghost use Rattle.row_model.specs.Stands.{column_in, is_on, positions_of};
 ghost use Rattle.design_model.specs.declared.design.Position.{Position as Place};
@@ -30,7 +32,7 @@ const NOWHERE: PinColumns = PinColumns {
 };
 
 /// The columns of a pin in its cell. Takes no memory, and steps as the number of positions of the cell.
-pub fn pin_columns(design: &Design, pin: Pin) -> PinColumns
+pub(crate) fn pin_columns(design: &Design, pin: Pin) -> PinColumns
     ensures { result ≡ pin_columns design.now pin }
 {
     terminal_columns(positions_of(design, pin.instance), pin.terminal as usize)

@@ -1,3 +1,5 @@
+//! The two changes of rows: two instances exchange their places, or one is turned over.
+
 ghost use Rattle.row_model.specs.Changes.{exchanged, mirrored, seat_of, swapped, turned};
 ghost use Rattle.std.specs.Prelude.{◌≡◌, ◌==◌, List, length, map, not};
 ghost use Rattle.std.specs.List.{find};

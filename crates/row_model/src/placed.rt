@@ -1,3 +1,5 @@
+//! A design beside rows that hold each of its instances once.
+
 use crate::rows::{Rows, Seat};
 use design_model::Design;
 use geom_core::Items;

@@ -1,3 +1,5 @@
+//! Where pins stand in rows without feeds: the row, the column, and the channels that they touch.
+
 ghost use Rattle.row_model.specs.PinPlaces.{edge_of, highest_of, lowest_of, passes_row, pin_place, with_columns};
 ghost use Rattle.row_model.specs.Rows.{ArePlaced};
 ghost use Rattle.row_model.specs.StandTables.{AreStands, tabled_stand};

@@ -1,3 +1,5 @@
+//! Seats, each an instance upright or mirrored, and rows of them from the lowest up.
+
 use geom_core::Items;
 use std::marker::Model;
 

@@ -1,3 +1,5 @@
+//! The row and the first column of an instance, found for one in the rows or for all in a table.
+
 ghost use Rattle.row_model.specs.Stand.{Stand as Placed};
 ghost use Rattle.row_model.specs.StandTables.{AreStands, stand_if};
 ghost use Rattle.row_model.specs.Stands.{or_else, stand_in, stand_of};
@@ -14,10 +16,10 @@ use std::marker::Model;
 
 /// Where an instance stands: its row, the first of its columns there, which is at most 2,000,000,000,000, and whether it is mirrored.
 #[derive(Clone, Copy, Debug)]
-pub struct Stand {
-    pub row: u16,
-    pub left: u64,
-    pub mirror: bool,
+pub(crate) struct Stand {
+    pub(crate) row: u16,
+    pub(crate) left: u64,
+    pub(crate) mirror: bool,
 }
 
 impl Model for Stand {
@@ -56,7 +58,7 @@ fn stand_in(design: &Design, row: u16, seats: &[Seat], instance: u32) -> Option<
 }
 
 /// Where an instance stands in rows, if it stands there. Takes no memory.
-pub fn stand_of(placed: &PlacedRows, instance: u32) -> Option<Stand>
+pub(crate) fn stand_of(placed: &PlacedRows, instance: u32) -> Option<Stand>
     ensures { result ≡ stand_of placed.now.design placed.now.rows instance }
 {
     let design = placed.design();
@@ -74,7 +76,10 @@ pub fn stand_of(placed: &PlacedRows, instance: u32) -> Option<Stand>
 }
 
 /// Where each instance of a design stands, by the numbers of the instances. The one error is want of memory.
-pub fn stands_of(alloc: Global, placed: &PlacedRows) -> Result<Vec<Option<Stand>>, AllocError>
+pub(crate) fn stands_of(
+    alloc: Global,
+    placed: &PlacedRows,
+) -> Result<Vec<Option<Stand>>, AllocError>
     ensures { IfOk result (λ v. AreStands placed.now.design placed.now.rows v.items) }
 {
     let design = placed.design();

@@ -1,3 +1,5 @@
+//! The rows that a design begins with, filled by width or by count, and how many make the layout about square.
+
 ghost use Rattle.row_model.specs.Rows.{ArePlaced};
 ghost use Rattle.row_model.specs.Start.{counted_row, counted_rows, default_rows, least_rows, rows_from, seats_from, start_rows, taken};
 ghost use Rattle.std.specs.Prelude.{◌≡◌, ◌+◌, ◌<◌, ◌≤◌, IfOk, length};

@@ -1,3 +1,5 @@
+//! The kind of an instance, its width in columns, and the width of all instances together.
+
 ghost use Rattle.row_model.specs.Widths.{all_columns, columns_of, kind_of};
 ghost use Rattle.std.specs.Option.{option_map};
 ghost use Rattle.std.specs.Prelude.{◌≡◌, ◌≤◌};

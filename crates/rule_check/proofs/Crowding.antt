@@ -1,15 +1,14 @@
-use Rattle.std.proofs.Common.{◌≡◌, ◌+◌, ◌<◌, ◌≤◌, ℕ, zero, suc, List, [], ◌∷◌, ◌++◌, Bool, true, false, if◌then◌else◌, Option, Some, None, length, map, take, drop, min, leb, refl, ap, sym, ◌∙◌, append_assoc, arith, inl, inr, length-take}
+use Rattle.std.proofs.Common.{◌≡◌, ◌+◌, ◌<◌, ◌≤◌, ℕ, suc, List, [], ◌∷◌, ◌++◌, Bool, true, false, if◌then◌else◌, Option, Some, None, length, map, drop, refl, ap, sym, ◌∙◌, append_assoc, arith}
 use Rattle.std.specs.Prelude.{All}
-use Rattle.std.specs.List.{cons_option, slice_get, zip}
+use Rattle.std.specs.List.{cons_option, slice_get}
 use Rattle.std.specs.Option.{option_to_list}
-use Rattle.std.proofs.lemmas.Bool.{cases_lt, le-leb, lt-leb}
-use Rattle.std.proofs.lemmas.List.{append-nil, take-take}
+use Rattle.std.proofs.lemmas.List.{append-nil}
 use Rattle.std.proofs.lemmas.List.Elements.{All-cons, All-nil}
-use Rattle.list_facts.proofs.Places.{drop-here, drop-past}
 use Rattle.close_rects.specs.Crowds.{KeepsInReach, crowd_of, crowds_of, is_crowded}
 use Rattle.close_rects.specs.declared.member.Member.{Member}
 use Rattle.rule_check.specs.Failing.{failing_from, failing_pairs_from}
 use Rattle.rule_check.specs.Members.{members_from}
+use Rattle.std_laws.proofs.Places.{drop-here, drop-past}
 
 module _ {A : Type 0} (made : ℕ → A → Option Member) where
   -- what is made of the next is put to the members
@@ -163,47 +162,3 @@ module _ {A : Type 0} (made : ℕ → A → Option Member) (fails : A → A → 
       cases (Some a) is with_it rest =
           ap (λ t. crowd_of a (members_from made (n + 1) xs) ++ t) rest
           ∙ ap (λ t. t ++ failing_pairs_from fails (n + 1) xs) (crowd-failing n x a (n + 1) xs own is with_it)
-
--- one more than are told are asked for
-fewer-all : {X : Type 0} (n : ℕ) (all : List X) → leb (length (take (n + 1) all)) n ≡ leb (length all) n
-fewer-all n all =
-    let asked : length (take (n + 1) all) ≡ min (n + 1) (length all) = length-take (n + 1) all in
-    elim (cases_lt n (length all)) [
-      | inl more ↦ lt-leb (length (take (n + 1) all)) n (omega arith) ∙ sym (lt-leb (length all) n more)
-      | inr few ↦ le-leb (length (take (n + 1) all)) n (omega arith) ∙ sym (le-leb (length all) n few)
-    ]
-
-pub first-all : {X : Type 0} (n : ℕ) (all asked told : List X) (len : ℕ) → asked ≡ take (n + 1) all → told ≡ take n asked → len ≡ length asked
-    → (told ≡ take n all) × (leb len n ≡ leb (length all) n)
-first-all n all asked told len is cut counted = (
-  cut ∙ ap (take n) is ∙ take-take n (n + 1) all (omega arith),
-  ap (λ k. leb k n) (counted ∙ ap length is) ∙ fewer-all n all,
-)
-
--- the number of a member of one list with that of another
-pub zip-at : {X Y : Type 0} (xs : List X) (ys : List Y) (k : ℕ) (x : X) (y : Y) → slice_get xs k ≡ Some x → slice_get ys k ≡ Some y
-    → slice_get (zip xs ys) k ≡ Some (x, y)
-zip-at [] ys k x y x_is y_is = let never : ⊥ = cc in absurd never
-zip-at (a ∷ xs) [] k x y x_is y_is = let never : ⊥ = cc in absurd never
-zip-at (a ∷ xs) (b ∷ ys) zero x y x_is y_is =
-    let first : a ≡ x = cc in
-    let second : b ≡ y = cc in
-    cc
-zip-at (a ∷ xs) (b ∷ ys) (suc k) x y x_is y_is = zip-at xs ys k x y x_is y_is
-
-pub at-zip : {X Y : Type 0} (xs : List X) (ys : List Y) (k : ℕ) (p : X × Y) → slice_get (zip xs ys) k ≡ Some p
-    → (slice_get xs k ≡ Some p.0) × (slice_get ys k ≡ Some p.1)
-at-zip [] ys k p is = let never : ⊥ = cc in absurd never
-at-zip (a ∷ xs) [] k p is = let never : ⊥ = cc in absurd never
-at-zip {X} {Y} (a ∷ xs) (b ∷ ys) zero p is =
-    let same : (a, b) ≡ p = cc in
-    (ap (λ (q : X × Y). Some q.0) same, ap (λ (q : X × Y). Some q.1) same)
-at-zip (a ∷ xs) (b ∷ ys) (suc k) p is = at-zip xs ys k p is
-
-pub length-zip : {X Y : Type 0} (xs : List X) (ys : List Y) → length xs ≡ length ys → length (zip xs ys) ≡ length ys
-length-zip [] [] same = refl
-length-zip [] (y ∷ ys) same = absurd (omega arith)
-length-zip (x ∷ xs) [] same = absurd (omega arith)
-length-zip (x ∷ xs) (y ∷ ys) same =
-    let later : length xs ≡ length ys = omega arith in
-    ap suc (length-zip xs ys later)

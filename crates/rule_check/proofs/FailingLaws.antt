@@ -1,27 +1,12 @@
-use Rattle.std.proofs.Common.{◌≡◌, ◌⊎◌, ◌+◌, ◌<◌, ℕ, zero, suc, List, [], ◌∷◌, Bool, true, false, if◌then◌else◌, ◌||◌, length, map, Some, refl, ap, subst, sym, ◌∙◌, inl, inr, arith}
+use Rattle.std.proofs.Common.{◌≡◌, ◌+◌, ◌<◌, ℕ, zero, suc, List, [], ◌∷◌, Bool, true, false, if◌then◌else◌, length, map, Some, refl, ap, subst, sym, ◌∙◌, inl, inr, arith}
 use Rattle.std.specs.Prelude.{Contains}
-use Rattle.std.specs.List.{list_any, slice_get}
+use Rattle.std.specs.List.{slice_get}
 use Rattle.std.proofs.lemmas.List.Elements.{Contains-append_cases, Contains-append_left, Contains-append_right}
-use Rattle.list_facts.proofs.Members.{map-member, map-cases}
 use Rattle.rule_check.specs.Failing.{failing_from, failing_pairs_from}
-
--- a list with no member is empty
-pub empty-none : {X : Type 0} (xs : List X) → ((x : X) → ¬ Contains xs x) → xs ≡ []
-empty-none [] none = refl
-empty-none (x ∷ xs) none = absurd (none x (0, omega arith, refl))
+use Rattle.std_laws.proofs.Members.{map-member, map-cases, member-same, member-tail, member-cases}
 
 pub none-empty : {X : Type 0} (xs : List X) (x : X) → xs ≡ [] → ¬ Contains xs x
 none-empty xs x empty (k, within, is) = let none : length xs ≡ 0 = ap length empty in omega arith
-
-contains-here : {X : Type 0} (x y : X) (xs : List X) → x ≡ y → Contains (x ∷ xs) y
-contains-here x y xs same = (0, omega arith, same)
-
-contains-later : {X : Type 0} (x y : X) (xs : List X) → Contains xs y → Contains (x ∷ xs) y
-contains-later x y xs (k, within, is) = (suc k, omega arith, is)
-
-contains-cases : {X : Type 0} (x y : X) (xs : List X) → Contains (x ∷ xs) y → (x ≡ y) ⊎ Contains xs y
-contains-cases x y xs (zero, within, is) = inl is
-contains-cases x y xs (suc k, within, is) = inr (k, omega arith, is)
 
 -- a member of a list that fails, with its place
 pub record IsFailing {A : Type 0} (fails : A → Bool) (xs : List A) (k : ℕ) : Type 0 where
@@ -44,7 +29,7 @@ failing_from-member {A} fails n (x ∷ xs) m among = cases (fails x) refl among 
     cases : (t : Bool) → fails x ≡ t → Contains (if t then n ∷ failing_from fails (n + 1) xs else failing_from fails (n + 1) xs) m
         → (Contains (failing_from fails (n + 1) xs) m → (k : ℕ) × (m ≡ n + 1 + k) × IsFailing fails xs k)
         → (k : ℕ) × (m ≡ n + k) × IsFailing fails (x ∷ xs) k
-    cases true does among find = elim (contains-cases n m (failing_from fails (n + 1) xs) among) [
+    cases true does among find = elim (member-cases n (failing_from fails (n + 1) xs) m among) [
       | inl same ↦ (0, omega arith, record { value = x; is = refl; does = does })
       | inr rest ↦ later (find rest)
     ]
@@ -62,13 +47,13 @@ member-failing_from fails n (x ∷ xs) zero m found sum =
     let does : fails x ≡ true = ap fails same ∙ found.does in
     let here : n ≡ m = omega arith in
     let P : Bool → Type 0 = λ t. Contains (if t then n ∷ failing_from fails (n + 1) xs else failing_from fails (n + 1) xs) m in
-    subst P (sym does) (contains-here n m (failing_from fails (n + 1) xs) here)
+    subst P (sym does) (member-same n m (failing_from fails (n + 1) xs) here)
 member-failing_from fails n (x ∷ xs) (suc k) m found sum =
     cases (fails x) (member-failing_from fails (n + 1) xs k m (record { value = found.value; is = found.is; does = found.does }) (omega arith))
   where
     cases : (t : Bool) → Contains (failing_from fails (n + 1) xs) m
         → Contains (if t then n ∷ failing_from fails (n + 1) xs else failing_from fails (n + 1) xs) m
-    cases true among = contains-later n m (failing_from fails (n + 1) xs) among
+    cases true among = member-tail n (failing_from fails (n + 1) xs) m among
     cases false among = among
 
 -- two members of a list of which the earlier fails with the later
@@ -155,12 +140,3 @@ member-failing_pairs_from fails n (x ∷ xs) (suc i) (suc j) p found left right 
       second_is = found.second_is;
       fail = found.fail;
     }) (omega arith) (omega arith))
-
-pub member-any : {X : Type 0} (test : X → Bool) (xs : List X) → list_any test xs ≡ true → (x : X) × Contains xs x × (test x ≡ true)
-member-any test [] is = let never : ⊥ = cc in absurd never
-member-any {X} test (x ∷ xs) is = cases (test x) refl is (member-any test xs)
-  where
-    cases : (t : Bool) → test x ≡ t → (t || list_any test xs) ≡ true → (list_any test xs ≡ true → (y : X) × Contains xs y × (test y ≡ true))
-        → (y : X) × Contains (x ∷ xs) y × (test y ≡ true)
-    cases true passes is find = (x, contains-here x x xs refl, passes)
-    cases false not is find = let found : (y : X) × Contains xs y × (test y ≡ true) = find is in (found.0, contains-later x found.0 xs found.1, found.2)

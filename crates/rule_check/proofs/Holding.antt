@@ -1,8 +1,7 @@
-use Rattle.std.proofs.Common.{◌≡◌, ◌+◌, ◌≤ℤ◌, ℕ, List, [], ◌∷◌, Bool, true, false, ◌&&◌, ◌||◌, Option, Some, None, is_some, not, map, refl, ap, sym, ◌∙◌, cond, arith}
+use Rattle.std.proofs.Common.{◌≡◌, ◌+◌, ℕ, List, [], ◌∷◌, Bool, true, false, ◌&&◌, ◌||◌, Option, Some, None, is_some, not, map, refl, ap, sym, ◌∙◌, cond}
 use Rattle.std.specs.Prelude.{Contains, IfNone, IfSome, filter, int_le}
 use Rattle.std.specs.List.{enumerate_from, list_any}
 use Rattle.std.proofs.lemmas.Bool.{and_from, and_parts, false_from_ne_true}
-use Rattle.std.proofs.lemmas.Int.{ints}
 use Rattle.std.proofs.lemmas.List.Folds.{list_any_at, list_any_none}
 use Rattle.std.proofs.lemmas.List.Sorted.{list_any-IsPermutation}
 use Rattle.geom_core.specs.Extent.{Extent}
@@ -11,12 +10,7 @@ use Rattle.geom_core.specs.declared.layout.Shape.{Shape}
 use Rattle.close_rects.specs.RectSets.{IsHeldBy, NoneIn}
 use Rattle.rule_check.specs.Covers.{IsCoverOf, is_held}
 use Rattle.rule_check.specs.Narrow.{encloses, is_on}
-
-pub le-true : (a b : _) → a ≤ℤ b → int_le a b ≡ true
-le-true a b le = grind (arith, ints)
-
-pub true-le : (a b : _) → int_le a b ≡ true → a ≤ℤ b
-true-le a b is = grind (arith, ints)
+use Rattle.std_laws.proofs.Integers.{le-true, true-le}
 
 -- the test whether a rectangle lies in another
 pub encloses-true : (outer inner : Extent) → Encloses outer inner → encloses outer inner ≡ true

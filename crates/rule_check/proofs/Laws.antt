@@ -1,4 +1,3 @@
--- what the definitions mean for those who check a layout by them
 use Rattle.std.proofs.Common.{◌≡◌, ◌≢◌, ◌+◌, ◌<◌, ◌+ℤ◌, ◌↔◌, ℕ, ℤ, pos, List, [], Bool, true, false, ◌&&◌, not, Some, refl, ap, subst, sym, ◌∙◌, inl, inr, arith}
 use Rattle.std.specs.Prelude.{All, Contains, int_le}
 use Rattle.std.specs.List.{slice_get}
@@ -6,7 +5,6 @@ use Rattle.std.specs.Ordering.{int_eq}
 use Rattle.std.proofs.lemmas.Bool.{both_ways, and_from, and_parts, cases_order, false_from_ne_true, not-false, or_from, or_parts}
 use Rattle.std.proofs.lemmas.Bool.Decides.{Decides-int_eq}
 use Rattle.std.proofs.lemmas.Slice.Eq.{bytes_eq-Decides}
-use Rattle.list_facts.proofs.Members.{all-get, get-contains, any-member, member-place}
 use Rattle.geom_core.specs.Extent.{Extent}
 use Rattle.geom_core.specs.Rectangles.{Apart, HasSides, IsSquare, grown}
 use Rattle.geom_core.specs.declared.layout.Layout.{Layout}
@@ -21,8 +19,12 @@ use Rattle.rule_check.specs.Crowded.{are_out_of_row, do_overlap}
 use Rattle.rule_check.specs.Failing.{failing, failing_pairs}
 use Rattle.rule_check.specs.Narrow.{encloses, has_sides, is_bare, is_covered, is_narrow, is_on, is_square}
 use Rattle.rule_check.proofs.RowGaps.{AreRows, apart-back, apart-close, close-apart, level-rows, rows-back, rows-level}
-use Rattle.rule_check.proofs.Holding.{encloses-true, le-true, true-encloses, true-le}
-use Rattle.rule_check.proofs.FailingLaws.{IsFailing, member-any, IsFailingPair, empty-none, failing_from-member, failing_pairs_from-member, member-failing_from, member-failing_pairs_from, none-empty}
+use Rattle.rule_check.proofs.Holding.{encloses-true, true-encloses}
+use Rattle.rule_check.proofs.FailingLaws.{IsFailing, IsFailingPair, failing_from-member, failing_pairs_from-member, member-failing_from, member-failing_pairs_from, none-empty}
+use Rattle.std_laws.proofs.Members.{all-get, get-contains, any-member, member-place, any-cases, empty-none}
+use Rattle.std_laws.proofs.Integers.{le-true, true-le}
+
+-- what the definitions mean for those who check a layout by them
 
 -- the numbers of those that fail
 pub failing-contains : {A : Type 0} (fails : A → Bool) (xs : List A) (k : ℕ) → Contains (failing fails xs) k ↔ IsFailing fails xs k
@@ -118,7 +120,7 @@ covered-true r l layer cut covered =
 true-covered : (r : RuleValues) (l : Layout) (layer : List ℕ) (cut : Shape) → is_covered r l.shapes layer cut ≡ true → IsCovered r l layer cut
 true-covered r l layer cut is =
     let found : (s : Shape) × Contains l.shapes s × ((is_on layer s && encloses s.rect (grown (length_in r r.cut.enclose) cut.rect)) ≡ true) =
-    member-any (λ (s : Shape). is_on layer s && encloses s.rect (grown (length_in r r.cut.enclose) cut.rect)) l.shapes is in
+    any-cases (λ (s : Shape). is_on layer s && encloses s.rect (grown (length_in r r.cut.enclose) cut.rect)) l.shapes is in
     let both : (is_on layer found.0 ≡ true) × (encloses found.0.rect (grown (length_in r r.cut.enclose) cut.rect) ≡ true) = and_parts _ _ found.2 in
     record {
       cover = found.0;

@@ -1,13 +1,11 @@
-use Rattle.std.proofs.Common.{◌≡◌, ◌≢◌, ◌+◌, ◌*◌, ◌≤◌, ◌≤ℤ◌, ◌+ℤ◌, ◌-ℤ◌, ℕ, ℤ, pos, negsuc, List, Bool, true, false, if◌then◌else◌, ◌&&◌, ◌||◌, not, eqb, Option, Some, None, refl, ap, subst, sym, ◌∙◌, arith}
+use Rattle.std.proofs.Common.{◌≡◌, ◌+◌, ◌*◌, ◌≤◌, ◌≤ℤ◌, ◌+ℤ◌, ◌-ℤ◌, ℕ, ℤ, pos, negsuc, List, Bool, true, false, if◌then◌else◌, ◌&&◌, ◌||◌, not, eqb, Option, Some, None, refl, ap, subst, sym, ◌∙◌, arith}
 use Rattle.std.specs.Prelude.{All, int_lt}
 use Rattle.std.specs.List.{zip}
 use Rattle.std.specs.Option.{option_map}
 use Rattle.std.specs.Str.{bytes_eq}
-use Rattle.std.proofs.lemmas.Bool.{and_right, false_from_ne_true}
+use Rattle.std.proofs.lemmas.Bool.{and_right}
 use Rattle.std.proofs.lemmas.Int.{ints}
-use Rattle.std.proofs.lemmas.Slice.Eq.{bytes_eq-Decides}
 use Rattle.std.proofs.Math.Nat.{mul-le-mul}
-use Rattle.list_facts.proofs.Members.{all-get}
 use Rattle.geom_core.specs.Extent.{Extent}
 use Rattle.geom_core.specs.Reach.{IsExtentInReach, IsExtentInWideReach, IsShapeInReach}
 use Rattle.geom_core.specs.Rectangles.{gap, gap_between}
@@ -23,10 +21,12 @@ use Rattle.rule_check.specs.Members.{height_of, layer_of, member_on, members_fro
 use Rattle.rule_check.specs.Narrow.{is_on}
 use Rattle.rule_check.specs.declared.wires.Layer.{Layer}
 use Rattle.rule_check.specs.declared.wires.Layer.TheVariants.{Horizontal, Vertical, Cut}
-use Rattle.rule_check.proofs.Crowding.{at-zip, crowds-failing, do_crowd, members-reach}
-
-lt-raised : (a b by : ℤ) → int_lt (a +ℤ by) (b +ℤ by) ≡ int_lt a b
-lt-raised a b by = grind (arith, ints)
+use Rattle.rule_check.proofs.Crowding.{crowds-failing, do_crowd, members-reach}
+use Rattle.std_laws.proofs.Members.{all-get}
+use Rattle.std_laws.proofs.Zips.{at-zip}
+use Rattle.std_laws.proofs.Tests.{or-false, not-and}
+use Rattle.std_laws.proofs.Integers.{lt-raised}
+use Rattle.std_laws.proofs.Bytes.{bytes-other}
 
 -- rectangles raised to one height keep their gaps
 gap_between-raised : (low high other_low other_high by : ℤ)
@@ -118,20 +118,15 @@ exclusive false true c hv hc vc = (refl, refl, vc refl)
 exclusive false false true hv hc vc = (refl, refl, refl)
 exclusive false false false hv hc vc = (refl, refl, refl)
 
-other-name : (name a b : List ℕ) → a ≢ b → bytes_eq name a ≡ true → bytes_eq name b ≡ false
-other-name name a b apart is =
-    false_from_ne_true (bytes_eq name b)
-    (λ too. apart (sym ((bytes_eq-Decides name a).0 is) ∙ (bytes_eq-Decides name b).0 too))
-
 -- a name is that of the layer that is found by it
 layers-apart : (r : RuleValues) (name : List ℕ) → AreDifferent r
     → (bytes_eq name r.horizontal.layer ≡ has (layer_of r name) Horizontal) × (bytes_eq name r.vertical.layer ≡ has (layer_of r name) Vertical)
     × (bytes_eq name r.cut.layer ≡ has (layer_of r name) Cut)
 layers-apart r name different =
     exclusive (bytes_eq name r.horizontal.layer) (bytes_eq name r.vertical.layer) (bytes_eq name r.cut.layer)
-    (other-name name r.horizontal.layer r.vertical.layer different.horizontal_vertical)
-    (other-name name r.horizontal.layer r.cut.layer different.horizontal_cut)
-    (other-name name r.vertical.layer r.cut.layer different.vertical_cut)
+    (bytes-other name r.horizontal.layer r.vertical.layer different.horizontal_vertical)
+    (bytes-other name r.horizontal.layer r.cut.layer different.horizontal_cut)
+    (bytes-other name r.vertical.layer r.cut.layer different.vertical_cut)
 
 -- two shapes of classes on layers, one of which both have
 abbrev crowd_test : Bool → Option Layer → Option Layer → Bool → Bool → Bool → Bool
@@ -152,10 +147,6 @@ is_close-layers r Vertical Horizontal a b valid first second = far-below _ _ _ a
 is_close-layers r Vertical Cut a b valid first second = far-above _ _ _ a b (space-short r Vertical valid) first second (omega (arith, ints))
 is_close-layers r Cut Horizontal a b valid first second = far-below _ _ _ a b (space-short r Cut valid) first second (omega (arith, ints))
 is_close-layers r Cut Vertical a b valid first second = far-below _ _ _ a b (space-short r Cut valid) first second (omega (arith, ints))
-
-or-false : (x : Bool) → (x || false) ≡ x
-or-false true = refl
-or-false false = refl
 
 -- that of three values which is the layer's
 abbrev of_layer : Layer → Bool → Bool → Bool → Bool
@@ -183,10 +174,6 @@ no-layer : (p : Layer) (x y z : Bool)
 no-layer Horizontal x y z = refl
 no-layer Vertical x y z = refl
 no-layer Cut x y z = refl
-
-pub unless : (same t : Bool) → (not same && t) ≡ (if same then false else t)
-unless true t = refl
-unless false t = refl
 
 -- two shapes are too close exactly where their members crowd
 pub too-close-members : (r : RuleValues) (n m : ℕ) (a b : ℕ × Shape) → ValidRules r → IsShapeInReach a.1 → IsShapeInReach b.1
@@ -241,7 +228,7 @@ too-close-members r n m a b valid first second = tests ∙ cases (layer_of r a.1
     cases (Some p) None = and_right _ _ (no-layer p (close Horizontal) (close Vertical) (close Cut))
     cases (Some p) (Some q) =
         ap (λ t. not (eqb a.0 b.0) && t) (one-layer p q (close Horizontal) (close Vertical) (close Cut) ∙ ap (λ t. has (Some p) q && t) (picked p))
-        ∙ unless (eqb a.0 b.0) (has (Some p) q && close p)
+        ∙ not-and (eqb a.0 b.0) (has (Some p) q && close p)
         ∙ ap (λ t. if eqb a.0 b.0 then false else t) (sym (is_close-layers r p q a.1.rect b.1.rect valid first second))
       where
         picked : (p : Layer) → of_layer p (close Horizontal) (close Vertical) (close Cut) ≡ close p

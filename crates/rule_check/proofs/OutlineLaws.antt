@@ -7,7 +7,6 @@ use Rattle.std.proofs.lemmas.Bool.{cases_lt, and_from, and_parts, eqb-false, eqb
 use Rattle.std.proofs.lemmas.Bool.Decides.{Decides-int_eq}
 use Rattle.std.proofs.lemmas.Int.{ints}
 use Rattle.std.proofs.lemmas.Option.{get_or_from_slice_get}
-use Rattle.list_facts.proofs.Members.{all-get}
 use Rattle.geom_core.specs.Extent.{Extent}
 use Rattle.geom_core.specs.Reach.{IsShapeInReach}
 use Rattle.geom_core.specs.Rectangles.{gap}
@@ -21,8 +20,10 @@ use Rattle.rule_check.specs.Failing.{failing_from, failing_pairs, failing_pairs_
 use Rattle.rule_check.specs.Heights.{AreNumbersOf, heights_of}
 use Rattle.rule_check.specs.Members.{flat, members_from, outline_member, row_member}
 use Rattle.rule_check.specs.Narrow.{is_on}
-use Rattle.rule_check.proofs.Crowding.{at-zip, crowds-failing, do_crowd, members-reach}
-use Rattle.rule_check.proofs.Layers.{unless}
+use Rattle.rule_check.proofs.Crowding.{crowds-failing, do_crowd, members-reach}
+use Rattle.std_laws.proofs.Members.{all-get}
+use Rattle.std_laws.proofs.Zips.{at-zip}
+use Rattle.std_laws.proofs.Tests.{not-and}
 
 -- two outlines overlap exactly where their members crowd
 overlap-members : (r : RuleValues) (n m : ℕ) (s t : Shape) → n < m
@@ -116,7 +117,7 @@ row-members r n m a b exact = cases (is_on r.outline.layer a.1) refl (is_on r.ou
     cases false first q second = refl
     cases true first false second = refl
     cases true first true second =
-        unless (are_level a.1.rect b.1.rect) (int_lt (gap a.1.rect b.1.rect).1 (pos 0))
+        not-and (are_level a.1.rect b.1.rect) (int_lt (gap a.1.rect b.1.rect).1 (pos 0))
         ∙ ap (λ t. if t then false else int_lt (gap a.1.rect b.1.rect).1 (pos 0)) (level-numbers a.1.rect b.1.rect a.0 b.0 (exact first second))
 
 row-own : (r : RuleValues) (n : ℕ) (a : ℕ × Shape) (member : Member) → row_member r n a ≡ Some member → member.number ≡ n

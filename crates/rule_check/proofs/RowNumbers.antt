@@ -1,29 +1,12 @@
-use Rattle.std.proofs.Common.{◌≡◌, ◌+◌, ◌<◌, ◌<ℤ◌, ℕ, ℤ, Bool, true, false, cond, Some, None, Ordering, refl, ap, sym, ◌∙◌, arith}
+use Rattle.std.proofs.Common.{◌≡◌, ◌+◌, ◌<◌, ℕ, ℤ, Bool, true, false, cond, Some, None, Ordering, refl, ap, sym, ◌∙◌, arith}
 use Rattle.std.specs.BTreeMap.{btree_map_len}
-use Rattle.std.specs.Ordering.{MatchOrdering, int_cmp, is_eq, ordering_then}
+use Rattle.std.specs.Ordering.{int_cmp, is_eq, ordering_then}
 use Rattle.std.specs.declared.cmp.Ordering.TheVariants.{Less, Equal, Greater}
-use Rattle.std.proofs.lemmas.Cmp.{int_ranked}
-use Rattle.std.proofs.lemmas.Int.{ints}
 use Rattle.rule_check.specs.Heights.{AreRows, Rows, row_at}
+use Rattle.std_laws.proofs.Integers.{int_equal, int_same}
 
 abbrev pub heights_cmp : ℤ × ℤ → ℤ × ℤ → Ordering
 heights_cmp x y = ordering_then (int_cmp x.0 y.0) (int_cmp x.1 y.1)
-
-int_equal : (x y : ℤ) → int_cmp x y ≡ Equal → x ≡ y
-int_equal x y is = go (int_cmp x y) is (int_ranked x y (int_cmp x y) refl)
-  where
-    go : (r : Ordering) → r ≡ Equal → MatchOrdering r (x <ℤ y) (x ≡ y) (y <ℤ x) → x ≡ y
-    go Less is ranked = let never : ⊥ = cc in absurd never
-    go Equal is ranked = ranked
-    go Greater is ranked = let never : ⊥ = cc in absurd never
-
-int_same : (x : ℤ) → int_cmp x x ≡ Equal
-int_same x = go (int_cmp x x) (int_ranked x x (int_cmp x x) refl)
-  where
-    go : (r : Ordering) → MatchOrdering r (x <ℤ x) (x ≡ x) (x <ℤ x) → r ≡ Equal
-    go Less ranked = absurd (omega (arith, ints, ranked))
-    go Equal ranked = refl
-    go Greater ranked = absurd (omega (arith, ints, ranked))
 
 -- heights that compare as equal are equal
 pub heights-equal : (g h : ℤ × ℤ) → is_eq (heights_cmp g h) ≡ true → g ≡ h

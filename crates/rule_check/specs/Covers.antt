@@ -1,3 +1,4 @@
+-- the rectangles of a layer's shapes, and whether one holds a given one
 use Rattle.std.specs.Prelude.{ℕ, List, Bool, map, filter}
 use Rattle.std.specs.List.{enumerate_from, list_any}
 use Rattle.std.specs.List.Sorted.{IsPermutation}

@@ -1,3 +1,4 @@
+-- shapes that are too close, and outlines that overlap or are out of row
 use Rattle.std.specs.Prelude.{ℕ, pos, int_lt, List, Bool, not, ◌&&◌, ◌||◌, ◌==◌}
 use Rattle.std.specs.Ordering.{int_eq}
 use Rattle.close_rects.specs.ClosePairs.{is_close}

@@ -1,3 +1,4 @@
+-- the members of a list that fail, and the pairs of members that fail with each other
 use Rattle.std.specs.Prelude.{◌≡◌, ℕ, ◌+◌, List, [], ◌∷◌, ◌++◌, length, map, take, nat_le, Bool, if◌then◌else◌}
 use Rattle.limits.specs.declared.TheConstants.{MOST_PAIRS}
 use Rattle.rule_check.specs.declared.pairs.Pairs.{Pairs}

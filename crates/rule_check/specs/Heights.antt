@@ -1,3 +1,4 @@
+-- rows by the heights at which they begin and end
 use Rattle.std.specs.Prelude.{◌≡◌, ◌<◌, ◌↔◌, ℕ, ℤ, List, length, Option, Some, true}
 use Rattle.std.specs.List.{slice_get, slice_index}
 use Rattle.std.specs.BTreeMap.{BTreeMap, btree_map_len, get}

@@ -1,3 +1,4 @@
+-- shapes that are too narrow, and cuts that are not enclosed
 use Rattle.std.specs.Prelude.{ℕ, ℤ, ◌+ℤ◌, int_le, List, Bool, not, ◌&&◌, ◌||◌}
 use Rattle.std.specs.List.{list_any}
 use Rattle.std.specs.Ordering.{int_eq}

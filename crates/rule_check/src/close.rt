@@ -1,3 +1,5 @@
+//! Wires or cuts of one layer that are not joined and lie closer than the layer's space.
+
 ghost use Rattle.rule_check.specs.Crowded.{are_too_close};
 ghost use Rattle.rule_check.specs.Failing.{failing_pairs, AreFirstOf};
 ghost use Rattle.std.specs.List.{zip};

@@ -1,3 +1,5 @@
+//! Whether a cut lies, with what has to enclose it, in one wire of each layer.
+
 ghost use Rattle.geom_core.specs.declared.layout.Shape.{Shape};
 ghost use Rattle.geom_core.specs.Reach.{IsShapeInReach};
 ghost use Rattle.rule_check.specs.Covers.{IsCoverOf, is_held};
@@ -11,7 +13,7 @@ use std::alloc::{AllocError, Global};
 use tech_rules::Rules;
 
 // The rectangles of the shapes of a layer of the mask.
-pub fn wires_on(alloc: Global, mask: &Mask, layer: &LayerName) -> Result<RectSet, AllocError>
+pub(crate) fn wires_on(alloc: Global, mask: &Mask, layer: &LayerName) -> Result<RectSet, AllocError>
     ensures { IfOk result (IsCoverOf layer.now mask.now) }
 {
     let rects = rects_on(alloc, mask.shapes(), layer)?;
@@ -29,7 +31,12 @@ fn rects_on(alloc: Global, shapes: &[Shape], layer: &LayerName) -> Result<Vec<Re
 }
 
 // Whether a shape is a cut that does not lie, with what has to enclose it, in one of the wires of each layer.
-pub fn is_bare(rules: &Rules, horizontal: &RectSet, vertical: &RectSet, shape: &Shape) -> bool
+pub(crate) fn is_bare(
+    rules: &Rules,
+    horizontal: &RectSet,
+    vertical: &RectSet,
+    shape: &Shape,
+) -> bool
     requires { IsShapeInReach shape.now }
     ensures { (shapes : List Shape) → IsCoverOf rules.now.horizontal.layer shapes horizontal.now
         → IsCoverOf rules.now.vertical.layer shapes vertical.now → result ≡ is_bare rules.now shapes shape.now }

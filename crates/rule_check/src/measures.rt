@@ -1,3 +1,5 @@
+//! Lengths in half centimicrons, rectangles compared with them, and rectangles grown by them.
+
 ghost use Rattle.geom_core.specs.Reach.{IsExtentInReach, IsInReach};
 ghost use Rattle.geom_core.specs.Rectangles.{grown};
 ghost use Rattle.rule_check.specs.Narrow.{has_sides, is_on, is_square};
@@ -10,7 +12,7 @@ use limits::MOST_LENGTH;
 use tech_rules::Rules;
 
 // A length in half centimicrons.
-pub fn length_in(rules: &Rules, units: u32) -> i64
+pub(crate) fn length_in(rules: &Rules, units: u32) -> i64
     ensures is { result ≡ length_in rules.now units }
     ensures low { pos 0 ≤ℤ result }
     ensures high { units ≤ MOST_LENGTH → result ≤ℤ pos 2000000 }
@@ -18,14 +20,14 @@ pub fn length_in(rules: &Rules, units: u32) -> i64
     2 * i64::from(units) * i64::from(rules.grid.centi)
 }
 
-pub fn is_on(layer: &LayerName, shape: &Shape) -> bool
+pub(crate) fn is_on(layer: &LayerName, shape: &Shape) -> bool
     ensures { result ≡ is_on layer.now shape.now }
 {
     shape.layer.text() == layer.text()
 }
 
 // Whether both sides are at least this long.
-pub fn has_sides(side: i64, rect: &Rect) -> bool
+pub(crate) fn has_sides(side: i64, rect: &Rect) -> bool
     ensures { result ≡ has_sides side rect.now }
 {
     let across = reaches(rect.x0, side, rect.x1);
@@ -33,7 +35,7 @@ pub fn has_sides(side: i64, rect: &Rect) -> bool
     across && up
 }
 
-pub fn is_square(side: i64, rect: &Rect) -> bool
+pub(crate) fn is_square(side: i64, rect: &Rect) -> bool
     ensures { result ≡ is_square side rect.now }
 {
     let across = fills(rect.x0, side, rect.x1);
@@ -42,7 +44,7 @@ pub fn is_square(side: i64, rect: &Rect) -> bool
 }
 
 // Where a stretch of this length ends.
-#[tactic(auto, using(geom_core::proofs::Signed::read_back, std::proofs::lemmas::Int::ints))]
+#[tactic(auto, using(std_laws::proofs::Integers::read_back, std::proofs::lemmas::Int::ints))]
 fn end_of(low: i64, length: i64) -> i128
     ensures { result ≡ low +ℤ length }
 {
@@ -50,7 +52,7 @@ fn end_of(low: i64, length: i64) -> i128
 }
 
 // Whether a stretch is at least this long.
-#[tactic(auto, using(geom_core::proofs::Signed::read_back, std::proofs::lemmas::Int::ints))]
+#[tactic(auto, using(std_laws::proofs::Integers::read_back, std::proofs::lemmas::Int::ints))]
 fn reaches(low: i64, length: i64, high: i64) -> bool
     ensures { result ≡ int_le (low +ℤ length) high }
 {
@@ -58,7 +60,7 @@ fn reaches(low: i64, length: i64, high: i64) -> bool
 }
 
 // Whether a stretch is just this long.
-#[tactic(auto, using(geom_core::proofs::Signed::read_back, std::proofs::lemmas::Int::ints))]
+#[tactic(auto, using(std_laws::proofs::Integers::read_back, std::proofs::lemmas::Int::ints))]
 fn fills(low: i64, length: i64, high: i64) -> bool
     ensures { result ≡ int_eq (low +ℤ length) high }
 {
@@ -66,7 +68,7 @@ fn fills(low: i64, length: i64, high: i64) -> bool
 }
 
 // A rectangle that reaches further on each side.
-pub fn grown(rect: &Rect, by: i64) -> Rect
+pub(crate) fn grown(rect: &Rect, by: i64) -> Rect
     requires reach { IsExtentInReach rect.now }
     requires low { pos 0 ≤ℤ by }
     requires high { by ≤ℤ pos 2000000 }

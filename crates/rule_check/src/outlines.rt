@@ -1,3 +1,5 @@
+//! Outlines that overlap, and outlines of different rows that share an inner height.
+
 ghost use Rattle.geom_core.specs.declared.layout.Shape.{Shape};
 ghost use Rattle.rule_check.specs.Crowded.{are_out_of_row, do_overlap};
 ghost use Rattle.rule_check.specs.Failing.{failing_pairs, AreFirstOf};

@@ -1,3 +1,5 @@
+//! The first thousand pairs of shapes that break a rule, and whether they are all.
+
 ghost use Rattle.close_rects.specs.Crowds.{KeepsInReach, crowds_of};
 ghost use Rattle.rule_check.specs.Failing.{AreFirstOf};
 ghost use Rattle.std.specs.Option.{option_to_list};
@@ -15,7 +17,7 @@ pub struct Pairs {
 }
 
 // The first thousand pairs of members that are too close.
-pub fn crowded(alloc: Global, members: &[Member]) -> Result<Pairs, AllocError>
+pub(crate) fn crowded(alloc: Global, members: &[Member]) -> Result<Pairs, AllocError>
     requires few { length members.now < 2 ^ 32 }
     requires reach { All KeepsInReach members.now }
     ensures { IfOk result (AreFirstOf (crowds_of members.now)) }
@@ -27,7 +29,7 @@ pub fn crowded(alloc: Global, members: &[Member]) -> Result<Pairs, AllocError>
 }
 
 // Puts a member at the end of a list, if there is one.
-pub fn push_made(members: &mut Vec<Member>, made: Option<Member>) -> Result<(), AllocError>
+pub(crate) fn push_made(members: &mut Vec<Member>, made: Option<Member>) -> Result<(), AllocError>
     ensures { OnOk result (members.new.items ≡ members.old.items ++ option_to_list made) }
 {
     if let Some(member) = made {

@@ -1,3 +1,5 @@
+//! Wires below their layer's width, cuts of another size than the rule's, and cuts that are not enclosed.
+
 ghost use Rattle.rule_check.specs.Failing.{failing};
 ghost use Rattle.rule_check.specs.Narrow.{has_sides, is_bare, is_narrow, is_on};
 ghost use Rattle.tech_rules.specs.Lengths.{length_in};

@@ -1,3 +1,5 @@
+//! Wires and cuts with the space that each keeps, the layers raised to lie far apart.
+
 ghost use Rattle.geom_core.specs.Reach.{IsExtentInReach, IsShapeInReach};
 ghost use Rattle.rule_check.specs.Members.{height_of, layer_of, members_from, raised, space_of, wire_member};
 ghost use Rattle.std.specs.List.{zip};
@@ -12,14 +14,14 @@ use tech_rules::Rules;
 
 // A layer whose shapes keep a space.
 #[derive(Clone, Copy, Debug, PartialEq, Eq)]
-pub enum Layer {
+pub(crate) enum Layer {
     Horizontal,
     Vertical,
     Cut,
 }
 
 // The shapes of these layers, each with its class, as members that keep their layer's space.
-pub fn wire_members(
+pub(crate) fn wire_members(
     alloc: Global,
     mask: &Mask,
     rules: &Rules,

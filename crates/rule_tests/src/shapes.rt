@@ -9,7 +9,7 @@ use tech_rules::Rules;
 
 /// A layer of the rules.
 #[derive(Clone, Copy)]
-pub enum On {
+pub(crate) enum On {
     Horizontal,
     Vertical,
     Cut,
@@ -17,10 +17,10 @@ pub enum On {
 }
 
 /// A shape in a table: its layer, its lower left corner, its width and its height.
-pub type Placed = (On, u32, u32, u32, u32);
+pub(crate) type Placed = (On, u32, u32, u32, u32);
 
 // A rectangle whose lower left corner is at a place.
-pub fn shape(layer: LayerName, x: u32, y: u32, width: u32, height: u32) -> Shape
+pub(crate) fn shape(layer: LayerName, x: u32, y: u32, width: u32, height: u32) -> Shape
     requires across { 0 < width }
     requires up { 0 < height }
     ensures { IsShapeInReach result }
@@ -36,7 +36,7 @@ pub fn shape(layer: LayerName, x: u32, y: u32, width: u32, height: u32) -> Shape
     }
 }
 
-pub fn layer_of(rules: &Rules, on: On) -> LayerName {
+pub(crate) fn layer_of(rules: &Rules, on: On) -> LayerName {
     match on {
         On::Horizontal => rules.horizontal.layer,
         On::Vertical => rules.vertical.layer,
@@ -54,7 +54,11 @@ fn shape_at(rules: &Rules, placed: &Placed) -> Shape
 }
 
 // The shapes of a table.
-pub fn shapes_of(alloc: Global, rules: &Rules, table: &[Placed]) -> Result<Vec<Shape>, AllocError>
+pub(crate) fn shapes_of(
+    alloc: Global,
+    rules: &Rules,
+    table: &[Placed],
+) -> Result<Vec<Shape>, AllocError>
     ensures len { IfOk result (λ v. length v.items ≡ length table.now) }
     ensures reach { IfOk result (λ v. All IsShapeInReach v.items) }
 {
@@ -66,7 +70,7 @@ pub fn shapes_of(alloc: Global, rules: &Rules, table: &[Placed]) -> Result<Vec<S
 }
 
 // So many squares, of which each begins a step right of and above the one before.
-pub fn stairs(
+pub(crate) fn stairs(
     alloc: Global,
     layer: LayerName,
     count: usize,
@@ -89,7 +93,7 @@ pub fn stairs(
 }
 
 // Squares in rows and columns, which touch where their side is the pitch.
-pub fn grid(
+pub(crate) fn grid(
     alloc: Global,
     layer: LayerName,
     rows: usize,
@@ -118,7 +122,7 @@ pub fn grid(
 }
 
 // Numbers from 0 on, of which those from place `own` on are their places and the others are 0.
-pub fn numbers(alloc: Global, count: usize, own: usize) -> Result<Vec<u32>, AllocError>
+pub(crate) fn numbers(alloc: Global, count: usize, own: usize) -> Result<Vec<u32>, AllocError>
     requires { count < 2 ^ 32 }
     ensures { IfOk result (λ v. length v.items ≡ count) }
 {

@@ -1,3 +1,4 @@
+-- the sample rules
 use Rattle.std.specs.Prelude.{codes}
 use Rattle.tech_rules.specs.Rules.{RuleValues}
 use Rattle.tech_rules.specs.declared.sections.StartBy.TheVariants.{Width}

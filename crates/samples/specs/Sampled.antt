@@ -1,3 +1,4 @@
+-- the design of a text under the sample rules
 use Rattle.std.specs.Prelude.{◌≡◌, ℕ, List, Ok}
 use Rattle.samples.specs.Sample.{sample}
 use Rattle.yal_reader.specs.YalReads.{yal_reads}

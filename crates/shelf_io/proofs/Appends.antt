@@ -1,7 +1,6 @@
-use Rattle.std.proofs.Common.{◌≡◌, ◌≤◌, ◌+◌, ◌++◌, ◌∙◌, sym, ap, refl, ℕ, List, Option, Some, None, Result, Ok, Err, OnErr, length, min, take}
-use Rattle.std.proofs.Common.{arith, append_assoc, length-take}
+use Rattle.std.proofs.Common.{◌≡◌, ◌+◌, ◌++◌, ◌∙◌, sym, ap, refl, ℕ, List, Option, Some, None, length, min, take, arith, append_assoc}
 use Rattle.std.proofs.Math.Seq.{take-append-add}
-use Rattle.std.proofs.lemmas.List.{take-append-le, take-take, take_min}
+use Rattle.std.proofs.lemmas.List.{take-append-le, take_min}
 use Rattle.shelf_io.specs.Told.{EndsWithin, Refines, appended}
 
 -- two appends are one of both pieces
@@ -16,10 +15,6 @@ appended-twice (Some start) (Some held) third x y one two = λ bytes at.
     let front : start ++ x ≡ held = cc (one held refl) in
     let whole : held ++ y ≡ bytes = cc (two bytes at) in
     ap (λ (l : List ℕ). Some l) (sym (append_assoc start x y) ∙ ap (λ (l : List ℕ). l ++ y) front ∙ whole)
-
--- what fits in a front of a list is a front of the list
-pub front_of_front : (n k : ℕ) (xs : List ℕ) → n ≤ length (take k xs) → take n (take k xs) ≡ take n xs
-front_of_front n k xs fits = take-take n k xs (omega (arith, fits, length-take k xs))
 
 -- what was put in two parts is the text of both
 pub both-whole : (before mid after : Option (List ℕ)) (x y text : List ℕ) → x ++ y ≡ text
@@ -54,8 +49,3 @@ second-front (Some start) (Some middle) after x y text is one ends held at =
       ap (λ (l : List ℕ). Some l) (ap (λ (l : List ℕ). start ++ l) reach ∙ sym (append_assoc start x (take found.0 y))
           ∙ ap (λ (l : List ℕ). l ++ take found.0 y) front ∙ whole),
     )
-
--- what holds holds where a call failed
-pub on-err : {T E : Type 0} (result : Result T E) (P : Type 0) → P → OnErr result P
-on-err (Ok done) P p = tt
-on-err (Err failed) P p = p

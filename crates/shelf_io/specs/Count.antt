@@ -1,3 +1,4 @@
+-- when a count of faults has risen, and when it has not
 use Rattle.std.specs.Prelude.{◌≡◌, ◌≢◌, ◌<◌, ◌-◌, ◌+◌, min, ◌^◌, ℕ}
 
 -- a count rose, or stood at the last value of a u64

@@ -1,3 +1,4 @@
+-- files in memory
 use Rattle.std.specs.Prelude.{ℕ, List, Option, Vec, String, option_map}
 use Rattle.std.specs.BTreeMap.{BTreeMap, get_by_text}
 

@@ -1,3 +1,4 @@
+-- the answers of `load`
 use Rattle.std.specs.Prelude.{Result, Ok, Err}
 use Rattle.shelf_io.specs.declared.loading.LoadFault.{LoadFault}
 use Rattle.shelf_io.specs.declared.loading.LoadFault.TheVariants.{ReadFault, TooLong, Memory}

@@ -1,3 +1,4 @@
+-- the shelf in memory
 use Rattle.std.specs.Prelude.{◌≡◌, ◌-◌, Bool, true, false, ℕ, List, length, min, Option, Some, None, Result, Ok, Err}
 use Rattle.shelf_io.specs.Files as files
 use Rattle.shelf_io.specs.declared.traits.Failed.{Failed}

@@ -1,3 +1,4 @@
+-- the sink in memory
 use Rattle.std.specs.Prelude.{ℕ, List}
 use Rattle.shelf_io.specs.declared.plan.Plan.{Plan}
 use Rattle.shelf_io.specs.declared.mem_sink.MemSink.{MemSink}

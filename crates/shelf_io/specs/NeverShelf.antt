@@ -1,3 +1,4 @@
+-- the shelf that never fails
 use Rattle.std.specs.Prelude.{◌-◌, ℕ, List, length, min, Option, Some, None}
 use Rattle.shelf_io.specs.Files as files
 use Rattle.shelf_io.specs.declared.never.NeverShelf.{NeverShelf}

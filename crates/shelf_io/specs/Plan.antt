@@ -1,3 +1,4 @@
+-- the failures that an object in memory is told to make
 use Rattle.std.specs.Prelude.{◌==◌, Bool}
 use Rattle.std.specs.List.{list_any}
 use Rattle.shelf_io.specs.Count.{raised}

@@ -1,3 +1,4 @@
+-- what a shelf or a sink tells of its bytes, before a call and after it
 use Rattle.std.specs.Prelude.{◌≡◌, ◌⊎◌, ◌≤◌, ◌+◌, ◌++◌, ◌↔◌, ℕ, List, [], length, take, drop, Option, Some, None}
 
 -- what the first tells, the second says too

@@ -1,3 +1,4 @@
+-- the name of each style, what it may choose, and the sweeps that it tries
 use Rattle.std.specs.Prelude.{◌≡◌, ◌+◌, ℕ, List, [], ◌∷◌, codes, length}
 use Rattle.choose_core.specs.Styles.{IsDeft, IsFirstLeast, IsLean, gap_of}
 use Rattle.choose_core.specs.declared.candidate.Candidate.{Candidate}

@@ -1,3 +1,5 @@
+//! Five styles, `best`, `deft`, `near`, `lean` and `high`: the choice of each, and its sweeps.
+
 use choose_core::{Candidate, Manner, Plan, deft, high, lean, near};
 use geom_core::Items;
 use std::alloc::{AllocError, Global};

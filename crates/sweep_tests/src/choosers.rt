@@ -10,7 +10,7 @@ use std::test::Fail;
 use stock_styles::Stock;
 
 /// The chooser of a style in stock.
-pub fn chooser_of(alloc: Global, stock: Stock) -> Result<Chooser, Fail> {
+pub(crate) fn chooser_of(alloc: Global, stock: Stock) -> Result<Chooser, Fail> {
     let choice: Choice = Box::new(
         alloc,
         move |list: &[Candidate]| -> usize
@@ -22,7 +22,7 @@ pub fn chooser_of(alloc: Global, stock: Stock) -> Result<Chooser, Fail> {
 }
 
 /// The style `near`, which tries sweeps of these shares in the published manner.
-pub fn near_style(alloc: Global, first: u32, others: &[u32]) -> Result<Style, Fail> {
+pub(crate) fn near_style(alloc: Global, first: u32, others: &[u32]) -> Result<Style, Fail> {
     Ok(Style {
         chooser: chooser_of(alloc, Stock::Near)?,
         plan: Plan {

@@ -160,7 +160,11 @@ fn is_one_net(alloc: Global, elements: &[Element], first: usize) -> Result<bool,
 
 /// Whether a wiring connects a channel: it has the channel's columns, its elements are on the grid and are of the channel's nets,
 /// no two nets share a point, only pins are met at the edges, each pin is, and each net is in one piece.
-pub fn is_connected(alloc: Global, channel: &Channel, wiring: &Wiring) -> Result<bool, AllocError> {
+pub(crate) fn is_connected(
+    alloc: Global,
+    channel: &Channel,
+    wiring: &Wiring,
+) -> Result<bool, AllocError> {
     let elements = elements_of(alloc, wiring)?;
     let width = channel.top.items().len();
     if (wiring.columns as usize) < width {

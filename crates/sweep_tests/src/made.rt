@@ -43,7 +43,7 @@ fn clear(side: &mut [u32], net: u32) {
 }
 
 /// The channel made from a number.
-pub fn made_channel(alloc: Global, number: u32) -> Result<Channel, Fail> {
+pub(crate) fn made_channel(alloc: Global, number: u32) -> Result<Channel, Fail> {
     let columns = 2 + number % 9;
     let nets = 2 + number % 5;
     let (mut top, last) = edge_of(alloc, number, columns, nets)?;

@@ -13,7 +13,7 @@ use std::test::Fail;
 use stock_styles::Stock;
 
 /// How many nets a channel has, but at most 1,000.
-pub fn count_of_nets(alloc: Global, channel: &Channel) -> Result<u32, Fail>
+pub(crate) fn count_of_nets(alloc: Global, channel: &Channel) -> Result<u32, Fail>
     ensures { IfOk result (λ nets. nets ≤ 1000) }
 {
     Ok(nets_of(alloc, channel)?.len().min(1000) as u32)

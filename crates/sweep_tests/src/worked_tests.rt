@@ -11,12 +11,12 @@ use std::test::Fail;
 use stock_styles::Stock;
 
 /// A channel with these pins.
-pub fn channel_of(alloc: Global, top: &[u32], bottom: &[u32]) -> Result<Channel, Fail> {
+pub(crate) fn channel_of(alloc: Global, top: &[u32], bottom: &[u32]) -> Result<Channel, Fail> {
     Ok(Channel::new(top.to_vec(alloc)?, bottom.to_vec(alloc)?).ok_or("a channel")?)
 }
 
 /// How a sweep ends: whether it is over, with how many free tracks it began, how many columns it takes and how many tracks it has.
-pub type End = (bool, u32, usize, usize);
+pub(crate) type End = (bool, u32, usize, usize);
 
 fn size_of(over: bool, sweep: &Sweep) -> End {
     (
@@ -56,7 +56,7 @@ fn end_by(
 }
 
 /// How the sweep of a channel ends that begins with a share of its cut density as free tracks.
-pub fn end_in(
+pub(crate) fn end_in(
     alloc: Global,
     channel: &Channel,
     share: u32,
@@ -130,7 +130,7 @@ fn via(net: u32, column: u32, track: u32) -> Via {
 }
 
 /// The channel with bottom pins 1, 2 and top pins 2, 1, routed by the nearest.
-pub fn routed_crossed(alloc: Global, tracks: u32, extra: u32) -> Result<Routed, Fail> {
+pub(crate) fn routed_crossed(alloc: Global, tracks: u32, extra: u32) -> Result<Routed, Fail> {
     let channel = channel_of(alloc, &[2, 1], &[1, 2])?;
     routed_by_near(alloc, &channel, tracks, extra)
 }

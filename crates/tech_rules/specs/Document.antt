@@ -1,3 +1,4 @@
+-- the table of a rules file's text, and the number or text that stands at a key
 use Rattle.std.specs.Prelude.{codes, ℕ, pos, List, length, Bool, ◌&&◌, ◌==◌, nat_le, if◌then◌else◌, Option, Some, None, Result, Ok, Err}
 use Rattle.std.specs.Option.{option_and_then}
 use Rattle.std.specs.Str.{bytes_eq}

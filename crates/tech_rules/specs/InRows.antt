@@ -1,3 +1,4 @@
+-- outlines that stand in rows: of one row, or of rows that share no inner height, and never one on the other
 use Rattle.std.specs.Prelude.{◌≡◌, ◌≢◌, ◌⊎◌, ◌≤ℤ◌, ℕ, pos, Some, slice_get}
 use Rattle.geom_core.specs.declared.layout.Layout.{Layout}
 use Rattle.geom_core.specs.declared.layout.Shape.{Shape}

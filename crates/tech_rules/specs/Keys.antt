@@ -1,3 +1,4 @@
+-- the rules file: its keys, what stands at them, and the rules of its bytes
 use Rattle.std.specs.Prelude.{codes, ℕ, List, ◌++◌, Option, Some, None}
 use Rattle.tech_rules.specs.declared.key.Key.{Key}
 use Rattle.tech_rules.specs.declared.key.Key.TheVariants.{Version, Yal, GridColumn, GridTrack, GridCenti, GridPin, HorizontalLayer, HorizontalWidth, HorizontalSpace, VerticalLayer, VerticalWidth, VerticalSpace, CutLayer, CutSize, CutEnclose, CutSpace, OutlineLayer, AnnealTemperature, AnnealStages, AnnealMoves, AnnealRowCost, AnnealLengthCost, AnnealStart}

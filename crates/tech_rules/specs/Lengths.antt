@@ -1,3 +1,4 @@
+-- lengths, and what rectangles have to do with each other
 use Rattle.std.specs.Prelude.{◌≡◌, ◌⊎◌, ℕ, ◌*◌, ℤ, pos, List}
 use Rattle.tech_rules.specs.Rules.{RuleValues}
 

@@ -1,3 +1,4 @@
+-- the ranges of the keys
 use Rattle.std.specs.Prelude.{◌≡◌, ◌≤◌, ℕ, true}
 use Rattle.geom_core.specs.LayerText.{is_layer_text}
 use Rattle.limits.specs.declared.TheConstants.{MOST_LENGTH, MOST_MOVES, MOST_STAGES, MOST_TEMPERATURE, MOST_WEIGHT}

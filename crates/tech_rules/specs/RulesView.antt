@@ -1,3 +1,4 @@
+-- the rules of a process as contracts see them: the values of all sections, which are valid
 use Rattle.tech_rules.specs.Rules.{RuleValues, ValidRules}
 use Rattle.tech_rules.specs.declared.rules.Rules.TheInside.{Inside}
 

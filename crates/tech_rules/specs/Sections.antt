@@ -1,3 +1,4 @@
+-- the grid, wires, cut, outline and annealing that a rules file states, or the first key at fault
 use Rattle.std.specs.Prelude.{Result, Ok, Err}
 use Rattle.geom_core.specs.LayerText.{is_layer_text}
 use Rattle.limits.specs.declared.TheConstants.{MOST_LENGTH, MOST_MOVES, MOST_STAGES, MOST_TEMPERATURE, MOST_WEIGHT}

@@ -1,3 +1,4 @@
+-- the values that a rules file states as contracts see them, each in the range of its key
 use Rattle.tech_rules.specs.Rules.{RuleValues, InRanges}
 use Rattle.tech_rules.specs.declared.stated.Stated.TheInside.{Inside}
 

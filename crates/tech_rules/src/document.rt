@@ -17,7 +17,7 @@ use std::alloc::{AllocError, Global};
 use toml::{Table, Value};
 
 /// The table of a rules file, or None where the bytes are no UTF-8 text of TOML. The one error is want of memory.
-pub fn table_of(alloc: Global, bytes: &[u8]) -> Result<Option<Table>, AllocError>
+pub(crate) fn table_of(alloc: Global, bytes: &[u8]) -> Result<Option<Table>, AllocError>
     ensures { IfOk result (λ t. option_map table_view t ≡ document_of bytes.now) }
 {
     let Ok(text) = str::from_utf8(bytes) else {
@@ -36,7 +36,7 @@ pub fn table_of(alloc: Global, bytes: &[u8]) -> Result<Option<Table>, AllocError
 
 /// The number at a key, if it is an integer from `low` to `high`. Takes no memory.
 #[tactic(auto, unfolding(crate::specs::Document::number_of))]
-pub fn number(table: &Table, key: Key, low: u32, high: u32) -> Result<u32, RulesFault>
+pub(crate) fn number(table: &Table, key: Key, low: u32, high: u32) -> Result<u32, RulesFault>
     ensures value { result ≡ number_of (table_view table.now) key low high }
     ensures within { IfOk result (IsWithin low high) }
 {
@@ -51,7 +51,7 @@ pub fn number(table: &Table, key: Key, low: u32, high: u32) -> Result<u32, Rules
 
 /// The layer at a key, if its text is a layer's name. Takes no memory.
 #[tactic(auto, unfolding(crate::specs::Document::text_of))]
-pub fn layer(table: &Table, key: Key) -> Result<LayerName, RulesFault>
+pub(crate) fn layer(table: &Table, key: Key) -> Result<LayerName, RulesFault>
     ensures value { result ≡ text_of (table_view table.now) key is_layer_text }
     ensures valid { IfOk result (λ l. is_layer_text l ≡ true) }
 {
@@ -66,7 +66,7 @@ pub fn layer(table: &Table, key: Key) -> Result<LayerName, RulesFault>
 
 /// The word at a key, if it is a text of 1 to 32 ASCII letters, digits or `_`. Takes no memory.
 #[tactic(auto, unfolding(crate::specs::Document::text_of))]
-pub fn word<'t>(table: &'t Table, key: Key) -> Result<&'t [u8], RulesFault>
+pub(crate) fn word<'t>(table: &'t Table, key: Key) -> Result<&'t [u8], RulesFault>
     ensures value { result_map_both (λ w. w.now) (λ f. f) result ≡ text_of (table_view table.now) key is_yal_word }
     ensures valid { IfOk result (λ w. is_yal_word w.now ≡ true) }
 {
@@ -81,7 +81,7 @@ pub fn word<'t>(table: &'t Table, key: Key) -> Result<&'t [u8], RulesFault>
 
 /// How start rows are filled: by the text at its key, "width" or "count", and by width where nothing stands there. Takes no memory.
 #[tactic(auto, unfolding(crate::specs::Document::start_of))]
-pub fn start_by(table: &Table) -> Result<StartBy, RulesFault>
+pub(crate) fn start_by(table: &Table) -> Result<StartBy, RulesFault>
     ensures { result ≡ start_of (table_view table.now) }
 {
     match value_at(table, Key::AnnealStart) {

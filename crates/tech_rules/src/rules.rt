@@ -1,3 +1,5 @@
+//! The rules of a process, section by section, and the side of a via's pad.
+
 ghost use Rattle.std.specs.Prelude.{◌≡◌};
 ghost use Rattle.tech_rules.specs.Rules.{ValidRules, pad};
 

@@ -81,7 +81,7 @@ pub struct Annealing {
 // Each of these gives the values of a section, or the fault of its first key that has one: Missing or Range. None takes memory.
 
 #[tactic(auto, unfolding(crate::specs::Sections::grid_in))]
-pub fn grid_in(table: &Table) -> Result<Grid, RulesFault>
+pub(crate) fn grid_in(table: &Table) -> Result<Grid, RulesFault>
     ensures values { result ≡ grid_in (table_view table.now) }
     ensures ranges { IfOk result IsGridInRange }
 {
@@ -95,7 +95,12 @@ pub fn grid_in(table: &Table) -> Result<Grid, RulesFault>
 
 // The keys of a direction are given: its layer's, and those of its least width and space.
 #[tactic(auto, unfolding(crate::specs::Sections::wires_in))]
-pub fn wires_in(table: &Table, named: Key, width: Key, space: Key) -> Result<Wires, RulesFault>
+pub(crate) fn wires_in(
+    table: &Table,
+    named: Key,
+    width: Key,
+    space: Key,
+) -> Result<Wires, RulesFault>
     ensures values { result ≡ wires_in (table_view table.now) named width space }
     ensures ranges { IfOk result AreWiresInRange }
 {
@@ -107,7 +112,7 @@ pub fn wires_in(table: &Table, named: Key, width: Key, space: Key) -> Result<Wir
 }
 
 #[tactic(auto, unfolding(crate::specs::Sections::cut_in))]
-pub fn cut_in(table: &Table) -> Result<Cut, RulesFault>
+pub(crate) fn cut_in(table: &Table) -> Result<Cut, RulesFault>
     ensures values { result ≡ cut_in (table_view table.now) }
     ensures ranges { IfOk result IsCutInRange }
 {
@@ -120,7 +125,7 @@ pub fn cut_in(table: &Table) -> Result<Cut, RulesFault>
 }
 
 #[tactic(auto, unfolding(crate::specs::Sections::outline_in))]
-pub fn outline_in(table: &Table) -> Result<Outline, RulesFault>
+pub(crate) fn outline_in(table: &Table) -> Result<Outline, RulesFault>
     ensures values { result ≡ outline_in (table_view table.now) }
     ensures ranges { IfOk result IsOutlineInRange }
 {
@@ -130,7 +135,7 @@ pub fn outline_in(table: &Table) -> Result<Outline, RulesFault>
 }
 
 #[tactic(auto, unfolding(crate::specs::Sections::annealing_in))]
-pub fn annealing_in(table: &Table) -> Result<Annealing, RulesFault>
+pub(crate) fn annealing_in(table: &Table) -> Result<Annealing, RulesFault>
     ensures values { result ≡ annealing_in (table_view table.now) }
     ensures ranges { IfOk result IsAnnealingInRange }
 {

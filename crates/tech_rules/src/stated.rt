@@ -17,7 +17,7 @@ use toml::Table;
 
 /// One value for each key of a rules file, each in its range. `yal` is still the file's.
 #[derive(Drop)]
-pub struct Stated<'t> {
+pub(crate) struct Stated<'t> {
     version: u32,
     yal: &'t [u8],
     grid: Grid,
@@ -41,7 +41,7 @@ impl<'t> Model for Stated<'t> {
 }
 
 /// The values of a rules file, or the fault of its first key that has one: Missing or Range. Takes no memory.
-pub fn values_in(table: &Table) -> Result<Stated, RulesFault>
+pub(crate) fn values_in(table: &Table) -> Result<Stated, RulesFault>
     ensures { result ≡ values_in (table_view table.now) }
 {
     Ok(Stated {
@@ -69,7 +69,7 @@ pub fn values_in(table: &Table) -> Result<Stated, RulesFault>
 impl<'t> Stated<'t> {
     /// The number of the first of the twelve rules that fails, 1 to 12. Takes no memory.
     #[tactic(auto, unfolding(crate::specs::RulesOf::broken_rule))]
-    pub fn broken_rule(&self) -> Option<u8>
+    pub(crate) fn broken_rule(&self) -> Option<u8>
         ensures first { result ≡ broken_rule self.now }
         ensures valid { result ≡ None → ValidRules self.now }
     {
@@ -126,7 +126,7 @@ impl<'t> Stated<'t> {
     }
 
     /// The rules of these values, which are valid. The one error is want of memory.
-    pub fn rules(&self, alloc: Global) -> Result<Rules, AllocError>
+    pub(crate) fn rules(&self, alloc: Global) -> Result<Rules, AllocError>
         requires { ValidRules self.now }
         ensures { IfOk result (λ rules. rules ≡ self.now) }
     {

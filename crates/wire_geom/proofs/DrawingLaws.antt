@@ -6,7 +6,6 @@ use Rattle.std.proofs.lemmas.List.Folds.{flat_map-map}
 use Rattle.std.proofs.lemmas.Int.{ints}
 use Rattle.std.specs.List.{flat_map}
 use Rattle.std.specs.Prelude.{pos, ◌≤ℤ◌}
-use Rattle.list_facts.proofs.Members.{map-member, map-cases}
 use Rattle.channel_model.specs.declared.wiring.Segment.{Segment}
 use Rattle.channel_model.specs.declared.wiring.Segment.TheVariants.{Across, Along}
 use Rattle.channel_model.specs.declared.wiring.Wiring.{Wiring}
@@ -28,10 +27,10 @@ use Rattle.wire_geom.specs.Widths.{IsCovered, AreWide}
 use Rattle.wire_geom.proofs.BoxLaws.{Inside, Clear-inside}
 use Rattle.wire_geom.proofs.EndLaws.{upper_end-edge}
 use Rattle.wire_geom.proofs.GridLaws.{reach-narrow, halo-columns, space_of, reach_of, halo, mask-clear}
-use Rattle.wire_geom.proofs.ListLaws.{Contains-flat_map, Contains-flat_map_cases}
 use Rattle.wire_geom.proofs.PatchLaws.{within_columns, Lies, layer_of, patch_of, proper, parted_or_meet}
 use Rattle.wire_geom.proofs.PieceLaws.{PieceFacts, IsWide, HasRoom, IsSquareBox, Stands, Stays, Holder, piece_facts}
 use Rattle.wire_geom.proofs.ScaleLaws.{scaled-order, scaled-gap, scaled-before, scaled-sum, scaled-clear, scaled-meet}
+use Rattle.std_laws.proofs.Members.{map-member, map-cases, Contains-flat_map, Contains-flat_map_cases}
 
 -- the drawing is that of the segments, and then that of the vias
 pub drawing_parts : (r : RuleValues) (base : ℕ) (wiring : Wiring) → drawing r base wiring

@@ -12,7 +12,9 @@ use Rattle.tech_rules.specs.Rules.{RuleValues}
 use Rattle.wire_geom.specs.Drawing.{drawing, drawn_of, segment_piece, via_pieces}
 use Rattle.wire_geom.specs.declared.drawn.Drawn.{Drawn}
 use Rattle.wire_geom.proofs.DrawingLaws.{drawing_parts}
-use Rattle.wire_geom.proofs.ListLaws.{All-front, get-before, get-behind, get-threes, length-threes, map-at}
+use Rattle.std_laws.proofs.Every.{All-front}
+use Rattle.std_laws.proofs.Places.{get-before, get-behind, map-at}
+use Rattle.std_laws.proofs.Images.{get-threes, length-threes}
 
 -- a wiring is drawn with a rectangle for each segment and three for each via
 pub drawing-length : (r : RuleValues) (base : ℕ) (w : Wiring) → length (drawing r base w) ≡ length w.segments + 3 * length w.vias

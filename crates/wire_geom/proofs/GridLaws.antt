@@ -5,6 +5,7 @@ use Rattle.wire_geom.specs.Boxes.{Box}
 use Rattle.wire_geom.specs.Drawing.{Mask, on_horizontal, on_vertical, on_cut}
 use Rattle.wire_geom.specs.Grid.{centre, line_at}
 use Rattle.wire_geom.proofs.BoxLaws.{Clear, before, behind, under, over}
+use Rattle.std_laws.proofs.Numbers.{product-step}
 
 -- a rectangle of the grid, from column to column and from line to line
 pub record Patch : Type 0 where
@@ -40,16 +41,12 @@ halo r base size p = record {
   y1 = line_at r base p.high + size;
 }
 
--- a number before another, times a pitch
-pub step : (a b k : ℕ) → a < b → a * k + k ≤ b * k
-step a b k h = omega (arith, mul-le-mul_right {m = a + 1} {n = b} k (omega arith))
-
 -- the next column and the next line lie a pitch further
 pub centre-step : (r : RuleValues) (a b : ℕ) → a < b → centre r a + 2 * r.grid.column ≤ centre r b
-centre-step r a b h = omega (arith, step a b r.grid.column h)
+centre-step r a b h = omega (arith, product-step a b r.grid.column h)
 
 pub line-step : (r : RuleValues) (base a b : ℕ) → a < b → line_at r base a + 2 * r.grid.track ≤ line_at r base b
-line-step r base a b h = omega (arith, step a b r.grid.track h)
+line-step r base a b h = omega (arith, product-step a b r.grid.track h)
 
 -- columns and lines in order
 pub centre-order : (r : RuleValues) (a b : ℕ) → a ≤ b → centre r a ≤ centre r b
@@ -82,4 +79,4 @@ reach-narrow r valid on_cut = omega (arith, valid.column_cut)
 -- so a halo lies in its columns
 pub halo-columns : (r : RuleValues) (base size columns : ℕ) (p : Patch) → size ≤ r.grid.column → p.to < columns
     → (halo r base size p).x1 ≤ 2 * (columns * r.grid.column)
-halo-columns r base size columns p narrow within = omega (arith, step p.to columns r.grid.column within)
+halo-columns r base size columns p narrow within = omega (arith, product-step p.to columns r.grid.column within)

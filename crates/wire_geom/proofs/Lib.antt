@@ -7,8 +7,6 @@ pub mod PatchLaws
 -- the ends of vertical wires, and what each piece of an element keeps
 pub mod EndLaws
 pub mod PieceLaws
--- lists of lists
-pub mod ListLaws
 -- half units in half centimicrons
 pub mod ScaleLaws
 -- where the rectangles of a wiring stand in its drawing

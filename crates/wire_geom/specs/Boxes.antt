@@ -1,3 +1,4 @@
+-- the rectangles of wires, and of squares for pads and cuts, in half units
 use Rattle.std.specs.Prelude.{ℕ, ◌+◌, ◌-◌, ◌==◌, if◌then◌else◌}
 use Rattle.tech_rules.specs.Rules.{RuleValues, pad}
 use Rattle.wire_geom.specs.Grid.{centre, line_at}

@@ -1,3 +1,4 @@
+-- all rectangles of a wiring lie within its columns
 use Rattle.std.specs.Prelude.{ℕ, ◌*◌, pos, ◌≤ℤ◌, List, Contains}
 use Rattle.tech_rules.specs.Rules.{RuleValues}
 use Rattle.wire_geom.specs.Grid.{scaled}

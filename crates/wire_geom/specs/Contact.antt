@@ -1,3 +1,4 @@
+-- each element of a wiring is drawn, and rectangles meet where their elements share a point of a layer
 use Rattle.std.specs.Prelude.{◌≡◌, ℕ, List, Contains}
 use Rattle.channel_model.specs.declared.wiring.Wiring.{Wiring}
 use Rattle.channel_model.specs.Elements.{Layer, vertical, horizontal, Element, elements, net_of, Covers, Meets}

@@ -1,3 +1,4 @@
+-- what a wiring is drawn as
 use Rattle.std.specs.Prelude.{ℕ, List, [], ◌∷◌, map}
 use Rattle.std.specs.List.{flat_map}
 use Rattle.channel_model.specs.declared.wiring.Segment.{Segment}

@@ -1,3 +1,4 @@
+-- rectangles come to an edge of the channel only over an entry of their net, and each entry is met
 use Rattle.std.specs.Prelude.{◌≡◌, ◌<◌, ◌⊎◌, ◌-◌, ◌+◌, ◌+ℤ◌, ◌≤ℤ◌, ℕ, List, Contains, slice_index}
 use Rattle.channel_model.specs.Pins.{Pins}
 use Rattle.tech_rules.specs.Lengths.{length_in}

@@ -1,3 +1,4 @@
+-- columns and lines in half units, and the rectangles of wires and cuts on them
 use Rattle.std.specs.Prelude.{ℕ, ℤ, pos, ◌+◌, ◌*◌}
 use Rattle.tech_rules.specs.Rules.{RuleValues}
 

@@ -1,3 +1,4 @@
+-- rectangles of different nets on one layer keep the space of the layer
 use Rattle.std.specs.Prelude.{◌≡◌, ◌≢◌, ℕ, List, Contains}
 use Rattle.geom_core.specs.Rectangles.{Apart}
 use Rattle.tech_rules.specs.Lengths.{length_in}

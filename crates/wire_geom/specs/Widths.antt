@@ -1,3 +1,4 @@
+-- what the rectangles of a wiring that connects its channel keep: widths, spaces, the columns, the channel's edges, and contact
 use Rattle.std.specs.Prelude.{◌≡◌, ℕ, List, Contains}
 use Rattle.geom_core.specs.Rectangles.{HasSides, IsSquare, Encloses, grown}
 use Rattle.tech_rules.specs.Lengths.{length_in}

@@ -1,3 +1,5 @@
+//! The rectangles of a vertical wire in a column, a horizontal wire on a track, and a square around their crossing.
+
 ghost use Rattle.std.specs.Prelude.{◌≡◌, ◌≤◌, ◌<◌, ◌+◌, ◌*◌, ◌^◌};
 ghost use Rattle.tech_rules.specs.Rules.{pad};
 ghost use Rattle.wire_geom.specs.Boxes.{across_box, along_box, square_box, lower_end, upper_end};

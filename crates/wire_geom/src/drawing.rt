@@ -1,3 +1,5 @@
+//! The rectangles of a channel's wiring: one for each segment, and two pads and a cut for each via.
+
 ghost use Rattle.channel_model.specs.Elements.{segment as seg, elements};
 ghost use Rattle.channel_model.specs.Pins.{Pins};
 ghost use Rattle.channel_model.specs.Wired.{Wired, IsOnGrid};

@@ -3,7 +3,6 @@ use Rattle.std.proofs.lemmas.Cmp.{nat_list_eq_equiv}
 use Rattle.std.proofs.lemmas.Map.Keys.{IsDistinct-push}
 use Rattle.std.specs.List.{AllByRecursion, IsDistinct}
 use Rattle.std.specs.Str.{bytes_eq}
-use Rattle.list_facts.proofs.Every.{every-push}
 use Rattle.yal_reader.proofs.FuelLaws.{module_names-push}
 use Rattle.yal_reader.proofs.KeptLists.{IsCalls, IsLine, IsLines, kept-io_list, kept-network, no-calls}
 use Rattle.yal_reader.proofs.KeptWords.{Keeps, Named, ascii-plain, either, err, kept-end, kept-keyword, kept-kind, kept-numbers, kept-past, kept-statement, kept-stop, kept-word, next, ok, tokens-named, uncommented-kept, weaker}
@@ -21,6 +20,7 @@ use Rattle.yal_reader.specs.declared.file.Module.{Module}
 use Rattle.yal_reader.specs.declared.file.YalFile.{YalFile}
 use Rattle.yal_reader.specs.declared.parts.Parts.{Parts}
 use Rattle.yal_reader.specs.declared.stuck.Stuck.{Stuck}
+use Rattle.std_laws.proofs.Every.{every-push}
 
 -- what the sections of a module gave so far
 pub record IsParts (most : ℕ) (kind : Kind) (parts : Parts) : Type 0 where

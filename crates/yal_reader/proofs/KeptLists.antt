@@ -3,7 +3,6 @@ use Rattle.std.proofs.lemmas.Cmp.{nat_list_eq_equiv}
 use Rattle.std.proofs.lemmas.Map.Keys.{IsDistinct-push}
 use Rattle.std.specs.List.{AllByRecursion, IsDistinct}
 use Rattle.std.specs.Str.{bytes_eq}
-use Rattle.list_facts.proofs.Every.{every-push}
 use Rattle.yal_reader.proofs.FuelLaws.{call_names-push}
 use Rattle.yal_reader.proofs.KeptWords.{Keeps, Named, either, err, kept-end, kept-flow, kept-number, kept-past, kept-statement, kept-stop, kept-word, kept-words, next, ok, weaker}
 use Rattle.geom_core.specs.Names.{IsName}
@@ -17,6 +16,7 @@ use Rattle.yal_reader.specs.declared.file.Flow.{Flow}
 use Rattle.yal_reader.specs.declared.file.Kind.{Kind}
 use Rattle.yal_reader.specs.declared.file.Line.{Line}
 use Rattle.yal_reader.specs.declared.stuck.Stuck.{Stuck}
+use Rattle.std_laws.proofs.Every.{every-push}
 
 -- what a list of statements gives has P, if each item keeps it, and no more items than the fuel allows
 pub kept-items : {A : Type 0} (P : List A → Type 0) (keyword : List ℕ) (item : List A → Spelled → List Token → Result (A × List Token) Stuck)

@@ -1,4 +1,5 @@
-use Rattle.std.proofs.Common.{◌≡◌, ℕ, zero, suc, ◌+◌, ◌-◌, ◌*◌, ◌≤◌, pos, neg_ℤ, Bool, true, false, cond, List, [], ◌∷◌, length, refl, Option, None, Some, IfSome, Result, Ok, Err, IfOk, inl, inr, arith, nat_lt, nat_le, ◌==◌, ◌&&◌, option_map}
+use Rattle.yal_reader.specs.declared.fault.YalKind.TheVariants as faults
+use Rattle.std.proofs.Common.{◌≡◌, ℕ, zero, suc, ◌+◌, ◌-◌, ◌*◌, ◌≤◌, pos, neg_ℤ, Bool, true, false, cond, List, [], ◌∷◌, length, refl, Option, None, Some, IfSome, Result, Ok, Err, IfOk, inl, inr, arith, nat_lt, nat_le, ◌==◌, ◌&&◌}
 use Rattle.std.proofs.lemmas.Bool.{and_from, and_parts, cases_Bool}
 use borrow.Author.Tests.{le-leb, leb-true}
 use Rattle.std.proofs.lemmas.Bool.Decides.{nat_tests}
@@ -14,8 +15,8 @@ use Rattle.yal_reader.specs.Text.{ascii, onto, uncommented}
 use Rattle.yal_reader.specs.Tokens.{Spelled, Token, goes_on, is_blank, is_word_byte, onto_word, semicolon, token_onto, tokens, word}
 use Rattle.yal_reader.specs.Words.{a_flow, a_kind, a_word, after_stop, an_end, flow_of, is_word, kind_of, or_bad, past_words, statement, the_word, words}
 use Rattle.yal_reader.specs.declared.fault.YalKind.{YalKind}
-use Rattle.yal_reader.specs.declared.fault.YalKind.TheVariants as faults
 use Rattle.yal_reader.specs.declared.stuck.Stuck.{Stuck}
+use Rattle.std_laws.proofs.Options.{some_if, some_mapped, some_unless, some_anything}
 
 -- what a step gives, if it gives anything, has P
 pub record Keeps {A : Type 0} (P : A → Type 0) (r : Result A Stuck) : Type 0 where
@@ -43,11 +44,6 @@ either false r s yes_r no_s = no_s refl
 pub some_or : {A : Type 0} {P : A → Type 0} (kind : YalKind) (w : Spelled) (x : Option A) → IfSome x P → Keeps P (or_bad kind w x)
 some_or kind w None h = record { holds = tt }
 some_or kind w (Some y) h = record { holds = h }
-
--- any answer will do
-pub anything : {A : Type 0} (x : Option A) → IfSome x (λ _. Unit {0})
-anything None = tt
-anything (Some y) = tt
 
 -- a weaker fact
 pub weaker : {A : Type 0} {P Q : A → Type 0} (r : Result A Stuck) → Keeps P r → ((x : A) → P x → Q x) → Keeps Q r
@@ -180,27 +176,12 @@ kept-stop keyword start (word w ∷ ts) h =
 -- what follows a kind has names
 pub kept-kind : (ts : List Token) → Named ts → Keeps (λ x. Named x.1) (a_kind ts)
 unfolding a_kind
-kept-kind ts h = next (a_word ts) _ (kept-word ts h) (λ first k. next (or_bad faults.Word first.0 (kind_of first.0.text)) _ (some_or {P = λ _. Unit {0}} faults.Word first.0 (kind_of first.0.text) (anything (kind_of first.0.text))) (λ kind _. ok (kind, first.1) k.1))
+kept-kind ts h = next (a_word ts) _ (kept-word ts h) (λ first k. next (or_bad faults.Word first.0 (kind_of first.0.text)) _ (some_or {P = λ _. Unit {0}} faults.Word first.0 (kind_of first.0.text) (some_anything (kind_of first.0.text))) (λ kind _. ok (kind, first.1) k.1))
 
 -- what follows a flow has names
 pub kept-flow : (ts : List Token) → Named ts → Keeps (λ x. Named x.1) (a_flow ts)
 unfolding a_flow
-kept-flow ts h = next (a_word ts) _ (kept-word ts h) (λ first k. next (or_bad faults.Word first.0 (flow_of first.0.text)) _ (some_or {P = λ _. Unit {0}} faults.Word first.0 (flow_of first.0.text) (anything (flow_of first.0.text))) (λ flow _. ok (flow, first.1) k.1))
-
--- what a test lets through has P
-some_if : {A : Type 0} (P : A → Type 0) (b : Bool) (x : Option A) → (b ≡ true → IfSome x P) → IfSome (cond b x None) P
-some_if P true x h = h refl
-some_if P false x h = tt
-
--- what a test does not stop has P
-some_unless : {A : Type 0} (P : A → Type 0) (b : Bool) (x : Option A) → IfSome x P → IfSome (cond b None x) P
-some_unless P true x h = tt
-some_unless P false x h = h
-
--- a value under a function
-some_mapped : {A B : Type 0} (P : A → Type 0) (Q : B → Type 0) (f : A → B) (x : Option A) → ((y : A) → P y → Q (f y)) → IfSome x P → IfSome (option_map f x) Q
-some_mapped P Q f None onward h = tt
-some_mapped P Q f (Some y) onward h = onward y h
+kept-flow ts h = next (a_word ts) _ (kept-word ts h) (λ first k. next (or_bad faults.Word first.0 (flow_of first.0.text)) _ (some_or {P = λ _. Unit {0}} faults.Word first.0 (flow_of first.0.text) (some_anything (flow_of first.0.text))) (λ flow _. ok (flow, first.1) k.1))
 
 -- digits make at most 100,000,000
 digits-near : (n : ℕ) (cs : List ℕ) → IfSome (digits_after n cs) (λ m. m ≤ 100000000)

@@ -1,11 +1,12 @@
-use Rattle.std.proofs.Common.{◌≡◌, ℕ, suc, Bool, true, false, not, List, [], ◌∷◌, length, take, drop, slice_index, refl, sym, ◌∙◌, one-add, ◌==◌, ◌≢◌, inl, inr, Ok, Err, arith, eqb-true, ne_eqb}
+use Rattle.yal_reader.specs.declared.fault.YalKind.TheVariants as faults
+use Rattle.std.proofs.Common.{◌≡◌, ℕ, true, false, not, List, [], ◌∷◌, length, take, drop, slice_index, refl, sym, ◌∙◌, ◌==◌, ◌≢◌, inl, inr, Ok, Err, arith, eqb-true, ne_eqb}
 use Rattle.std.specs.List.{prefix_len}
 use Rattle.std.proofs.lemmas.Bool.{cases_Bool, and_parts, not-true}
 use Rattle.std.proofs.Math.Bool.{true≢false}
 use Rattle.yal_reader.specs.Seen.{begins_blank}
 use Rattle.yal_reader.specs.Tokens.{Spelled, Token, word, semicolon, spelled, is_blank, is_word_byte, goes_on, tokens}
 use Rattle.yal_reader.specs.Words.{a_word, an_end, is_empty, stuck_of}
-use Rattle.yal_reader.specs.declared.fault.YalKind.TheVariants as faults
+use Rattle.std_laws.proofs.Searches.{prefix-on, prefix-off}
 
 -- a blank makes no token
 pub tokens-blank : (c : ℕ) (cs : List ℕ) → is_blank c ≡ true → tokens (c ∷ cs) ≡ tokens cs
@@ -16,14 +17,6 @@ tokens-blank c cs is = rw is refl
 pub tokens-semicolon : (cs : List ℕ) → tokens (59 ∷ cs) ≡ semicolon (length (59 ∷ cs)) ∷ tokens cs
 unfolding tokens
 tokens-semicolon cs = refl
-
--- one more byte that passes
-pub prefix-on : (p : ℕ → Bool) (c : ℕ) (cs : List ℕ) → p c ≡ true → prefix_len p (c ∷ cs) ≡ suc (prefix_len p cs)
-prefix-on p c cs is = rw is (one-add (prefix_len p cs))
-
--- a byte that does not pass
-pub prefix-off : (p : ℕ → Bool) (c : ℕ) (cs : List ℕ) → p c ≡ false → prefix_len p (c ∷ cs) ≡ 0
-prefix-off p c cs is = rw is refl
 
 -- the tokens are those behind the blanks
 pub tokens-bare : (bs : List ℕ) → tokens (drop (prefix_len is_blank bs) bs) ≡ tokens bs

@@ -1,3 +1,4 @@
+-- what a file that was read always has
 use Rattle.std.specs.Prelude.{◌≡◌, ◌≤◌, ◌≤ℤ◌, ℕ, ℤ, pos, negsuc, List, length, map, Bool, true, false, ◌&&◌, not, ◌==◌, nat_le, is_some, IfSome}
 use Rattle.std.specs.List.{AllByRecursion, IsDistinct, list_all}
 use Rattle.std.specs.Str.{bytes_eq}

@@ -1,3 +1,4 @@
+-- the numbers of a YAL text, up to 100,000,000, and lists of them up to a semicolon
 use Rattle.std.specs.Prelude.{ℕ, ◌+◌, ◌-◌, ◌*◌, ℤ, pos, neg_ℤ, List, [], ◌∷◌, length, Option, None, Some, Result, Ok, option_map, nat_le, ◌==◌, if◌then◌else◌}
 use Rattle.std.specs.Char.{is_ascii_digit}
 use Rattle.limits.specs.declared.TheConstants.{MOST_COORDINATE}

@@ -1,3 +1,4 @@
+-- the steps of a reading, and how an answer compares with them
 use Rattle.std.specs.Prelude.{◌≡◌, Result, Ok, Err}
 use Rattle.yal_reader.specs.declared.stuck.Stuck.{Stuck}
 use Rattle.yal_reader.specs.declared.stuck.Stop.{Stop}

@@ -1,3 +1,4 @@
+-- the grammar of the sections of a module up to ENDMODULE, of which three are kept and the others passed over
 use Rattle.std.specs.Prelude.{ℕ, zero, suc, ℤ, Bool, List, [], Option, None, Some, Result, Ok, is_some, codes, true, if◌then◌else◌}
 use Rattle.yal_reader.specs.Kept.{is_standard}
 use Rattle.yal_reader.specs.Lists.{io_list, network, without_items}

@@ -1,3 +1,4 @@
+-- a word of the text as the grammar takes it, and texts that begin with a blank
 use Rattle.std.specs.Prelude.{ℕ, Bool, false, List, [], ◌∷◌}
 use Rattle.yal_reader.specs.Tokens.{Spelled, is_blank}
 use Rattle.yal_reader.specs.declared.word.Word.{Word}

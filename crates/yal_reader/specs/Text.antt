@@ -1,3 +1,4 @@
+-- the ASCII test, and comments as blanks
 use Rattle.std.specs.Prelude.{ℕ, Bool, false, List, [], ◌∷◌, ◌++◌, length, Option, None, Some, Result, Ok, Err, nat_lt, ◌==◌, ◌&&◌, if◌then◌else◌}
 use Rattle.yal_reader.specs.Reading.{◌>>=◌}
 use Rattle.yal_reader.specs.declared.fault.YalKind.TheVariants as kinds

@@ -1,3 +1,4 @@
+-- words and semicolons with their places
 use Rattle.std.specs.Prelude.{ℕ, Bool, false, List, [], ◌∷◌, length, not, ◌==◌, ◌&&◌, ◌||◌, nat_le, if◌then◌else◌}
 
 -- a word, and how many bytes are left from its first one on

@@ -1,3 +1,4 @@
+-- the grammar: words, numbers, the lists of lines and calls, sections
 use Rattle.std.specs.Prelude.{ℕ, Bool, true, false, List, [], ◌∷◌, Option, None, Some, Result, Ok, Err, codes, if◌then◌else◌, ◌&&◌}
 use Rattle.std.specs.Str.{str_eq_ignore_ascii_case}
 use Rattle.yal_reader.specs.Reading.{◌>>=◌}

@@ -1,3 +1,4 @@
+-- what a YAL text is read as, from its bytes to its file
 use Rattle.std.specs.Prelude.{◌≡◌, ℕ, zero, suc, ◌-◌, List, [], ◌∷◌, ◌++◌, length, None, Result, Ok, Err, codes, if◌then◌else◌}
 use Rattle.yal_reader.specs.Kept.{module_names}
 use Rattle.yal_reader.specs.Lists.{unless_taken}

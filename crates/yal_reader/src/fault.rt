@@ -1,3 +1,5 @@
+//! What is wrong with a text that is no YAL file, and at which byte.
+
 use thiserror::Error;
 
 /// What is wrong with a text that is no YAL file.

@@ -1,3 +1,5 @@
+//! A YAL file: its modules, with corners, lines of terminals and calls.
+
 use geom_core::{Items, Name};
 
 /// The type of a module.

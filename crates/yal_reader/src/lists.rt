@@ -1,3 +1,5 @@
+//! The lines of an IOLIST with their spots, and the calls of a NETWORK.
+
 ghost use Rattle.list_facts.specs.Texts.{texts};
 ghost use Rattle.std.specs.Prelude.{◌≡◌, ◌<◌, ◌≤◌, ◌++◌, ◌∷◌, [], ℕ, length, IfOk};
 ghost use Rattle.yal_reader.specs.Kept.{has_spot as has_spot_of, is_parent as is_parent_kind};
@@ -136,7 +138,11 @@ fn lines_or_none(alloc: Global, kind: Kind, bytes: &[u8]) -> Result<(Vec<Line>, 
 
 /// An IOLIST behind its keyword: its lines where they are kept, and the text behind its end.
 #[tactic(auto, unfolding(crate::specs::Lists::io_list))]
-pub fn io_list_at(alloc: Global, kind: Kind, bytes: &[u8]) -> Result<(Vec<Line>, &[u8]), Stop>
+pub(crate) fn io_list_at(
+    alloc: Global,
+    kind: Kind,
+    bytes: &[u8],
+) -> Result<(Vec<Line>, &[u8]), Stop>
     ensures gives { (n : ℕ) → length bytes.now < n → Gives (λ x. (x.0.items, tokens x.1.now)) result (io_list n kind (tokens bytes.now)) }
     ensures shorter { IfOk result (λ x. length x.1.now < length bytes.now) }
 {
@@ -209,7 +215,11 @@ fn calls_or_none(alloc: Global, kind: Kind, bytes: &[u8]) -> Result<(Vec<Call>, 
 
 /// A NETWORK behind its keyword: its calls where they are kept, and the text behind its end.
 #[tactic(auto, unfolding(crate::specs::Lists::network))]
-pub fn network_at(alloc: Global, kind: Kind, bytes: &[u8]) -> Result<(Vec<Call>, &[u8]), Stop>
+pub(crate) fn network_at(
+    alloc: Global,
+    kind: Kind,
+    bytes: &[u8],
+) -> Result<(Vec<Call>, &[u8]), Stop>
     ensures gives { (n : ℕ) → length bytes.now < n → Gives (λ x. (x.0.items, tokens x.1.now)) result (network n kind (tokens bytes.now)) }
     ensures shorter { IfOk result (λ x. length x.1.now < length bytes.now) }
 {

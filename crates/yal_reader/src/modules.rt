@@ -1,3 +1,5 @@
+//! Modules from their heading to their last section, and the whole file.
+
 ghost use Rattle.list_facts.specs.Texts.{texts};
 ghost use Rattle.std.specs.Prelude.{◌≡◌, ◌<◌, ◌++◌, ◌∷◌, [], ℕ, Option, length, IfOk};
 ghost use Rattle.yal_reader.specs.Kept.{HasAtMost, HasSpots, IsKept};

@@ -1,3 +1,5 @@
+//! Coordinates, perhaps behind a minus sign, of magnitude at most 100,000,000.
+
 ghost use Rattle.std.specs.Prelude.{◌≡◌, ◌<◌, length, IfOk};
 ghost use Rattle.yal_reader.specs.Numbers.{a_number, digits_after, magnitude, number};
 ghost use Rattle.yal_reader.specs.Reading.{Finds};
@@ -39,7 +41,7 @@ fn magnitude_of(digits: &[u8]) -> Option<u32>
 
 /// The number that a word is: digits, perhaps behind a minus sign, of magnitude at most 100,000,000.
 #[tactic(auto, unfolding(crate::specs::Numbers::number))]
-pub fn number_of(text: &[u8]) -> Option<i64>
+pub(crate) fn number_of(text: &[u8]) -> Option<i64>
     ensures { result ≡ number text.now }
 {
     let (first, digits) = text.split_first()?;
@@ -53,7 +55,7 @@ pub fn number_of(text: &[u8]) -> Option<i64>
 
 /// The number that comes next, and the text behind it. Takes no memory.
 #[tactic(auto, unfolding(crate::specs::Numbers::a_number))]
-pub fn number_at(bytes: &[u8]) -> Result<(i64, &[u8]), Stuck>
+pub(crate) fn number_at(bytes: &[u8]) -> Result<(i64, &[u8]), Stuck>
     ensures gives { Finds (λ x. (x.0, tokens x.1.now)) result (a_number (tokens bytes.now)) }
     ensures shorter { IfOk result (λ x. length x.1.now < length bytes.now) }
 {

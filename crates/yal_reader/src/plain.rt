@@ -1,3 +1,5 @@
+//! The ASCII test of a text, and its comments turned into blanks.
+
 ghost use Rattle.std.specs.Prelude.{◌≡◌, ◌≤◌, ◌++◌, ◌∷◌, [], ℕ, Bool, None, Some, Ok, Err, length, IfOk, IfErr, OnOk};
 ghost use Rattle.yal_reader.specs.Reading.{Fails, Finds, Gives};
 ghost use Rattle.yal_reader.specs.Text.{ascii, begins_with, uncommented, with_text};
@@ -15,7 +17,7 @@ fn begins(first: u8, second: u8, bytes: &[u8]) -> bool
 }
 
 /// Tests that each byte is ASCII; the first that is not is at fault. Takes no memory.
-pub fn check_ascii(bytes: &[u8]) -> Result<(), Stuck>
+pub(crate) fn check_ascii(bytes: &[u8]) -> Result<(), Stuck>
     ensures { Finds (λ x. x) result (ascii bytes.now) }
 {
     let mut rest = bytes;
@@ -63,7 +65,7 @@ fn pass_comment<'a>(text: &mut Vec<u8>, left: usize, bytes: &'a [u8]) -> Result<
 }
 
 /// The text with each byte of its comments as a blank; or the comment that has no end. Places stay as they are.
-pub fn without_comments(alloc: Global, bytes: &[u8]) -> Result<Vec<u8>, Stop>
+pub(crate) fn without_comments(alloc: Global, bytes: &[u8]) -> Result<Vec<u8>, Stop>
     ensures { Gives (λ text. text.items) result (uncommented None bytes.now) }
 {
     let mut text = Vec::new(alloc);

@@ -1,3 +1,5 @@
+//! The sections of a module: DIMENSIONS, IOLIST, NETWORK, and those that are passed over.
+
 ghost use Rattle.std.specs.Prelude.{◌≡◌, ◌<◌, ◌≤◌, ℕ, Bool, None, length, IfOk};
 ghost use Rattle.yal_reader.specs.Kept.{is_standard as is_standard_kind};
 ghost use Rattle.yal_reader.specs.Reading.{Finds, Gives};
@@ -203,7 +205,7 @@ fn section_at<'a>(
 }
 
 /// The parts of a module, and the text behind ENDMODULE and its semicolon.
-pub fn sections_at(alloc: Global, kind: Kind, bytes: &[u8]) -> Result<(Parts, &[u8]), Stop>
+pub(crate) fn sections_at(alloc: Global, kind: Kind, bytes: &[u8]) -> Result<(Parts, &[u8]), Stop>
     ensures gives { (n : ℕ) → length bytes.now < n → Gives (λ x. (x.0, tokens x.1.now)) result (sections n kind no_parts (tokens bytes.now)) }
     ensures shorter { IfOk result (λ x. length x.1.now < length bytes.now) }
 {

@@ -1,3 +1,5 @@
+//! Where the reading of a text ends early, and why: a fault of the text, or want of memory.
+
 ghost use Rattle.std.specs.Prelude.{◌≡◌};
 ghost use Rattle.yal_reader.specs.declared.stuck.Stop.TheVariants as stops;
 
@@ -6,14 +8,14 @@ use std::alloc::{AllocError, AllocFailed};
 
 /// Where no reading goes on: what is wrong, and how many bytes of the text are left from there on.
 #[derive(Clone, Copy, Debug)]
-pub struct Stuck {
-    pub kind: YalKind,
-    pub left: usize,
+pub(crate) struct Stuck {
+    pub(crate) kind: YalKind,
+    pub(crate) left: usize,
 }
 
 /// Why reading ended early: the text is at fault, or memory ran out.
 #[derive(Debug, Drop)]
-pub enum Stop {
+pub(crate) enum Stop {
     At(Stuck),
     Memory,
 }

@@ -1,3 +1,5 @@
+//! The next word or semicolon of a text, behind its blanks.
+
 ghost use Rattle.std.specs.List.{prefix_len};
 ghost use Rattle.std.specs.Prelude.{◌≡◌, ◌<◌, ◌≤◌, false, length, IfOk};
 ghost use Rattle.yal_reader.specs.Reading.{Finds};
@@ -47,7 +49,7 @@ fn skip_blanks(bytes: &[u8]) -> &[u8]
 }
 
 /// That this word is at fault.
-pub fn bad(kind: YalKind, word: Word<'_>) -> Stuck
+pub(crate) fn bad(kind: YalKind, word: Word<'_>) -> Stuck
     ensures { result ≡ record { kind = kind; left = word.entry.left } }
 {
     Stuck {
@@ -74,7 +76,7 @@ fn stuck_at(bytes: &[u8]) -> Stuck
 }
 
 /// The word that comes next, and the text behind it; or that none does. Takes no memory.
-pub fn word_at(bytes: &[u8]) -> Result<(Word<'_>, &[u8]), Stuck>
+pub(crate) fn word_at(bytes: &[u8]) -> Result<(Word<'_>, &[u8]), Stuck>
     ensures gives { Finds (λ x. (seen x.0, tokens x.1.now)) result (a_word (tokens bytes.now)) }
     ensures shorter { IfOk result (λ x. length x.1.now < length bytes.now) }
 {
@@ -94,7 +96,7 @@ pub fn word_at(bytes: &[u8]) -> Result<(Word<'_>, &[u8]), Stuck>
 }
 
 /// The text behind the semicolon that comes next; or that none does. Takes no memory.
-pub fn end_at(bytes: &[u8]) -> Result<&[u8], Stuck>
+pub(crate) fn end_at(bytes: &[u8]) -> Result<&[u8], Stuck>
     ensures gives { Finds (λ rest. tokens rest.now) result (an_end (tokens bytes.now)) }
     ensures shorter { IfOk result (λ rest. length rest.now < length bytes.now) }
 {
@@ -109,14 +111,14 @@ pub fn end_at(bytes: &[u8]) -> Result<&[u8], Stuck>
 }
 
 /// Whether nothing but blanks is left.
-pub fn is_at_end(bytes: &[u8]) -> bool
+pub(crate) fn is_at_end(bytes: &[u8]) -> bool
     ensures { result ≡ is_empty (tokens bytes.now) }
 {
     skip_blanks(bytes).is_empty()
 }
 
 /// The text behind the semicolons that come next: statements without words are passed over. Takes no memory.
-pub fn statement_at(bytes: &[u8]) -> &[u8]
+pub(crate) fn statement_at(bytes: &[u8]) -> &[u8]
     ensures gives { tokens result.now ≡ statement (tokens bytes.now) }
     ensures shorter { length result.now ≤ length bytes.now }
 {

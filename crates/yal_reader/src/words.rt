@@ -1,3 +1,5 @@
+//! Keywords, types of modules and flows of terminals, and words or numbers up to a semicolon.
+
 ghost use Rattle.std.specs.Prelude.{◌≡◌, ◌<◌, true, length, IfOk};
 ghost use Rattle.yal_reader.specs.Numbers.{numbers};
 ghost use Rattle.yal_reader.specs.Reading.{Finds, Gives};
@@ -15,14 +17,14 @@ use geom_core::Name;
 use std::alloc::{AllocError, Global};
 
 /// Whether a word is this keyword; keywords ignore the case of letters.
-pub fn is_word(found: &[u8], keyword: &[u8]) -> bool
+pub(crate) fn is_word(found: &[u8], keyword: &[u8]) -> bool
     ensures { result ≡ spells keyword.now found.now }
 {
     found.eq_ignore_ascii_case(keyword)
 }
 
 /// A name of this word's bytes, in memory of its own. The one error is want of memory.
-pub fn name_of(alloc: Global, word: Word<'_>) -> Result<Name, AllocError>
+pub(crate) fn name_of(alloc: Global, word: Word<'_>) -> Result<Name, AllocError>
     ensures { IfOk result (λ name. name ≡ word.entry.text.now) }
 {
     Ok(Name::new(word.text.to_vec(alloc)?))
@@ -30,7 +32,7 @@ pub fn name_of(alloc: Global, word: Word<'_>) -> Result<Name, AllocError>
 
 /// The text behind this keyword, which stands here. Takes no memory.
 #[tactic(auto, unfolding(crate::specs::Words::the_word))]
-pub fn keyword_at<'a>(keyword: &[u8], bytes: &'a [u8]) -> Result<&'a [u8], Stuck>
+pub(crate) fn keyword_at<'a>(keyword: &[u8], bytes: &'a [u8]) -> Result<&'a [u8], Stuck>
     ensures gives { Finds (λ rest. tokens rest.now) result (the_word keyword.now (tokens bytes.entry.now)) }
     ensures shorter { IfOk result (λ rest. length rest.now < length bytes.entry.now) }
 {
@@ -62,7 +64,7 @@ fn kind_named(text: &[u8]) -> Option<Kind>
 
 /// The type of modules that comes next, and the text behind it. Takes no memory.
 #[tactic(auto, unfolding(crate::specs::Words::a_kind))]
-pub fn kind_at(bytes: &[u8]) -> Result<(Kind, &[u8]), Stuck>
+pub(crate) fn kind_at(bytes: &[u8]) -> Result<(Kind, &[u8]), Stuck>
     ensures gives { Finds (λ x. (x.0, tokens x.1.now)) result (a_kind (tokens bytes.now)) }
     ensures shorter { IfOk result (λ x. length x.1.now < length bytes.now) }
 {
@@ -109,7 +111,7 @@ fn flow_named(text: &[u8]) -> Option<Flow>
 
 /// The flow that comes next, and the text behind it. Takes no memory.
 #[tactic(auto, unfolding(crate::specs::Words::a_flow))]
-pub fn flow_at(bytes: &[u8]) -> Result<(Flow, &[u8]), Stuck>
+pub(crate) fn flow_at(bytes: &[u8]) -> Result<(Flow, &[u8]), Stuck>
     ensures gives { Finds (λ x. (x.0, tokens x.1.now)) result (a_flow (tokens bytes.now)) }
     ensures shorter { IfOk result (λ x. length x.1.now < length bytes.now) }
 {
@@ -121,7 +123,7 @@ pub fn flow_at(bytes: &[u8]) -> Result<(Flow, &[u8]), Stuck>
 }
 
 /// The words up to the next semicolon, and the text behind it.
-pub fn words_at(alloc: Global, bytes: &[u8]) -> Result<(Vec<Name>, &[u8]), Stop>
+pub(crate) fn words_at(alloc: Global, bytes: &[u8]) -> Result<(Vec<Name>, &[u8]), Stop>
     ensures gives { Gives (λ x. (x.0.items, tokens x.1.now)) result (words (tokens bytes.now)) }
     ensures shorter { IfOk result (λ x. length x.1.now < length bytes.now) }
 {
@@ -136,7 +138,7 @@ pub fn words_at(alloc: Global, bytes: &[u8]) -> Result<(Vec<Name>, &[u8]), Stop>
 }
 
 /// The numbers up to the next semicolon, and the text behind it.
-pub fn numbers_at(alloc: Global, bytes: &[u8]) -> Result<(Vec<i64>, &[u8]), Stop>
+pub(crate) fn numbers_at(alloc: Global, bytes: &[u8]) -> Result<(Vec<i64>, &[u8]), Stop>
     ensures gives { Gives (λ x. (x.0.items, tokens x.1.now)) result (numbers (tokens bytes.now)) }
     ensures shorter { IfOk result (λ x. length x.1.now < length bytes.now) }
 {
@@ -154,7 +156,7 @@ pub fn numbers_at(alloc: Global, bytes: &[u8]) -> Result<(Vec<i64>, &[u8]), Stop
 }
 
 /// The text behind the next semicolon; the words before it are passed over. Takes no memory.
-pub fn past_words_at(bytes: &[u8]) -> Result<&[u8], Stuck>
+pub(crate) fn past_words_at(bytes: &[u8]) -> Result<&[u8], Stuck>
     ensures gives { Finds (λ rest. tokens rest.now) result (past_words (tokens bytes.now)) }
     ensures shorter { IfOk result (λ rest. length rest.now < length bytes.now) }
 {
@@ -166,7 +168,7 @@ pub fn past_words_at(bytes: &[u8]) -> Result<&[u8], Stuck>
 }
 
 /// The text behind this keyword as the first word of a statement, where a statement starts here. Takes no memory.
-pub fn after_stop_at<'a>(keyword: &[u8], bytes: &'a [u8]) -> Result<&'a [u8], Stuck>
+pub(crate) fn after_stop_at<'a>(keyword: &[u8], bytes: &'a [u8]) -> Result<&'a [u8], Stuck>
     ensures gives { Finds (λ rest. tokens rest.now) result (after_stop keyword.now true (tokens bytes.entry.now)) }
     ensures shorter { IfOk result (λ rest. length rest.now < length bytes.entry.now) }
 {

@@ -1,8 +1,8 @@
+use Rattle.channel_model.proofs.spans.counts.Goals as goal
 use Rattle.std.proofs.Common.{◌<◌, arith, take, rules, eqb, get_or, length, refl}
 use Rattle.std.proofs.lemmas.List.Sums.{count_by-le-length}
 use Rattle.std.proofs.lemmas.List.{length-take, get_or_read}
-use Rattle.channel_model.proofs.DensityLaws.{counted-more}
-use Rattle.channel_model.proofs.spans.counts.Goals as goal
+use Rattle.std_laws.proofs.Counts.{counted-next}
 
 pub overflow_add-index_mut : goal.overflow_add-index_mut
 overflow_add-index_mut c =
@@ -25,7 +25,7 @@ loop-number-preserved c =
     record {
       long = search rules;
       counted = λ k below.
-          counted-more c.args.numbers.now c.loop-number.counts.items c.loop-number.number-index number c.index_mut.result.now
+          counted-next c.args.numbers.now c.loop-number.counts.items c.loop-number.number-index number c.index_mut.result.now
           c.loop-number-test.true refl inside
           (get_or_read c.loop-number.counts.items number c.index_mut.result.now inside c.index_mut.ensures.value 0)
           (λ j under. c.loop-number.invariant.counted j (omega (arith, c.loop-number.counts.ok.0))) k (omega (arith, c.loop-number.counts.ok.0));

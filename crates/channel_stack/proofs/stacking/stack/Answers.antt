@@ -1,14 +1,14 @@
+use Rattle.channel_stack.proofs.stacking.stack.Goals as goal
 use Rattle.std.proofs.Common.{rules as all_rules, ◌≡◌, ℕ, Some, sym, subst}
 use Rattle.std.specs.List.{All, slice_get}
 use Rattle.channel_model.specs.Elements.{elements}
 use Rattle.channel_model.specs.Wired.{IsOnGrid}
 use Rattle.channel_model.specs.declared.wiring.Wiring.{Wiring}
-use Rattle.list_facts.proofs.Every.{every-from-get}
 use Rattle.design_model.specs.Good.{Good}
 use Rattle.channel_stack.specs.Layouts.{layout_of}
 use Rattle.channel_stack.specs.Routed.{IsWithin}
 use Rattle.channel_stack.specs.Stack.{Stacked, stack_of}
-use Rattle.channel_stack.proofs.stacking.stack.Goals as goal
+use Rattle.std_laws.proofs.Every.{every-from-get}
 
 pub drawings-requires : goal.drawings-requires
 drawings-requires c =

@@ -1,10 +1,11 @@
+use Rattle.cif_reader.proofs.standing.step_drawing.Goals as goal
 use Rattle.std.proofs.Common.{ap, sym, subst, Bool, Some}
 use Rattle.std.specs.Prelude.{is_some}
 use Rattle.cif_reader.specs.Behind.{seen, IsBehind}
 use Rattle.cif_reader.specs.Expansion.{advance}
 use Rattle.cif_reader.specs.Refusals.{Takes}
-use Rattle.cif_reader.proofs.BehindLemmas.{inside-behind, outside-behind, some-is}
-use Rattle.cif_reader.proofs.standing.step_drawing.Goals as goal
+use Rattle.cif_reader.proofs.BehindLemmas.{inside-behind, outside-behind}
+use Rattle.std_laws.proofs.Options.{some-is}
 
 pub returns-in-Some : goal.returns-in-Some
 returns-in-Some c =

@@ -1,8 +1,9 @@
+use Rattle.cif_text.proofs.calls.moves_at.Goals as goal
 use Rattle.std.proofs.Common.{arith, sym, ap, ◌∙◌}
 use Rattle.std.proofs.lemmas.Result.{err_from_is_err_and}
 use Rattle.cif_text.proofs.Moves.{moves_from}
-use Rattle.cif_text.proofs.MoveLaws.{step-left, moves-on, moves-fail, moves-end, empty-is, within-more}
-use Rattle.cif_text.proofs.calls.moves_at.Goals as goal
+use Rattle.cif_text.proofs.MoveLaws.{step-left, moves-on, moves-fail, moves-end, within-more}
+use Rattle.std_laws.proofs.Slices.{length-none}
 
 pub returns-in_err-step : goal.returns-in_err-step
 returns-in_err-step c =
@@ -28,5 +29,5 @@ loop-letter-preserved c =
 
 pub returns : goal.returns
 returns c =
-    let none = empty-is c.loop-letter.rest.now c.in_default.ensures.cases in
+    let none = length-none c.loop-letter.rest.now c.in_default.ensures.cases in
     sym c.loop-letter.invariant.0 ∙ ap (moves_from c.loop-letter.whole) none ∙ moves-end c.loop-letter.whole

@@ -1,11 +1,11 @@
+use Rattle.cif_writer.proofs.drawings.kind_drawings.Goals as goal
 use Rattle.std.proofs.Common.{rules, ◌≡◌, ◌++◌, ◌∷◌, ◌∙◌, ◌<◌, [], List, length, map, take, get_or, ap, ap₂, sym}
 use Rattle.std.proofs.lemmas.List.{map-append}
 use Rattle.std.proofs.lemmas.Option.{slice_get-get_or}
-use Rattle.list_facts.proofs.Places.{take-here}
 use Rattle.design_model.specs.Drawing.{drawing_of}
 use Rattle.design_model.specs.declared.design.CellKind.{CellKind}
 use Rattle.geom_core.specs.declared.layout.Shape.{Shape}
-use Rattle.cif_writer.proofs.drawings.kind_drawings.Goals as goal
+use Rattle.std_laws.proofs.Places.{take-here}
 
 pub loop-n-preserved : goal.loop-n-preserved
 loop-n-preserved c =

@@ -1,9 +1,9 @@
+use Rattle.cif_text.specs.declared.command.Command.TheVariants as commands
+use Rattle.cif_writer.proofs.layout.write_all.Goals as goal
 use Rattle.std.proofs.lemmas.Result.{on_err_weaker, on_ok_weaker}
 use Rattle.cif_text.specs.Printing.{line}
-use Rattle.cif_text.specs.declared.command.Command.TheVariants as commands
-use Rattle.shelf_io.proofs.Appends.{on-err}
 use Rattle.cif_writer.proofs.WroteLaws.{ended-behind, ended-not, ended-of, stopped-behind, stopped-first}
-use Rattle.cif_writer.proofs.layout.write_all.Goals as goal
+use Rattle.std_laws.proofs.Options.{on-err}
 
 pub returns-in_err-writer-clause-stopped : goal.returns-in_err-writer-clause-stopped
 returns-in_err-writer-clause-stopped g c = on-err c.from_residual.result _ (stopped-first _ c.in_err-writer.ensures.stopped)

@@ -1,3 +1,4 @@
+use Rattle.cif_writer.proofs.layout.write_layout.Goals as goal
 use Rattle.std.proofs.Common.{List, ap, subst, sym}
 use Rattle.std.specs.List.{All, AllByRecursion}
 use Rattle.channel_model.specs.Elements.{elements}
@@ -7,7 +8,6 @@ use Rattle.channel_stack.specs.Stack.{LaidOut, stack_of}
 use Rattle.design_model.specs.Netlist.{IsNetlist}
 use Rattle.geom_core.specs.Reach.{IsShapeInReach}
 use Rattle.geom_core.specs.declared.layout.Shape.{Shape}
-use Rattle.list_facts.proofs.Every.{every-from-get}
 use Rattle.cif_writer.specs.Begun.{Begun}
 use Rattle.cif_writer.specs.LayoutText.{placed_text}
 use Rattle.cif_writer.proofs.AppendsLaws.{begun-front, begun-whole}
@@ -15,7 +15,7 @@ use Rattle.cif_writer.proofs.SymbolDrawings.{whole-text}
 use Rattle.cif_writer.proofs.SymbolReach.{symbols-reach}
 use Rattle.cif_writer.proofs.Writable.{stack-reach}
 use Rattle.cif_writer.proofs.WrittenStack.{stack-reads}
-use Rattle.cif_writer.proofs.layout.write_layout.Goals as goal
+use Rattle.std_laws.proofs.Every.{every-from-get}
 
 pub returns-in_err-writer-clause-reads_as : goal.returns-in_err-writer-clause-reads_as
 returns-in_err-writer-clause-reads_as g c =

@@ -1,8 +1,8 @@
+use Rattle.cif_writer.proofs.layout.write_main.Goals as goal
 use Rattle.std.proofs.Common.{rules, ◌≡◌, ◌∙◌, refl}
-use Rattle.shelf_io.proofs.Appends.{on-err}
 use Rattle.cif_writer.proofs.LayoutLines.{main-channel, main-level, main-top}
 use Rattle.cif_writer.proofs.WroteLaws.{wrote_so_far-begun, wrote_so_far-done, wrote_so_far-more, wrote_so_far-stopped}
-use Rattle.cif_writer.proofs.layout.write_main.Goals as goal
+use Rattle.std_laws.proofs.Options.{on-err}
 
 pub loop-wiring-init : goal.loop-wiring-init
 loop-wiring-init g c =

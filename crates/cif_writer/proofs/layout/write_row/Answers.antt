@@ -1,12 +1,12 @@
+use Rattle.cif_writer.proofs.layout.write_row.Goals as goal
 use Rattle.std.proofs.Common.{◌∙◌, List, None, ap, refl}
 use Rattle.cif_text.specs.Printing.{text_of}
 use Rattle.cif_text.specs.Written.{items_commands}
 use Rattle.channel_stack.specs.declared.placed.PlacedItem.{PlacedItem}
-use Rattle.shelf_io.proofs.Appends.{on-err}
 use Rattle.cif_writer.specs.Symbols.{copies_of}
 use Rattle.cif_writer.proofs.WroteLaws.{stopped-of, wrote-of, wrote_so_far-begun, wrote_so_far-more, wrote_so_far-stopped}
 use Rattle.cif_writer.proofs.LayoutLines.{row-parts}
-use Rattle.cif_writer.proofs.layout.write_row.Goals as goal
+use Rattle.std_laws.proofs.Options.{on-err}
 
 pub loop-placed-init : goal.loop-placed-init
 loop-placed-init g c = record { so_far = wrote_so_far-begun _ _ _ _ _ _; last = refl }

@@ -1,12 +1,12 @@
+use Rattle.cif_writer.proofs.layout.write_symbols.Goals as goal
 use Rattle.std.proofs.Common.{rules, ◌≡◌, ◌∙◌, ◌+◌, List, ap, arith, length}
 use Rattle.cif_text.specs.Printing.{text_of}
 use Rattle.cif_text.specs.Written.{symbols_commands}
 use Rattle.geom_core.specs.declared.layout.Shape.{Shape}
-use Rattle.shelf_io.proofs.Appends.{on-err}
 use Rattle.cif_writer.specs.Symbols.{symbols_with}
 use Rattle.cif_writer.proofs.WroteLaws.{stopped-of, wrote-of, wrote_so_far-begun, wrote_so_far-more, wrote_so_far-stopped}
 use Rattle.cif_writer.proofs.LayoutLines.{symbols-parts}
-use Rattle.cif_writer.proofs.layout.write_symbols.Goals as goal
+use Rattle.std_laws.proofs.Options.{on-err}
 
 pub loop-drawing-init : goal.loop-drawing-init
 loop-drawing-init g c = record {

@@ -1,12 +1,12 @@
+use Rattle.cif_writer.proofs.layout.write_wires.Goals as goal
 use Rattle.std.proofs.Common.{◌∙◌, refl, sym}
 use Rattle.geom_core.specs.Reach.{IsShapeInReach}
-use Rattle.list_facts.proofs.Every.{every-get}
-use Rattle.shelf_io.proofs.Appends.{on-err}
 use Rattle.wire_geom.specs.Drawing.{drawing}
 use Rattle.wire_geom.specs.declared.drawn.Drawn.{Drawn}
 use Rattle.cif_writer.proofs.WroteLaws.{stopped-of, wrote-of, wrote_so_far-begun, wrote_so_far-more, wrote_so_far-stopped}
 use Rattle.cif_writer.proofs.LayoutLines.{wires-layer, wires-parts}
-use Rattle.cif_writer.proofs.layout.write_wires.Goals as goal
+use Rattle.std_laws.proofs.Every.{every-get}
+use Rattle.std_laws.proofs.Options.{on-err}
 
 pub loop-k-init : goal.loop-k-init
 loop-k-init g c = record { so_far = wrote_so_far-begun _ _ _ _ _ _; layer = refl }

@@ -1,12 +1,12 @@
+use Rattle.cif_text.specs.declared.command.UserKind.TheVariants as users
+use Rattle.cif_writer.proofs.printing.put_copy.Goals as goal
 use Rattle.std.proofs.Common.{option_map}
 use Rattle.std.proofs.lemmas.Result.{on_err_weaker, on_ok_weaker}
 use Rattle.cif_text.specs.Printing.{line, text_of}
 use Rattle.cif_text.specs.Written.{call_to, name_commands}
-use Rattle.cif_text.specs.declared.command.UserKind.TheVariants as users
-use Rattle.shelf_io.proofs.Appends.{on-err}
 use Rattle.cif_writer.proofs.AppendsLaws.{appends-both, front-behind, front-first}
 use Rattle.cif_writer.proofs.Lines.{text-last}
-use Rattle.cif_writer.proofs.printing.put_copy.Goals as goal
+use Rattle.std_laws.proofs.Options.{on-err}
 
 pub returns-in_err-put_instance_name-clause-front : goal.returns-in_err-put_instance_name-clause-front
 returns-in_err-put_instance_name-clause-front g c =

@@ -1,8 +1,8 @@
+use Rattle.cif_writer.proofs.printing.put_name.Goals as goal
 use Rattle.std.proofs.Common.{◌++◌, ◌∷◌, []}
 use Rattle.std.proofs.lemmas.Result.{on_err_weaker, on_ok_weaker}
-use Rattle.shelf_io.proofs.Appends.{on-err}
 use Rattle.cif_writer.proofs.AppendsLaws.{appends-both, front-behind, front-first}
-use Rattle.cif_writer.proofs.printing.put_name.Goals as goal
+use Rattle.std_laws.proofs.Options.{on-err}
 
 pub returns-in_err-append-clause-front : goal.returns-in_err-append-clause-front
 returns-in_err-append-clause-front g c =

@@ -1,10 +1,10 @@
+use Rattle.cif_writer.proofs.printing.put_shape.Goals as goal
 use Rattle.std.proofs.lemmas.Result.{on_err_weaker, on_ok_weaker}
 use Rattle.cif_text.specs.Printing.{line, text_of}
 use Rattle.cif_text.specs.Written.{box_of, change}
-use Rattle.shelf_io.proofs.Appends.{on-err}
 use Rattle.cif_writer.proofs.AppendsLaws.{appends-both, front-behind, front-first}
 use Rattle.cif_writer.proofs.Lines.{text-last}
-use Rattle.cif_writer.proofs.printing.put_shape.Goals as goal
+use Rattle.std_laws.proofs.Options.{on-err}
 
 pub returns-in_err-put_layer-clause-front : goal.returns-in_err-put_layer-clause-front
 returns-in_err-put_layer-clause-front g c =

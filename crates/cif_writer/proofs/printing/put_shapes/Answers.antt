@@ -1,11 +1,11 @@
+use Rattle.cif_writer.proofs.printing.put_shapes.Goals as goal
 use Rattle.std.proofs.Common.{rules, ◌∙◌, List, None, ap, refl}
 use Rattle.cif_text.specs.Printing.{text_of}
 use Rattle.cif_text.specs.Written.{shape_commands, shapes_commands}
 use Rattle.cif_text.proofs.TextLemmas.{text_of-append}
 use Rattle.geom_core.specs.declared.layout.Shape.{Shape}
-use Rattle.shelf_io.proofs.Appends.{on-err}
 use Rattle.cif_writer.proofs.AppendsLaws.{so_far-begun, so_far-front, so_far-more}
-use Rattle.cif_writer.proofs.printing.put_shapes.Goals as goal
+use Rattle.std_laws.proofs.Options.{on-err}
 
 pub loop-shape-init : goal.loop-shape-init
 loop-shape-init g c = record {

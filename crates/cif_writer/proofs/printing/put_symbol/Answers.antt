@@ -1,13 +1,13 @@
+use Rattle.cif_text.specs.declared.command.Command.TheVariants as commands
+use Rattle.cif_text.specs.declared.command.UserKind.TheVariants as users
+use Rattle.cif_writer.proofs.printing.put_symbol.Goals as goal
 use Rattle.std.proofs.Common.{◌++◌, List, ℕ, None, option_map}
 use Rattle.std.proofs.lemmas.Result.{on_err_weaker, on_ok_weaker}
 use Rattle.cif_text.specs.Printing.{line, text_of}
 use Rattle.cif_text.specs.Written.{name_commands, shapes_commands}
-use Rattle.cif_text.specs.declared.command.Command.TheVariants as commands
-use Rattle.cif_text.specs.declared.command.UserKind.TheVariants as users
-use Rattle.shelf_io.proofs.Appends.{on-err}
 use Rattle.cif_writer.proofs.AppendsLaws.{appends-both, front-behind, front-first}
 use Rattle.cif_writer.proofs.Lines.{symbol-text}
-use Rattle.cif_writer.proofs.printing.put_symbol.Goals as goal
+use Rattle.std_laws.proofs.Options.{on-err}
 
 pub returns-in_err-put_command-clause-front : goal.returns-in_err-put_command-clause-front
 returns-in_err-put_command-clause-front g c =

@@ -1,10 +1,11 @@
+use Rattle.close_rects.proofs.crowding.add_pairs.Goals as goal
 use Rattle.std.proofs.Common.{◌≡◌, ◌∙◌, ap, length, take, ◌++◌, rules, map, ◌-◌, min}
 use Rattle.std.specs.List.{slice_index}
 use Rattle.std.proofs.lemmas.List.{take_all}
 use Rattle.close_rects.specs.declared.member.Member.{Member}
 use Rattle.close_rects.specs.Kins.{pairs_of}
-use Rattle.close_rects.proofs.Gathering.{pairs_of-more, take-room}
-use Rattle.close_rects.proofs.crowding.add_pairs.Goals as goal
+use Rattle.close_rects.proofs.Gathering.{pairs_of-more}
+use Rattle.std_laws.proofs.Slices.{take-room}
 
 pub loop-place-preserved : goal.loop-place-preserved
 loop-place-preserved c = pairs_of-more _ _ _ _ _ _ c.loop-place.place-index c.at.result c.loop-place-test.true c.at.ensures.is

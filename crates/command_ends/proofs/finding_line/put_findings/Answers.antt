@@ -1,7 +1,7 @@
-use Rattle.std.proofs.Common.{rules, refl}
-use Rattle.shelf_io.proofs.Appends.{on-err}
-use Rattle.command_ends.proofs.FindingPuts.{put-front, put-more, put-none}
 use Rattle.command_ends.proofs.finding_line.put_findings.Goals as goal
+use Rattle.std.proofs.Common.{rules, refl}
+use Rattle.command_ends.proofs.FindingPuts.{put-front, put-more, put-none}
+use Rattle.std_laws.proofs.Options.{on-err}
 
 pub loop-finding-init : goal.loop-finding-init
 loop-finding-init g c = record { put = put-none _ _ _ _; faults = refl }

@@ -1,7 +1,8 @@
+use Rattle.command_ends.proofs.finding_line.put_judged.Goals as goal
 use Rattle.std.proofs.Common.{refl}
 use Rattle.std.proofs.lemmas.Result.{on_err_weaker}
-use Rattle.shelf_io.proofs.Appends.{first-front, on-err, second-front}
-use Rattle.command_ends.proofs.finding_line.put_judged.Goals as goal
+use Rattle.shelf_io.proofs.Appends.{first-front, second-front}
+use Rattle.std_laws.proofs.Options.{on-err}
 
 pub returns-in_err-put_findings-clause-front : goal.returns-in_err-put_findings-clause-front
 returns-in_err-put_findings-clause-front g c =

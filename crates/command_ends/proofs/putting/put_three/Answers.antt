@@ -1,7 +1,8 @@
+use Rattle.command_ends.proofs.putting.put_three.Goals as goal
 use Rattle.std.proofs.Common.{refl}
 use Rattle.std.proofs.lemmas.Result.{on_err_weaker}
-use Rattle.shelf_io.proofs.Appends.{first-front, on-err, second-front}
-use Rattle.command_ends.proofs.putting.put_three.Goals as goal
+use Rattle.shelf_io.proofs.Appends.{first-front, second-front}
+use Rattle.std_laws.proofs.Options.{on-err}
 
 pub returns-in_err-put_both-clause-front : goal.returns-in_err-put_both-clause-front
 returns-in_err-put_both-clause-front g c =

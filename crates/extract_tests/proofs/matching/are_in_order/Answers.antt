@@ -1,3 +1,4 @@
+use Rattle.extract_tests.proofs.matching.are_in_order.Goals as goal
 use Rattle.std.proofs.Common.{◌≡◌, ◌<◌, ◌∙◌, ℕ, List, Some, length, ap, sym, subst, refl, inl, inr, arith}
 use Rattle.std.specs.List.{slice_get}
 use Rattle.std.proofs.lemmas.Bool.{cases_lt}
@@ -6,8 +7,7 @@ use Rattle.design_model.specs.Netlist.{Netlist}
 use Rattle.design_model.specs.declared.design.Inst.{Inst}
 use Rattle.geom_core.specs.declared.layout.Cell.{Cell}
 use Rattle.extract_tests.specs.InOrder.{IsCellOf}
-use Rattle.extract_tests.proofs.OrderedCells.{meant}
-use Rattle.extract_tests.proofs.matching.are_in_order.Goals as goal
+use Rattle.std_laws.proofs.Options.{on-true-holds}
 
 pub loop-n-preserved : goal.loop-n-preserved
 loop-n-preserved c = λ k i cell below first second. elim (cases_lt k c.loop-n.n) [
@@ -22,7 +22,7 @@ loop-n-preserved c = λ k i cell below first second. elim (cases_lt k c.loop-n.n
       let two : c.index-cells-n.result ≡ cell =
       cc (there, slice_get_read c.items-cells.result.now (length c.items-cells.result.now) c.loop-n.n c.index-cells-n.result refl in_cells c.index-cells-n.is) in
       let is : IsCellOf c.args.rules.now c.args.design.now c.args.layout.now c.index-instances-n.result c.index-cells-n.result =
-      meant c.in_ok-is_cell_of.field-0 (IsCellOf c.args.rules.now c.args.design.now c.args.layout.now c.index-instances-n.result c.index-cells-n.result) c.if-not-branch.false c.in_ok-is_cell_of.ensures in
+      on-true-holds c.in_ok-is_cell_of.field-0 (IsCellOf c.args.rules.now c.args.design.now c.args.layout.now c.index-instances-n.result c.index-cells-n.result) c.if-not-branch.false c.in_ok-is_cell_of.ensures in
       subst (λ (j : Inst). IsCellOf c.args.rules.now c.args.design.now c.args.layout.now j cell) one
       (subst (λ (d : Cell). IsCellOf c.args.rules.now c.args.design.now c.args.layout.now c.index-instances-n.result d) two is)
 ]

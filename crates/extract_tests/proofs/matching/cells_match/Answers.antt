@@ -1,8 +1,9 @@
+use Rattle.extract_tests.proofs.matching.cells_match.Goals as goal
 use Rattle.std.proofs.lemmas.Result.{IfOk-weaker}
 use Rattle.design_model.specs.CellsMatch.{CellsMatch}
 use Rattle.extract_tests.specs.InOrder.{AreInOrder}
-use Rattle.extract_tests.proofs.OrderedCells.{in-order-match, on-true}
-use Rattle.extract_tests.proofs.matching.cells_match.Goals as goal
+use Rattle.extract_tests.proofs.OrderedCells.{in-order-match}
+use Rattle.std_laws.proofs.Options.{on-true}
 
 pub returns : goal.returns
 returns c = IfOk-weaker c.are_in_order.result _ _

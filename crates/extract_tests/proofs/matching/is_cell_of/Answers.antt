@@ -1,3 +1,4 @@
+use Rattle.extract_tests.proofs.matching.is_cell_of.Goals as goal
 use Rattle.std.proofs.Common.{◌≡◌, ◌<◌, ◌∙◌, List, Some, length, map, ap, sym, refl, rules}
 use Rattle.std.specs.List.{slice_get}
 use Rattle.std.proofs.lemmas.Option.{slice_get_read}
@@ -7,8 +8,7 @@ use Rattle.design_model.specs.CellsMatch.{shapes_of}
 use Rattle.design_model.specs.Netlist.{Netlist}
 use Rattle.design_model.specs.declared.design.CellKind.{CellKind}
 use Rattle.extract_tests.specs.InOrder.{IsCellOf}
-use Rattle.extract_tests.proofs.OrderedCells.{on-true}
-use Rattle.extract_tests.proofs.matching.is_cell_of.Goals as goal
+use Rattle.std_laws.proofs.Options.{on-true}
 
 pub returns : goal.returns
 returns c =

@@ -1,8 +1,9 @@
--- The numbers below the middle are those before the place that the search answers.
+use Rattle.feed_cells.proofs.places.place_among.Goals as goal
 use Rattle.std.proofs.Common.{◌≤◌, ℕ, length, rules, ltb, sym}
 use Rattle.std.proofs.lemmas.List.Sorted.{IsPartitionPoint-from_clause, IsPartitionedBy-ltb}
-use Rattle.list_facts.proofs.Counts.{counted}
-use Rattle.feed_cells.proofs.places.place_among.Goals as goal
+use Rattle.std_laws.proofs.Counts.{counted}
+
+-- The numbers below the middle are those before the place that the search answers.
 
 pub returns-clause-is : goal.returns-clause-is
 returns-clause-is c =

@@ -1,8 +1,9 @@
--- Each channel's number is 0 at first, and then that of the nets which stand in it.
-use Rattle.std.proofs.Common.{rules, ◌+◌, ℕ, arith}
-use Rattle.list_facts.proofs.Places.{filled}
-use Rattle.feed_cells.specs.Sizes.{count_in}
 use Rattle.feed_cells.proofs.totals.counts_in.Goals as goal
+use Rattle.std.proofs.Common.{rules, ◌+◌, ℕ, arith}
+use Rattle.feed_cells.specs.Sizes.{count_in}
+use Rattle.std_laws.proofs.Places.{filled}
+
+-- Each channel's number is 0 at first, and then that of the nets which stand in it.
 
 pub returns : goal.returns
 returns c =

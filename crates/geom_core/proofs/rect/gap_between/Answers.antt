@@ -1,8 +1,8 @@
+use Rattle.geom_core.proofs.rect.gap_between.Goals as goal
 use Rattle.std.proofs.Common.{arith, rules, ◌≡◌}
 use Rattle.std.specs.Int.{int_max, int_min}
 use Rattle.std.proofs.lemmas.Int.{to_z-of_z, ints, clamps}
-use Rattle.geom_core.proofs.Signed.{difference}
-use Rattle.geom_core.proofs.rect.gap_between.Goals as goal
+use Rattle.std_laws.proofs.Integers.{difference}
 
 pub overflow_sub-result : goal.overflow_sub-result
 overflow_sub-result c = omega (arith, ints, clamps)

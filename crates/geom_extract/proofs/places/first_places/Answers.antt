@@ -1,9 +1,9 @@
+use Rattle.geom_extract.proofs.places.first_places.Goals as goal
 use Rattle.std.proofs.Common.{◌≡◌, ◌+◌, ◌∙◌, ℕ, Some, map, ap, arith}
 use Rattle.std.specs.List.{range_with_len}
 use Rattle.std.proofs.lemmas.Option.{slice_get-get_or}
-use Rattle.list_facts.proofs.Places.{list-by}
 use Rattle.geom_extract.specs.CellTies.{first_place}
-use Rattle.geom_extract.proofs.places.first_places.Goals as goal
+use Rattle.std_laws.proofs.Places.{list-by}
 
 pub returns : goal.returns
 returns c =

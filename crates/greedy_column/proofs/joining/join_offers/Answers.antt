@@ -1,10 +1,10 @@
+use Rattle.greedy_column.proofs.joining.join_offers.Goals as goal
 use Rattle.std.proofs.Common.{◌≡◌, ◌∷◌, ◌++◌, ◌∙◌, [], List, ap, map, rules, subst, sym, Contains, append_assoc}
 use Rattle.choose_core.specs.declared.candidate.Candidate.{Candidate}
 use Rattle.greedy_column.specs.declared.span.Span.{Span}
 use Rattle.greedy_column.specs.Uses.{next_after}
 use Rattle.greedy_column.specs.Offers.{join_offer}
-use Rattle.greedy_column.proofs.Members.{in_first, in_later}
-use Rattle.greedy_column.proofs.joining.join_offers.Goals as goal
+use Rattle.std_laws.proofs.Members.{member-head, member-tail}
 
 pub loop-pair-init : goal.loop-pair-init
 loop-pair-init c = record {
@@ -16,7 +16,7 @@ pub join_offer-requires : goal.join_offer-requires
 join_offer-requires c =
     let pair = c.in-Some.pair.now in
     let cut : c.loop-pair.rest.now ≡ pair ∷ c.in-Some.later.now = search rules in
-    c.loop-pair.invariant.above pair (subst (λ (l : List Span). Contains l pair) (sym cut) (in_first pair c.in-Some.later.now))
+    c.loop-pair.invariant.above pair (subst (λ (l : List Span). Contains l pair) (sym cut) (member-head pair c.in-Some.later.now))
 
 pub loop-pair-preserved : goal.loop-pair-preserved
 loop-pair-preserved c =
@@ -28,7 +28,7 @@ loop-pair-preserved c =
     let told : c.push.new.self.items ≡ c.loop-pair.offers.items ++ offered pair ∷ [] =
     pushed ∙ ap (λ (o : Candidate). c.loop-pair.offers.items ++ o ∷ []) c.join_offer.ensures in
     record {
-      above = λ other member. c.loop-pair.invariant.above other (subst (λ (l : List Span). Contains l other) (sym cut) (in_later pair other later member));
+      above = λ other member. c.loop-pair.invariant.above other (subst (λ (l : List Span). Contains l other) (sym cut) (member-tail pair later other member));
       so_far = ap (λ (l : List Candidate). l ++ map offered later) told ∙ append_assoc c.loop-pair.offers.items (offered pair ∷ []) (map offered later)
           ∙ (rw cut at c.loop-pair.invariant).so_far;
     }

@@ -1,11 +1,11 @@
+use Rattle.greedy_router.proofs.channels.route_all.Goals as goal
 use Rattle.std.proofs.Common.{◌≡◌, ◌++◌, ◌∷◌, [], Some, length, ap, arith, rules, length-append, sym, ◌∙◌}
 use Rattle.std.proofs.lemmas.Option.{slice_get-get_or}
 use Rattle.std.specs.Prelude.{slice_get}
 use Rattle.channel_model.specs.Pins.{Pins}
 use Rattle.greedy_router.specs.declared.sweep.Routed.{Routed}
 use Rattle.greedy_router.specs.Answers.{IsRoutedAs}
-use Rattle.greedy_router.proofs.ListLaws.{each-push}
-use Rattle.greedy_router.proofs.channels.route_all.Goals as goal
+use Rattle.std_laws.proofs.Places.{each-push}
 
 pub loop-channel-preserved : goal.loop-channel-preserved
 loop-channel-preserved g c =

@@ -1,9 +1,9 @@
+use Rattle.layout_check.proofs.cells.is_copy.Goals as goal
 use Rattle.std.proofs.Common.{◌≡◌, ◌<◌, ◌≤◌, ◌∙◌, ℕ, List, Option, Some, length, ap, ap₂, sym, subst, refl}
 use Rattle.std.specs.List.{slice_get}
 use Rattle.std.specs.Option.{option_map}
 use Rattle.std.proofs.lemmas.Option.{same_Some, slice_get-map, slice_get_past, slice_get_read}
 use Rattle.list_facts.specs.Names.{place_among}
-use Rattle.list_facts.proofs.Members.{all-get}
 use Rattle.geom_core.specs.declared.layout.Shape.{Shape}
 use Rattle.design_model.specs.CellsMatch.{instance_names}
 use Rattle.design_model.specs.Drawing.{drawing_of}
@@ -13,7 +13,7 @@ use Rattle.design_model.specs.declared.design.Inst.{Inst}
 use Rattle.layout_check.specs.CellFaults.{is_copy_for, is_copy_of_kind}
 use Rattle.layout_check.specs.Drawings.{is_copy_with}
 use Rattle.layout_check.proofs.Instances.{find-place}
-use Rattle.layout_check.proofs.cells.is_copy.Goals as goal
+use Rattle.std_laws.proofs.Members.{all-get}
 
 pub returns-in_default : goal.returns-in_default
 returns-in_default c =

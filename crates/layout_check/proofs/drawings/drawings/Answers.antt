@@ -1,3 +1,4 @@
+use Rattle.layout_check.proofs.drawings.drawings.Goals as goal
 use Rattle.std.proofs.Common.{◌≡◌, ◌<◌, ◌≤◌, ◌++◌, ◌∷◌, [], ◌∙◌, List, length, map, take, ap, sym, subst}
 use Rattle.std.proofs.lemmas.List.{map_push as map-push, take_all}
 use Rattle.geom_core.specs.declared.layout.Shape.{Shape}
@@ -5,10 +6,9 @@ use Rattle.tech_rules.specs.Rules.{ValidRules}
 use Rattle.design_model.specs.Drawing.{drawing_of}
 use Rattle.design_model.specs.Netlist.{IsNetlist, Netlist}
 use Rattle.design_model.specs.declared.design.CellKind.{CellKind}
-use Rattle.list_facts.proofs.Places.{at-place, take-here}
 use Rattle.layout_check.specs.Drawings.{AreForKinds, drawings_of}
 use Rattle.layout_check.proofs.DrawingReach.{drawings-reach}
-use Rattle.layout_check.proofs.drawings.drawings.Goals as goal
+use Rattle.std_laws.proofs.Places.{at-place, take-here}
 
 pub loop-n-preserved : goal.loop-n-preserved
 loop-n-preserved c =

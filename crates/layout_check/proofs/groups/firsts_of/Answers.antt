@@ -1,11 +1,12 @@
+use Rattle.layout_check.proofs.groups.firsts_of.Goals as goal
 use Rattle.std.proofs.Common.{◌≡◌, ◌<◌, ◌+◌, ◌++◌, ◌∷◌, [], ◌∙◌, ℕ, List, Option, Some, length, take, drop, set, eqb, get_or, ap, sym, subst}
 use Rattle.std.specs.Prelude.{All, unwrap_or}
 use Rattle.std.specs.List.{position_from, slice_get}
 use Rattle.std.proofs.lemmas.List.{length-set, map_more}
 use Rattle.std.proofs.lemmas.Option.{slice_get-get_or}
 use Rattle.layout_check.specs.Groups.{first_of}
-use Rattle.layout_check.proofs.Tables.{first-read, seam, table-step}
-use Rattle.layout_check.proofs.groups.firsts_of.Goals as goal
+use Rattle.layout_check.proofs.Tables.{first-read, table-step}
+use Rattle.std_laws.proofs.Slices.{overwritten-whole}
 
 pub loop-k-preserved : goal.loop-k-preserved
 loop-k-preserved c =
@@ -19,7 +20,7 @@ loop-k-preserved c =
     c.enter.ensures.table ∙ ap (λ (l : List (Option ℕ)). set l g (Some c.enter.result)) c.deref_mut.ensures.value in
     let long : length c.enter.new.table ≡ length c.loop-k.table.items = ap (λ (l : List (Option ℕ)). length l) put ∙ length-set c.loop-k.table.items g (Some c.enter.result) in
     let whole : take c.loop-k.table.len (c.enter.new.table ++ drop (length c.enter.new.table) c.loop-k.table.items) ≡ c.enter.new.table =
-    seam c.loop-k.table.items c.enter.new.table c.loop-k.table.len c.loop-k.table.ok.0 long in
+    overwritten-whole c.loop-k.table.items c.enter.new.table c.loop-k.table.len c.loop-k.table.ok.0 long in
     let P : List (Option ℕ) → Type 0 = λ l. (h : ℕ) → h < length l → slice_get l h ≡ Some (position_from (λ (m : ℕ). eqb h m) 0 (take (c.loop-k.k + 1) c.args.members.now.groups.now)) in
     record {
       firsts = c.in_ok-push.ensures.items

@@ -1,10 +1,11 @@
+use Rattle.layout_report.proofs.printing.print_channels.Goals as goal
 use Rattle.std.proofs.Common.{rules, ◌≡◌, ◌+◌, ◌++◌, ◌∷◌, ◌∙◌, ℕ, List, Option, refl, append_assoc, arith}
-use Rattle.shelf_io.proofs.Appends.{appended-twice, first-front, on-err, second-front}
+use Rattle.shelf_io.proofs.Appends.{appended-twice, first-front, second-front}
 use Rattle.shelf_io.specs.Told.{EndsWithin, Refines, appended}
 use Rattle.layout_report.specs.SummaryText.{channel_text, channels_text}
 use Rattle.layout_report.specs.declared.summary.ChannelLine.{ChannelLine}
 use Rattle.layout_report.proofs.printing.print_channels.Invariants.{HasPut}
-use Rattle.layout_report.proofs.printing.print_channels.Goals as goal
+use Rattle.std_laws.proofs.Options.{on-err}
 
 -- where the next channel's line was put, one more is put
 one-more : (all rest after : List ChannelLine) (c : ChannelLine) (number : ℕ) (before mid now : Option (List ℕ)) → rest ≡ c ∷ after

@@ -1,8 +1,9 @@
+use Rattle.layout_report.proofs.printing.print_end.Goals as goal
 use Rattle.std.proofs.Common.{refl}
 use Rattle.std.proofs.lemmas.Result.{on_err_weaker}
-use Rattle.shelf_io.proofs.Appends.{first-front, on-err, second-front}
+use Rattle.shelf_io.proofs.Appends.{first-front, second-front}
 use Rattle.layout_report.specs.SummaryText.{end_text}
-use Rattle.layout_report.proofs.printing.print_end.Goals as goal
+use Rattle.std_laws.proofs.Options.{on-err}
 
 pub returns-in_err-print_size-clause-front : goal.returns-in_err-print_size-clause-front
 unfolding end_text

@@ -1,6 +1,7 @@
-use Rattle.std.proofs.Common.{◌∙◌, sym}
-use Rattle.list_facts.proofs.TextLaws.{place-texts, first-place, no-place, same}
 use Rattle.list_facts.proofs.names.place_of.Goals as goal
+use Rattle.std.proofs.Common.{◌∙◌, sym}
+use Rattle.list_facts.proofs.TextLaws.{place-texts, same}
+use Rattle.std_laws.proofs.Searches.{first-place, no-place}
 
 pub returns-in-Some-clause-is : goal.returns-in-Some-clause-is
 returns-in-Some-clause-is c =

@@ -1,7 +1,7 @@
-use Rattle.std.proofs.Common.{rules, ℕ, fold, refl}
-use Rattle.list_facts.proofs.Places.{filled}
-use Rattle.pin_assign.specs.Tabled.{laid, laid_entries}
 use Rattle.pin_assign.proofs.entries.laid_entries.Goals as goal
+use Rattle.std.proofs.Common.{rules, ℕ, fold, refl}
+use Rattle.pin_assign.specs.Tabled.{laid, laid_entries}
+use Rattle.std_laws.proofs.Places.{filled}
 
 pub returns : goal.returns
 unfolding laid_entries

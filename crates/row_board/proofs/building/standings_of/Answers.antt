@@ -1,3 +1,4 @@
+use Rattle.row_board.proofs.building.standings_of.Goals as goal
 use Rattle.std.proofs.Common.{◌≡◌, ◌<◌, ℕ, ◌++◌, take, drop, length, ap, sym, ◌∙◌, arith, subst, List}
 use Rattle.std.proofs.lemmas.Option.{slice_get_within}
 use Rattle.std.specs.List.{slice_get}
@@ -8,9 +9,8 @@ use Rattle.row_board.specs.Standings.{AreApart, HasEntered, IsEntered, KeepsOthe
 use Rattle.row_model.specs.declared.rows.Seat.{Seat}
 use Rattle.row_board.proofs.MoveLaws.{row-entered}
 use Rattle.row_board.proofs.PlaceLaws.{there-apart, there-short}
-use Rattle.row_model.proofs.ChangeLaws.{overwritten-same}
 use Rattle.row_model.proofs.PlacedLaws.{placed-distinct}
-use Rattle.row_board.proofs.building.standings_of.Goals as goal
+use Rattle.std_laws.proofs.Slices.{overwritten-same}
 
 pub enter_row-requires-clause-apart : goal.enter_row-requires-clause-apart
 enter_row-requires-clause-apart c =

@@ -1,3 +1,4 @@
+use Rattle.row_board.proofs.moving.exchange_seats.Goals as goal
 use Rattle.std.proofs.Common.{◌≡◌, ◌<◌, ℕ, length, ap, ap₂, sym, ◌∙◌, subst}
 use Rattle.std.specs.Prelude.{nat_eq}
 use Rattle.design_model.specs.Netlist.{Netlist}
@@ -9,10 +10,10 @@ use Rattle.row_model.specs.Rows.{ArePlaced}
 use Rattle.row_model.specs.Widths.{columns_of}
 use Rattle.row_board.proofs.MoveLaws.{cell-told}
 use Rattle.row_board.proofs.PutLaws.{seats-exchanged}
-use Rattle.row_board.proofs.ReachLaws.{alike, unmoved, unmoved-ordered, AreReaches}
+use Rattle.row_board.proofs.ReachLaws.{unmoved, unmoved-ordered, AreReaches}
 use Rattle.row_model.proofs.PlacedLaws.{placed-distinct}
 use Rattle.row_model.proofs.SwapLaws.{swap-placed}
-use Rattle.row_board.proofs.moving.exchange_seats.Goals as goal
+use Rattle.std_laws.proofs.Tests.{nat_eq-alike}
 
 pub returns : goal.returns
 returns c =
@@ -33,7 +34,7 @@ returns c =
       other = c.standing-other.result;
       is_one = c.standing-one.ensures;
       is_other = c.standing-other.ensures;
-      alike = alike c.columns_of.result c.columns_of-2.result _ _ (width _ _ c.columns_of.ensures.width) (width _ _ c.columns_of-2.ensures.width);
+      alike = nat_eq-alike c.columns_of.result c.columns_of-2.result _ _ (width _ _ c.columns_of.ensures.width) (width _ _ c.columns_of-2.ensures.width);
       row = c.reach_of-reach.ensures.row;
       from = c.reach_of-reach.ensures.from;
       to = c.reach_of-reach.ensures.to;

@@ -1,11 +1,11 @@
+use Rattle.row_board.proofs.seats.put_at.Goals as goal
 use Rattle.std.proofs.Common.{◌≡◌, List, Some, ap, ◌∙◌, length, get_or, set}
 use Rattle.std.proofs.lemmas.List.{length-set}
 use Rattle.std.proofs.lemmas.Option.{slice_get-get_or}
 use Rattle.std.specs.List.{slice_get}
 use Rattle.row_model.specs.declared.rows.Seat.{Seat}
-use Rattle.row_model.proofs.ChangeLaws.{overwritten-same}
 use Rattle.row_board.proofs.StandingLaws.{row-past, row-put}
-use Rattle.row_board.proofs.seats.put_at.Goals as goal
+use Rattle.std_laws.proofs.Slices.{overwritten-same}
 
 pub returns-then-n-rows : goal.returns-then-n-rows
 returns-then-n-rows c =

@@ -1,10 +1,10 @@
+use Rattle.row_model.proofs.changes.mirror.Goals as goal
 use Rattle.std.proofs.Common.{ap, sym, ◌∙◌, subst, length, map}
 use Rattle.std.proofs.lemmas.List.{length-map}
 use Rattle.row_model.specs.Changes.{turned}
 use Rattle.row_model.specs.Rows.{AreRows}
-use Rattle.row_model.proofs.ChangeLaws.{overwritten-same}
 use Rattle.row_model.proofs.SwapLaws.{turned-rows}
-use Rattle.row_model.proofs.changes.mirror.Goals as goal
+use Rattle.std_laws.proofs.Slices.{overwritten-same}
 
 pub invariant_of-rows : goal.invariant_of-rows
 invariant_of-rows c =

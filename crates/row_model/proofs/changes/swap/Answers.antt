@@ -1,11 +1,11 @@
+use Rattle.row_model.proofs.changes.swap.Goals as goal
 use Rattle.std.proofs.Common.{◌≡◌, List, Some, ap, sym, ◌∙◌, subst, length, map}
 use Rattle.std.proofs.lemmas.List.{length-map}
 use Rattle.row_model.specs.Changes.{exchanged, seat_of}
 use Rattle.row_model.specs.Rows.{AreRows}
 use Rattle.row_model.specs.declared.rows.Seat.{Seat}
-use Rattle.row_model.proofs.ChangeLaws.{overwritten-same}
 use Rattle.row_model.proofs.SwapLaws.{exchange-rows}
-use Rattle.row_model.proofs.changes.swap.Goals as goal
+use Rattle.std_laws.proofs.Slices.{overwritten-same}
 
 pub invariant_of-rows : goal.invariant_of-rows
 invariant_of-rows c =

@@ -1,12 +1,13 @@
+use Rattle.rule_check.proofs.close.close_pairs.Goals as goal
 use Rattle.std.proofs.Common.{◌<◌, ◌^◌, ◌≡◌, ◌≤◌, ◌∙◌, All, List, ap, sym, subst, length, arith}
 use Rattle.std.specs.List.{zip}
 use Rattle.close_rects.specs.Crowds.{KeepsInReach, crowds_of}
 use Rattle.close_rects.specs.declared.member.Member.{Member}
 use Rattle.tech_rules.specs.Rules.{ValidRules}
 use Rattle.rule_check.specs.Members.{members_from, wire_member}
-use Rattle.rule_check.proofs.Crowding.{length-zip, members-fewer}
+use Rattle.rule_check.proofs.Crowding.{members-fewer}
 use Rattle.rule_check.proofs.Layers.{close-failing, close-reach}
-use Rattle.rule_check.proofs.close.close_pairs.Goals as goal
+use Rattle.std_laws.proofs.Zips.{length-zip}
 
 pub crowded-requires-clause-few : goal.crowded-requires-clause-few
 crowded-requires-clause-few c =

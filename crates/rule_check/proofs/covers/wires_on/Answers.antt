@@ -1,10 +1,10 @@
+use Rattle.rule_check.proofs.covers.wires_on.Goals as goal
 use Rattle.std.proofs.Common.{◌≡◌, ◌≤◌, ◌∙◌, length, ap, arith}
 use Rattle.std.specs.Prelude.{filter}
 use Rattle.std.proofs.lemmas.List.{length-map}
-use Rattle.list_facts.proofs.Counts.{filter-short}
 use Rattle.geom_core.specs.declared.layout.Shape.{Shape}
 use Rattle.rule_check.specs.Narrow.{is_on}
-use Rattle.rule_check.proofs.covers.wires_on.Goals as goal
+use Rattle.std_laws.proofs.Counts.{filter-short}
 
 pub new-requires : goal.new-requires
 new-requires c =

@@ -1,3 +1,4 @@
+use Rattle.rule_check.proofs.outlines.out_of_row.Goals as goal
 use Rattle.std.proofs.Common.{◌<◌, ◌^◌, ◌≡◌, ◌≤◌, ◌∙◌, All, List, ℕ, ap, sym, subst, length, arith}
 use Rattle.std.specs.List.{zip}
 use Rattle.close_rects.specs.Crowds.{KeepsInReach, crowds_of}
@@ -5,9 +6,9 @@ use Rattle.close_rects.specs.declared.member.Member.{Member}
 use Rattle.rule_check.specs.Crowded.{are_out_of_row}
 use Rattle.rule_check.specs.Failing.{failing_pairs}
 use Rattle.rule_check.specs.Members.{members_from, row_member}
-use Rattle.rule_check.proofs.Crowding.{length-zip, members-fewer}
+use Rattle.rule_check.proofs.Crowding.{members-fewer}
 use Rattle.rule_check.proofs.OutlineLaws.{row-failing, row-members-reach}
-use Rattle.rule_check.proofs.outlines.out_of_row.Goals as goal
+use Rattle.std_laws.proofs.Zips.{length-zip}
 
 -- the members that are handed on
 made : (c : goal.After-as_slice-2)

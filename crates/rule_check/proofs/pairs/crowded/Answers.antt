@@ -1,7 +1,7 @@
+use Rattle.rule_check.proofs.pairs.crowded.Goals as goal
 use Rattle.std.proofs.Common.{◌≡◌, leb, length, take, arith}
 use Rattle.close_rects.specs.Crowds.{crowds_of}
-use Rattle.rule_check.proofs.Crowding.{first-all}
-use Rattle.rule_check.proofs.pairs.crowded.Goals as goal
+use Rattle.std_laws.proofs.Slices.{first-all}
 
 pub returns : goal.returns
 returns c =

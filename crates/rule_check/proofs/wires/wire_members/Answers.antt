@@ -1,9 +1,10 @@
+use Rattle.rule_check.proofs.wires.wire_members.Goals as goal
 use Rattle.std.proofs.Common.{ap, sym, ◌∙◌, ◌≡◌, Some, get_or, length, refl, arith}
 use Rattle.std.specs.List.{slice_get, zip}
 use Rattle.std.proofs.lemmas.Option.{slice_get-get_or, slice_get_read}
 use Rattle.rule_check.specs.Members.{members_from, wire_member}
-use Rattle.rule_check.proofs.Crowding.{length-zip, members-all, members-more, zip-at}
-use Rattle.rule_check.proofs.wires.wire_members.Goals as goal
+use Rattle.rule_check.proofs.Crowding.{members-all, members-more}
+use Rattle.std_laws.proofs.Zips.{length-zip, zip-at}
 
 pub loop-k-preserved : goal.loop-k-preserved
 loop-k-preserved c =

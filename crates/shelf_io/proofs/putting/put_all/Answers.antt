@@ -1,9 +1,9 @@
-use Rattle.std.proofs.Common.{rules, ◌≡◌, ◌≤◌, ◌-◌, ◌∙◌, ℕ, List, length, take, drop, arith}
-use Rattle.std.proofs.Common.{length-drop, length-take, ap}
+use Rattle.shelf_io.proofs.putting.put_all.Goals as goal
+use Rattle.std.proofs.Common.{rules, ◌≡◌, ◌≤◌, ◌-◌, ◌∙◌, ℕ, List, length, take, drop, arith, length-drop, length-take, ap}
 use Rattle.std.proofs.lemmas.List.{take_all}
 use Rattle.std.proofs.Math.Seq.{take-add}
-use Rattle.shelf_io.proofs.Appends.{appended-twice, front_of_front}
-use Rattle.shelf_io.proofs.putting.put_all.Goals as goal
+use Rattle.shelf_io.proofs.Appends.{appended-twice}
+use Rattle.std_laws.proofs.Slices.{front_of_front}
 
 -- what the call appends to what has been put is the next front of the bytes
 pub loop-done-preserved : goal.loop-done-preserved

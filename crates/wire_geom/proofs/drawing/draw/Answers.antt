@@ -1,9 +1,9 @@
+use Rattle.wire_geom.proofs.drawing.draw.Goals as goal
 use Rattle.std.proofs.Common.{◌≡◌, ◌∙◌, arith, length, sym}
 use Rattle.std.proofs.lemmas.List.{take_all}
-use Rattle.list_facts.proofs.Places.{take-here}
 use Rattle.wire_geom.proofs.DrawingLaws.{drawing_wide, drawing_apart, drawing_columns, drawing_contact, drawing_edges, drawing_entries}
 use Rattle.wire_geom.specs.Drawing.{drawing}
-use Rattle.wire_geom.proofs.drawing.draw.Goals as goal
+use Rattle.std_laws.proofs.Places.{take-here}
 
 pub loop-k-preserved : goal.loop-k-preserved
 loop-k-preserved c =

@@ -1,8 +1,8 @@
+use Rattle.cif_writer.proofs.buffer.Buffer.append.Goals as goal
 use Rattle.std.proofs.Common.{rules, ◌≡◌, ◌++◌, ◌∙◌, refl, sym}
 use Rattle.std.proofs.lemmas.List.{take-append-drop}
-use Rattle.shelf_io.proofs.Appends.{on-err}
 use Rattle.cif_writer.proofs.AppendsLaws.{so_far-begun, so_far-front, so_far-more}
-use Rattle.cif_writer.proofs.buffer.Buffer.append.Goals as goal
+use Rattle.std_laws.proofs.Options.{on-err}
 
 pub loop-rest-init : goal.loop-rest-init
 loop-rest-init g c = record {

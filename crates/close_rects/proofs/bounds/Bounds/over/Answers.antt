@@ -1,6 +1,6 @@
-use Rattle.std.proofs.Common.{rules}
-use Rattle.close_rects.proofs.Signed.{read_below, read_above}
 use Rattle.close_rects.proofs.bounds.Bounds.over.Goals as goal
+use Rattle.std.proofs.Common.{rules}
+use Rattle.std_laws.proofs.Integers.{read_below, read_above}
 
 pub returns-clause-first : goal.returns-clause-first
 returns-clause-first c = rw (← c.self.view_is) (record {

@@ -1,7 +1,8 @@
+use Rattle.close_rects.proofs.crowd.Crowd.add_kins.Goals as goal
 use Rattle.std.proofs.Common.{◌≡◌, ◌+◌, ◌*◌, arith, length}
 use Rattle.close_rects.specs.Kins.{AreOfClass}
-use Rattle.close_rects.proofs.KinLaws.{AreKins-push, some_told}
-use Rattle.close_rects.proofs.crowd.Crowd.add_kins.Goals as goal
+use Rattle.close_rects.proofs.KinLaws.{AreKins-push}
+use Rattle.std_laws.proofs.Options.{some-is}
 
 pub invariant_of-self : goal.invariant_of-self
 invariant_of-self c = record {
@@ -20,7 +21,7 @@ invariant_of-self-in-loop-b c =
       known = AreKins-push _ _ _ _ _ c.in_ok-push.ensures.items c.self.invariant.known (record {
         on = omega arith;
         within = omega arith;
-        own = λ class. some_told (AreOfClass c.self.inside.members c.self.inside.indexed (8 * length c.self.inside.kins.items) (8 * length c.self.inside.kins.items + 8)) _ class own;
+        own = λ class. some-is (AreOfClass c.self.inside.members c.self.inside.indexed (8 * length c.self.inside.kins.items) (8 * length c.self.inside.kins.items + 8)) _ class own;
         all = λ class named. let never : ⊥ = cc in absurd never;
       });
     }

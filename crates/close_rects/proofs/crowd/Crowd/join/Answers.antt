@@ -1,6 +1,7 @@
-use Rattle.std.proofs.Common.{◌≡◌, Some, arith}
-use Rattle.close_rects.proofs.KinLaws.{AreKins-set, AreOfClass-over, IsKin-at, some_told}
 use Rattle.close_rects.proofs.crowd.Crowd.join.Goals as goal
+use Rattle.std.proofs.Common.{◌≡◌, Some, arith}
+use Rattle.close_rects.proofs.KinLaws.{AreKins-set, AreOfClass-over, IsKin-at}
+use Rattle.std_laws.proofs.Options.{some-is}
 
 pub loop-next-init : goal.loop-next-init
 loop-next-init c =
@@ -18,8 +19,8 @@ loop-next-preserved c =
       on = omega (arith, told.on);
       within = told.within;
       all = λ class named. AreOfClass-over _ _ _ _ _ class
-          (c.loop-next.invariant.all class (some_told (λ n. c.loop-next.all ≡ Some n) _ class c.common-all.ensures.first named))
-          (told.all class (some_told (λ n. c.index-further.result.now.all ≡ Some n) _ class c.common-all.ensures.second named));
+          (c.loop-next.invariant.all class (some-is (λ n. c.loop-next.all ≡ Some n) _ class c.common-all.ensures.first named))
+          (told.all class (some-is (λ n. c.index-further.result.now.all ≡ Some n) _ class c.common-all.ensures.second named));
     }
 
 pub invariant_of-self : goal.invariant_of-self

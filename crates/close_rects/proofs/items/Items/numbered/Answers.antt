@@ -1,9 +1,10 @@
+use Rattle.close_rects.proofs.items.Items.numbered.Goals as goal
 use Rattle.std.proofs.Common.{◌≡◌, ◌+◌, ◌∷◌, [], ◌++◌, ◌∙◌, ap, length, map, take, arith}
 use Rattle.std.specs.List.{enumerate_from}
 use Rattle.std.proofs.lemmas.List.{length_push, map-append}
 use Rattle.close_rects.specs.Items.{fresh, HasInside}
-use Rattle.close_rects.proofs.Lists.{enumerate_from-take, get_or-more}
-use Rattle.close_rects.proofs.items.Items.numbered.Goals as goal
+use Rattle.std_laws.proofs.Images.{enumerate_from-take}
+use Rattle.std_laws.proofs.Places.{get_or-more}
 
 pub loop-k-preserved : goal.loop-k-preserved
 loop-k-preserved c =

@@ -1,10 +1,11 @@
+use Rattle.geom_extract.proofs.walk.Walk.take_all.Goals as goal
 use Rattle.std.proofs.Common.{◌≡◌, ◌<◌, ◌∙◌, ap, length, arith}
 use Rattle.close_rects.proofs.SetLaws.{NoneIn-at}
 use Rattle.geom_core.specs.Rectangles.{Meet}
 use Rattle.geom_extract.specs.Walks.{Walking}
 use Rattle.geom_extract.specs.Webs.{IsWeb, Web}
-use Rattle.geom_extract.proofs.Reached.{end-read, grown-more, longer-more, reached-grown, reached-longer, rest-taken, start_is_class, taken-leads, taken-number, walk-reached}
-use Rattle.geom_extract.proofs.walk.Walk.take_all.Goals as goal
+use Rattle.geom_extract.proofs.Reached.{grown-more, longer-more, reached-grown, reached-longer, rest-taken, start_is_class, taken-leads, taken-number, walk-reached}
+use Rattle.std_laws.proofs.Places.{get-read}
 
 pub index-x-requires : goal.index-x-requires
 index-x-requires c =
@@ -20,7 +21,7 @@ loop-number-preserved c =
     let good : IsWeb c.args.self.now.web = rw (← web, ← c.web.view_is) c.web.invariant in
     let ends : c.web.inside.ends.items ≡ c.args.self.now.web.ends = ap (λ (w : Web). w.ends) (c.web.view_is ∙ web) in
     let number = taken-number c.args.self.now.web c.loop-number.self-inside.classes.items _ _ _ _ good c.loop-number.invariant.rest c.in-Some.ensures.taken in
-    let leads = end-read _ _ _ number (rw ends at c.index-x.ensures) in
+    let leads = get-read _ _ _ number (rw ends at c.index-x.ensures) in
     let within : c.index-x.result.now < length c.loop-number.self-inside.classes.items =
     omega (arith, good.ends c.in-Some.number c.index-x.result.now leads, c.loop-number.invariant.rest.len) in
     let start : c.args.self.now.start < length c.args.self.now.web.asks = rw (← c.self.view_is) c.self.invariant.start in
@@ -43,7 +44,7 @@ invariant_of-self c =
     let good : IsWeb c.args.self.now.web = rw (← web, ← c.web.view_is) c.web.invariant in
     let ends : c.web.inside.ends.items ≡ c.args.self.now.web.ends = ap (λ (w : Web). w.ends) (c.web.view_is ∙ web) in
     let number = taken-number c.args.self.now.web c.loop-number.self-inside.classes.items _ _ _ _ good c.loop-number.invariant.rest c.in-Some.ensures.taken in
-    let leads = end-read _ _ _ number (rw ends at c.index-x.ensures) in
+    let leads = get-read _ _ _ number (rw ends at c.index-x.ensures) in
     let within : c.index-x.result.now < length c.loop-number.self-inside.classes.items =
     omega (arith, good.ends c.in-Some.number c.index-x.result.now leads, c.loop-number.invariant.rest.len) in
     let start : c.args.self.now.start < length c.args.self.now.web.asks = rw (← c.self.view_is) c.self.invariant.start in

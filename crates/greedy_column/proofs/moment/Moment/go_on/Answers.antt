@@ -1,15 +1,16 @@
+use Rattle.greedy_column.proofs.moment.Moment.go_on.Goals as goal
 use Rattle.std.proofs.Common.{◌∙◌, subst, sym, List, ℕ}
 use Rattle.std.specs.List.Sorted.{IsNonDecreasing}
 use Rattle.greedy_column.specs.Uses.{next_after}
 use Rattle.greedy_column.specs.Replay.{freed}
 use Rattle.greedy_column.specs.Follows.{AreEndsTold, AreJoinsTold, AreMovesTold}
-use Rattle.greedy_column.proofs.FollowLaws.{not_falling, FollowsOn-from_told}
-use Rattle.greedy_column.proofs.moment.Moment.go_on.Goals as goal
+use Rattle.greedy_column.proofs.FollowLaws.{FollowsOn-from_told}
+use Rattle.std_laws.proofs.Increasing.{increasing-rises}
 
 pub move_on-requires : goal.move_on-requires
 move_on-requires g c =
     subst (λ (l : List ℕ). IsNonDecreasing l) (sym c.deref.ensures.value)
-    (not_falling c.in_ok-drawn.drawn.ended.items c.in_ok-drawn.ensures.ends.told.ascending)
+    (increasing-rises c.in_ok-drawn.drawn.ended.items c.in_ok-drawn.ensures.ends.told.ascending)
 
 pub returns-clause-follows : goal.returns-clause-follows
 returns-clause-follows g c =

@@ -1,3 +1,4 @@
+use Rattle.row_board.proofs.row_lengths.RowLengths.change.Goals as goal
 use Rattle.std.proofs.Common.{◌≡◌, ◌+◌, ◌-◌, ◌≤◌, ℕ, List, cond, length, map, set, ap, sym, ◌∙◌, arith}
 use Rattle.std.proofs.lemmas.Grind.{common_steps}
 use Rattle.std.proofs.lemmas.List.{length-set, map-set}
@@ -5,11 +6,10 @@ use Rattle.std.proofs.lemmas.Option.{get_or_from_slice_get}
 use Rattle.std.specs.List.{slice_get}
 use Rattle.std.specs.Option.{option_map}
 use Rattle.std.specs.Prelude.{nat_eq}
-use Rattle.list_facts.proofs.Places.{changed-at, unchanged-past}
 use Rattle.row_board.specs.Cost.{difference}
 use Rattle.row_board.specs.RowLengths.{Lengths}
 use Rattle.row_board.proofs.SumLaws.{here-changed, there-same}
-use Rattle.row_board.proofs.row_lengths.RowLengths.change.Goals as goal
+use Rattle.std_laws.proofs.Places.{changed-at, unchanged-past}
 
 pub invariant_of-self : goal.invariant_of-self
 invariant_of-self c = record {

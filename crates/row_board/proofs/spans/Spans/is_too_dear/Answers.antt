@@ -1,3 +1,4 @@
+use Rattle.row_board.proofs.spans.Spans.is_too_dear.Goals as goal
 use Rattle.std.proofs.Common.{◌≡◌, ◌≢◌, ◌<◌, ◌+◌, ℕ, List, length, ap, sym, ◌∙◌, subst, arith}
 use Rattle.std.proofs.lemmas.Bool.{OnTrue_from}
 use Rattle.std.specs.Bool.{OnTrue}
@@ -8,8 +9,8 @@ use Rattle.row_board.specs.WeighedRows.{WeighedRows}
 use Rattle.row_model.specs.Changes.{swapped}
 use Rattle.row_model.specs.Widths.{columns_of}
 use Rattle.row_model.specs.declared.rows.Seat.{Seat}
-use Rattle.row_board.proofs.TradeLaws.{above, dear-told}
-use Rattle.row_board.proofs.spans.Spans.is_too_dear.Goals as goal
+use Rattle.row_board.proofs.TradeLaws.{dear-told}
+use Rattle.std_laws.proofs.Tests.{nat_lt-above}
 
 pub returns-clause-dear : goal.returns-clause-dear
 returns-clause-dear c =
@@ -23,4 +24,4 @@ returns-clause-dear c =
     (OnTrue_from (nat_lt c.total_of-before.result c.saturating_sub-2.result)
     (cost_of t.design i.rows t.weights + c.args.most < cost_of t.design (swapped c.args.a c.args.b i.rows) t.weights)
     (λ test. dear-told t.design i.rows t.weights t.standings i.lengths c.args.a c.args.b c.self.invariant.good c.self.invariant.board apart (within c.args.a c.requires.a) (within c.args.b c.requires.b)
-    _ _ _ c.args.most c.total_of-before.ensures less c.trial_cost-trial.ensures.is (omega (arith, above _ _ test, c.saturating_sub.ensures, c.saturating_sub-2.ensures))))
+    _ _ _ c.args.most c.total_of-before.ensures less c.trial_cost-trial.ensures.is (omega (arith, nat_lt-above _ _ test, c.saturating_sub.ensures, c.saturating_sub-2.ensures))))

@@ -1,12 +1,12 @@
+use Rattle.row_board.proofs.spans.Spans.mirror.Goals as goal
 use Rattle.std.proofs.Common.{length, ap, sym, ◌∙◌, subst}
 use Rattle.row_model.specs.Changes.{mirrored}
 use Rattle.row_model.specs.Rows.{AreRows}
-use Rattle.row_model.proofs.ChangeLaws.{overwritten-same}
 use Rattle.row_model.proofs.PlacedLaws.{placed-distinct}
 use Rattle.row_board.proofs.BoardLaws.{lengths-mirrored}
 use Rattle.row_board.proofs.ReachLaws.{all-entered}
 use Rattle.row_board.proofs.SpansLaws.{spans-kept}
-use Rattle.row_board.proofs.spans.Spans.mirror.Goals as goal
+use Rattle.std_laws.proofs.Slices.{overwritten-same}
 
 pub invariant_of-rows : goal.invariant_of-rows
 invariant_of-rows c =

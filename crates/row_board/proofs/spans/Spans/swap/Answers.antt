@@ -1,3 +1,4 @@
+use Rattle.row_board.proofs.spans.Spans.swap.Goals as goal
 use Rattle.std.proofs.Common.{◌≡◌, ◌<◌, ℕ, List, length, ap, sym, ◌∙◌, subst, arith}
 use Rattle.design_model.specs.Netlist.{Netlist}
 use Rattle.row_board.specs.Moving.{AreExchanged}
@@ -10,13 +11,12 @@ use Rattle.row_model.specs.Changes.{swapped}
 use Rattle.row_model.specs.Rows.{ArePlaced, AreRows}
 use Rattle.row_model.specs.Widths.{columns_of}
 use Rattle.row_model.specs.declared.rows.Seat.{Seat}
-use Rattle.row_model.proofs.ChangeLaws.{overwritten-same}
 use Rattle.row_model.proofs.PlacedLaws.{placed-distinct}
 use Rattle.row_model.proofs.TwiceLaws.{swap-same}
 use Rattle.row_board.proofs.ReachLaws.{before-second}
 use Rattle.row_board.proofs.SpansLaws.{both-entered, spans-kept}
 use Rattle.row_board.proofs.BoardLaws.{lengths-changed, lengths-few, lengths-swapped}
-use Rattle.row_board.proofs.spans.Spans.swap.Goals as goal
+use Rattle.std_laws.proofs.Slices.{overwritten-same}
 
 pub change-requires-clause-small : goal.change-requires-clause-small
 change-requires-clause-small c = λ width at.

@@ -1,8 +1,8 @@
+use Rattle.row_board.proofs.summed.Summed.push.Goals as goal
 use Rattle.std.proofs.Common.{ℕ, [], ◌∷◌, ◌≤◌, ap, arith, length, length-append, sum, sym, subst}
 use Rattle.std.specs.List.{AllByRecursion}
-use Rattle.list_facts.proofs.Every.{every-push}
-use Rattle.row_board.proofs.SumLaws.{sum-push, sum-small}
-use Rattle.row_board.proofs.summed.Summed.push.Goals as goal
+use Rattle.std_laws.proofs.Every.{every-push}
+use Rattle.std_laws.proofs.Sums.{sum-push, sum-small}
 
 pub overflow_add-self : goal.overflow_add-self
 overflow_add-self c = omega (arith, sum-small 2199023255552 c.self.inside.items.items c.self.invariant.small, c.self.invariant.is, c.self.invariant.few, c.amount.invariant)

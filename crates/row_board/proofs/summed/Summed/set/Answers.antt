@@ -1,8 +1,9 @@
+use Rattle.row_board.proofs.summed.Summed.set.Goals as goal
 use Rattle.std.proofs.Common.{ℕ, ◌≤◌, ◌<◌, arith, length, sym}
 use Rattle.std.proofs.lemmas.Grind.{common_steps}
 use Rattle.std.proofs.lemmas.List.{length-set}
-use Rattle.row_board.proofs.SumLaws.{every-set, sum-set, sum-small}
-use Rattle.row_board.proofs.summed.Summed.set.Goals as goal
+use Rattle.std_laws.proofs.Every.{every-set}
+use Rattle.std_laws.proofs.Sums.{sum-set, sum-small}
 
 pub overflow_add-self : goal.overflow_add-self
 overflow_add-self c = omega (arith, sum-small 2199023255552 c.self.inside.items.items c.self.invariant.small, c.self.invariant.is, c.self.invariant.few, c.amount.invariant)

@@ -1,6 +1,9 @@
-use Rattle.std.proofs.Common.{◌≡◌, ◌⊎◌, ◌≤◌, ℕ, max, min, fold, inl, inr, refl, sym, subst, ap, ◌∙◌, arith, List, [], ◌∷◌, Contains, map}
+use Rattle.std.proofs.Common.{◌≡◌, ◌⊎◌, ◌≤◌, ℕ, max, inl, inr, arith, min, fold, List, [], ◌∷◌, ap, Contains, map, refl, sym, subst, ◌∙◌, ◌-◌, zero, suc, Some, ◌<◌, length, get_or}
 use Rattle.std.proofs.lemmas.Bool.{cases_lt}
-use Rattle.list_facts.proofs.Members.{member-cases, member-head, member-tail}
+use Rattle.std_laws.proofs.Members.{member-cases, member-head, member-tail}
+use Rattle.std.specs.List.{AllByRecursion}
+use Rattle.std.proofs.lemmas.Option.{same_Some}
+use Rattle.std.specs.Prelude.{slice_get}
 
 -- the greater of two numbers is one of them
 pub max-is : (a b : ℕ) → ((max a b ≡ a) × (b ≤ a)) ⊎ ((max a b ≡ b) × (a ≤ b))
@@ -81,3 +84,21 @@ least-all f a xs x member = by (member-cases a xs x member)
     by : (a ≡ x) ⊎ Contains xs x → fold min (f a) (map f xs) ≤ f x
     by (inl same) = let first = least-first (f a) (map f xs) in let at : f a ≡ f x = ap f same in omega arith
     by (inr later) = least-bound f (f a) xs x later
+
+-- numbers of at most a bound are at most that far apart
+pub greatest-few : (most first : ℕ) (ns : List ℕ) → first ≤ most → AllByRecursion (λ (n : ℕ). n ≤ most) ns → fold max first ns ≤ most
+greatest-few most first [] few all = few
+greatest-few most first (n ∷ ns) few all = greatest-few most (max first n) ns (omega (arith, all.0)) all.1
+
+pub greatest-at : (first : ℕ) (ns : List ℕ) (k n : ℕ) → slice_get ns k ≡ Some n → n ≤ fold max first ns
+greatest-at first [] k n at = cc
+greatest-at first (m ∷ ns) zero n at =
+    let same : m ≡ n = same_Some m n at in
+    let more : max first m ≤ fold max (max first m) ns = greatest-first (max first m) ns in
+    omega arith
+greatest-at first (m ∷ ns) (suc k) n at = greatest-at (max first m) ns k n at
+
+pub greatest-stands : (a : ℕ) (xs : List ℕ) (k : ℕ) → k < length xs → get_or xs k 0 ≤ fold max a xs
+greatest-stands a [] k within = absurd (omega arith)
+greatest-stands a (x ∷ xs) zero within = let more = greatest-first (max a x) xs in omega arith
+greatest-stands a (x ∷ xs) (suc k) within = greatest-stands (max a x) xs k (omega arith)

@@ -1,15 +1,8 @@
-use Rattle.std.proofs.Common.{◌≡◌, append_assoc, ap, sym, ◌∙◌, ℕ, zero, suc, ◌+◌, List, [], ◌∷◌, ◌++◌, length, map, take, drop, Some, inl, inr, arith}
+use Rattle.std.proofs.Common.{◌≡◌, ℕ, ◌+◌, List, ◌++◌, length, ap, ◌∙◌, Some, arith, take, drop, sym, map, append_assoc}
+use Rattle.std.specs.Prelude.{slice_get}
+use Rattle.std_laws.proofs.Places.{get-before, get-behind}
 use Rattle.std.proofs.Math.Seq.{drop-append_seam, take-append_seam}
-use Rattle.std.proofs.lemmas.List.{length-append, length-map, map-append}
-use Rattle.std.specs.Prelude.{slice_get, ◌⊎◌}
-use Rattle.wire_geom.proofs.ListLaws.{get-before, get-behind}
-
--- what stands in one list behind another stands in the first or in the second
-pub in-either : {X : Type 0} (xs ys : List X) (n : ℕ) (x : X) → slice_get (xs ++ ys) n ≡ Some x
-    → (slice_get xs n ≡ Some x) ⊎ ((k : ℕ) × (n ≡ length xs + k) × (slice_get ys k ≡ Some x))
-in-either [] ys n x at = inr (n, omega arith, at)
-in-either (y ∷ xs) ys zero x at = inl at
-in-either (y ∷ xs) ys (suc n) x at = elim (in-either xs ys n x at) [ inl here ↦ inl here | inr there ↦ inr (there.0, (let e = there.1 in omega arith), there.2) ]
+use Rattle.std.proofs.lemmas.List.{length-map, map-append, length-append}
 
 -- a list stands in another from a place on
 pub record Part {X : Type 0} (xs : List X) (start : ℕ) (ys : List X) : Type 0 where

@@ -1,7 +1,8 @@
-use Rattle.std.proofs.Common.{◌≡◌, ℕ, zero, suc, List, [], ◌∷◌, ◌++◌, Bool, true, false, cond, ◌||◌, Some, None, map, ap, refl, subst}
-use Rattle.std.specs.List.{AllByRecursion, filter, list_any, slice_get}
+use Rattle.std.proofs.Common.{List, [], ◌∷◌, ◌++◌, Bool, true, false, cond, map, ◌≡◌, ℕ, zero, suc, Some, None, subst, ◌||◌, ap, refl, ◌+◌, All, Contains, get_or, filter, ◌-◌, take, drop, set, length, arith}
+use Rattle.std.specs.List.{AllByRecursion, slice_get, list_any, AllZip}
 use Rattle.std.specs.Str.{bytes_eq}
-use Rattle.list_facts.proofs.Mentioned.{bytes_same}
+use Rattle.std_laws.proofs.Bytes.{bytes_same}
+use Rattle.std.proofs.lemmas.List.Elements.{All-nil, All-cons, All-head, All-tail, Contains-get_or}
 
 pub every-weaker : {X : Type 0} (P Q : X → Type 0) → ((x : X) → P x → Q x) → (xs : List X) → AllByRecursion P xs → AllByRecursion Q xs
 every-weaker P Q f [] h = tt
@@ -80,3 +81,62 @@ every-filtered P p (x ∷ xs) h = by (p x) (every-filtered P p xs h.1)
     by : (b : Bool) → AllByRecursion P (filter p xs) → AllByRecursion P (cond b (x ∷ filter p xs) (filter p xs))
     by true more = (h.0, more)
     by false more = more
+
+-- what holds of the images, and of more, holds of the images
+pub All-front : {A B : Type 0} (P : B → Type 0) (f : A → B) (xs : List A) (ys : List B) → All P (map f xs ++ ys) → All (λ x. P (f x)) xs
+All-front P f [] ys all = All-nil (λ x. P (f x))
+All-front P f (x ∷ xs) ys all =
+    All-cons (λ x. P (f x)) x xs (All-head P (f x) (map f xs ++ ys) all) (All-front P f xs ys (All-tail P (f x) (map f xs ++ ys) all))
+
+-- what holds of each member holds of all
+pub All-from_members : {A : Type 0} (P : A → Type 0) (xs : List A) → ((x : A) → Contains xs x → P x) → All P xs
+All-from_members P xs each = λ k d within. each (get_or xs k d) (Contains-get_or xs k d within)
+
+pub All-of_two : {A : Type 0} (P : A → Type 0) (a b : A) → P a → P b → All P (a ∷ (b ∷ []))
+All-of_two {A} P a b first second =
+    let none : List A = [] in
+    All-cons P a (b ∷ none) first (All-cons P b none second (All-nil P))
+
+pub All-of_three : {A : Type 0} (P : A → Type 0) (a b c : A) → P a → P b → P c → All P (a ∷ (b ∷ (c ∷ [])))
+All-of_three {A} P a b c first second third =
+    let none : List A = [] in
+    All-cons P a (b ∷ (c ∷ none)) first (All-cons P b (c ∷ none) second (All-cons P c none third (All-nil P)))
+
+pub every-all : {X : Type 0} (P : X → Type 0) (xs : List X) → AllByRecursion P xs → All P xs
+every-all P [] h = All-nil P
+every-all P (x ∷ xs) h = All-cons P x xs h.0 (every-all P xs h.1)
+
+pub every-passes : {X : Type 0} (p : X → Bool) (xs : List X) → AllByRecursion (λ x. p x ≡ true) (filter p xs)
+every-passes p [] = tt
+every-passes p (x ∷ xs) = by (p x) refl (every-passes p xs)
+  where
+    by : (b : Bool) → p x ≡ b → AllByRecursion (λ y. p y ≡ true) (filter p xs) → AllByRecursion (λ y. p y ≡ true) (cond b (x ∷ filter p xs) (filter p xs))
+    by true is more = (is, more)
+    by false is more = more
+
+pub every-taken : {X : Type 0} (P : X → Type 0) (n : ℕ) (xs : List X) → AllByRecursion P xs → AllByRecursion P (take n xs)
+every-taken P zero xs all = tt
+every-taken P (suc n) [] all = tt
+every-taken P (suc n) (x ∷ xs) all = (all.0, every-taken P n xs all.1)
+
+pub every-dropped : {X : Type 0} (P : X → Type 0) (n : ℕ) (xs : List X) → AllByRecursion P xs → AllByRecursion P (drop n xs)
+every-dropped P zero xs all = all
+every-dropped P (suc n) [] all = tt
+every-dropped P (suc n) (x ∷ xs) all = every-dropped P n xs all.1
+
+pub every-set : (P : ℕ → Type 0) (xs : List ℕ) (i n : ℕ) → AllByRecursion P xs → P n → AllByRecursion P (set xs i n)
+every-set P [] i n all new = tt
+every-set P (x ∷ xs) zero n all new = (new, all.1)
+every-set P (x ∷ xs) (suc i) n all new = (all.0, every-set P xs i n all.1 new)
+
+pub all-zip-length : {A B : Type 0} (R : A → B → Type 0) (xs : List A) (ys : List B) → AllZip R xs ys → length ys ≡ length xs
+all-zip-length R [] [] h = refl
+all-zip-length R [] (y ∷ ys) h = absurd h
+all-zip-length R (x ∷ xs) [] h = absurd h
+all-zip-length R (x ∷ xs) (y ∷ ys) h = let more = all-zip-length R xs ys h.1 in omega arith
+
+pub all-zip-weaker : {A B : Type 0} (R S : A → B → Type 0) → ((a : A) (b : B) → R a b → S a b) → (xs : List A) (ys : List B) → AllZip R xs ys → AllZip S xs ys
+all-zip-weaker R S f [] [] h = tt
+all-zip-weaker R S f [] (y ∷ ys) h = h
+all-zip-weaker R S f (x ∷ xs) [] h = h
+all-zip-weaker R S f (x ∷ xs) (y ∷ ys) h = (f x y h.0, all-zip-weaker R S f xs ys h.1)

@@ -1,9 +1,10 @@
-use Rattle.std.proofs.Common.{◌≡◌, ◌<◌, ◌≤◌, ◌==◌, ◌+◌, ◌-◌, ℕ, zero, suc, List, [], ◌∷◌, filter, length, map, take, get_or, Bool, true, false, ◌||◌, not, cond, eqb, refl, ap, sym, ◌∙◌, subst, inl, inr, arith, count_by}
-use Rattle.std.proofs.lemmas.Bool.{cases_eq, cases_order, cond-false, cond-true, eq-eqb, ne_eqb}
-use Rattle.std.proofs.lemmas.Bool.Decides.{nat_tests}
-use Rattle.std.proofs.lemmas.List.{take_all}
-use Rattle.std.proofs.lemmas.List.Sums.{count_by_more_no, count_by_more_yes, sum_by-cons}
+use Rattle.std.proofs.Common.{ℕ, List, eqb, count_by, ◌≡◌, ◌+◌, ◌-◌, ◌∷◌, cond, ap, ◌∙◌, ◌≤◌, inl, inr, arith, ◌<◌, zero, suc, [], get_or, length, take, Bool, true, refl, subst, false, sym, filter, ◌||◌, not, ◌==◌, map, Contains, set}
+use Rattle.std.proofs.lemmas.Bool.{cond-true, eq-eqb, cond-false, ne_eqb, cases_eq, cases_order}
+use Rattle.std.proofs.lemmas.List.Sums.{sum_by-cons, count_by_more_yes, count_by_more_no}
+use Rattle.std.proofs.lemmas.List.{take_all, get_or-set_same, get_or-set_other}
 use Rattle.std.specs.List.{list_any}
+use Rattle.std.proofs.lemmas.Bool.Decides.{nat_tests}
+use Rattle.std_laws.proofs.Members.{member-head, member-tail, member-cases}
 
 -- how often a number stands in a list
 abbrev pub times : ℕ → List ℕ → ℕ
@@ -153,3 +154,67 @@ length-filter-map {A} {B} f p (x ∷ xs) = by (p (f x)) (length-filter-map f p x
         → length (cond b (f x ∷ filter p (map f xs)) (filter p (map f xs))) ≡ length (cond b (x ∷ filter (λ (y : A). p (f y)) xs) (filter (λ (y : A). p (f y)) xs))
     by true h = ap (λ (n : ℕ). suc n) h
     by false h = h
+
+-- tests that agree on all members
+pub filter-same : (p q : ℕ → Bool) (xs : List ℕ) → ((x : ℕ) → Contains xs x → p x ≡ q x) → filter p xs ≡ filter q xs
+filter-same p q [] same = refl
+filter-same p q (x ∷ xs) same =
+    (λ i. cond (same x (member-head x xs) i) (x ∷ filter p xs) (filter p xs))
+    ∙ ap (λ l. cond (q x) (x ∷ l) l) (filter-same p q xs (λ y member. same y (member-tail x xs y member)))
+
+-- one more number is counted
+pub counted-next : (numbers counts : List ℕ) (i n was : ℕ) → i < length numbers → n ≡ get_or numbers i 0 → n < length counts → was ≡ get_or counts n 0
+    → ((k : ℕ) → k < length counts → get_or counts k 0 ≡ count_by (λ m. eqb m k) (take i numbers))
+    → (k : ℕ) → k < length counts → get_or (set counts n (was + 1)) k 0 ≡ count_by (λ m. eqb m k) (take (i + 1) numbers)
+counted-next numbers counts i n was within at below read counted k known =
+    elim (cases_eq k n) [
+      | inl e ↦
+          rw (e, get_or-set_same counts n (was + 1) 0 below, count_by_more_yes (λ m. eqb m n) numbers i 0 within (eq-eqb _ _ (sym at)))
+          (ap (λ m. m + 1) (read ∙ counted n below))
+      | inr ne ↦
+          rw (
+            get_or-set_other counts n k (was + 1) 0 ne,
+            count_by_more_no (λ m. eqb m k) numbers i 0 within (ne_eqb _ _ (λ same. ne (sym same ∙ sym at))),
+          )
+          (counted k known)
+    ]
+
+-- tests that agree count alike
+pub counted-same : (p q : ℕ → Bool) (xs : List ℕ) → ((x : ℕ) → Contains xs x → p x ≡ q x) → count_by p xs ≡ count_by q xs
+counted-same p q [] same = refl
+counted-same p q (x ∷ xs) same =
+    let here : ◌≡◌ {A = ℕ} (cond (p x) 1 0) (cond (q x) 1 0) = ap (λ (b : Bool). cond b 1 0) (same x (member-head x xs)) in
+    let rest = counted-same p q xs (λ y there. same y (member-tail x xs y there)) in
+    sum_by-cons (λ y. cond (p y) 1 0) x xs ∙ omega arith ∙ sym (sum_by-cons (λ y. cond (q y) 1 0) x xs)
+
+pub counted-none : (xs : List ℕ) → count_by (λ x. false) xs ≡ 0
+counted-none [] = refl
+counted-none (x ∷ xs) = omega (arith, counted-none xs, sum_by-cons (λ (y : ℕ). cond false 1 0) x xs)
+
+-- a stricter test keeps fewer, and less where it refuses a member that the other one keeps
+pub filter-fewer : {X : Type 0} (p q : X → Bool) (xs : List X) → ((x : X) → q x ≡ true → p x ≡ true) → length (filter q xs) ≤ length (filter p xs)
+filter-fewer p q [] stricter = omega arith
+filter-fewer p q (x ∷ xs) stricter = step (p x) (q x) x (filter p xs) (filter q xs) (stricter x) (filter-fewer p q xs stricter) where
+  step : {X : Type 0} (b c : Bool) (x : X) (ps qs : List X) → (c ≡ true → b ≡ true) → length qs ≤ length ps → length (cond c (x ∷ qs) qs) ≤ length (cond b (x ∷ ps) ps)
+  step true true x ps qs stricter fewer = omega arith
+  step true false x ps qs stricter fewer = omega arith
+  step false true x ps qs stricter fewer = absurd (cc (stricter refl))
+  step false false x ps qs stricter fewer = fewer
+
+pub filter-less : {X : Type 0} (p q : X → Bool) (x : X) (xs : List X) → ((x : X) → q x ≡ true → p x ≡ true) → Contains xs x → p x ≡ true → q x ≡ false
+    → length (filter q xs) < length (filter p xs)
+filter-less p q x [] stricter member kept refused = absurd (omega (arith, member.1))
+filter-less p q x (y ∷ ys) stricter member kept refused = elim (member-cases y ys x member) [
+  | inl same ↦ here (p y) (q y) y (filter p ys) (filter q ys) (ap p same ∙ kept) (ap q same ∙ refused) (filter-fewer p q ys stricter)
+  | inr later ↦ there (p y) (q y) y (filter p ys) (filter q ys) (stricter y) (filter-less p q x ys stricter later kept refused)
+] where
+  here : {X : Type 0} (b c : Bool) (y : X) (ps qs : List X) → b ≡ true → c ≡ false → length qs ≤ length ps → length (cond c (y ∷ qs) qs) < length (cond b (y ∷ ps) ps)
+  here true false y ps qs is refusal fewer = omega arith
+  here true true y ps qs is refusal fewer = absurd (cc refusal)
+  here false c y ps qs is refusal fewer = absurd (cc is)
+
+  there : {X : Type 0} (b c : Bool) (y : X) (ps qs : List X) → (c ≡ true → b ≡ true) → length qs < length ps → length (cond c (y ∷ qs) qs) < length (cond b (y ∷ ps) ps)
+  there true true y ps qs stricter less = omega arith
+  there true false y ps qs stricter less = omega arith
+  there false true y ps qs stricter less = absurd (cc (stricter refl))
+  there false false y ps qs stricter less = less

@@ -1,9 +1,9 @@
-use Rattle.std.proofs.Common.{◌≡◌, ◌⊎◌, ◌<◌, ◌≤◌, ◌+◌, ◌-◌, ℕ, inl, inr, refl, sym, subst, ap, ◌∙◌, arith, List, [], ◌∷◌, Bool, true, false, cond, ◌||◌, ◌&&◌, Some, Contains, map, filter}
-use Rattle.std.proofs.lemmas.Bool.{both_ways, cases_Bool, cond-true, cond-false}
-use Rattle.std.proofs.lemmas.List.Elements.{All-cons, All-nil, All-contains, All-contains_itself, All-filter, Contains-append_cases, Contains-append_right, Contains-push_cases, filter_passes}
+use Rattle.std.proofs.Common.{◌-◌, refl, arith, List, ◌∷◌, Contains, [], ◌≡◌, ◌⊎◌, inl, inr, Bool, true, filter, sym, subst, ap, ◌∙◌, false, cond, map, ◌||◌, Some, ℕ, ◌<◌, ◌≤◌, ◌+◌, ◌&&◌, zero, suc, length, get_or, ◌++◌, eqb, eq-eqb}
+use Rattle.std.proofs.lemmas.List.Elements.{Contains-append_right, Contains-append_cases, Contains-push_cases, All-contains, All-contains_itself, All-filter, filter_passes, All-cons, All-nil, Contains-append_left}
+use Rattle.std.proofs.lemmas.Bool.{both_ways, cases_Bool, cond-true, cond-false, cond_both, and_parts, ne_eqb}
+use Rattle.std.specs.List.{find, list_any, slice_get, All, range_with_len, flat_map, list_all, AllByRecursion}
+use Rattle.std.proofs.lemmas.Option.{slice_get-get_or, get_or_from_slice_get, slice_get_within, none-some, same_Some}
 use Rattle.std.proofs.lemmas.List.FromFn.{get_or-range_with_len, length-range_with_len}
-use Rattle.std.proofs.lemmas.Option.{get_or_from_slice_get, none-some, same_Some, slice_get-get_or, slice_get_within}
-use Rattle.std.specs.List.{All, find, list_any, range_with_len, slice_get}
 
 -- the head of a list is a member, and so is each of the rest
 pub member-head : {A : Type 0} (a : A) (xs : List A) → Contains (a ∷ xs) a
@@ -145,3 +145,115 @@ find-same {A} p q same (x ∷ xs) = ap (λ (b : Bool). cond b (Some x) (find p x
 -- what holds of a member holds of the list of it alone
 pub All-of_one : {A : Type 0} (P : A → Type 0) (a : A) → P a → All P (a ∷ [])
 All-of_one {A} P a first = let none : List A = [] in All-cons P a none first (All-nil P)
+
+-- a member of one of the lists
+pub Contains-flat_map : {A B : Type 0} (f : A → List B) (xs : List A) (x : A) (y : B) → Contains xs x → Contains (f x) y → Contains (flat_map f xs) y
+Contains-flat_map f [] x y (k, within, is) inner = absurd (omega (arith, within))
+Contains-flat_map {A = A} f (a ∷ xs) x y member inner =
+    elim (Contains-append_cases (a ∷ []) xs x member) [
+      | inl here ↦ Contains-append_left (f a) (flat_map f xs) y (first here)
+      | inr later ↦ Contains-append_right (f a) (flat_map f xs) y (Contains-flat_map f xs x y later inner)
+    ]
+  where
+    first : Contains (a ∷ []) x → Contains (f a) y
+    first here =
+        elim (Contains-push_cases [] a x here) [
+          | inl none ↦ absurd (omega (arith, none.1))
+          | inr same ↦ subst (λ (z : A). Contains (f z) y) (sym same) inner
+        ]
+
+-- from which of the lists a member comes
+pub Contains-flat_map_cases : {A B : Type 0} (f : A → List B) (xs : List A) (y : B) → Contains (flat_map f xs) y
+    → (x : A) × Contains xs x × Contains (f x) y
+Contains-flat_map_cases f [] y member = absurd (omega (arith, member.1))
+Contains-flat_map_cases f (a ∷ xs) y member =
+    elim (Contains-append_cases (f a) (flat_map f xs) y member) [
+      | inl here ↦ (a, (0, omega arith, refl), here)
+      | inr later ↦
+          let found = Contains-flat_map_cases f xs y later in
+          (found.0, Contains-append_right (a ∷ []) xs found.0 found.1, found.2)
+    ]
+
+pub member-none : {X : Type 0} (x : X) → Contains [] x → ⊥
+member-none x (k, within, is) = omega arith
+
+-- a filter keeps what passes
+pub filter-stands : (p : ℕ → Bool) (xs : List ℕ) (k : ℕ) → k < length xs → p (get_or xs k 0) ≡ true → Contains (filter p xs) (get_or xs k 0)
+filter-stands p [] k within passes = absurd (omega arith)
+filter-stands p (x ∷ xs) zero within passes =
+    cond_both (p x) (x ∷ filter p xs) (filter p xs) (λ l. Contains l x)
+    (λ t. (0, omega arith, refl))
+    (λ f. absurd (both_ways (p x) f passes))
+filter-stands p (x ∷ xs) (suc k) within passes =
+    let tail = filter-stands p xs k (omega arith) passes in
+    cond_both (p x) (x ∷ filter p xs) (filter p xs) (λ l. Contains l (get_or xs k 0))
+    (λ t. Contains-append_right (x ∷ []) (filter p xs) (get_or xs k 0) tail)
+    (λ f. tail)
+
+-- a test that holds of all members, and of one of them
+pub all-member : {X : Type 0} (p : X → Bool) (x : X) (xs : List X) → list_all p xs ≡ true → Contains xs x → p x ≡ true
+all-member p x [] all member = absurd (member-none x member)
+all-member p x (y ∷ ys) all member =
+    let parts = and_parts (p y) (list_all p ys) all in
+    elim (member-cases y ys x member) [ inl same ↦ ap p (sym same) ∙ parts.0 | inr later ↦ all-member p x ys parts.1 later ]
+
+pub all-fails : {X : Type 0} (p : X → Bool) (xs : List X) → list_all p xs ≡ false → (x : X) × Contains xs x × (p x ≡ false)
+all-fails p [] none = absurd (cc none)
+all-fails {X = X} p (y ∷ ys) none = one p y ys (p y) refl none (λ h. all-fails p ys h) where
+  one : (p : X → Bool) (y : X) (ys : List X) (b : Bool) → p y ≡ b → (b && list_all p ys) ≡ false
+      → (list_all p ys ≡ false → (x : X) × Contains ys x × (p x ≡ false)) → (x : X) × Contains (y ∷ ys) x × (p x ≡ false)
+  one p y ys true is none later = let found = later none in (found.0, member-tail y ys found.0 found.1, found.2)
+  one p y ys false is none later = (y, member-head y ys, is)
+
+-- members of lists of one and of three
+pub member-only : {A : Type 0} (x a : A) → Contains (x ∷ []) a → x ≡ a
+member-only {A} x a member =
+    let none : List A = [] in
+    All-contains (λ (y : A). x ≡ y) (x ∷ none) a (All-cons (λ (y : A). x ≡ y) x none refl (All-nil (λ (y : A). x ≡ y))) member
+
+-- a list with no member is empty
+pub empty-none : {X : Type 0} (xs : List X) → ((x : X) → ¬ Contains xs x) → xs ≡ []
+empty-none [] none = refl
+empty-none (x ∷ xs) none = absurd (none x (0, omega arith, refl))
+
+pub member-same : {X : Type 0} (x y : X) (xs : List X) → x ≡ y → Contains (x ∷ xs) y
+member-same x y xs same = (0, omega arith, same)
+
+pub any-cases : {X : Type 0} (test : X → Bool) (xs : List X) → list_any test xs ≡ true → (x : X) × Contains xs x × (test x ≡ true)
+any-cases test [] is = let never : ⊥ = cc in absurd never
+any-cases {X} test (x ∷ xs) is = cases (test x) refl is (any-cases test xs)
+  where
+    cases : (t : Bool) → test x ≡ t → (t || list_any test xs) ≡ true → (list_any test xs ≡ true → (y : X) × Contains xs y × (test y ≡ true))
+        → (y : X) × Contains (x ∷ xs) y × (test y ≡ true)
+    cases true passes is find = (x, member-same x x xs refl, passes)
+    cases false not is find = let found : (y : X) × Contains xs y × (test y ≡ true) = find is in (found.0, member-tail x xs found.0 found.1, found.2)
+
+pub member-if : (b : Bool) (line other : ℕ) → Contains (cond b (line ∷ []) []) other → (line ≡ other) × (b ≡ true)
+member-if true line other member = (member-only line other member, refl)
+member-if false line other member = absurd (member-none other member)
+
+pub each-of_three : {A : Type 0} (P : A → Type 0) (x y z a : A) → P x → P y → P z → Contains (x ∷ (y ∷ (z ∷ []))) a → P a
+each-of_three {A} P x y z a first second third member =
+    let none : List A = [] in
+    All-contains P (x ∷ (y ∷ (z ∷ none))) a (All-cons P x (y ∷ (z ∷ none)) first (All-cons P y (z ∷ none) second (All-cons P z none third (All-nil P)))) member
+
+-- what holds of each rectangle of two lists holds of each of both
+pub each-appended : {A : Type 0} (P : A → Type 0) (ds es : List A) → ((d : A) → Contains ds d → P d) → ((d : A) → Contains es d → P d)
+    → (d : A) → Contains (ds ++ es) d → P d
+each-appended P ds es first second d member =
+    elim (Contains-append_cases ds es d member) [
+      | inl here ↦ first d here
+      | inr later ↦ second d later
+    ]
+
+pub all_other : (x : ℕ) (xs : List ℕ) → AllByRecursion (λ y. eqb x y ≡ false) xs → Contains xs x → ⊥
+all_other x [] all member = member-none x member
+all_other x (y ∷ ys) all member = elim (member-cases y ys x member) [
+  | inl same ↦ cc (eq-eqb x y (sym same), all.0)
+  | inr later ↦ all_other x ys all.1 later
+]
+
+pub other_all : (x : ℕ) (xs : List ℕ) → (Contains xs x → ⊥) → AllByRecursion (λ y. eqb x y ≡ false) xs
+other_all x [] none = tt
+other_all x (y ∷ ys) none =
+    (ne_eqb x y (λ same. none (subst (λ z. Contains (y ∷ ys) z) (sym same) (member-head y ys))), other_all x ys (λ member. none (member-tail y ys x member)))

@@ -1,9 +1,7 @@
-use Rattle.std.proofs.Common.{◌≡◌, ◌+◌, ◌∙◌, ◌⊎◌, ℕ, zero, suc, List, [], ◌∷◌, ◌++◌, Some, length, map, ap, subst, refl, inl, inr, arith}
-use Rattle.std.specs.Prelude.{Contains}
+use Rattle.std.proofs.Common.{◌≡◌, ℕ, List, Some, suc, ◌∷◌, ◌+◌, zero, [], ◌++◌, length, arith, ◌⊎◌, inl, inr, map, subst, refl, ap}
 use Rattle.std.specs.List.{slice_get, range_with_len}
-use Rattle.list_facts.proofs.Members.{member-head}
-use Rattle.close_rects.proofs.Pairs.{Contains-cases}
-use Rattle.close_rects.proofs.Sets.{Contains-later}
+use Rattle.std.specs.Prelude.{Contains}
+use Rattle.std_laws.proofs.Members.{member-head, member-tail, member-cases}
 
 -- at one place of two lists
 pub record At {X Y : Type 0} (xs : List X) (ys : List Y) (x : X) (y : Y) : Type 0 where
@@ -42,10 +40,6 @@ At-append (a ∷ xs) zs (b ∷ ys) ws x y len at = go (λ rest. At-append xs zs 
       | inr right ↦ inr right
     ]
 
-pub length-map : {X Y : Type 0} (f : X → Y) (xs : List X) → length (map f xs) ≡ length xs
-length-map f [] = refl
-length-map f (x ∷ xs) = let rest : length (map f xs) ≡ length xs = length-map f xs in omega arith
-
 -- what stands at one place of two images
 pub At-images : {X Y Z : Type 0} (f : X → Y) (g : X → Z) (xs : List X) (y : Y) (z : Z) → At (map f xs) (map g xs) y z
     → (x : X) × Contains xs x × (f x ≡ y) × (g x ≡ z)
@@ -57,11 +51,11 @@ At-images {X = X} f g (x ∷ xs) y z at = go (λ rest. At-images f g xs y z rest
     go later zero first second = (x, member-head x xs, cc, cc)
     go later (suc k) first second =
         let rest = later (record { place = k; first = first; second = second }) in
-        (rest.0, Contains-later rest.0 x xs rest.1, rest.2, rest.3)
+        (rest.0, member-tail x xs rest.0 rest.1, rest.2, rest.3)
 
 pub images-At : {X Y Z : Type 0} (f : X → Y) (g : X → Z) (xs : List X) (x : X) → Contains xs x → At (map f xs) (map g xs) (f x) (g x)
 images-At f g [] x (k, within, is) = absurd (omega arith)
-images-At f g (w ∷ xs) x among = elim (Contains-cases w xs x among) [
+images-At f g (w ∷ xs) x among = elim (member-cases w xs x among) [
   | inl same ↦ subst (λ v. At (f w ∷ map f xs) (g w ∷ map g xs) (f v) (g v)) same (record { place = 0; first = refl; second = refl })
   | inr later ↦ At-later (f w) (g w) (map f xs) (map g xs) (f x) (g x) (images-At f g xs x later)
 ]
@@ -91,15 +85,3 @@ numbered-At f n (w ∷ xs) (suc j) x is =
     let step : n + 1 + j ≡ n + suc j = omega arith in
     subst (λ k. At (f w ∷ map f xs) (n ∷ range_with_len (n + 1) (length xs)) (f x) k) step
     (At-later (f w) n (map f xs) (range_with_len (n + 1) (length xs)) (f x) (n + 1 + j) (numbered-At f (n + 1) xs j x is))
-
-pub range-more : (a n : ℕ) → range_with_len a (n + 1) ≡ range_with_len a n ++ (a + n) ∷ []
-range-more a zero = let same : a ≡ a + 0 = omega arith in ap (λ k. k ∷ []) same
-range-more a (suc n) =
-    let step : a + 1 + n ≡ a + suc n = omega arith in
-    let one : suc n + 1 ≡ suc (n + 1) = omega arith in
-    ap (range_with_len a) one ∙ ap (λ t. a ∷ t) (range-more (a + 1) n) ∙ ap (λ k. a ∷ (range_with_len (a + 1) n ++ k ∷ [])) step
-
-pub numbers-more : (n : ℕ) → range_with_len 0 (n + 1) ≡ range_with_len 0 n ++ n ∷ []
-numbers-more n =
-    let same : 0 + n ≡ n = omega arith in
-    range-more 0 n ∙ ap (λ k. range_with_len 0 n ++ k ∷ []) same
