@@ -4,15 +4,15 @@
 mod items;
 mod layer;
 mod layout;
-mod mask;
 mod name;
 mod rect;
+mod shapes_in_reach;
 mod turn;
 
 pub use items::Items;
 pub use layer::LayerName;
 pub use layout::{Cell, Layout, Shape};
-pub use mask::Mask;
 pub use name::Name;
 pub use rect::{Rect, gap, inside, touch};
+pub use shapes_in_reach::ShapesInReach;
 pub use turn::{Place, Turn, moved};

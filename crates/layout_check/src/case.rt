@@ -4,7 +4,7 @@ ghost use Rattle.layout_check.specs.Measured.{IsMeasured};
 ghost use Rattle.std.specs.Prelude.{◌≡◌};
 
 use design_model::Design;
-use geom_core::{Layout, Mask};
+use geom_core::{Layout, ShapesInReach};
 use tech_rules::Rules;
 
 /// A layout that is judged for a design under rules: its lengths are within reach, and the cells of the design have room for their pins.
@@ -18,10 +18,10 @@ pub(crate) struct Case<'c> {
 }
 
 impl<'c> Case<'c> {
-    /// The shapes of the layout, as a mask that can be judged. Takes no memory.
-    pub(crate) fn mask(&self) -> Mask<'_>
+    /// The shapes of the layout, as they can be judged. Takes no memory.
+    pub(crate) fn shapes(&self) -> ShapesInReach<'_>
         ensures { result ≡ self.now.layout.now.shapes }
     {
-        Mask::new(self.layout.shapes.items())
+        ShapesInReach::new(self.layout.shapes.items())
     }
 }

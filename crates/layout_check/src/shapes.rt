@@ -19,9 +19,9 @@ pub(crate) fn tell_rows(
 ) -> Result<(), AllocError>
     ensures { OnOk result (findings.new.items ≡ findings.old.items ++ row_findings case.now.rules.now case.now.layout.now) }
 {
-    let mask = case.mask();
-    let overlapping = overlaps(alloc, &mask, case.rules)?;
-    let uneven = out_of_row(alloc, &mask, case.rules)?;
+    let shapes = case.shapes();
+    let overlapping = overlaps(alloc, &shapes, case.rules)?;
+    let uneven = out_of_row(alloc, &shapes, case.rules)?;
     put_pairs(findings, OfPair::Overlap, overlapping.list.as_slice())?;
     put_pairs(findings, OfPair::OutOfRow, uneven.list.as_slice())
 }
@@ -34,7 +34,7 @@ pub(crate) fn tell_narrow(
 ) -> Result<(), AllocError>
     ensures { OnOk result (findings.new.items ≡ findings.old.items ++ narrow_findings case.now.rules.now case.now.layout.now) }
 {
-    let numbers = narrow(alloc, &case.mask(), case.rules)?;
+    let numbers = narrow(alloc, &case.shapes(), case.rules)?;
     put_numbers(findings, OfNumber::Narrow, numbers.as_slice())
 }
 
@@ -48,7 +48,7 @@ pub(crate) fn tell_close(
     requires { length classes.now ≡ length case.now.layout.now.shapes }
     ensures { OnOk result (findings.new.items ≡ findings.old.items ++ close_findings case.now.rules.now case.now.layout.now classes.now) }
 {
-    let pairs = close_pairs(alloc, &case.mask(), case.rules, classes)?;
+    let pairs = close_pairs(alloc, &case.shapes(), case.rules, classes)?;
     put_pairs(findings, OfPair::Close, pairs.list.as_slice())
 }
 
@@ -60,7 +60,7 @@ pub(crate) fn tell_bare(
 ) -> Result<(), AllocError>
     ensures { OnOk result (findings.new.items ≡ findings.old.items ++ bare_findings case.now.rules.now case.now.layout.now) }
 {
-    let numbers = bare_cuts(alloc, &case.mask(), case.rules)?;
+    let numbers = bare_cuts(alloc, &case.shapes(), case.rules)?;
     put_numbers(findings, OfNumber::BareCut, numbers.as_slice())
 }
 

@@ -7,7 +7,7 @@ ghost use Rattle.std.specs.Prelude.{◌≡◌, ◌<◌, ◌^◌, length, All, If
 
 use crate::pairs::{Pairs, crowded};
 use crate::wires::wire_members;
-use geom_core::Mask;
+use geom_core::ShapesInReach;
 use std::alloc::{AllocError, Global};
 use tech_rules::Rules;
 
@@ -15,15 +15,15 @@ use tech_rules::Rules;
 /// space. There is a class for each shape. The one error is want of memory.
 pub fn close_pairs(
     alloc: Global,
-    mask: &Mask,
+    judged: &ShapesInReach,
     rules: &Rules,
     classes: &[u32],
 ) -> Result<Pairs, AllocError>
-    requires each { length classes.now ≡ length mask.now }
-    ensures { IfOk result (AreFirstOf (failing_pairs (are_too_close rules.now) (zip classes.now mask.now))) }
+    requires each { length classes.now ≡ length judged.now }
+    ensures { IfOk result (AreFirstOf (failing_pairs (are_too_close rules.now) (zip classes.now judged.now))) }
 {
     let _ = &rules.version;
-    let _ = mask.shapes();
-    let members = wire_members(alloc, mask, rules, classes)?;
+    let _ = judged.shapes();
+    let members = wire_members(alloc, judged, rules, classes)?;
     crowded(alloc, members.as_slice())
 }

@@ -8,15 +8,19 @@ ghost use Rattle.std.specs.Prelude.{◌≡◌, ◌<◌, ◌^◌, List, length, I
 
 use crate::measures::{grown, is_on, length_in};
 use close_rects::RectSet;
-use geom_core::{LayerName, Mask, Rect, Shape};
+use geom_core::{LayerName, Rect, Shape, ShapesInReach};
 use std::alloc::{AllocError, Global};
 use tech_rules::Rules;
 
-// The rectangles of the shapes of a layer of the mask.
-pub(crate) fn wires_on(alloc: Global, mask: &Mask, layer: &LayerName) -> Result<RectSet, AllocError>
-    ensures { IfOk result (IsCoverOf layer.now mask.now) }
+// The rectangles of the shapes of a layer of the judged.
+pub(crate) fn wires_on(
+    alloc: Global,
+    judged: &ShapesInReach,
+    layer: &LayerName,
+) -> Result<RectSet, AllocError>
+    ensures { IfOk result (IsCoverOf layer.now judged.now) }
 {
-    let rects = rects_on(alloc, mask.shapes(), layer)?;
+    let rects = rects_on(alloc, judged.shapes(), layer)?;
     RectSet::new(alloc, rects.as_slice())
 }
 

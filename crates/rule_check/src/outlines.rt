@@ -14,7 +14,7 @@ use crate::heights::{Rows, heights_of, row_of};
 use crate::measures::is_on;
 use crate::pairs::{Pairs, crowded, push_made};
 use close_rects::Member;
-use geom_core::{Mask, Rect, Shape};
+use geom_core::{Rect, Shape, ShapesInReach};
 use std::alloc::{AllocError, Global};
 use std::collections::BTreeMap;
 use tech_rules::Rules;
@@ -23,29 +23,33 @@ use tech_rules::Rules;
 const INNER: i64 = 0;
 
 /// The pairs of outlines that share an inner point. The one error is want of memory.
-pub fn overlaps(alloc: Global, mask: &Mask, rules: &Rules) -> Result<Pairs, AllocError>
-    ensures { IfOk result (AreFirstOf (failing_pairs (do_overlap rules.now) mask.now)) }
+pub fn overlaps(alloc: Global, judged: &ShapesInReach, rules: &Rules) -> Result<Pairs, AllocError>
+    ensures { IfOk result (AreFirstOf (failing_pairs (do_overlap rules.now) judged.now)) }
 {
-    let _ = mask.shapes();
-    let members = outline_members(alloc, mask, rules)?;
+    let _ = judged.shapes();
+    let members = outline_members(alloc, judged, rules)?;
     crowded(alloc, members.as_slice())
 }
 
 /// The pairs of outlines that begin or end at different heights and share an inner height. The one error is want of memory.
-pub fn out_of_row(alloc: Global, mask: &Mask, rules: &Rules) -> Result<Pairs, AllocError>
-    ensures { IfOk result (AreFirstOf (failing_pairs (are_out_of_row rules.now) mask.now)) }
+pub fn out_of_row(alloc: Global, judged: &ShapesInReach, rules: &Rules) -> Result<Pairs, AllocError>
+    ensures { IfOk result (AreFirstOf (failing_pairs (are_out_of_row rules.now) judged.now)) }
 {
-    let _ = mask.shapes();
-    let numbers = row_numbers(alloc, mask, rules)?;
-    let members = row_members(alloc, mask, rules, numbers.as_slice())?;
+    let _ = judged.shapes();
+    let numbers = row_numbers(alloc, judged, rules)?;
+    let members = row_members(alloc, judged, rules, numbers.as_slice())?;
     crowded(alloc, members.as_slice())
 }
 
 // The outlines as members, each of a class of its own.
-fn outline_members(alloc: Global, mask: &Mask, rules: &Rules) -> Result<Vec<Member>, AllocError>
-    ensures { IfOk result (λ v. v.items ≡ members_from (outline_member rules.now) 0 mask.now) }
+fn outline_members(
+    alloc: Global,
+    judged: &ShapesInReach,
+    rules: &Rules,
+) -> Result<Vec<Member>, AllocError>
+    ensures { IfOk result (λ v. v.items ≡ members_from (outline_member rules.now) 0 judged.now) }
 {
-    let shapes = mask.shapes();
+    let shapes = judged.shapes();
     let mut members = Vec::new(alloc);
     for k in 0..shapes.len() {
         let made = outline_member(rules, &shapes[k], k as u32);
@@ -71,14 +75,14 @@ fn outline_member(rules: &Rules, shape: &Shape, number: u32) -> Option<Member>
 // The heights of the outlines as members, whose classes are the numbers of their rows.
 fn row_members(
     alloc: Global,
-    mask: &Mask,
+    judged: &ShapesInReach,
     rules: &Rules,
     numbers: &[u32],
 ) -> Result<Vec<Member>, AllocError>
-    requires { length numbers.now ≡ length mask.now }
-    ensures { IfOk result (λ v. v.items ≡ members_from (row_member rules.now) 0 (zip numbers.now mask.now)) }
+    requires { length numbers.now ≡ length judged.now }
+    ensures { IfOk result (λ v. v.items ≡ members_from (row_member rules.now) 0 (zip numbers.now judged.now)) }
 {
-    let shapes = mask.shapes();
+    let shapes = judged.shapes();
     let mut members = Vec::new(alloc);
     for k in 0..shapes.len() {
         let made = row_member(rules, &shapes[k], numbers[k], k as u32);
@@ -114,10 +118,10 @@ fn flat(rect: &Rect) -> Rect
 }
 
 // A number for each shape: of outlines, equal ones exactly for those of the same heights.
-fn row_numbers(alloc: Global, mask: &Mask, rules: &Rules) -> Result<Vec<u32>, AllocError>
-    ensures { IfOk result (λ v. AreNumbersOf rules.now.outline.layer mask.now v.items) }
+fn row_numbers(alloc: Global, judged: &ShapesInReach, rules: &Rules) -> Result<Vec<u32>, AllocError>
+    ensures { IfOk result (λ v. AreNumbersOf rules.now.outline.layer judged.now v.items) }
 {
-    let shapes = mask.shapes();
+    let shapes = judged.shapes();
     let mut rows = BTreeMap::new(alloc);
     let mut numbers = Vec::with_capacity(alloc, shapes.len())?;
     for k in 0..shapes.len() {

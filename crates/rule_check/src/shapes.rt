@@ -7,16 +7,16 @@ ghost use Rattle.std.specs.Prelude.{◌≡◌, ◌++◌, [], ◌∷◌, ◌<◌,
 
 use crate::covers::{is_bare, wires_on};
 use crate::measures::{has_sides, is_on, is_square, length_in};
-use geom_core::{LayerName, Mask, Shape};
+use geom_core::{LayerName, Shape, ShapesInReach};
 use std::alloc::{AllocError, Global};
 use tech_rules::Rules;
 
 /// The numbers of the shapes that are too narrow, in order: of wires with a side below their layer's width, and of cuts that are no
 /// squares of the cut's size. The one error is want of memory.
-pub fn narrow(alloc: Global, mask: &Mask, rules: &Rules) -> Result<Vec<u32>, AllocError>
-    ensures { IfOk result (λ v. v.items ≡ failing (is_narrow rules.now) mask.now) }
+pub fn narrow(alloc: Global, judged: &ShapesInReach, rules: &Rules) -> Result<Vec<u32>, AllocError>
+    ensures { IfOk result (λ v. v.items ≡ failing (is_narrow rules.now) judged.now) }
 {
-    let shapes = mask.shapes();
+    let shapes = judged.shapes();
     let mut numbers = Vec::new(alloc);
     for k in 0..shapes.len() {
         let fails = is_narrow(rules, &shapes[k]);
@@ -27,12 +27,16 @@ pub fn narrow(alloc: Global, mask: &Mask, rules: &Rules) -> Result<Vec<u32>, All
 
 /// The numbers of the cuts, in order, that do not lie, with what has to enclose them on each side, in one shape of each layer of wires.
 /// The one error is want of memory.
-pub fn bare_cuts(alloc: Global, mask: &Mask, rules: &Rules) -> Result<Vec<u32>, AllocError>
-    ensures { IfOk result (λ v. v.items ≡ failing (is_bare rules.now mask.now) mask.now) }
+pub fn bare_cuts(
+    alloc: Global,
+    judged: &ShapesInReach,
+    rules: &Rules,
+) -> Result<Vec<u32>, AllocError>
+    ensures { IfOk result (λ v. v.items ≡ failing (is_bare rules.now judged.now) judged.now) }
 {
-    let horizontal = wires_on(alloc, mask, &rules.horizontal.layer)?;
-    let vertical = wires_on(alloc, mask, &rules.vertical.layer)?;
-    let shapes = mask.shapes();
+    let horizontal = wires_on(alloc, judged, &rules.horizontal.layer)?;
+    let vertical = wires_on(alloc, judged, &rules.vertical.layer)?;
+    let shapes = judged.shapes();
     let mut numbers = Vec::new(alloc);
     for k in 0..shapes.len() {
         let fails = is_bare(rules, &horizontal, &vertical, &shapes[k]);

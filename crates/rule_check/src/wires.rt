@@ -8,7 +8,7 @@ ghost use Rattle.std.specs.Prelude.{◌≡◌, ◌<◌, ◌^◌, ◌≤ℤ◌, p
 use crate::measures::length_in;
 use crate::pairs::push_made;
 use close_rects::Member;
-use geom_core::{LayerName, Mask, Rect, Shape};
+use geom_core::{LayerName, Rect, Shape, ShapesInReach};
 use std::alloc::{AllocError, Global};
 use tech_rules::Rules;
 
@@ -23,14 +23,14 @@ pub(crate) enum Layer {
 // The shapes of these layers, each with its class, as members that keep their layer's space.
 pub(crate) fn wire_members(
     alloc: Global,
-    mask: &Mask,
+    judged: &ShapesInReach,
     rules: &Rules,
     classes: &[u32],
 ) -> Result<Vec<Member>, AllocError>
-    requires { length classes.now ≡ length mask.now }
-    ensures { IfOk result (λ v. v.items ≡ members_from (wire_member rules.now) 0 (zip classes.now mask.now)) }
+    requires { length classes.now ≡ length judged.now }
+    ensures { IfOk result (λ v. v.items ≡ members_from (wire_member rules.now) 0 (zip classes.now judged.now)) }
 {
-    let shapes = mask.shapes();
+    let shapes = judged.shapes();
     let mut members = Vec::new(alloc);
     for k in 0..shapes.len() {
         let made = wire_member(rules, &shapes[k], classes[k], k as u32);

@@ -3,7 +3,7 @@
 ghost use Rattle.std.specs.Prelude.{◌<◌, ◌≤◌, length};
 
 use crate::shapes::{On, grid, layer_of, numbers, stairs};
-use geom_core::Mask;
+use geom_core::ShapesInReach;
 use rule_check::{Pairs, close_pairs, out_of_row, overlaps};
 use samples::sample_rules;
 use std::alloc::{AllocError, Global};
@@ -23,7 +23,12 @@ fn close_stairs(
 {
     let rules = sample_rules(alloc)?;
     let shapes = stairs(alloc, layer_of(&rules, on), classes.len(), step, side)?;
-    close_pairs(alloc, &Mask::new(shapes.as_slice()), &rules, classes)
+    close_pairs(
+        alloc,
+        &ShapesInReach::new(shapes.as_slice()),
+        &rules,
+        classes,
+    )
 }
 
 // So many squares in one place, all of one class but the first.
@@ -90,10 +95,10 @@ fn a_million_outlines_in_rows(rt: HostRuntime) -> Result<(), Fail> {
     let rules = &sample;
     let shapes = grid(rt.alloc(), rules.outline.layer, 1000, 1000, 1000, 1000)?;
     assert_eq!(rt; shapes.len(), 1_000_000);
-    let overlapping = overlaps(rt.alloc(), &Mask::new(shapes.as_slice()), rules)?;
+    let overlapping = overlaps(rt.alloc(), &ShapesInReach::new(shapes.as_slice()), rules)?;
     assert_eq!(rt; overlapping.list.len(), 0);
     assert!(rt; overlapping.whole);
-    let out = out_of_row(rt.alloc(), &Mask::new(shapes.as_slice()), rules)?;
+    let out = out_of_row(rt.alloc(), &ShapesInReach::new(shapes.as_slice()), rules)?;
     assert_eq!(rt; out.list.len(), 0);
     assert!(rt; out.whole);
     Ok(())

@@ -1,7 +1,7 @@
 //! Outlines that overlap or are out of row.
 
 use crate::shapes::{On, Placed, shapes_of};
-use geom_core::Mask;
+use geom_core::ShapesInReach;
 use rule_check::{out_of_row, overlaps};
 use samples::sample_rules;
 use std::alloc::{AllocError, Global};
@@ -17,7 +17,7 @@ fn do_overlap(alloc: Global, table: &[Placed], want: &[(u32, u32)]) -> Result<bo
     if shapes.len() > 100 {
         return Ok(false);
     }
-    let pairs = overlaps(alloc, &Mask::new(shapes.as_slice()), &rules)?;
+    let pairs = overlaps(alloc, &ShapesInReach::new(shapes.as_slice()), &rules)?;
     Ok(pairs.whole && pairs.list.as_slice() == want)
 }
 
@@ -64,7 +64,7 @@ fn are_out_of_row(
     if shapes.len() > 100 {
         return Ok(false);
     }
-    let pairs = out_of_row(alloc, &Mask::new(shapes.as_slice()), &rules)?;
+    let pairs = out_of_row(alloc, &ShapesInReach::new(shapes.as_slice()), &rules)?;
     Ok(pairs.whole && pairs.list.as_slice() == want)
 }
 

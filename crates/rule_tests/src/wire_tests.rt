@@ -1,7 +1,7 @@
 //! Wires and cuts that are too narrow, bare or too close.
 
 use crate::shapes::{On, Placed, shapes_of};
-use geom_core::Mask;
+use geom_core::ShapesInReach;
 use rule_check::{bare_cuts, close_pairs, narrow};
 use samples::sample_rules;
 use std::alloc::{AllocError, Global};
@@ -17,7 +17,7 @@ fn are_narrow(alloc: Global, table: &[Placed], want: &[u32]) -> Result<bool, All
     if shapes.len() > 100 {
         return Ok(false);
     }
-    Ok(narrow(alloc, &Mask::new(shapes.as_slice()), &rules)?.as_slice() == want)
+    Ok(narrow(alloc, &ShapesInReach::new(shapes.as_slice()), &rules)?.as_slice() == want)
 }
 
 /// Whether just these cuts are bare.
@@ -27,7 +27,7 @@ fn are_bare(alloc: Global, table: &[Placed], want: &[u32]) -> Result<bool, Alloc
     if shapes.len() > 100 {
         return Ok(false);
     }
-    Ok(bare_cuts(alloc, &Mask::new(shapes.as_slice()), &rules)?.as_slice() == want)
+    Ok(bare_cuts(alloc, &ShapesInReach::new(shapes.as_slice()), &rules)?.as_slice() == want)
 }
 
 const NARROW: [Numbered; 3] = [
@@ -116,7 +116,12 @@ fn are_close(
     if shapes.len() > 100 || classes.len() != shapes.len() {
         return Ok(false);
     }
-    let pairs = close_pairs(alloc, &Mask::new(shapes.as_slice()), &rules, classes)?;
+    let pairs = close_pairs(
+        alloc,
+        &ShapesInReach::new(shapes.as_slice()),
+        &rules,
+        classes,
+    )?;
     Ok(pairs.whole && pairs.list.as_slice() == want)
 }
 

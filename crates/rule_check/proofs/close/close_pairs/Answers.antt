@@ -11,24 +11,24 @@ use Rattle.std_laws.proofs.Zips.{length-zip}
 
 pub crowded-requires-clause-few : goal.crowded-requires-clause-few
 crowded-requires-clause-few c =
-    let few : length c.args.mask.now < 2 ^ 32 = rw (← c.shapes.ensures.is) c.shapes.ensures.few in
-    let made : length c.as_slice.result.now ≡ length (members_from (wire_member c.args.rules.now) 0 (zip c.args.classes.now c.args.mask.now)) =
+    let few : length c.args.judged.now < 2 ^ 32 = rw (← c.shapes.ensures.is) c.shapes.ensures.few in
+    let made : length c.as_slice.result.now ≡ length (members_from (wire_member c.args.rules.now) 0 (zip c.args.classes.now c.args.judged.now)) =
     ap length (c.as_slice.ensures.value ∙ c.in_ok-members.ensures) in
-    let less : length (members_from (wire_member c.args.rules.now) 0 (zip c.args.classes.now c.args.mask.now)) ≤ length (zip c.args.classes.now c.args.mask.now) =
-    members-fewer (wire_member c.args.rules.now) 0 (zip c.args.classes.now c.args.mask.now) in
-    let all : length (zip c.args.classes.now c.args.mask.now) ≡ length c.args.mask.now =
-    length-zip c.args.classes.now c.args.mask.now c.requires.each in
+    let less : length (members_from (wire_member c.args.rules.now) 0 (zip c.args.classes.now c.args.judged.now)) ≤ length (zip c.args.classes.now c.args.judged.now) =
+    members-fewer (wire_member c.args.rules.now) 0 (zip c.args.classes.now c.args.judged.now) in
+    let all : length (zip c.args.classes.now c.args.judged.now) ≡ length c.args.judged.now =
+    length-zip c.args.classes.now c.args.judged.now c.requires.each in
     omega arith
 
 pub crowded-requires-clause-reach : goal.crowded-requires-clause-reach
 crowded-requires-clause-reach c =
     let valid : ValidRules c.args.rules.now = rw (← c.rules.view_is) c.rules.invariant in
     let P : List Member → Type 0 = λ members. All KeepsInReach members in
-    subst P (sym (c.as_slice.ensures.value ∙ c.in_ok-members.ensures)) (close-reach c.args.rules.now c.args.classes.now c.args.mask.now valid (rw (← c.shapes.ensures.is) c.shapes.ensures.reach))
+    subst P (sym (c.as_slice.ensures.value ∙ c.in_ok-members.ensures)) (close-reach c.args.rules.now c.args.classes.now c.args.judged.now valid (rw (← c.shapes.ensures.is) c.shapes.ensures.reach))
 
 pub returns : goal.returns
 returns c =
     let valid : ValidRules c.args.rules.now = rw (← c.rules.view_is) c.rules.invariant in
     let same : crowds_of c.as_slice.result.now ≡ _ =
-    ap crowds_of (c.as_slice.ensures.value ∙ c.in_ok-members.ensures) ∙ close-failing c.args.rules.now c.args.classes.now c.args.mask.now valid (rw (← c.shapes.ensures.is) c.shapes.ensures.reach) in
+    ap crowds_of (c.as_slice.ensures.value ∙ c.in_ok-members.ensures) ∙ close-failing c.args.rules.now c.args.classes.now c.args.judged.now valid (rw (← c.shapes.ensures.is) c.shapes.ensures.reach) in
     rw (← same) c.crowded.ensures
