@@ -16,10 +16,10 @@ use std::marker::Model;
 
 /// Where an instance stands: its row, the first of its columns there, which is at most 2,000,000,000,000, and whether it is mirrored.
 #[derive(Clone, Copy, Debug)]
-pub(crate) struct Stand {
-    pub(crate) row: u16,
-    pub(crate) left: u64,
-    pub(crate) mirror: bool,
+pub struct Stand {
+    pub row: u16,
+    pub left: u64,
+    pub mirror: bool,
 }
 
 impl Model for Stand {
