@@ -1,15 +1,15 @@
 use Rattle.std.proofs.Common.{◌≡◌, refl, ap, sym, subst, ℕ, suc, ℤ, ◌+◌, List, [], ◌∷◌, length, Option, Some, None, Result, Ok, Err}
-use Rattle.std.specs.Prelude.{if◌then◌else◌, Bool, true, false, nat_lt}
+use Rattle.std.specs.Prelude.{if◌then◌else◌, unwrap_or, Bool, true, false, nat_lt}
 use Rattle.geom_core.specs.declared.layout.Layout.{Layout}
 use Rattle.cif_text.specs.declared.command.Command.{Command}
 use Rattle.cif_text.specs.declared.command.Command.TheVariants as commands
 use Rattle.cif_text.specs.InOrder.{◌>>=◌}
-use Rattle.cif_text.specs.Symbols.{State}
+use Rattle.cif_text.specs.Symbols.{Symbol, Level, State}
 use Rattle.cif_text.specs.Meaning.{Unmeant, undefined, twice, inexact, no_layer, no_symbol_name, at_command, step, run, layout_of, meaning}
 use Rattle.cif_reader.specs.declared.fault.ExpandKind.{ExpandKind}
 use Rattle.cif_reader.specs.declared.fault.ExpandKind.TheVariants as kinds
-use Rattle.cif_reader.specs.Limits.{first_far, numbers_of, too_many, far_or_many, limit_passed, most_shapes, deepest, depth_given, shapes_so_far, shapes_given}
-use Rattle.cif_reader.specs.Expansion.{Progress, unless_refused, progress_to, deep, given_by, advance, refused_at, progress, at_first, expansion}
+use Rattle.cif_reader.specs.Limits.{first_far, numbers_of, more_than_most, far_or_many, limit_passed, most_shapes, deepest, depth_given, shapes_given}
+use Rattle.cif_reader.specs.Expansion.{Progress, present_level, within, depth_by, progress_to, advance, refused_at, progress, at_first, expansion}
 use Rattle.cif_reader.proofs.Agreement.{Agrees}
 
 -- the refusals that are limits
@@ -32,49 +32,52 @@ far-limit : (far : Option ℤ) (many : Option ExpandKind) → IsLimit many → I
 far-limit (Some v) many h = tt
 far-limit None many h = h
 
-passed-limit : (s : State) (c : Command) → IsLimit (limit_passed s c)
-passed-limit s c =
-    far-limit (first_far (numbers_of s c)) (too_many s c) (many-limit (nat_lt most_shapes (length (shapes_so_far s s.inside) + shapes_given s c)))
+passed-limit : (symbols : List Symbol) (l : Level) (c : Command) → IsLimit (limit_passed symbols l c)
+passed-limit symbols l c =
+    far-limit (first_far (numbers_of symbols l c)) (more_than_most (length l.shapes) (shapes_given symbols c))
+    (many-limit (nat_lt most_shapes (length l.shapes + shapes_given symbols c)))
 
--- a limit comes first, or what comes behind it agrees
-limited : {A B : Type 0} (view : A → B) (i : ℕ) (limit : Option ExpandKind) (r : Result A ExpandKind) (meant : Result B (Unmeant × ℕ)) → IsLimit limit
-    → Agrees view (refused_at i r) meant → Agrees view (refused_at i (unless_refused limit r)) meant
-limited view i (Some (kinds.TooFar v)) r meant h more = tt
-limited view i (Some kinds.TooMany) r meant h more = tt
-limited view i (Some kinds.TooDeep) r meant h more = tt
-limited view i (Some (kinds.Undefined n)) r meant h more = absurd h
-limited view i (Some (kinds.Twice n)) r meant h more = absurd h
-limited view i (Some kinds.Inexact) r meant h more = absurd h
-limited view i (Some kinds.NoLayer) r meant h more = absurd h
-limited view i (Some kinds.NoSymbolName) r meant h more = absurd h
-limited view i None r meant h more = more
+-- a limit comes first
+limit-agrees : {A B : Type 0} (view : A → B) (i : ℕ) (limit : Option ExpandKind) (kind : ExpandKind) (meant : Result B (Unmeant × ℕ)) → IsLimit limit
+    → Agrees view (Err (kind, i)) meant → Agrees view (Err (unwrap_or limit kind, i)) meant
+limit-agrees view i (Some (kinds.TooFar v)) kind meant h more = tt
+limit-agrees view i (Some kinds.TooMany) kind meant h more = tt
+limit-agrees view i (Some kinds.TooDeep) kind meant h more = tt
+limit-agrees view i (Some other) kind meant h more = absurd h
+limit-agrees view i None kind meant h more = more
 
 abbrev state_of : Progress → State
 state_of p = p.state
 
-pub progress-state : (p : Progress) (c : Command) (t : State) → (progress_to p c t).state ≡ t
-progress-state p (commands.Start n a b) t = refl
-progress-state p commands.Finish t = refl
-progress-state p (commands.Box long wide cx cy upright) t = refl
-progress-state p (commands.Layer name) t = refl
-progress-state p (commands.Call n flip quarters dx dy) t = refl
-progress-state p commands.Comment t = refl
-progress-state p (commands.User kind text) t = refl
-progress-state p commands.End t = refl
+pub progress-state : (p : Progress) (c : Command) (t : State) (depth : ℕ) → (progress_to p c t depth).state ≡ t
+progress-state p (commands.Start n a b) t depth = refl
+progress-state p commands.Finish t depth = refl
+progress-state p c t depth = refl
+
+-- a command that is not too deep
+deep-agrees : (i : ℕ) (p : Progress) (c : Command) (t : State) → Agrees state_of (refused_at i (depth_by p.state.symbols p.depths c >>= λ d. Ok (progress_to p c t d))) (Ok t)
+deep-agrees i p c t = by (nat_lt deepest (depth_given p.state.symbols p.depths c))
+  where
+    by : (b : Bool) → Agrees state_of (refused_at i ((if b then Err kinds.TooDeep else Ok (depth_given p.state.symbols p.depths c)) >>= λ d. Ok (progress_to p c t d))) (Ok t)
+    by true = tt
+    by false = ap Ok (sym (progress-state p c t (depth_given p.state.symbols p.depths c)))
 
 -- one command
-given-agrees : (i : ℕ) (p : Progress) (c : Command) (meant : Result State Unmeant) → Agrees state_of (refused_at i (given_by p c meant)) (at_command i meant)
-given-agrees i p c (Err (undefined n)) = refl
-given-agrees i p c (Err (twice n)) = refl
-given-agrees i p c (Err inexact) = refl
-given-agrees i p c (Err no_layer) =
-    limited state_of i (limit_passed p.state c) (Err kinds.NoLayer) (Err (no_layer, i)) (passed-limit p.state c) refl
-given-agrees i p c (Err no_symbol_name) =
-    limited state_of i (limit_passed p.state c) (Err kinds.NoSymbolName) (Err (no_symbol_name, i)) (passed-limit p.state c) refl
-given-agrees i p c (Ok t) =
-    limited state_of i (limit_passed p.state c) (unless_refused (deep p c) (Ok (progress_to p c t))) (Ok t) (passed-limit p.state c)
-    (limited state_of i (deep p c) (Ok (progress_to p c t)) (Ok t) (deep-limit (nat_lt deepest (depth_given p.state p.depths c)))
-    (ap Ok (sym (progress-state p c t))))
+within-agrees : (i : ℕ) (p : Progress) (c : Command) (limit : Option ExpandKind) (meant : Result State Unmeant) → IsLimit limit
+    → Agrees state_of (refused_at i (within limit meant >>= λ t. depth_by p.state.symbols p.depths c >>= λ d. Ok (progress_to p c t d))) (at_command i meant)
+within-agrees i p c limit (Err (undefined n)) h = refl
+within-agrees i p c limit (Err (twice n)) h = refl
+within-agrees i p c limit (Err inexact) h = refl
+within-agrees i p c limit (Err no_layer) h = limit-agrees state_of i limit kinds.NoLayer (Err (no_layer, i)) h refl
+within-agrees i p c limit (Err no_symbol_name) h = limit-agrees state_of i limit kinds.NoSymbolName (Err (no_symbol_name, i)) h refl
+within-agrees i p c None (Ok t) h = deep-agrees i p c t
+within-agrees i p c (Some kind) (Ok t) h = limit-itself kind h
+  where
+    limit-itself : (kind : ExpandKind) → IsLimit (Some kind) → Agrees state_of (refused_at i (Err kind)) (Ok t)
+    limit-itself (kinds.TooFar v) h = tt
+    limit-itself kinds.TooMany h = tt
+    limit-itself kinds.TooDeep h = tt
+    limit-itself other h = absurd h
 
 -- one step after another
 next-agrees : {A B x y : Type 0} (view : A → x) (seen : B → y) (r : Result A (ExpandKind × ℕ)) (meant : Result x (Unmeant × ℕ))
@@ -95,13 +98,14 @@ unfolding progress run advance
 progress-agrees i p [] = refl
 progress-agrees i p (c ∷ cs) =
     next-agrees state_of state_of (refused_at i (advance p c)) (at_command i (step p.state c)) (λ q. progress (suc i) q cs) (λ t. run (suc i) t cs)
-    (given-agrees i p c (step p.state c)) (λ q. progress-agrees (suc i) q cs)
+    (within-agrees i p c (limit_passed p.state.symbols (present_level p.state p.state.inside) c) (step p.state c)
+    (passed-limit p.state.symbols (present_level p.state p.state.inside) c)) (λ q. progress-agrees (suc i) q cs)
 
 -- what commands give is what they mean, where no limit is passed
 pub expansion-agrees : (cs : List Command) → Agrees (λ (l : Layout). l) (expansion cs) (meaning cs)
 unfolding expansion meaning
 expansion-agrees cs =
-    next-agrees state_of (λ (l : Layout). l) (progress 0 at_first cs) (run 0 at_first.state cs) (λ p. Ok (layout_of p.state)) (λ s. Ok (layout_of s))
+    next-agrees state_of (λ (l : Layout). l) (progress 0 at_first cs) (run 0 at_first.state cs) (λ p. Ok (layout_of p.state.main)) (λ s. Ok (layout_of s.main))
     (progress-agrees 0 at_first cs) (λ p. refl)
 
 -- a layout that they give is what they mean

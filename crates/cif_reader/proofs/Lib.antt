@@ -22,8 +22,6 @@ pub mod CallLemmas
 pub mod RefusalLemmas
 -- symbols that draw more
 pub mod GrowingLemmas
--- what stands behind a command
-pub mod StandingLemmas
 -- what stands behind a command, as the program keeps it
 pub mod BehindLemmas
 -- all commands, one after another

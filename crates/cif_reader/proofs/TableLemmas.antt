@@ -4,11 +4,10 @@ use Rattle.std.proofs.lemmas.List.{length-take-le}
 use Rattle.std.specs.List.{AllByRecursion}
 use Rattle.geom_core.specs.declared.layout.Shape.{Shape}
 use Rattle.cif_text.specs.Symbols.{Symbol, moved_shapes}
-use Rattle.cif_text.specs.Meaning.{empty_symbol}
 use Rattle.cif_reader.specs.declared.table.Item.{Item}
 use Rattle.cif_reader.specs.declared.table.Kept.{Kept}
 use Rattle.geom_core.specs.Turning.{Turning}
-use Rattle.cif_reader.specs.Table.{IsItem, symbol_at, items_drawn, symbol_kept, symbols_behind, IsKeptBehind, AreKeptBehind}
+use Rattle.cif_reader.specs.Table.{IsItem, empty_symbol, symbol_at, items_drawn, symbol_kept, symbols_behind, IsKeptBehind, AreKeptBehind}
 use Rattle.cif_reader.specs.Within.{IsShapeWithin}
 use Rattle.std_laws.proofs.Places.{get_or-front, get_or-pushed}
 

@@ -1,24 +1,26 @@
 use Rattle.cif_text.specs.declared.command.Command.TheVariants as commands
-use Rattle.cif_text.specs.declared.command.UserKind.TheVariants as users
+use Rattle.cif_reader.specs.Levels as levels
 use Rattle.std.proofs.Common.{◌≡◌, refl, ap, sym, subst, ◌∙◌, ℕ, suc, ◌+◌, ◌≤◌, ℤ, List, [], ◌∷◌, ◌++◌, length, length-append, Bool, true, false, Option, Some, None, Result, Ok, Err, arith}
 use Rattle.std.proofs.lemmas.Bool.Decides.{nat_tests}
+use Rattle.std.proofs.lemmas.List.{length-map}
 use Rattle.std.specs.List.{AllByRecursion}
-use Rattle.std.specs.Prelude.{if◌then◌else◌, nat_lt, nat_abs}
+use Rattle.std.specs.Prelude.{if◌then◌else◌, nat_lt, nat_abs, option_map}
 use Rattle.geom_core.specs.declared.layout.Shape.{Shape}
 use Rattle.geom_core.specs.declared.layout.Cell.{Cell}
 use Rattle.geom_core.specs.declared.layout.Layout.{Layout}
 use Rattle.geom_core.specs.Extent.{Extent}
+use Rattle.geom_core.specs.Moving.{moved_shape}
 use Rattle.geom_core.specs.Turning.{Turning}
 use Rattle.cif_text.specs.declared.command.Command.{Command}
 use Rattle.cif_text.specs.InOrder.{◌>>=◌}
 use Rattle.cif_text.specs.Scales.{scaled, doubled, box_around, scaled_extent, turning_of, scaled_turning}
 use Rattle.cif_text.specs.Sound.{IsSound, AreSound}
-use Rattle.cif_text.specs.Symbols.{Symbol, Definition, State, symbol_of, moved_shapes}
-use Rattle.cif_text.specs.Meaning.{Unmeant, undefined, twice, inexact, no_layer, no_symbol_name, found, box_shape, cells_of, drawn, started, empty_symbol, finished, with_inside, step, step_in, step_inside, step_outside, layout_of}
+use Rattle.cif_text.specs.Symbols.{Symbol, Level, Definition, Main, State, symbol_of, moved_shapes}
+use Rattle.cif_text.specs.Meaning.{Unmeant, undefined, inexact, no_symbol_name, found, on_layer, drawn_by, cells_of, cells_by, main_with, main_behind, definition_behind, opened, started, finished, with_main, with_inside, step, step_in, layout_of}
 use Rattle.cif_text.proofs.BodyLaws.{given}
 use Rattle.cif_reader.specs.declared.fault.ExpandKind.{ExpandKind}
-use Rattle.cif_reader.specs.Limits.{farthest, most_shapes, first_far, coordinates_of, box_numbers, call_numbers, numbers_of, called_shapes, shapes_given, shapes_so_far, too_many, far_or_many, limit_passed}
-use Rattle.cif_reader.specs.Expansion.{Progress, unless_refused, progress_to, deep, given_by, advance, refused_at, progress, at_first, expansion}
+use Rattle.cif_reader.specs.Limits.{farthest, most_shapes, first_far, coordinates_of, box_numbers, call_numbers, numbers_of, called_shapes, shapes_given, more_than_most, far_or_many, limit_passed}
+use Rattle.cif_reader.specs.Expansion.{Progress, present_level, within, depth_by, progress_to, advance, refused_at, progress, at_first, expansion}
 use Rattle.cif_reader.specs.Within.{IsNotFar, IsShapeWithin, IsCellWithin, IsLayoutWithin}
 use Rattle.cif_reader.proofs.AgreementLaws.{progress-state}
 use Rattle.std_laws.proofs.Every.{every-append, every-weaker}
@@ -53,55 +55,101 @@ pub few-none : (b : Bool) (kind : ExpandKind) → (if b then Some kind else None
 few-none true kind none = cc
 few-none false kind none = refl
 
-few-shapes : (s : State) (c : Command) → too_many s c ≡ None → length (shapes_so_far s s.inside) + shapes_given s c ≤ most_shapes
-few-shapes s c none =
-    let few = few-none (nat_lt most_shapes (length (shapes_so_far s s.inside) + shapes_given s c)) _ none in grind (arith, nat_tests)
+pub few-given : (before given : ℕ) → more_than_most before given ≡ None → before + given ≤ most_shapes
+few-given before given none =
+    let few : nat_lt most_shapes (before + given) ≡ false = few-none (nat_lt most_shapes (before + given)) _ none in grind (arith, nat_tests)
+
+-- shapes within the limits, for a level that has so many before them
+pub record Fit (before : ℕ) (shapes : List Shape) : Type 0 where
+  pub near : AllByRecursion IsShapeWithin shapes
+  pub few : before + length shapes ≤ most_shapes
+
+fit-box : (rect : Option Extent) (layer : Option (List ℕ)) (before : ℕ) (shapes : List Shape) → first_far (box_numbers rect) ≡ None → before + 1 ≤ most_shapes
+    → (found inexact rect >>= λ e. on_layer layer (e ∷ [])) ≡ Ok shapes → Fit before shapes
+fit-box None layer before shapes none few is = cc
+fit-box (Some e) None before shapes none few is = cc
+fit-box (Some e) (Some name) before shapes none few is =
+    let whole : record { layer = name; rect = e } ∷ [] ≡ shapes = cc is in
+    subst (Fit before) whole (record { near = ((near-shape name e [] none).0, tt); few = few })
+
+fit-call : (n : ℕ) (there : Option Symbol) (turning : Option Turning) (before : ℕ) (shapes : List Shape) → first_far (call_numbers there turning) ≡ None
+    → before + called_shapes there ≤ most_shapes
+    → (found (undefined n) there >>= λ s. found inexact turning >>= λ t. Ok (moved_shapes t s.shapes)) ≡ Ok shapes → Fit before shapes
+fit-call n None turning before shapes none few is = cc
+fit-call n (Some symbol) None before shapes none few is = cc
+fit-call n (Some symbol) (Some turn) before shapes none few is =
+    let whole : moved_shapes turn symbol.shapes ≡ shapes = cc is in
+    let across = near-first turn.dx (turn.dy ∷ coordinates_of (moved_shapes turn symbol.shapes)) none in
+    let up = near-first turn.dy (coordinates_of (moved_shapes turn symbol.shapes)) across.1 in
+    subst (Fit before) whole (record { near = near-shapes (moved_shapes turn symbol.shapes) up.1; few = rw (length-map symbol.shapes (moved_shape turn)) few })
+
+fit-none : (before : ℕ) (shapes : List Shape) → before + 0 ≤ most_shapes → [] ≡ shapes → Fit before shapes
+fit-none before shapes few none = subst (Fit before) none (record { near = tt; few = few })
+
+-- what a command draws that passes no limit
+pub drawn-fit : (symbols : List Symbol) (l : Level) (c : Command) (shapes : List Shape) → limit_passed symbols l c ≡ None → drawn_by symbols l c ≡ Ok shapes
+    → Fit (length l.shapes) shapes
+drawn-fit symbols l c shapes none is =
+    let parts = far-none (first_far (numbers_of symbols l c)) (more_than_most (length l.shapes) (shapes_given symbols c)) none in
+    by c parts.0 (few-given (length l.shapes) (shapes_given symbols c) parts.1) is
+  where
+    by : (c : Command) → first_far (numbers_of symbols l c) ≡ None → length l.shapes + shapes_given symbols c ≤ most_shapes → drawn_by symbols l c ≡ Ok shapes
+        → Fit (length l.shapes) shapes
+    by (commands.Box long wide cx cy upright) far few is =
+        fit-box (scaled_extent l.a l.b (box_around long wide cx cy upright)) l.layer (length l.shapes) shapes far few is
+    by (commands.Call n flip quarters dx dy) far few is =
+        fit-call n (symbol_of n symbols) (scaled_turning l.a l.b flip quarters dx dy) (length l.shapes) shapes far few is
+    by c far few is = fit-none (length l.shapes) shapes few (cc is)
+
+pub within-ok : {A : Type 0} (limit : Option ExpandKind) (r : Result A Unmeant) (a : A) → within limit r ≡ Ok a → (limit ≡ None) × (r ≡ Ok a)
+within-ok limit (Err fault) a is = cc
+within-ok (Some kind) (Ok x) a is = cc
+within-ok None (Ok x) a is = (refl, cc)
+
+pub given-fit : (symbols : List Symbol) (l : Level) (c : Command) (shapes : List Shape) → levels.given symbols l c ≡ Ok shapes → Fit (length l.shapes) shapes
+unfolding levels.given
+given-fit symbols l c shapes is =
+    let parts = within-ok (limit_passed symbols l c) (drawn_by symbols l c) shapes is in
+    drawn-fit symbols l c shapes parts.0 parts.1
 
 -- the main level is within the limits; its cells are at most so many
-record StateWithin (most : ℕ) (s : State) : Type 0 where
-  few : length s.shapes ≤ most_shapes
-  shapes : AllByRecursion IsShapeWithin s.shapes
-  cells : AllByRecursion (IsCellWithin (length s.shapes)) s.cells
-  few_cells : length s.cells ≤ most
+record MainWithin (most : ℕ) (m : Main) : Type 0 where
+  few : length m.level.shapes ≤ most_shapes
+  shapes : AllByRecursion IsShapeWithin m.level.shapes
+  cells : AllByRecursion (IsCellWithin (length m.level.shapes)) m.cells
+  few_cells : length m.cells ≤ most
 
-same-within : (most : ℕ) (s t : State) → StateWithin most s → t.shapes ≡ s.shapes → t.cells ≡ s.cells → StateWithin (suc most) t
-same-within most s t h shapes cells = record {
+still-within : (most : ℕ) (m n : Main) → MainWithin most m → n.level.shapes ≡ m.level.shapes → n.cells ≡ m.cells → MainWithin (suc most) n
+still-within most m n h shapes cells = record {
   few = rw shapes h.few;
   shapes = rw shapes h.shapes;
   cells = rw (shapes, cells) h.cells;
-  few_cells = rw cells (let few : length s.cells ≤ most = h.few_cells in omega arith);
+  few_cells = rw cells (let few : length m.cells ≤ most = h.few_cells in omega arith);
 }
 
 cell-later : (n m : ℕ) → n ≤ m → (c : Cell) → IsCellWithin n c → IsCellWithin m c
 cell-later n m le c h = let last : c.first + c.count ≤ n = h.last in record { last = omega arith; quarters = h.quarters; across = h.across; up = h.up }
 
--- more cells, of which at most one, and more shapes
-more-within : (most : ℕ) (s : State) (cells : List Cell) (shapes : List Shape) → StateWithin most s → length s.shapes + length shapes ≤ most_shapes
-    → AllByRecursion IsShapeWithin shapes → AllByRecursion (IsCellWithin (length s.shapes + length shapes)) cells → length cells ≤ 1
-    → StateWithin (suc most) (drawn s cells shapes)
-more-within most s cells shapes h few near within one =
-    let whole : length (s.shapes ++ shapes) ≡ length s.shapes + length shapes = length-append s.shapes shapes in
-    let count : length (s.cells ++ cells) ≡ length s.cells + length cells = length-append s.cells cells in
-    let before : length s.cells ≤ most = h.few_cells in
+-- cells of which there is at most one, and whose shapes are among so many
+record AreCells (shapes : ℕ) (cells : List Cell) : Type 0 where
+  within : AllByRecursion (IsCellWithin shapes) cells
+  one : length cells ≤ 1
+
+-- a command of the main level
+drawn-within : (most : ℕ) (m : Main) (c : Command) (shapes : List Shape) (cells : List Cell) → MainWithin most m → Fit (length m.level.shapes) shapes
+    → AreCells (length m.level.shapes + length shapes) cells → MainWithin (suc most) (main_with m c shapes cells)
+drawn-within most m c shapes cells h fit are =
+    let whole : length (m.level.shapes ++ shapes) ≡ length m.level.shapes + length shapes = length-append m.level.shapes shapes in
+    let count : length (m.cells ++ cells) ≡ length m.cells + length cells = length-append m.cells cells in
+    let before : length m.cells ≤ most = h.few_cells in
+    let one : length cells ≤ 1 = are.one in
     record {
-      few = rw whole few;
-      shapes = every-append IsShapeWithin s.shapes shapes h.shapes near;
-      cells = rw whole (every-append (IsCellWithin (length s.shapes + length shapes)) s.cells cells
-          (every-weaker _ _ (cell-later (length s.shapes) (length s.shapes + length shapes) (omega arith)) s.cells h.cells) within);
+      few = rw whole fit.few;
+      shapes = every-append IsShapeWithin m.level.shapes shapes h.shapes fit.near;
+      cells = rw whole (every-append (IsCellWithin (length m.level.shapes + length shapes)) m.cells cells
+          (every-weaker _ _ (cell-later (length m.level.shapes) (length m.level.shapes + length shapes) (omega arith)) m.cells h.cells) are.within);
       few_cells = rw count (omega arith);
     }
-
--- a box of the main level
-box-within : (most : ℕ) (s : State) (rect : Option Extent) (layer : Option (List ℕ)) (shape : Shape) → StateWithin most s
-    → length s.shapes + 1 ≤ most_shapes → first_far (box_numbers rect) ≡ None
-    → (found inexact rect >>= λ e. found no_layer layer >>= λ name. Ok (record { layer = name; rect = e })) ≡ Ok shape
-    → StateWithin (suc most) (drawn s [] (shape ∷ []))
-box-within most s None layer shape h few none is = cc
-box-within most s (Some e) layer shape h few none is =
-    let name = given (found no_layer layer) (λ name. Ok (record { layer = name; rect = e })) shape is in
-    let whole : record { layer = name.0; rect = e } ≡ shape = cc name.2 in
-    let near = near-shape name.0 e [] none in
-    more-within most s [] (shape ∷ []) h few (subst IsShapeWithin whole near.0, tt) tt (omega arith)
 
 -- the turn of a call keeps its quarters
 turning-quarters : (flip : Bool) (quarters : ℕ) (dx dy : Option ℤ) (turn : Turning) → turning_of flip quarters dx dy ≡ Some turn → turn.quarters ≡ quarters
@@ -110,145 +158,107 @@ turning-quarters flip quarters (Some dx) None turn is = cc
 turning-quarters flip quarters None (Some dy) turn is = cc
 turning-quarters flip quarters None None turn is = cc
 
-cells-within : (waiting : Option (List ℕ)) (symbol : Symbol) (turn : Turning) (first : ℕ) (cells : List Cell) → turn.quarters ≤ 3 → IsNotFar turn.dx → IsNotFar turn.dy
-    → cells_of waiting symbol turn first ≡ Ok cells → AllByRecursion (IsCellWithin (first + length symbol.shapes)) cells × (length cells ≤ 1)
-cells-within None symbol turn first cells few dx dy is = let none : [] ≡ cells = cc in rw (sym none) (tt, omega arith)
-cells-within (Some name) symbol turn first cells few dx dy is =
-    let kind = given (found no_symbol_name symbol.name) (λ kind. Ok (record { name = name; symbol = kind; turn = turn; first = first; count = length symbol.shapes } ∷ [])) cells is in
-    let one : record { name = name; symbol = kind.0; turn = turn; first = first; count = length symbol.shapes } ∷ [] ≡ cells = cc kind.2 in
-    rw (sym one) ((record { last = omega arith; quarters = omega arith; across = dx; up = dy }, tt), omega arith)
+none-cells : (shapes : ℕ) (cells : List Cell) → Some [] ≡ Some cells → AreCells shapes cells
+none-cells shapes cells is = let none : [] ≡ cells = cc is in subst (AreCells shapes) none (record { within = tt; one = omega arith })
 
-moved-length : (turn : Turning) (ss : List Shape) → length (moved_shapes turn ss) ≡ length ss
-moved-length turn [] = refl
-moved-length turn (s ∷ ss) = ap suc (moved-length turn ss)
+one-cell : (name : List ℕ) (kind : Option (List ℕ)) (turn : Turning) (first count shapes : ℕ) (cells : List Cell) → turn.quarters ≤ 3 → IsNotFar turn.dx → IsNotFar turn.dy
+    → first + count ≤ shapes
+    → option_map (λ kind. record { name = name; symbol = kind; turn = turn; first = first; count = count } ∷ []) kind ≡ Some cells → AreCells shapes cells
+one-cell name None turn first count shapes cells few across up last is = cc
+one-cell name (Some kind) turn first count shapes cells few across up last is =
+    let whole : record { name = name; symbol = kind; turn = turn; first = first; count = count } ∷ [] ≡ cells = cc is in
+    subst (AreCells shapes) whole (record { within = (record { last = last; quarters = omega arith; across = across; up = up }, tt); one = omega arith })
 
--- a call of the main level
-call-within : (most : ℕ) (s : State) (symbol : Symbol) (turn : Turning) (cells : List Cell) → StateWithin most s
-    → length s.shapes + length symbol.shapes ≤ most_shapes → first_far (turn.dx ∷ turn.dy ∷ coordinates_of (moved_shapes turn symbol.shapes)) ≡ None
-    → turn.quarters ≤ 3 → cells_of s.waiting symbol turn (length s.shapes) ≡ Ok cells
-    → StateWithin (suc most) (drawn s cells (moved_shapes turn symbol.shapes))
-call-within most s symbol turn cells h few none quarters is =
-    let dx = near-first turn.dx (turn.dy ∷ coordinates_of (moved_shapes turn symbol.shapes)) none in
-    let dy = near-first turn.dy (coordinates_of (moved_shapes turn symbol.shapes)) dx.1 in
-    let near = near-shapes (moved_shapes turn symbol.shapes) dy.1 in
-    let within = cells-within s.waiting symbol turn (length s.shapes) cells quarters dx.0 dy.0 is in
-    let same : length (moved_shapes turn symbol.shapes) ≡ length symbol.shapes = moved-length turn symbol.shapes in
-    more-within most s cells (moved_shapes turn symbol.shapes) h (rw same few) near (rw same within.0) within.1
+call-cells : (n : ℕ) (waiting : Option (List ℕ)) (there : Option Symbol) (turning : Option Turning) (quarters first : ℕ) (shapes : List Shape) (cells : List Cell)
+    → quarters ≤ 3 → ((turn : Turning) → turning ≡ Some turn → turn.quarters ≡ quarters) → first_far (call_numbers there turning) ≡ None
+    → (found (undefined n) there >>= λ s. found inexact turning >>= λ t. Ok (moved_shapes t s.shapes)) ≡ Ok shapes
+    → cells_of waiting there turning first ≡ Some cells → AreCells (first + length shapes) cells
+call-cells n (Some name) (Some symbol) (Some turn) quarters first shapes cells few kept none drawn is =
+    let whole : moved_shapes turn symbol.shapes ≡ shapes = cc drawn in
+    let across = near-first turn.dx (turn.dy ∷ coordinates_of (moved_shapes turn symbol.shapes)) none in
+    let up = near-first turn.dy (coordinates_of (moved_shapes turn symbol.shapes)) across.1 in
+    let count : length symbol.shapes ≡ length shapes = sym (length-map symbol.shapes (moved_shape turn)) ∙ ap length whole in
+    one-cell name symbol.name turn first (length symbol.shapes) (first + length shapes) cells (rw (kept turn refl) few) across.0 up.0 (omega arith) is
+call-cells n waiting there turning quarters first shapes cells few kept none drawn is = none-cells (first + length shapes) cells is
 
--- what a call draws, from what it finds
-abbrev called_with : ℕ → Option Symbol → Option Turning → Result (Symbol × Turning) Unmeant
-called_with n there turning = do
-  symbol ← found (undefined n) there
-  turn ← found inexact turning
-  Ok (symbol, turn)
+cells-within : (symbols : List Symbol) (l : Level) (waiting : Option (List ℕ)) (c : Command) (shapes : List Shape) (cells : List Cell) → IsSound c
+    → first_far (numbers_of symbols l c) ≡ None → drawn_by symbols l c ≡ Ok shapes → cells_by symbols l waiting c ≡ Some cells
+    → AreCells (length l.shapes + length shapes) cells
+cells-within symbols l waiting (commands.Call n flip quarters dx dy) shapes cells sound none drawn is =
+    call-cells n waiting (symbol_of n symbols) (scaled_turning l.a l.b flip quarters dx dy) quarters (length l.shapes) shapes cells sound.1
+    (λ turn. turning-quarters flip quarters (scaled l.a l.b (doubled dx)) (scaled l.a l.b (doubled dy)) turn) none drawn is
+cells-within symbols l waiting c shapes cells sound none drawn is = none-cells (length l.shapes + length shapes) cells is
 
-drawn-call : (most : ℕ) (s t : State) (n : ℕ) (flip : Bool) (quarters : ℕ) (dx dy : ℤ) (there : Option Symbol) (turning : Option Turning) → StateWithin most s
-    → quarters ≤ 3 → ((turn : Turning) → turning ≡ Some turn → turn.quarters ≡ quarters)
-    → length s.shapes + called_shapes there ≤ most_shapes → first_far (call_numbers there turning) ≡ None
-    → (called_with n there turning >>= λ call.
-    cells_of s.waiting call.0 call.1 (length s.shapes) >>= λ cells. Ok (drawn s cells (moved_shapes call.1 call.0.shapes))) ≡ Ok t
-    → StateWithin (suc most) t
-drawn-call most s t n flip quarters dx dy None turning h few kept count none is = cc
-drawn-call most s t n flip quarters dx dy (Some symbol) None h few kept count none is = cc
-drawn-call most s t n flip quarters dx dy (Some symbol) (Some turn) h few kept count none is =
-    let cells = given (cells_of s.waiting symbol turn (length s.shapes)) (λ cells. Ok (drawn s cells (moved_shapes turn symbol.shapes))) t is in
-    let whole : drawn s cells.0 (moved_shapes turn symbol.shapes) ≡ t = cc cells.2 in
-    let three : turn.quarters ≤ 3 = rw (kept turn refl) few in
-    subst (StateWithin (suc most)) whole (call-within most s symbol turn cells.0 h count none three cells.1)
+found-ok : {A : Type 0} (fault : Unmeant) (o : Option A) (x : A) → found fault o ≡ Ok x → o ≡ Some x
+found-ok fault None x is = cc
+found-ok fault (Some y) x is = cc
 
--- a command that draws nothing at the main level
-still-within : (most : ℕ) (s t u : State) → StateWithin most s → u.shapes ≡ s.shapes → u.cells ≡ s.cells → u ≡ t → StateWithin (suc most) t
-still-within most s t u h shapes cells is = subst (StateWithin (suc most)) is (same-within most s u h shapes cells)
+main-within : (most : ℕ) (symbols : List Symbol) (m n : Main) (c : Command) → MainWithin most m → IsSound c → limit_passed symbols m.level c ≡ None
+    → main_behind symbols m c ≡ Ok n → MainWithin (suc most) n
+main-within most symbols m n c h sound none is =
+    let shapes = given (drawn_by symbols m.level c) _ n is in
+    let cells = given (found no_symbol_name (cells_by symbols m.level m.waiting c)) _ n shapes.2 in
+    let whole : main_with m c shapes.0 cells.0 ≡ n = cc cells.2 in
+    let far = far-none (first_far (numbers_of symbols m.level c)) (more_than_most (length m.level.shapes) (shapes_given symbols c)) none in
+    subst (MainWithin (suc most)) whole
+    (drawn-within most m c shapes.0 cells.0 h (drawn-fit symbols m.level c shapes.0 none shapes.1)
+    (cells-within symbols m.level m.waiting c shapes.0 cells.0 sound far.0 shapes.1
+    (found-ok no_symbol_name (cells_by symbols m.level m.waiting c) cells.0 cells.1)))
 
-start-within : (most : ℕ) (s t : State) (n a b : ℕ) (there : Option Symbol) → StateWithin most s → started s n a b there ≡ Ok t → StateWithin (suc most) t
+start-within : (most : ℕ) (s t : State) (n a b : ℕ) (there : Option Symbol) → MainWithin most s.main → started s n a b there ≡ Ok t → MainWithin (suc most) t.main
 start-within most s t n a b (Some symbol) h is = cc
 start-within most s t n a b None h is =
-    still-within most s t (record s { waiting = None; inside = Some (record { symbol = empty_symbol n; a = a; b = b; layer = None }) }) h refl refl (cc is)
+    let whole : record s { main = record s.main { waiting = None }; inside = Some (opened n a b) } ≡ t = cc is in
+    subst (λ (u : State). MainWithin (suc most) u.main) whole (still-within most s.main (record s.main { waiting = None }) h refl refl)
 
-outside-within : (most : ℕ) (s t : State) (c : Command) → StateWithin most s → s.inside ≡ None → IsSound c → limit_passed s c ≡ None
-    → step_outside s c ≡ Ok t → StateWithin (suc most) t
-outside-within most s t (commands.Box long wide cx cy upright) h outside sound none is =
-    let parts = far-none (first_far (numbers_of s (commands.Box long wide cx cy upright))) (too_many s (commands.Box long wide cx cy upright)) none in
-    let few = few-shapes s (commands.Box long wide cx cy upright) parts.1 in
-    let shape = given (box_shape 1 1 s.layer (box_around long wide cx cy upright)) (λ shape. Ok (drawn s [] (shape ∷ []))) t is in
-    let whole : drawn s [] (shape.0 ∷ []) ≡ t = cc shape.2 in
-    subst (StateWithin (suc most)) whole
-    (box-within most s (scaled_extent 1 1 (box_around long wide cx cy upright)) s.layer shape.0 h (rw outside at few) (rw outside at parts.0) shape.1)
-outside-within most s t (commands.Call n flip quarters dx dy) h outside sound none is =
-    let parts = far-none (first_far (numbers_of s (commands.Call n flip quarters dx dy))) (too_many s (commands.Call n flip quarters dx dy)) none in
-    let few = few-shapes s (commands.Call n flip quarters dx dy) parts.1 in
-    drawn-call most s t n flip quarters dx dy (symbol_of n s.symbols) (scaled_turning 1 1 flip quarters dx dy) h sound.1
-    (λ turn. turning-quarters flip quarters (scaled 1 1 (doubled dx)) (scaled 1 1 (doubled dy)) turn) (rw outside at few) (rw outside at parts.0) is
-outside-within most s t (commands.Layer name) h outside sound none is =
-    still-within most s t (record s { layer = Some name; waiting = None }) h refl refl (cc is)
-outside-within most s t (commands.Start n a b) h outside sound none is = start-within most s t n a b (symbol_of n s.symbols) h is
-outside-within most s t commands.Finish h outside sound none is = still-within most s t s h refl refl (cc is)
-outside-within most s t commands.Comment h outside sound none is = still-within most s t s h refl refl (cc is)
-outside-within most s t (commands.User users.SymbolName name) h outside sound none is = still-within most s t (record s { waiting = None }) h refl refl (cc is)
-outside-within most s t (commands.User users.InstanceName name) h outside sound none is = still-within most s t (record s { waiting = Some name }) h refl refl (cc is)
-outside-within most s t (commands.User users.Other name) h outside sound none is = still-within most s t s h refl refl (cc is)
-outside-within most s t commands.End h outside sound none is = still-within most s t s h refl refl (cc is)
-
--- a command inside a definition
-further-within : (most : ℕ) (s t : State) (r : Result Definition Unmeant) → StateWithin most s → (r >>= λ e. Ok (with_inside s e)) ≡ Ok t → StateWithin (suc most) t
-further-within most s t (Ok e) h is = still-within most s t (with_inside s e) h refl refl (cc is)
-further-within most s t (Err fault) h is = cc
-
-inside-within : (most : ℕ) (s t : State) (d : Definition) (c : Command) → StateWithin most s → step_in s (Some d) c ≡ Ok t → StateWithin (suc most) t
-inside-within most s t d commands.Finish h is = still-within most s t (finished s d) h refl refl (cc is)
-inside-within most s t d (commands.Box long wide cx cy upright) h is = further-within most s t (step_inside s.symbols d (commands.Box long wide cx cy upright)) h is
-inside-within most s t d (commands.Layer name) h is = further-within most s t (step_inside s.symbols d (commands.Layer name)) h is
-inside-within most s t d (commands.Start n a b) h is = further-within most s t (step_inside s.symbols d (commands.Start n a b)) h is
-inside-within most s t d (commands.Call n flip quarters dx dy) h is = further-within most s t (step_inside s.symbols d (commands.Call n flip quarters dx dy)) h is
-inside-within most s t d commands.Comment h is = further-within most s t (step_inside s.symbols d commands.Comment) h is
-inside-within most s t d (commands.User kind text) h is = further-within most s t (step_inside s.symbols d (commands.User kind text)) h is
-inside-within most s t d commands.End h is = further-within most s t (step_inside s.symbols d commands.End) h is
-
-step-within : (most : ℕ) (s t : State) (c : Command) → StateWithin most s → IsSound c → limit_passed s c ≡ None → step s c ≡ Ok t → StateWithin (suc most) t
+step-within : (most : ℕ) (s t : State) (c : Command) → MainWithin most s.main → IsSound c → limit_passed s.symbols (present_level s s.inside) c ≡ None
+    → step s c ≡ Ok t → MainWithin (suc most) t.main
 unfolding step
-step-within most s t c h sound none is = by s.inside refl is
+step-within most s t c h sound none is = by c s.inside sound none is
   where
-    by : (o : Option Definition) → s.inside ≡ o → step_in s o c ≡ Ok t → StateWithin (suc most) t
-    by None outside is = outside-within most s t c h outside sound none is
-    by (Some d) inside is = inside-within most s t d c h is
+    by : (c : Command) (o : Option Definition) → IsSound c → limit_passed s.symbols (present_level s o) c ≡ None → step_in s o c ≡ Ok t → MainWithin (suc most) t.main
+    by (commands.Start n a b) None sound none is = start-within most s t n a b (symbol_of n s.symbols) h is
+    by c None sound none is =
+        let main = given (main_behind s.symbols s.main c) (λ m. Ok (with_main s m)) t is in
+        let whole : with_main s main.0 ≡ t = cc main.2 in
+        subst (λ (u : State). MainWithin (suc most) u.main) whole (main-within most s.symbols s.main main.0 c h sound none main.1)
+    by commands.Finish (Some d) sound none is =
+        let whole : finished s d ≡ t = cc is in
+        subst (λ (u : State). MainWithin (suc most) u.main) whole (still-within most s.main s.main h refl refl)
+    by c (Some d) sound none is =
+        let further = given (definition_behind s.symbols d c) (λ e. Ok (with_inside s e)) t is in
+        let whole : with_inside s further.0 ≡ t = cc further.2 in
+        subst (λ (u : State). MainWithin (suc most) u.main) whole (still-within most s.main s.main h refl refl)
 
 -- one command, and all
-not-refused : {A : Type 0} (limit : Option ExpandKind) (r : Result A ExpandKind) (a : A) → unless_refused limit r ≡ Ok a → (limit ≡ None) × (r ≡ Ok a)
-not-refused (Some kind) r a is = cc
-not-refused None r a is = (refl, is)
-
-given-within : (most : ℕ) (p q : Progress) (c : Command) (meant : Result State Unmeant) → given_by p c meant ≡ Ok q
-    → ((t : State) → meant ≡ Ok t → limit_passed p.state c ≡ None → StateWithin (suc most) t) → StateWithin (suc most) q.state
-given-within most p q c (Err (undefined n)) is h = cc
-given-within most p q c (Err (twice n)) is h = cc
-given-within most p q c (Err inexact) is h = cc
-given-within most p q c (Err no_layer) is h = let none = not-refused (limit_passed p.state c) (Err _) q is in cc none.1
-given-within most p q c (Err no_symbol_name) is h = let none = not-refused (limit_passed p.state c) (Err _) q is in cc none.1
-given-within most p q c (Ok t) is h =
-    let first = not-refused (limit_passed p.state c) (unless_refused (deep p c) (Ok (progress_to p c t))) q is in
-    let second = not-refused (deep p c) (Ok (progress_to p c t)) q first.1 in
-    let whole : progress_to p c t ≡ q = cc second.1 in
-    let same : t ≡ q.state = sym (progress-state p c t) ∙ ap (λ (x : Progress). x.state) whole in
-    subst (StateWithin (suc most)) same (h t refl first.0)
-
 refused-ok : {A : Type 0} (i : ℕ) (r : Result A ExpandKind) (a : A) → refused_at i r ≡ Ok a → r ≡ Ok a
 refused-ok i (Ok b) a is = cc
 refused-ok i (Err kind) a is = cc
 
-progress-within : (cs : List Command) (i most : ℕ) (p q : Progress) → StateWithin most p.state → AllByRecursion IsSound cs → progress i p cs ≡ Ok q
-    → StateWithin (length cs + most) q.state
-unfolding progress advance
+advance-within : (most : ℕ) (p q : Progress) (c : Command) → MainWithin most p.state.main → IsSound c → advance p c ≡ Ok q → MainWithin (suc most) q.state.main
+unfolding advance
+advance-within most p q c h sound is =
+    let limit : Option ExpandKind = limit_passed p.state.symbols (present_level p.state p.state.inside) c in
+    let meant = given (within limit (step p.state c)) _ q is in
+    let depth = given (depth_by p.state.symbols p.depths c) _ q meant.2 in
+    let parts = within-ok limit (step p.state c) meant.0 meant.1 in
+    let whole : progress_to p c meant.0 depth.0 ≡ q = cc depth.2 in
+    let same : meant.0 ≡ q.state = sym (progress-state p c meant.0 depth.0) ∙ ap (λ (x : Progress). x.state) whole in
+    subst (λ (u : State). MainWithin (suc most) u.main) same (step-within most p.state meant.0 c h sound parts.0 parts.1)
+
+progress-within : (cs : List Command) (i most : ℕ) (p q : Progress) → MainWithin most p.state.main → AllByRecursion IsSound cs → progress i p cs ≡ Ok q
+    → MainWithin (length cs + most) q.state.main
+unfolding progress
 progress-within [] i most p q h sound is =
     let same : p ≡ q = cc is in
     let count : most ≡ 0 + most = omega arith in
-    subst (λ (n : ℕ). StateWithin n q.state) count (subst (λ (x : Progress). StateWithin most x.state) same h)
+    subst (λ (n : ℕ). MainWithin n q.state.main) count (subst (λ (x : Progress). MainWithin most x.state.main) same h)
 progress-within (c ∷ cs) i most p q h sound is =
-    let first = given (refused_at i (given_by p c (step p.state c))) (λ x. progress (suc i) x cs) q is in
-    let one = given-within most p first.0 c (step p.state c) (refused-ok i (given_by p c (step p.state c)) first.0 first.1)
-    (λ t there none. step-within most p.state t c h sound.0 none there) in
+    let first = given (refused_at i (advance p c)) (λ x. progress (suc i) x cs) q is in
+    let one = advance-within most p first.0 c h sound.0 (refused-ok i (advance p c) first.0 first.1) in
     let all = progress-within cs (suc i) (suc most) first.0 q one sound.1 first.2 in
     let count : length cs + suc most ≡ length (c ∷ cs) + most = omega arith in
-    subst (λ (n : ℕ). StateWithin n q.state) count all
+    subst (λ (n : ℕ). MainWithin n q.state.main) count all
 
 sound-each : (inside : Bool) (cs : List Command) → AreSound inside cs → AllByRecursion IsSound cs
 sound-each inside [] h = absurd h
@@ -265,9 +275,9 @@ sound-each inside (commands.User kind text ∷ cs) h = (h.0, sound-each inside c
 pub expansion-within : (cs : List Command) (l : Layout) → AreSound false cs → expansion cs ≡ Ok l → IsLayoutWithin (length cs) l
 unfolding expansion
 expansion-within cs l sound is =
-    let whole = given (progress 0 at_first cs) (λ p. Ok (layout_of p.state)) l is in
-    let start : StateWithin 0 at_first.state = record { few = omega arith; shapes = tt; cells = tt; few_cells = omega arith } in
+    let whole = given (progress 0 at_first cs) (λ p. Ok (layout_of p.state.main)) l is in
+    let start : MainWithin 0 at_first.state.main = record { few = omega arith; shapes = tt; cells = tt; few_cells = omega arith } in
     let all = progress-within cs 0 0 at_first whole.0 start (sound-each false cs sound) whole.1 in
-    let same : layout_of whole.0.state ≡ l = cc whole.2 in
-    let few : length whole.0.state.cells ≤ length cs + 0 = all.few_cells in
+    let same : layout_of whole.0.state.main ≡ l = cc whole.2 in
+    let few : length whole.0.state.main.cells ≤ length cs + 0 = all.few_cells in
     subst (IsLayoutWithin (length cs)) same (record { few = all.few; shapes = all.shapes; cells = all.cells; few_cells = omega arith })

@@ -1,6 +1,5 @@
 -- the progress that the program keeps
 use Rattle.std.specs.Prelude.{◌≡◌, ◌≤◌, ℕ, [], length, Bool, is_some, Option, Some, None, option_map, IfSome}
-use Rattle.cif_text.specs.Symbols.{Definition, State}
 use Rattle.cif_reader.specs.declared.inside.Open.{Open}
 use Rattle.cif_reader.specs.declared.outside.Main.{Main}
 use Rattle.cif_reader.specs.declared.standing.Standing.{Standing}
@@ -14,13 +13,10 @@ abbrev pub depth_seen : Main → Option Open → ℕ
 depth_seen main None = main.depth
 depth_seen main (Some definition) = definition.kept.depth
 
-abbrev pub with_definition : State → Option Definition → State
-with_definition s definition = record s { inside = definition }
-
 -- what stands behind some commands
 unfoldable pub seen : Standing → Progress
 seen s = record {
-  state = with_definition (main_seen s.table.symbols s.main) (option_map (definition_seen s.table.symbols) s.definition);
+  state = record { main = main_seen s.main; symbols = s.table.symbols; inside = option_map (definition_seen s.table.symbols) s.definition };
   depths = s.table.depths;
   depth = depth_seen s.main s.definition;
 }
@@ -50,6 +46,6 @@ pub record IsOpened (n a b : ℕ) (definition : Open) : Type 0 where
   pub count : definition.kept.count ≡ 0
   pub bounds : definition.kept.bounds ≡ None
   pub depth : definition.kept.depth ≡ 1
-  pub a_is : definition.scale.a ≡ a
-  pub b_is : definition.scale.b ≡ b
-  pub layer : definition.layer ≡ None
+  pub a_is : definition.pen.scale.a ≡ a
+  pub b_is : definition.pen.scale.b ≡ b
+  pub layer : definition.pen.layer ≡ None

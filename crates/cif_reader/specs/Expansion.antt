@@ -1,10 +1,10 @@
 -- the layout that commands give, or the first refusal
-use Rattle.std.specs.Prelude.{if◌then◌else◌, ℕ, suc, max, nat_lt, List, [], ◌∷◌, ◌++◌, Option, Some, None, Result, Ok, Err}
+use Rattle.std.specs.Prelude.{if◌then◌else◌, ℕ, suc, max, nat_lt, List, [], ◌∷◌, ◌++◌, Option, Some, None, unwrap_or, Result, Ok, Err}
 use Rattle.geom_core.specs.declared.layout.Layout.{Layout}
 use Rattle.cif_text.specs.declared.command.Command.{Command}
 use Rattle.cif_text.specs.declared.command.Command.TheVariants as commands
 use Rattle.cif_text.specs.InOrder.{◌>>=◌}
-use Rattle.cif_text.specs.Symbols.{State}
+use Rattle.cif_text.specs.Symbols.{Symbol, Level, Definition, State}
 use Rattle.cif_text.specs.Meaning.{Unmeant, undefined, twice, inexact, no_layer, no_symbol_name, step, nothing, layout_of}
 use Rattle.cif_reader.specs.declared.fault.ExpandKind.{ExpandKind}
 use Rattle.cif_reader.specs.declared.fault.ExpandKind.TheVariants as kinds
@@ -17,30 +17,43 @@ pub record Progress : Type 0 where
   pub depths : List ℕ
   pub depth : ℕ
 
+-- the level in which a command stands
+abbrev pub present_level : State → Option Definition → Level
+present_level s None = s.main.level
+present_level s (Some d) = d.level
+
 abbrev pub unless_refused : {A : Type 0} → Option ExpandKind → Result A ExpandKind → Result A ExpandKind
 unless_refused (Some kind) more = Err kind
 unless_refused None more = more
 
--- the depths behind a command
-abbrev pub progress_to : Progress → Command → State → Progress
-progress_to p (commands.Start n a b) t = record { state = t; depths = p.depths; depth = 1 }
-progress_to p commands.Finish t = record { state = t; depths = p.depths ++ (p.depth ∷ []); depth = p.depth }
-progress_to p c t = record { state = t; depths = p.depths; depth = max p.depth (depth_given p.state p.depths c) }
+-- why a command without a meaning is refused: of its refusals, with the limit that it passes, the first in their order
+abbrev pub refusal : Option ExpandKind → Unmeant → ExpandKind
+refusal limit (undefined n) = kinds.Undefined n
+refusal limit (twice n) = kinds.Twice n
+refusal limit inexact = kinds.Inexact
+refusal limit no_layer = unwrap_or limit kinds.NoLayer
+refusal limit no_symbol_name = unwrap_or limit kinds.NoSymbolName
 
-abbrev pub deep : Progress → Command → Option ExpandKind
-deep p c = if nat_lt deepest (depth_given p.state p.depths c) then Some kinds.TooDeep else None
+-- what a command gives that passes a limit or none, by what it means
+abbrev pub within : {A : Type 0} → Option ExpandKind → Result A Unmeant → Result A ExpandKind
+within limit (Err fault) = Err (refusal limit fault)
+within limit (Ok x) = unless_refused limit (Ok x)
 
--- what a command gives, by what it means: of its refusals the first in their order
-abbrev pub given_by : Progress → Command → Result State Unmeant → Result Progress ExpandKind
-given_by p c (Err (undefined n)) = Err (kinds.Undefined n)
-given_by p c (Err (twice n)) = Err (kinds.Twice n)
-given_by p c (Err inexact) = Err kinds.Inexact
-given_by p c (Err no_layer) = unless_refused (limit_passed p.state c) (Err kinds.NoLayer)
-given_by p c (Err no_symbol_name) = unless_refused (limit_passed p.state c) (Err kinds.NoSymbolName)
-given_by p c (Ok t) = unless_refused (limit_passed p.state c) (unless_refused (deep p c) (Ok (progress_to p c t)))
+-- the depth that a command gives its level
+abbrev pub depth_by : List Symbol → List ℕ → Command → Result ℕ ExpandKind
+depth_by symbols depths c = if nat_lt deepest (depth_given symbols depths c) then Err kinds.TooDeep else Ok (depth_given symbols depths c)
+
+-- the depths behind a command that gives its level this depth
+abbrev pub progress_to : Progress → Command → State → ℕ → Progress
+progress_to p (commands.Start n a b) t depth = record { state = t; depths = p.depths; depth = 1 }
+progress_to p commands.Finish t depth = record { state = t; depths = p.depths ++ (p.depth ∷ []); depth = p.depth }
+progress_to p c t depth = record { state = t; depths = p.depths; depth = max p.depth depth }
 
 unfoldable pub advance : Progress → Command → Result Progress ExpandKind
-advance p c = given_by p c (step p.state c)
+advance p c = do
+  t ← within (limit_passed p.state.symbols (present_level p.state p.state.inside) c) (step p.state c)
+  depth ← depth_by p.state.symbols p.depths c
+  Ok (progress_to p c t depth)
 
 -- a refusal of the command of this number
 abbrev pub refused_at : {A : Type 0} → ℕ → Result A ExpandKind → Result A (ExpandKind × ℕ)
@@ -57,4 +70,4 @@ at_first = record { state = nothing; depths = []; depth = 1 }
 
 -- the layout that commands give, or the first refusal and the number of its command
 unfoldable pub expansion : List Command → Result Layout (ExpandKind × ℕ)
-expansion cs = progress 0 at_first cs >>= λ p. Ok (layout_of p.state)
+expansion cs = progress 0 at_first cs >>= λ p. Ok (layout_of p.state.main)

@@ -1,30 +1,24 @@
 -- what a command gives the level in which it stands
-use Rattle.std.specs.Prelude.{if◌then◌else◌, ℕ, suc, ℤ, nat_lt, Bool, true, false, List, [], ◌∷◌, length, ◌+◌, Option, Some, None, Result, Ok, Err}
+use Rattle.std.specs.Prelude.{if◌then◌else◌, ℕ, suc, ℤ, nat_lt, Bool, true, false, List, ◌∷◌, length, Option, Some, None, Result, Ok, Err}
 use Rattle.geom_core.specs.declared.layout.Shape.{Shape}
 use Rattle.geom_core.specs.declared.layout.Cell.{Cell}
 use Rattle.geom_core.specs.Extent.{Extent}
 use Rattle.geom_core.specs.Turning.{Turning}
 use Rattle.cif_text.specs.declared.command.Command.{Command}
 use Rattle.cif_text.specs.declared.command.Command.TheVariants as commands
-use Rattle.cif_text.specs.declared.command.UserKind.TheVariants as users
 use Rattle.cif_text.specs.InOrder.{◌>>=◌}
-use Rattle.cif_text.specs.Scales.{box_around, scaled_extent, scaled_turning}
-use Rattle.cif_text.specs.Symbols.{Symbol, Definition, State, symbol_of, moved_shapes}
-use Rattle.cif_text.specs.Meaning.{drawn_inside, named_inside, drawn}
+use Rattle.cif_text.specs.Symbols.{Symbol, Level, Definition, Main, moved_shapes}
+use Rattle.cif_text.specs.Meaning.{drawn_by, definition_with, cells_by, main_with}
 use Rattle.cif_reader.specs.declared.fault.ExpandKind.{ExpandKind}
 use Rattle.cif_reader.specs.declared.fault.ExpandKind.TheVariants as kinds
-use Rattle.cif_reader.specs.Limits.{deepest, most_shapes, first_far, sides_of, coordinates_of, far_or_many, depth_of}
-use Rattle.cif_reader.specs.Expansion.{unless_refused}
+use Rattle.cif_reader.specs.Limits.{deepest, first_far, sides_of, coordinates_of, far_or_many, more_than_most, limit_passed}
+use Rattle.cif_reader.specs.Expansion.{unless_refused, within, depth_by}
 
 -- what is neither the start nor the end of a definition
 abbrev pub is_drawing : Command → Bool
 is_drawing (commands.Start n a b) = false
 is_drawing commands.Finish = false
 is_drawing _ = true
-
--- too many shapes, where a level that has so many gets so many more
-abbrev pub more_than_most : ℕ → ℕ → Option ExpandKind
-more_than_most before given = if nat_lt most_shapes (before + given) then Some kinds.TooMany else None
 
 abbrev pub layered : Option (List ℕ) → Extent → Result Shape ExpandKind
 layered None rect = Err kinds.NoLayer
@@ -53,46 +47,25 @@ call_of n before (Some symbol) (Some turn) = call_with before symbol turn
 abbrev pub depth_above : ℕ → Result ℕ ExpandKind
 depth_above depth = if nat_lt deepest (suc depth) then Err kinds.TooDeep else Ok (suc depth)
 
--- the symbol that a call gives a definition, its turn, and the depth that it makes
-abbrev pub call_inside : ℕ → ℕ → List Symbol → List ℕ → Option Turning → Result ((Symbol × Turning) × ℕ) ExpandKind
-call_inside n before symbols depths turn = do
-  call ← call_of n before (symbol_of n symbols) turn
-  depth ← depth_above (depth_of n symbols depths)
-  Ok (call, depth)
+-- the shapes that a command gives a level, or why it is refused
+unfoldable pub given : List Symbol → Level → Command → Result (List Shape) ExpandKind
+given symbols l c = within (limit_passed symbols l c) (drawn_by symbols l c)
+
+abbrev pub named : Option (List Cell) → Result (List Cell) ExpandKind
+named (Some cells) = Ok cells
+named None = Err kinds.NoSymbolName
 
 -- a command inside a definition: what the definition is behind it, and the depth that the command gives it
-unfoldable pub given_inside : List Symbol → List ℕ → Definition → Command → Result (Definition × ℕ) ExpandKind
-given_inside symbols depths d (commands.Box long wide cx cy upright) = do
-  shape ← boxed d.layer (length d.symbol.shapes) (scaled_extent d.a d.b (box_around long wide cx cy upright))
-  Ok (drawn_inside d (shape ∷ []), 1)
-given_inside symbols depths d (commands.Layer name) = Ok (record d { layer = Some name }, 1)
-given_inside symbols depths d (commands.Call n flip quarters dx dy) = do
-  call ← call_of n (length d.symbol.shapes) (symbol_of n symbols) (scaled_turning d.a d.b flip quarters dx dy)
-  depth ← depth_above (depth_of n symbols depths)
-  Ok (drawn_inside d (moved_shapes call.1 call.0.shapes), depth)
-given_inside symbols depths d (commands.User users.SymbolName name) = Ok (named_inside d name, 1)
-given_inside symbols depths d _ = Ok (d, 1)
+abbrev pub definition_given : List Symbol → List ℕ → Definition → Command → Result (Definition × ℕ) ExpandKind
+definition_given symbols depths d c = do
+  shapes ← given symbols d.level c
+  depth ← depth_by symbols depths c
+  Ok (definition_with d c shapes, depth)
 
--- the cell of a call that is named, and none of one that is not
-abbrev pub cells_given : Option (List ℕ) → Symbol → Turning → ℕ → Result (List Cell) ExpandKind
-cells_given None symbol turn first = Ok []
-cells_given (Some name) symbol turn first = named_cell symbol.name
-  where
-    named_cell : Option (List ℕ) → Result (List Cell) ExpandKind
-    named_cell None = Err kinds.NoSymbolName
-    named_cell (Some kind) = Ok (record { name = name; symbol = kind; turn = turn; first = first; count = length symbol.shapes } ∷ [])
-
--- a command of the main level: what stands behind it, and the depth that it gives the main level
-unfoldable pub given_outside : List ℕ → State → Command → Result (State × ℕ) ExpandKind
-given_outside depths s (commands.Box long wide cx cy upright) = do
-  shape ← boxed s.layer (length s.shapes) (scaled_extent 1 1 (box_around long wide cx cy upright))
-  Ok (drawn s [] (shape ∷ []), 1)
-given_outside depths s (commands.Layer name) = Ok (record s { layer = Some name; waiting = None }, 1)
-given_outside depths s (commands.Call n flip quarters dx dy) = do
-  call ← call_of n (length s.shapes) (symbol_of n s.symbols) (scaled_turning 1 1 flip quarters dx dy)
-  cells ← cells_given s.waiting call.0 call.1 (length s.shapes)
-  depth ← depth_above (depth_of n s.symbols depths)
-  Ok (drawn s cells (moved_shapes call.1 call.0.shapes), depth)
-given_outside depths s (commands.User users.SymbolName name) = Ok (record s { waiting = None }, 1)
-given_outside depths s (commands.User users.InstanceName name) = Ok (record s { waiting = Some name }, 1)
-given_outside depths s _ = Ok (s, 1)
+-- a command of the main level: what the level is behind it, and the depth that the command gives it
+abbrev pub main_given : List Symbol → List ℕ → Main → Command → Result (Main × ℕ) ExpandKind
+main_given symbols depths m c = do
+  shapes ← given symbols m.level c
+  cells ← named (cells_by symbols m.level m.waiting c)
+  depth ← depth_by symbols depths c
+  Ok (main_with m c shapes cells, depth)

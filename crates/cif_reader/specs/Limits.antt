@@ -7,7 +7,7 @@ use Rattle.geom_core.specs.Turning.{Turning}
 use Rattle.cif_text.specs.declared.command.Command.{Command}
 use Rattle.cif_text.specs.declared.command.Command.TheVariants as commands
 use Rattle.cif_text.specs.Scales.{box_around, scaled_extent, scaled_turning}
-use Rattle.cif_text.specs.Symbols.{Symbol, Definition, State, symbol_of, moved_shapes}
+use Rattle.cif_text.specs.Symbols.{Symbol, Level, symbol_of, moved_shapes}
 use Rattle.cif_reader.specs.declared.fault.ExpandKind.{ExpandKind}
 use Rattle.cif_reader.specs.declared.fault.ExpandKind.TheVariants as kinds
 
@@ -34,16 +34,6 @@ abbrev pub coordinates_of : List Shape → List ℤ
 coordinates_of [] = []
 coordinates_of (s ∷ ss) = sides_of s.rect ++ coordinates_of ss
 
--- the scale of a definition; that of the main level is 1 / 1
-abbrev pub scale_of : Option Definition → ℕ × ℕ
-scale_of None = (1, 1)
-scale_of (Some d) = (d.a, d.b)
-
--- the shapes so far of the definition that is open, or of the main level
-abbrev pub shapes_so_far : State → Option Definition → List Shape
-shapes_so_far s None = s.shapes
-shapes_so_far s (Some d) = d.symbol.shapes
-
 abbrev pub box_numbers : Option Extent → List ℤ
 box_numbers None = []
 box_numbers (Some rect) = sides_of rect
@@ -53,33 +43,32 @@ call_numbers (Some symbol) (Some turn) = turn.dx ∷ turn.dy ∷ coordinates_of 
 call_numbers _ _ = []
 
 -- the numbers that a command gives its level: the coordinates of a box, or the offset of a call and then those of its shapes
-abbrev pub numbers_of : State → Command → List ℤ
-numbers_of s (commands.Box long wide cx cy upright) =
-    box_numbers (scaled_extent (scale_of s.inside).0 (scale_of s.inside).1 (box_around long wide cx cy upright))
-numbers_of s (commands.Call n flip quarters dx dy) =
-    call_numbers (symbol_of n s.symbols) (scaled_turning (scale_of s.inside).0 (scale_of s.inside).1 flip quarters dx dy)
-numbers_of s _ = []
+abbrev pub numbers_of : List Symbol → Level → Command → List ℤ
+numbers_of symbols l (commands.Box long wide cx cy upright) = box_numbers (scaled_extent l.a l.b (box_around long wide cx cy upright))
+numbers_of symbols l (commands.Call n flip quarters dx dy) = call_numbers (symbol_of n symbols) (scaled_turning l.a l.b flip quarters dx dy)
+numbers_of symbols l _ = []
 
 abbrev pub called_shapes : Option Symbol → ℕ
 called_shapes None = 0
 called_shapes (Some symbol) = length symbol.shapes
 
 -- how many shapes a command gives its level
-abbrev pub shapes_given : State → Command → ℕ
-shapes_given s (commands.Box long wide cx cy upright) = 1
-shapes_given s (commands.Call n flip quarters dx dy) = called_shapes (symbol_of n s.symbols)
-shapes_given s _ = 0
+abbrev pub shapes_given : List Symbol → Command → ℕ
+shapes_given symbols (commands.Box long wide cx cy upright) = 1
+shapes_given symbols (commands.Call n flip quarters dx dy) = called_shapes (symbol_of n symbols)
+shapes_given symbols _ = 0
 
-abbrev pub too_many : State → Command → Option ExpandKind
-too_many s c = if nat_lt most_shapes (length (shapes_so_far s s.inside) + shapes_given s c) then Some kinds.TooMany else None
+-- too many shapes, where a level that has so many gets so many more
+abbrev pub more_than_most : ℕ → ℕ → Option ExpandKind
+more_than_most before given = if nat_lt most_shapes (before + given) then Some kinds.TooMany else None
 
 abbrev pub far_or_many : Option ℤ → Option ExpandKind → Option ExpandKind
 far_or_many (Some z) many = Some (kinds.TooFar z)
 far_or_many None many = many
 
 -- the limit that a command passes by what it gives its level
-abbrev pub limit_passed : State → Command → Option ExpandKind
-limit_passed s c = far_or_many (first_far (numbers_of s c)) (too_many s c)
+abbrev pub limit_passed : List Symbol → Level → Command → Option ExpandKind
+limit_passed symbols l c = far_or_many (first_far (numbers_of symbols l c)) (more_than_most (length l.shapes) (shapes_given symbols c))
 
 -- the depth of a symbol: 1 without calls, else one more than that of the deepest that it calls. The depths stand in the order of the symbols
 abbrev pub depth_of : ℕ → List Symbol → List ℕ → ℕ
@@ -87,6 +76,6 @@ depth_of n (s ∷ ss) (d ∷ ds) = if s.number == n then d else depth_of n ss ds
 depth_of n _ _ = 0
 
 -- the depth that a command gives its level
-abbrev pub depth_given : State → List ℕ → Command → ℕ
-depth_given s depths (commands.Call n flip quarters dx dy) = suc (depth_of n s.symbols depths)
-depth_given s depths _ = 1
+abbrev pub depth_given : List Symbol → List ℕ → Command → ℕ
+depth_given symbols depths (commands.Call n flip quarters dx dy) = suc (depth_of n symbols depths)
+depth_given symbols depths _ = 1

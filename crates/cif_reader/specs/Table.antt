@@ -6,12 +6,15 @@ use Rattle.std.specs.Prelude.{◌≤ℤ◌}
 use Rattle.geom_core.specs.declared.layout.Shape.{Shape}
 use Rattle.geom_core.specs.Extent.{Extent}
 use Rattle.cif_text.specs.Symbols.{Symbol, moved_shapes}
-use Rattle.cif_text.specs.Meaning.{empty_symbol}
 use Rattle.cif_reader.specs.declared.table.Item.{Item}
 use Rattle.cif_reader.specs.declared.table.Item.TheVariants as items
 use Rattle.cif_reader.specs.declared.table.Kept.{Kept}
 use Rattle.cif_reader.specs.Limits.{farthest, most_shapes, deepest}
 use Rattle.cif_reader.specs.Within.{IsNotFar, IsShapeWithin}
+
+-- a symbol without a name and without shapes
+abbrev pub empty_symbol : ℕ → Symbol
+empty_symbol n = record { number = n; name = None; shapes = [] }
 
 -- the symbol at a place
 abbrev pub symbol_at : List Symbol → ℕ → Symbol

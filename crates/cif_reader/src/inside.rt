@@ -1,110 +1,62 @@
 //! Commands inside an open definition: its boxes, calls, present layer and symbol name.
 
-ghost use Rattle.cif_reader.specs.Levels.{given_inside};
+ghost use Rattle.cif_reader.specs.Levels.{definition_given};
 ghost use Rattle.cif_reader.specs.Refusals.{Takes};
 ghost use Rattle.cif_reader.specs.Standing.{IsInsideBehind, IsOpen, definition_seen};
-ghost use Rattle.cif_text.specs.Symbols.{Symbol};
-ghost use Rattle.std.specs.Prelude.{◌≡◌, ℕ, List, OnOk};
+ghost use Rattle.cif_text.specs.Meaning.{name_behind};
+ghost use Rattle.std.specs.Prelude.{◌≡◌, OnOk};
 
 use crate::drawing_command::DrawingCommand;
-use crate::growing::{push_box, push_call};
+use crate::growing::push;
+use crate::level::Pen;
 use crate::refusal::Refusal;
-use crate::scales::Scale;
 use crate::symbol_table::SymbolTable;
 use crate::table::Kept;
-use crate::unscaled::{UnscaledBox, UnscaledTurn};
 use cif_text::{Command, UserKind};
-use geom_core::{LayerName, Name};
+use geom_core::Name;
 use std::alloc::{AllocError, Global};
 
-/// A definition that is open: its symbol so far, its scale, and its present layer.
+/// A definition that is open: its symbol so far, and how its level draws.
 #[derive(Debug, Drop)]
 pub(crate) struct Open {
     pub(crate) kept: Kept,
-    pub(crate) scale: Scale,
-    pub(crate) layer: Option<LayerName>,
+    pub(crate) pen: Pen,
 }
 
-fn rename(alloc: Global, definition: &mut Open, text: &Name) -> Result<(), AllocError>
-    ensures { OnOk result (definition.new ≡ record definition.old { kept = record definition.old.kept { name = Some text.now } }) }
+/// Takes the name that a command gives a symbol.
+fn rename(alloc: Global, name: &mut Option<Name>, command: DrawingCommand) -> Result<(), AllocError>
+    ensures { OnOk result (name.new ≡ name_behind name.old command.entry.command.now) }
 {
-    let name = text.copied(alloc)?;
-    definition.kept.name = Some(name);
+    if let Command::User {
+        kind: UserKind::SymbolName,
+        text,
+    } = command.command
+    {
+        *name = Some(text.copied(alloc)?);
+    }
     Ok(())
 }
 
-#[tactic(auto, unfolding(crate::specs::Levels::given_inside))]
-fn user_inside(
-    alloc: Global,
-    definition: &mut Open,
-    kind: UserKind,
-    text: &Name,
-) -> Result<(), Refusal>
-    ensures { (symbols : List Symbol) → (depths : List ℕ) → IsOpen symbols definition.old
-        → Takes result (given_inside symbols depths (definition_seen symbols definition.old) (Command.User kind text.now))
-        (IsInsideBehind symbols definition.old definition.new) }
-{
-    match kind {
-        UserKind::SymbolName => match rename(alloc, definition, text) {
-            Ok(()) => Ok(()),
-            Err(_) => Err(Refusal::Memory),
-        },
-        UserKind::InstanceName => Ok(()),
-        UserKind::Other => Ok(()),
-    }
-}
-
 /// A command inside the definition that is open.
-#[tactic(auto, unfolding(crate::specs::Levels::given_inside))]
 pub(crate) fn step_inside(
     alloc: Global,
     table: &SymbolTable,
     definition: &mut Open,
     command: DrawingCommand,
 ) -> Result<(), Refusal>
-    ensures { IsOpen table.now.symbols definition.old → Takes result
-        (given_inside table.now.symbols table.now.depths (definition_seen table.now.symbols definition.old) command.entry.command.now)
+    requires { IsOpen table.now.symbols definition.old }
+    ensures { Takes result
+        (definition_given table.now.symbols table.now.depths (definition_seen table.now.symbols definition.old) command.entry.command.now)
         (IsInsideBehind table.now.symbols definition.old definition.new) }
 {
-    match command.command {
-        Command::Box {
-            length,
-            width,
-            cx,
-            cy,
-            upright,
-        } => {
-            let numbers = UnscaledBox {
-                length: *length,
-                width: *width,
-                cx: *cx,
-                cy: *cy,
-                upright: *upright,
-            };
-            let sides = definition.scale.scaled_sides(numbers.sides());
-            push_box(&mut definition.kept, definition.layer, sides)
-        }
-        Command::Layer(layer) => {
-            definition.layer = Some(*layer);
-            Ok(())
-        }
-        Command::Call {
-            n,
-            flip,
-            quarters,
-            dx,
-            dy,
-        } => {
-            let turn = UnscaledTurn {
-                flip: *flip,
-                quarters: *quarters,
-                dx: *dx,
-                dy: *dy,
-            };
-            let turn = definition.scale.scaled_turn(turn);
-            push_call(alloc, table, &mut definition.kept, *n, turn)
-        }
-        Command::User { kind, text } => user_inside(alloc, definition, *kind, text),
-        Command::Start { .. } | Command::Finish | Command::Comment | Command::End => Ok(()),
-    }
+    let before = definition.kept.count as usize;
+    let given = match definition.pen.given(alloc, table, before, command) {
+        Ok(given) => given,
+        Err(refusal) => return Err(refusal),
+    };
+    let depth = given.depth()?;
+    push(&mut definition.kept, &given, depth)?;
+    definition.pen.follow(command);
+    rename(alloc, &mut definition.kept.name, command)?;
+    Ok(())
 }

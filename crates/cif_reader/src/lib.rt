@@ -13,6 +13,7 @@ mod fault;
 mod found;
 mod growing;
 mod inside;
+mod level;
 mod limit_passing;
 mod near_turn;
 mod outside;

@@ -1,8 +1,8 @@
 //! The limits on coordinates and shape counts, and the shape of a box that keeps them.
 
 ghost use Rattle.cif_reader.specs.Expansion.{unless_refused};
-ghost use Rattle.cif_reader.specs.Levels.{boxed, layered, more_than_most};
-ghost use Rattle.cif_reader.specs.Limits.{coordinates_of, far_or_many, farthest, first_far, most_shapes, sides_of};
+ghost use Rattle.cif_reader.specs.Levels.{boxed, layered};
+ghost use Rattle.cif_reader.specs.Limits.{coordinates_of, far_or_many, farthest, first_far, more_than_most, most_shapes, sides_of};
 ghost use Rattle.cif_reader.specs.Sides.{IsProper, unless_far};
 ghost use Rattle.std.specs.Prelude.{◌≡◌, Some, None, nat_abs, nat_lt, if◌then◌else◌, IfOk, IfSome};
 

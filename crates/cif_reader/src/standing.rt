@@ -12,6 +12,7 @@ use crate::drawing_command::DrawingCommand;
 use crate::fault::ExpandKind;
 use crate::found::Found;
 use crate::inside::{Open, step_inside};
+use crate::level::Pen;
 use crate::outside::{Main, step_outside};
 use crate::refusal::Refusal;
 use crate::scales::Scale;
@@ -36,9 +37,12 @@ pub(crate) fn at_first(alloc: Global) -> Standing
 {
     Standing {
         main: Main {
-            cells: Vec::new(alloc),
+            pen: Pen {
+                scale: Scale::whole(),
+                layer: None,
+            },
             shapes: Vec::new(alloc),
-            layer: None,
+            cells: Vec::new(alloc),
             waiting: None,
             depth: 1,
         },
@@ -82,8 +86,7 @@ fn opened(alloc: Global, n: u64, scale: Scale) -> Open
             bounds: None,
             depth: 1,
         },
-        scale,
-        layer: None,
+        pen: Pen { scale, layer: None },
     }
 }
 

@@ -13,8 +13,8 @@ use Rattle.geom_core.specs.Extent.{Extent}
 use Rattle.cif_text.specs.declared.command.Command.{Command}
 use Rattle.cif_text.specs.InOrder.{◌>>=◌}
 use Rattle.cif_text.specs.Scales.{scaled_natural, scaled, scaled_extent, scaled_turning, doubled, around}
-use Rattle.cif_text.specs.Symbols.{Symbol, State, symbol_of}
-use Rattle.cif_text.specs.Meaning.{Unmeant, no_symbol_name, found, box_shape, called, layout_of, step, run, meaning}
+use Rattle.cif_text.specs.Symbols.{Symbol, Level, State, symbol_of}
+use Rattle.cif_text.specs.Meaning.{Unmeant, layout_of, step, run, meaning}
 use Rattle.cif_text.specs.Written.{WrittenSymbol, MainItem, alone, copy, box_of, call_to, change, shape_commands, shapes_commands, symbol_commands, symbols_commands, copy_commands, items_commands, layout_commands}
 use Rattle.geom_core.specs.Moving.{turn_at}
 use Rattle.cif_text.proofs.WrittenLayout.{symbol_at, symbols_from, copied_shapes, cell_of, item_shapes, item_cells, items_shapes, items_cells, written_layout, IsBox, IsShape, IsWhole, IsDrawn, IsCopy, IsItem, IsWritable}
@@ -43,13 +43,16 @@ leads-both s t u xs ys first second = λ (i : ℕ) (rest : List Command).
     (back.0, rw append_assoc (front.1 ∙ back.1))
 
 -- the states of a written text: inside the definition of a symbol, and at the main level
+abbrev level_one : Option (List ℕ) → List Shape → Level
+level_one layer shapes = record { a = 1; b = 1; layer = layer; shapes = shapes }
+
 abbrev inside_of : State → ℕ → Option (List ℕ) → List Shape → Option (List ℕ) → State
 inside_of s n name shapes layer =
-    record s { inside = Some (record { symbol = record { number = n; name = name; shapes = shapes }; a = 1; b = 1; layer = layer }) }
+    record s { inside = Some (record { number = n; name = name; level = level_one layer shapes }) }
 
 abbrev main : List Symbol → List Cell → List Shape → Option (List ℕ) → Option (List ℕ) → State
 main symbols cells shapes layer waiting =
-    record { cells = cells; shapes = shapes; layer = layer; waiting = waiting; symbols = symbols; inside = None }
+    record { main = record { level = level_one layer shapes; cells = cells; waiting = waiting }; symbols = symbols; inside = None }
 
 -- at scale 1 / 1 a number is as it is
 natural-one : (n : ℕ) → scaled_natural 1 1 n ≡ Some n
@@ -77,23 +80,23 @@ change-leads at_layer (Some old) layer set = changed (bytes_eq old layer) (bytes
 extent-one : (e : Extent) → scaled_extent 1 1 e ≡ Some e
 extent-one e = rw (scaled-one e.x0, scaled-one e.y0, scaled-one e.x1, scaled-one e.y1) refl
 
--- the shape of a box
-shape-is : (layer : List ℕ) (drawn e : Extent) → drawn ≡ e → box_shape 1 1 (Some layer) drawn ≡ Ok (record { layer = layer; rect = e })
-shape-is layer drawn e same = ap (box_shape 1 1 (Some layer)) same ∙ rw (extent-one e) refl
+-- the rectangle of a box
+rect-is : (drawn e : Extent) → drawn ≡ e → scaled_extent 1 1 drawn ≡ Some e
+rect-is drawn e same = ap (scaled_extent 1 1) same ∙ extent-one e
 
 box-inside : (s : State) (n : ℕ) (name : Option (List ℕ)) (shapes : List Shape) (sh : Shape) → IsBox sh.rect
     → step (inside_of s n name shapes (Some sh.layer)) (box_of sh.rect) ≡ Ok (inside_of s n name (shapes ++ (sh ∷ [])) (Some sh.layer))
 unfolding step
 box-inside s n name shapes sh box =
     ap (step (inside_of s n name shapes (Some sh.layer))) (box-drawn sh.rect box)
-    ∙ rw (shape-is sh.layer (around box.long box.wide box.cx box.cy) sh.rect box.drawn) refl
+    ∙ rw (rect-is (around box.long box.wide box.cx box.cy) sh.rect box.drawn) refl
 
 box-outside : (symbols : List Symbol) (cells : List Cell) (shapes : List Shape) (sh : Shape) → IsBox sh.rect
     → step (main symbols cells shapes (Some sh.layer) None) (box_of sh.rect) ≡ Ok (main symbols cells (shapes ++ (sh ∷ [])) (Some sh.layer) None)
 unfolding step
 box-outside symbols cells shapes sh box =
     ap (step (main symbols cells shapes (Some sh.layer) None)) (box-drawn sh.rect box)
-    ∙ rw (shape-is sh.layer (around box.long box.wide box.cx box.cy) sh.rect box.drawn, append-nil cells) refl
+    ∙ rw (rect-is (around box.long box.wide box.cx box.cy) sh.rect box.drawn, append-nil cells) refl
 
 shape-inside : (s : State) (n : ℕ) (name : Option (List ℕ)) (shapes : List Shape) (layer : Option (List ℕ)) (sh : Shape) → IsShape sh
     → Leads (inside_of s n name shapes layer) (shape_commands layer sh) (inside_of s n name (shapes ++ (sh ∷ [])) (Some sh.layer))
@@ -101,7 +104,7 @@ unfolding step
 shape-inside s n name shapes layer sh h =
     leads-both (inside_of s n name shapes layer) (inside_of s n name shapes (Some sh.layer)) (inside_of s n name (shapes ++ (sh ∷ [])) (Some sh.layer))
     (change layer sh.layer) (box_of sh.rect ∷ [])
-    (change-leads (inside_of s n name shapes) layer sh.layer (λ (before : Option (List ℕ)). refl))
+    (change-leads (inside_of s n name shapes) layer sh.layer (λ (before : Option (List ℕ)). rw (append-nil shapes) refl))
     (leads-one (inside_of s n name shapes (Some sh.layer)) (inside_of s n name (shapes ++ (sh ∷ [])) (Some sh.layer)) (box_of sh.rect) (box-inside s n name shapes sh h.box))
 
 shape-outside : (symbols : List Symbol) (cells : List Cell) (shapes : List Shape) (layer : Option (List ℕ)) (sh : Shape) → IsShape sh
@@ -110,7 +113,7 @@ unfolding step
 shape-outside symbols cells shapes layer sh h =
     leads-both (main symbols cells shapes layer None) (main symbols cells shapes (Some sh.layer) None) (main symbols cells (shapes ++ (sh ∷ [])) (Some sh.layer) None)
     (change layer sh.layer) (box_of sh.rect ∷ [])
-    (change-leads (λ (l : Option (List ℕ)). main symbols cells shapes l None) layer sh.layer (λ (before : Option (List ℕ)). refl))
+    (change-leads (λ (l : Option (List ℕ)). main symbols cells shapes l None) layer sh.layer (λ (before : Option (List ℕ)). rw (append-nil shapes, append-nil cells) refl))
     (leads-one (main symbols cells shapes (Some sh.layer) None) (main symbols cells (shapes ++ (sh ∷ [])) (Some sh.layer) None) (box_of sh.rect) (box-outside symbols cells shapes sh h.box))
 
 -- the state behind a definition
@@ -189,11 +192,7 @@ symbols-lead symbols n (d ∷ ds) h fresh =
 turning-is : (place : Place) (whole : IsWhole place) → scaled_turning 1 1 place.mirror 0 whole.across whole.up ≡ Some (turn_at place)
 turning-is place whole = rw (scaled-one (doubled whole.across), scaled-one (doubled whole.up), whole.across_is, whole.up_is) refl
 
-called-is : (symbols : List Symbol) (name : Option (List ℕ)) (n : ℕ) (place : Place) (h : IsCopy symbols name n place)
-    → called 1 1 symbols n place.mirror 0 h.whole.across h.whole.up ≡ Ok (h.symbol, turn_at place)
-called-is symbols name n place h = rw (h.found, turning-is place h.whole) refl
-
-kind-is : (kind : Option (List ℕ)) → IsSome kind → found no_symbol_name kind ≡ Ok (unwrap_or kind [])
+kind-is : (kind : Option (List ℕ)) → IsSome kind → kind ≡ Some (unwrap_or kind [])
 kind-is None h = cc
 kind-is (Some kind) h = refl
 
@@ -204,7 +203,7 @@ lone-call : (symbols : List Symbol) (cells : List Cell) (shapes : List Shape) (l
 unfolding step
 lone-call symbols cells shapes layer n place h =
     ap (step (main symbols cells shapes layer None)) (call-whole n place h.whole)
-    ∙ rw (called-is symbols None n place h) refl
+    ∙ rw (h.found, turning-is place h.whole) refl
     ∙ ap (λ (o : Option Symbol). Ok (main symbols (cells ++ []) (shapes ++ copied_shapes place o) layer None)) (sym h.found)
 
 named-call : (symbols : List Symbol) (cells : List Cell) (shapes : List Shape) (layer : Option (List ℕ)) (name : List ℕ) (n : ℕ) (place : Place)
@@ -214,7 +213,7 @@ named-call : (symbols : List Symbol) (cells : List Cell) (shapes : List Shape) (
 unfolding step
 named-call symbols cells shapes layer name n place h =
     ap (step (main symbols cells shapes layer (Some name))) (call-whole n place h.whole)
-    ∙ rw (called-is symbols (Some name) n place h, kind-is h.symbol.name h.kind) refl
+    ∙ rw (h.found, turning-is place h.whole, kind-is h.symbol.name h.kind) refl
     ∙ ap (λ (o : Option Symbol). Ok (main symbols (cells ++ cell_of (length shapes) name place o) (shapes ++ copied_shapes place o) layer None)) (sym h.found)
 
 -- a copy, behind its name
@@ -229,14 +228,14 @@ copy-leads symbols cells shapes layer None n place h =
 copy-leads symbols cells shapes layer (Some name) n place h =
     leads-step (main symbols cells shapes layer None) (main symbols cells shapes layer (Some name))
     (main symbols (cells ++ cell_of (length shapes) name place (symbol_of n symbols)) (shapes ++ copied_shapes place (symbol_of n symbols)) layer None)
-    (commands.User users.InstanceName name) (call_to n place ∷ []) refl
+    (commands.User users.InstanceName name) (call_to n place ∷ []) (rw (append-nil shapes, append-nil cells) refl)
     (leads-one (main symbols cells shapes layer (Some name))
     (main symbols (cells ++ cell_of (length shapes) name place (symbol_of n symbols)) (shapes ++ copied_shapes place (symbol_of n symbols)) layer None)
     (call_to n place) (named-call symbols cells shapes layer name n place h))
 
 -- from a state on, some commands give these cells and shapes
 abbrev Means : ℕ → State → List Command → List Cell → List Shape → Type 0
-Means i s cs cells shapes = (run i s cs >>= λ t. Ok (layout_of t)) ≡ Ok (record { cells = cells; shapes = shapes })
+Means i s cs cells shapes = (run i s cs >>= λ t. Ok (layout_of t.main)) ≡ Ok (record { cells = cells; shapes = shapes })
 
 -- an item, and then the others
 onward : (symbols : List Symbol) (cells more_cells all_cells : List Cell) (shapes more_shapes all_shapes : List Shape) (layer behind : Option (List ℕ))
@@ -247,8 +246,8 @@ onward : (symbols : List Symbol) (cells more_cells all_cells : List Cell) (shape
     → Means i (main symbols cells shapes layer None) ((xs ++ ys) ++ (commands.End ∷ [])) (cells ++ (more_cells ++ all_cells)) (shapes ++ (more_shapes ++ all_shapes))
 onward symbols cells more_cells all_cells shapes more_shapes all_shapes layer behind i xs ys led others =
     let here = led i (ys ++ (commands.End ∷ [])) in
-    ap (λ (cs : List Command). run i (main symbols cells shapes layer None) cs >>= λ t. Ok (layout_of t)) (append_assoc xs ys (commands.End ∷ []))
-    ∙ ap (λ (r : Result State (Unmeant × ℕ)). r >>= λ t. Ok (layout_of t)) here.1
+    ap (λ (cs : List Command). run i (main symbols cells shapes layer None) cs >>= λ t. Ok (layout_of t.main)) (append_assoc xs ys (commands.End ∷ []))
+    ∙ ap (λ (r : Result State (Unmeant × ℕ)). r >>= λ t. Ok (layout_of t.main)) here.1
     ∙ others here.0
     ∙ ap (λ (x : List Cell). Ok (record { cells = x; shapes = (shapes ++ more_shapes) ++ all_shapes })) (append_assoc cells more_cells all_cells)
     ∙ ap (λ (x : List Shape). Ok (record { cells = cells ++ (more_cells ++ all_cells); shapes = x })) (append_assoc shapes more_shapes all_shapes)
@@ -283,4 +282,4 @@ pub written-means : (ds : List WrittenSymbol) (is : List MainItem) → IsWritabl
 unfolding meaning run step
 written-means ds is h =
     let led = symbols-lead [] 1 ds h.symbols (λ (m : ℕ) (above : 1 ≤ m). refl) 1 (items_commands None is ++ (commands.End ∷ [])) in
-    ap (λ (r : Result State (Unmeant × ℕ)). r >>= λ t. Ok (layout_of t)) led.1 ∙ items-mean (symbols_from 1 ds) [] [] None is led.0 h.items
+    ap (λ (r : Result State (Unmeant × ℕ)). r >>= λ t. Ok (layout_of t.main)) led.1 ∙ items-mean (symbols_from 1 ds) [] [] None is led.0 h.items

@@ -1,5 +1,5 @@
 -- the layout that commands mean
-use Rattle.std.specs.Prelude.{ℕ, suc, ℤ, Bool, List, [], ◌∷◌, ◌++◌, length, Option, Some, None, Result, Ok, Err}
+use Rattle.std.specs.Prelude.{ℕ, suc, List, [], ◌∷◌, ◌++◌, length, map, Option, Some, None, option_map, Result, Ok, Err}
 use Rattle.geom_core.specs.declared.layout.Shape.{Shape}
 use Rattle.geom_core.specs.declared.layout.Cell.{Cell}
 use Rattle.geom_core.specs.declared.layout.Layout.{Layout}
@@ -10,7 +10,7 @@ use Rattle.cif_text.specs.declared.command.Command.TheVariants as commands
 use Rattle.cif_text.specs.declared.command.UserKind.TheVariants as users
 use Rattle.cif_text.specs.InOrder.{◌>>=◌}
 use Rattle.cif_text.specs.Scales.{box_around, scaled_extent, scaled_turning}
-use Rattle.cif_text.specs.Symbols.{Symbol, Definition, State, symbol_of, moved_shapes}
+use Rattle.cif_text.specs.Symbols.{Symbol, Level, Definition, Main, State, symbol_of, moved_shapes}
 
 -- why a command has no meaning
 pub data Unmeant : Type 0 where
@@ -29,89 +29,109 @@ abbrev pub found : {A : Type 0} → Unmeant → Option A → Result A Unmeant
 found fault (Some x) = Ok x
 found fault None = Err fault
 
--- CIF 2.0: the shape of a box at a scale, on the present layer
-abbrev pub box_shape : ℕ → ℕ → Option (List ℕ) → Extent → Result Shape Unmeant
-box_shape a b layer box = do
-  rect ← found inexact (scaled_extent a b box)
+-- the shapes of rectangles on the present layer
+abbrev pub on_layer : Option (List ℕ) → List Extent → Result (List Shape) Unmeant
+on_layer layer rects = do
   name ← found no_layer layer
-  Ok (record { layer = name; rect = rect })
+  Ok (map (λ rect. record { layer = name; rect = rect }) rects)
 
--- CIF 2.0: what is called, and its turn
-abbrev pub called : ℕ → ℕ → List Symbol → ℕ → Bool → ℕ → ℤ → ℤ → Result (Symbol × Turning) Unmeant
-called a b symbols n flip quarters dx dy = do
+-- CIF 2.0: what a command draws on a level, where these symbols can be called: a box its rectangle on the present layer, a call the shapes of the called
+-- symbol under its turn, and any other command nothing
+abbrev pub drawn_by : List Symbol → Level → Command → Result (List Shape) Unmeant
+drawn_by symbols l (commands.Box long wide cx cy upright) = do
+  rect ← found inexact (scaled_extent l.a l.b (box_around long wide cx cy upright))
+  on_layer l.layer (rect ∷ [])
+drawn_by symbols l (commands.Call n flip quarters dx dy) = do
   symbol ← found (undefined n) (symbol_of n symbols)
-  turn ← found inexact (scaled_turning a b flip quarters dx dy)
-  Ok (symbol, turn)
+  turn ← found inexact (scaled_turning l.a l.b flip quarters dx dy)
+  Ok (moved_shapes turn symbol.shapes)
+drawn_by symbols l _ = Ok []
 
--- a symbol without a name and without shapes
-abbrev pub empty_symbol : ℕ → Symbol
-empty_symbol n = record { number = n; name = None; shapes = [] }
+abbrev pub layer_behind : Option (List ℕ) → Command → Option (List ℕ)
+layer_behind layer (commands.Layer name) = Some name
+layer_behind layer _ = layer
 
-abbrev pub with_shapes : Symbol → List Shape → Symbol
-with_shapes s shapes = record s { shapes = s.shapes ++ shapes }
+-- the level behind a command that draws these shapes
+abbrev pub level_behind : Level → Command → List Shape → Level
+level_behind l c shapes = record l { layer = layer_behind l.layer c; shapes = l.shapes ++ shapes }
 
--- a definition with some shapes more
-abbrev pub drawn_inside : Definition → List Shape → Definition
-drawn_inside d shapes = record d { symbol = with_shapes d.symbol shapes }
+-- CIF 2.0: a level begins without a layer
+abbrev pub empty_level : ℕ → ℕ → Level
+empty_level a b = record { a = a; b = b; layer = None; shapes = [] }
 
-abbrev pub named_inside : Definition → List ℕ → Definition
-named_inside d name = record d { symbol = record d.symbol { name = Some name } }
+-- the product's own: the last name of a symbol counts, and names of calls inside a definition are passed over
+abbrev pub name_behind : Option (List ℕ) → Command → Option (List ℕ)
+name_behind name (commands.User users.SymbolName text) = Some text
+name_behind name _ = name
 
--- CIF 2.0: a command inside a definition. The product's own: the last name counts; names of calls are passed over, as comments and other user commands are
-abbrev pub step_inside : List Symbol → Definition → Command → Result Definition Unmeant
-step_inside symbols d (commands.Box long wide cx cy upright) = do
-  shape ← box_shape d.a d.b d.layer (box_around long wide cx cy upright)
-  Ok (drawn_inside d (shape ∷ []))
-step_inside symbols d (commands.Layer name) = Ok (record d { layer = Some name })
-step_inside symbols d (commands.Call n flip quarters dx dy) = do
-  call ← called d.a d.b symbols n flip quarters dx dy
-  Ok (drawn_inside d (moved_shapes call.1 call.0.shapes))
-step_inside symbols d (commands.User users.SymbolName name) = Ok (named_inside d name)
-step_inside symbols d _ = Ok d
+abbrev pub opened : ℕ → ℕ → ℕ → Definition
+opened n a b = record { number = n; name = None; level = empty_level a b }
 
--- the main level with some cells and shapes more
-abbrev pub drawn : State → List Cell → List Shape → State
-drawn s cells shapes = record s { cells = s.cells ++ cells; shapes = s.shapes ++ shapes; waiting = None }
+abbrev pub definition_with : Definition → Command → List Shape → Definition
+definition_with d c shapes = record d { name = name_behind d.name c; level = level_behind d.level c shapes }
 
--- the product's own: the cell of a call that is named, and none of one that is not
-abbrev pub cells_of : Option (List ℕ) → Symbol → Turning → ℕ → Result (List Cell) Unmeant
-cells_of None symbol turn first = Ok []
-cells_of (Some name) symbol turn first = do
-  kind ← found no_symbol_name symbol.name
-  Ok (record { name = name; symbol = kind; turn = turn; first = first; count = length symbol.shapes } ∷ [])
+-- a command inside a definition
+abbrev pub definition_behind : List Symbol → Definition → Command → Result Definition Unmeant
+definition_behind symbols d c = do
+  shapes ← drawn_by symbols d.level c
+  Ok (definition_with d c shapes)
 
--- CIF 2.0: a definition starts without a layer
+abbrev pub symbol_of_definition : Definition → Symbol
+symbol_of_definition d = record { number = d.number; name = d.name; shapes = d.level.shapes }
+
+-- the product's own: a name waits for the call that is the next command of the main level, comments and other user commands aside
+abbrev pub waiting_behind : Option (List ℕ) → Command → Option (List ℕ)
+waiting_behind waiting (commands.User users.InstanceName text) = Some text
+waiting_behind waiting (commands.User users.Other text) = waiting
+waiting_behind waiting commands.Comment = waiting
+waiting_behind waiting commands.Finish = waiting
+waiting_behind waiting commands.End = waiting
+waiting_behind waiting _ = None
+
+-- the product's own: the cell of a call that is named, behind so many shapes, and none of one that is not. It needs the symbol's name
+abbrev pub cells_of : Option (List ℕ) → Option Symbol → Option Turning → ℕ → Option (List Cell)
+cells_of (Some name) (Some symbol) (Some turn) first =
+    option_map (λ kind. record { name = name; symbol = kind; turn = turn; first = first; count = length symbol.shapes } ∷ []) symbol.name
+cells_of _ _ _ _ = Some []
+
+abbrev pub cells_by : List Symbol → Level → Option (List ℕ) → Command → Option (List Cell)
+cells_by symbols l waiting (commands.Call n flip quarters dx dy) =
+    cells_of waiting (symbol_of n symbols) (scaled_turning l.a l.b flip quarters dx dy) (length l.shapes)
+cells_by symbols l waiting _ = Some []
+
+-- CIF 2.0: the main level has the scale 1 / 1
+abbrev pub empty_main : Main
+empty_main = record { level = empty_level 1 1; cells = []; waiting = None }
+
+abbrev pub main_with : Main → Command → List Shape → List Cell → Main
+main_with m c shapes cells = record { level = level_behind m.level c shapes; cells = m.cells ++ cells; waiting = waiting_behind m.waiting c }
+
+-- a command of the main level
+abbrev pub main_behind : List Symbol → Main → Command → Result Main Unmeant
+main_behind symbols m c = do
+  shapes ← drawn_by symbols m.level c
+  cells ← found no_symbol_name (cells_by symbols m.level m.waiting c)
+  Ok (main_with m c shapes cells)
+
+-- the state behind the start of a definition, and behind its finish
 abbrev pub started : State → ℕ → ℕ → ℕ → Option Symbol → Result State Unmeant
 started s n a b (Some symbol) = Err (twice n)
-started s n a b None = Ok (record s { waiting = None; inside = Some (record { symbol = empty_symbol n; a = a; b = b; layer = None }) })
+started s n a b None = Ok (record s { main = record s.main { waiting = None }; inside = Some (opened n a b) })
 
--- CIF 2.0: a command of the main level, whose scale is 1 / 1. The product's own: a name waits for the call that is the next command, comments and
--- other user commands aside
-abbrev pub step_outside : State → Command → Result State Unmeant
-step_outside s (commands.Box long wide cx cy upright) = do
-  shape ← box_shape 1 1 s.layer (box_around long wide cx cy upright)
-  Ok (drawn s [] (shape ∷ []))
-step_outside s (commands.Layer name) = Ok (record s { layer = Some name; waiting = None })
-step_outside s (commands.Start n a b) = started s n a b (symbol_of n s.symbols)
-step_outside s (commands.Call n flip quarters dx dy) = do
-  call ← called 1 1 s.symbols n flip quarters dx dy
-  cells ← cells_of s.waiting call.0 call.1 (length s.shapes)
-  Ok (drawn s cells (moved_shapes call.1 call.0.shapes))
-step_outside s (commands.User users.SymbolName name) = Ok (record s { waiting = None })
-step_outside s (commands.User users.InstanceName name) = Ok (record s { waiting = Some name })
-step_outside s _ = Ok s
-
--- the state behind a definition that finishes, and behind a further command inside it
 abbrev pub finished : State → Definition → State
-finished s d = record s { symbols = s.symbols ++ (d.symbol ∷ []); inside = None }
+finished s d = record s { symbols = s.symbols ++ (symbol_of_definition d ∷ []); inside = None }
+
+abbrev pub with_main : State → Main → State
+with_main s m = record s { main = m }
 
 abbrev pub with_inside : State → Definition → State
 with_inside s d = record s { inside = Some d }
 
 abbrev pub step_in : State → Option Definition → Command → Result State Unmeant
-step_in s None command = step_outside s command
+step_in s None (commands.Start n a b) = started s n a b (symbol_of n s.symbols)
+step_in s None c = main_behind s.symbols s.main c >>= λ m. Ok (with_main s m)
 step_in s (Some d) commands.Finish = Ok (finished s d)
-step_in s (Some d) command = step_inside s.symbols d command >>= λ t. Ok (with_inside s t)
+step_in s (Some d) c = definition_behind s.symbols d c >>= λ e. Ok (with_inside s e)
 
 -- the state behind a command
 unfoldable pub step : State → Command → Result State Unmeant
@@ -127,13 +147,12 @@ unfoldable pub run : ℕ → State → List Command → Result State (Unmeant ×
 run i s [] = Ok s
 run i s (c ∷ cs) = at_command i (step s c) >>= λ t. run (suc i) t cs
 
--- the main level begins without a layer
 abbrev pub nothing : State
-nothing = record { cells = []; shapes = []; layer = None; waiting = None; symbols = []; inside = None }
+nothing = record { main = empty_main; symbols = []; inside = None }
 
-abbrev pub layout_of : State → Layout
-layout_of s = record { cells = s.cells; shapes = s.shapes }
+abbrev pub layout_of : Main → Layout
+layout_of m = record { cells = m.cells; shapes = m.level.shapes }
 
 -- what commands mean: the layout of the main level, or the first command without a meaning and what is wrong with it
 unfoldable pub meaning : List Command → Result Layout (Unmeant × ℕ)
-meaning cs = run 0 nothing cs >>= λ s. Ok (layout_of s)
+meaning cs = run 0 nothing cs >>= λ s. Ok (layout_of s.main)

@@ -11,25 +11,33 @@ pub record Symbol : Type 0 where
   pub name : Option (List ℕ)
   pub shapes : List Shape
 
--- a definition that is open: what its symbol has so far, its scale, and its present layer
-pub record Definition : Type 0 where
-  pub symbol : Symbol
+-- what drawing commands change: the present layer of a level and its shapes so far, at a scale
+pub record Level : Type 0 where
   pub a : ℕ
   pub b : ℕ
   pub layer : Option (List ℕ)
+  pub shapes : List Shape
+
+-- a definition that is open: the number and the name of its symbol, and its level
+pub record Definition : Type 0 where
+  pub number : ℕ
+  pub name : Option (List ℕ)
+  pub level : Level
+
+-- the main level: the level itself, its cells, and the name that waits for a call
+pub record Main : Type 0 where
+  pub level : Level
+  pub cells : List Cell
+  pub waiting : Option (List ℕ)
 
 -- the symbol of a number
 abbrev pub symbol_of : ℕ → List Symbol → Option Symbol
 symbol_of n [] = None
 symbol_of n (s ∷ ss) = if s.number == n then Some s else symbol_of n ss
 
--- what stands behind the commands so far: the cells, the shapes, the layer and the waiting name of the main level, the
--- symbols whose definitions have ended, and the definition that is open
+-- what stands behind the commands so far: the main level, the symbols whose definitions have ended, and the definition that is open
 pub record State : Type 0 where
-  pub cells : List Cell
-  pub shapes : List Shape
-  pub layer : Option (List ℕ)
-  pub waiting : Option (List ℕ)
+  pub main : Main
   pub symbols : List Symbol
   pub inside : Option Definition
 
