@@ -1,4 +1,4 @@
-use Rattle.std.proofs.Common.{◌≡◌, ◌⊎◌, ◌∙◌, ◌≤◌, ℕ, List, [], ◌∷◌, Option, Result, Ok, true, inl, inr, refl, sym, ap, subst, arith}
+use Rattle.std.proofs.Common.{◌≡◌, ◌⊎◌, ◌∙◌, ◌≤◌, ℕ, List, [], ◌∷◌, Option, Result, Ok, Err, ap₂, true, inl, inr, refl, sym, ap, subst, arith}
 use Rattle.shelf_io.specs.Count.{Rose, Still}
 use Rattle.geom_core.specs.declared.layout.Layout.{Layout}
 use Rattle.design_model.specs.Good.{Good}
@@ -6,7 +6,7 @@ use Rattle.layout_check.specs.declared.finding.Finding.{Finding}
 use Rattle.greedy_router.specs.declared.sweep.Routed.{Routed}
 use Rattle.commands.specs.Ends.{Ends}
 use Rattle.commands.specs.Done.{AreFound, IsStatusOf, findings_status, judged}
-use Rattle.commands.specs.Accepted.{Accepted, to_judge}
+use Rattle.commands.specs.Accepted.{Accepted, to_judge, to_lay_out}
 use Rattle.commands.specs.Outcome.{Tells}
 use Rattle.command_ends.specs.Status.{is_status}
 use Rattle.command_ends.specs.declared.refusal.Refusal.{Refusal}
@@ -45,17 +45,11 @@ module _ (inputs : Inputs) (layout : Layout) (findings : List Finding) (n : ℕ)
     | inr cut ↦ ap is_status cut.number
   ]
 
-  pub told-above : n ≡ 2 → ⊥
-  told-above two = elim tells [
-    | inl printed ↦ absurd (omega (arith, status-few findings, printed.number, two))
-    | inr cut ↦ absurd (omega (arith, cut.number, two))
-  ]
+  pub told-few : (n ≤ 1) ⊎ (n ≡ 9)
+  told-few = elim tells [ inl printed ↦ inl (omega (arith, status-few findings, printed.number)) | inr cut ↦ inr cut.number ]
 
-  pub told-read : n ≡ 8 → ⊥
-  told-read eight = elim tells [
-    | inl printed ↦ absurd (omega (arith, status-few findings, printed.number, eight))
-    | inr cut ↦ absurd (omega (arith, cut.number, eight))
-  ]
+  pub told-calm : (n ≡ 0) ⊎ (n ≡ 1) → new ≡ old
+  told-calm few = elim tells [ inl printed ↦ printed.calm | inr cut ↦ absurd (omega (arith, cut.number, few)) ]
 
   pub told-none : n ≡ 0 → findings ≡ []
   told-none zero = elim tells [
@@ -88,3 +82,9 @@ module _ (inputs : Inputs) (layout : Layout) (findings : List Finding) (n : ℕ)
           → ((n ≡ 0) × Good inputs.rules inputs.design layout) ⊎ ((n ≡ 1) × (Good inputs.rules inputs.design layout → ⊥))
       by [] number found = inl (number, found.good.0 refl)
       by (f ∷ fs) number found = inr (number, λ good. let none : f ∷ fs ≡ [] = found.good.1 good in cc)
+
+  pub judged-status : (kept : List Routed) (said : Result Accepted Refusal) → Ends kept (Ok (judged inputs layout findings)) said → Still old new → IsStatusOf said n
+  judged-status kept (Ok (to_lay_out job)) ends still = absurd ends
+  judged-status kept (Ok (to_judge asked shown)) ends still =
+      told-status (Ok (to_judge asked shown)) (ap₂ (λ (i : Inputs) (l : Layout). Ok (to_judge i l)) (sym ends.same_inputs) (sym ends.same_layout)) ends.found still
+  judged-status kept (Err refusal) ends still = absurd ends

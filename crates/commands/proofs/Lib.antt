@@ -10,3 +10,9 @@ pub mod Reports
 pub mod Judgements
 -- how a layout that was written was told of
 pub mod LaidLaws
+-- what was done where nothing was written
+pub mod EarlyLaws
+-- what a status tells of the end of a command
+pub mod Tellings
+-- what was done and told for a command, by its status
+pub mod CarriedLaws

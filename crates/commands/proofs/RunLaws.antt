@@ -9,22 +9,20 @@ use Rattle.greedy_router.specs.Answers.{AreRouted}
 use Rattle.greedy_router.specs.declared.sweep.Routed.{Routed}
 use Rattle.commands.specs.Ends.{Ends}
 use Rattle.layout_report.specs.declared.summary.Summary.{Summary}
-use Rattle.command_words.specs.Command.{Command, Names, route}
+use Rattle.command_words.specs.Command.{Names, route}
 use Rattle.commands.specs.Done.{IsStatusOf, laid_out}
 use Rattle.commands.specs.Accepted.{Accepted, to_judge, to_lay_out}
 use Rattle.command_jobs.specs.Job.{Job}
-use Rattle.commands.specs.Outcome.{AreKept, EndsAs, Holds, HoldsFront, IsRoutedSo, IsStopped}
+use Rattle.commands.specs.Outcome.{Holds, HoldsFront, IsRoutedSo}
 use Rattle.command_ends.specs.Refusing.{◌>>=◌}
 use Rattle.command_jobs.specs.Rows.{job_of}
 use Rattle.command_jobs.specs.Text.{channels_of, job_text}
-use Rattle.commands.specs.Verdict.{asked_verdict, command_verdict, job_verdict}
+use Rattle.commands.specs.Verdict.{command_verdict, job_verdict}
 use Rattle.command_inputs.specs.Stated.{inputs_told}
 use Rattle.command_jobs.specs.Limits.{within_limits}
 use Rattle.command_words.specs.declared.command.Wanted.{Wanted}
 use Rattle.command_ends.specs.declared.refusal.Refusal.{Refusal}
-use Rattle.command_ends.specs.declared.refusal.Refusal.TheVariants.{Memory, Usage}
 use Rattle.command_inputs.specs.declared.stages.Inputs.{Inputs}
-use Rattle.command_ends.specs.declared.stop.Stop.TheVariants.{Refused}
 use Rattle.command_ends.proofs.FindsLaws.{told-next}
 
 -- what holds of what is said, where anything is
@@ -32,39 +30,6 @@ pub if-said : (said : Option (Result Accepted Refusal)) (P : Result Accepted Ref
     → ((s : Result Accepted Refusal) → said ≡ Some s → P s) → IfSome said P
 if-said None P holds = tt
 if-said (Some s) P holds = holds s refl
-
--- a command that words give ended so
-pub asked-ends : (asked : Option Command) (command : Command) (told : List ℕ → Option (List ℕ)) (kept : List Routed) (n : ℕ) (before after : Option (List ℕ)) (old new : ℕ)
-    → asked ≡ Some command → EndsAs (command_verdict command told) kept n before after old new → EndsAs (asked_verdict asked told) kept n before after old new
-asked-ends asked command told kept n before after old new is ends =
-    subst (λ (a : Option Command). EndsAs (asked_verdict a told) kept n before after old new) (sym is) ends
-
--- the same of equal channels, numbers and sinks
-pub moved-ends : (said : Option (Result Accepted Refusal)) (kept then_kept : List Routed) (n m : ℕ) (before after then_after : Option (List ℕ))
-    (old new then_new : ℕ) → kept ≡ then_kept → n ≡ m → after ≡ then_after → new ≡ then_new → EndsAs said then_kept m before then_after old then_new
-    → EndsAs said kept n before after old new
-moved-ends said kept then_kept n m before after then_after old new then_new channels number written faults ends =
-    let one : EndsAs said then_kept n before then_after old then_new =
-    subst (λ (k : ℕ). EndsAs said then_kept k before then_after old then_new) (sym number) ends in
-    let two : EndsAs said then_kept n before after old then_new =
-    subst (λ (a : Option (List ℕ)). EndsAs said then_kept n before a old then_new) (sym written) one in
-    let three : EndsAs said then_kept n before after old new = subst (λ (k : ℕ). EndsAs said then_kept n before after old k) (sym faults) two in
-    subst (λ (l : List Routed). EndsAs said l n before after old new) (sym channels) three
-
--- words that give no command, and want of memory
-pub usage-ends : (asked : Option Command) (told : List ℕ → Option (List ℕ)) (kept : List Routed) (n : ℕ) (before after : Option (List ℕ)) (old new : ℕ)
-    → asked ≡ None → IsStopped (Refused Usage) n before after old new → EndsAs (asked_verdict asked told) kept n before after old new
-usage-ends asked told kept n before after old new none stopped =
-    subst (λ (a : Option Command). EndsAs (asked_verdict a told) kept n before after old new) (sym none)
-    (record { ending = Err (Refused Usage); is = refl; tells = stopped })
-
-pub memory-ends : (said : Option (Result Accepted Refusal)) (kept : List Routed) (n : ℕ) (before after : Option (List ℕ)) (old new : ℕ)
-    → IsStopped (Refused Memory) n before after old new → EndsAs said kept n before after old new
-memory-ends said kept n before after old new stopped = record {
-  ending = Err (Refused Memory);
-  is = if-said said (Ends kept (Err (Refused Memory))) (λ s says. tt);
-  tells = stopped;
-}
 
 -- of a job that is accepted, with routed channels that are kept: how these are routed, and what the file holds
 pub routed-so : (edge : Bool) (plan : Plan) (may : List Candidate → ℕ → Type 0) (said : Result Accepted Refusal) (job : Job) (kept items : List Routed) → said ≡ Ok (to_lay_out job) → items ≡ kept
@@ -119,13 +84,6 @@ job-said names told inputs said gives is =
 pub said-routed : (edge : Bool) (plan : Plan) (may : List Candidate → ℕ → Type 0) (said other : Result Accepted Refusal) (kept : List Routed) → said ≡ other
     → IsRoutedSo edge plan may other kept → IsRoutedSo edge plan may said kept
 said-routed edge plan may said other kept same routed = subst (λ (s : Result Accepted Refusal). IsRoutedSo edge plan may s kept) (sym same) routed
-
--- the channels that are kept are those of the command
-pub kept-so : {C : Type 0} (styles : List C) (plan : C → Plan) (may : C → List Candidate → ℕ → Type 0) (told : List ℕ → Option (List ℕ)) (done command : Command)
-    (said : Result Accepted Refusal) (kept : List Routed) → command ≡ done → command_verdict command told ≡ Some said
-    → ((s : Result Accepted Refusal) → command_verdict done told ≡ Some s → AreKept styles plan may done s kept) → AreKept styles plan may command said kept
-kept-so styles plan may told done command said kept one says routed =
-    subst (λ (c : Command). AreKept styles plan may c said kept) (sym one) (routed said (ap (λ (c : Command). command_verdict c told) (sym one) ∙ says))
 
 -- so by the style that stands at its place
 pub chosen-so : {C : Type 0} (styles : List C) (edge : Bool) (plan : C → Plan) (may : C → List Candidate → ℕ → Type 0) (place : ℕ) (chosen d : C) (said : Result Accepted Refusal) (kept : List Routed)

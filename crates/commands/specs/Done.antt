@@ -14,6 +14,8 @@ use Rattle.command_jobs.specs.Summarized.{summary_of}
 use Rattle.command_ends.specs.declared.refusal.Refusal.{Refusal}
 use Rattle.command_inputs.specs.declared.stages.Inputs.{Inputs}
 use Rattle.command_ends.specs.declared.stop.Stop.{Stop}
+use Rattle.commands.specs.declared.doing.Done as seen
+use Rattle.commands.specs.declared.doing.Done.TheVariants as dones
 
 -- what a command has done: it has laid a design out, of which this is told, or found this of a layout
 pub data Done : Type 0 where
@@ -55,6 +57,15 @@ done_status (judged inputs layout findings) = findings_status findings
 abbrev pub done_text : Done → List ℕ
 done_text (laid_out summary) = summary_text summary
 done_text (judged inputs layout findings) = judged_text inputs.design layout findings
+
+-- what a command has done as contracts see it, and how it ended
+abbrev pub done_seen : seen.Done → Done
+done_seen (dones.LaidOut summary) = laid_out summary
+done_seen (dones.Judged j) = judged j.inputs j.layout j.findings.items
+
+abbrev pub end_seen : Result seen.Done Stop → Result Done Stop
+end_seen (Ok done) = Ok (done_seen done)
+end_seen (Err stop) = Err stop
 
 -- how a command to route ended
 abbrev pub routed_end : Result Summary Stop → Result Done Stop

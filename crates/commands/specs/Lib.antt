@@ -8,3 +8,5 @@ pub mod Causes
 pub mod Outcome
 -- the headline: what is written reads as a good layout of the design
 pub mod Headline
+-- what a command has done to files and what it keeps, by how it ended
+pub mod Carried

@@ -1,6 +1,7 @@
 //! The commands of `cellroute`: from a command's words, a shelf with files and a sink for lines to a layout in CIF, a status and lines.
 #![tactic(auto)]
 
+mod doing;
 mod judging;
 mod report;
 mod routing;

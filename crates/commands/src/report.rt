@@ -1,11 +1,11 @@
 //! What a command prints at its end, and its status.
 
 ghost use Rattle.commands.specs.Done as done;
-ghost use Rattle.commands.specs.Done.{findings_status};
+ghost use Rattle.commands.specs.Done.{end_seen, findings_status};
 ghost use Rattle.commands.specs.Outcome.{IsStopped, Tells};
-ghost use Rattle.command_ends.specs.Status.{is_status};
-ghost use Rattle.std.specs.Prelude.{◌≡◌, ◌≤◌, Ok, true};
+ghost use Rattle.std.specs.Prelude.{◌≡◌, Ok};
 
+use crate::doing::Done;
 use crate::judging::Judged;
 use command_ends::{Stop, print_line, put_judged};
 use layout_report::{Summary, print_summary};
@@ -18,8 +18,8 @@ fn status_of(judged: &Judged) -> u8
     if judged.findings.is_empty() { 0 } else { 1 }
 }
 
-/// Prints what was found of a layout, and gives the status: 9 where the sink failed. Takes no memory.
-pub(crate) fn report_judged<K: Sink>(out: &mut K, judged: &Judged) -> u8
+// Prints what was found of a layout, and gives the status: 9 where the sink failed. Takes no memory.
+fn report_judged<K: Sink>(out: &mut K, judged: &Judged) -> u8
     ensures { Tells (Ok (done.judged judged.now.inputs judged.now.layout judged.now.findings.items)) result
         (K.written out.old) (K.written out.new) (K.faults out.old) (K.faults out.new) }
 {
@@ -33,8 +33,8 @@ pub(crate) fn report_judged<K: Sink>(out: &mut K, judged: &Judged) -> u8
     }
 }
 
-/// Prints a layout in short, and gives the status: 9 where the sink failed. Takes no memory.
-pub(crate) fn report_laid<K: Sink>(out: &mut K, summary: &Summary) -> u8
+// Prints a layout in short, and gives the status: 9 where the sink failed. Takes no memory.
+fn report_laid<K: Sink>(out: &mut K, summary: &Summary) -> u8
     ensures { Tells (Ok (done.laid_out summary.now)) result (K.written out.old) (K.written out.new) (K.faults out.old) (K.faults out.new) }
 {
     match print_summary(summary, out) {
@@ -46,12 +46,21 @@ pub(crate) fn report_laid<K: Sink>(out: &mut K, summary: &Summary) -> u8
     }
 }
 
-/// Prints the line of what stopped a command, as far as the sink takes it, and gives the status. Takes no memory.
-pub(crate) fn report_stop<K: Sink>(out: &mut K, stop: &Stop) -> u8
-    ensures tells { IsStopped stop.now result (K.written out.old) (K.written out.new) (K.faults out.old) (K.faults out.new) }
-    ensures listed { is_status result ≡ true }
-    ensures above { 2 ≤ result }
+// Prints the line of what stopped a command, as far as the sink takes it, and gives the status. Takes no memory.
+fn report_stop<K: Sink>(out: &mut K, stop: &Stop) -> u8
+    ensures { IsStopped stop.now result (K.written out.old) (K.written out.new) (K.faults out.old) (K.faults out.new) }
 {
     print_line(out, stop);
     stop.status()
+}
+
+/// Prints what was done, or what stopped it, and gives the status: 9 where the sink failed as it took what was done. Takes no memory.
+pub(crate) fn report<K: Sink>(out: &mut K, ending: &Result<Done, Stop>) -> u8
+    ensures { Tells (end_seen ending.now) result (K.written out.old) (K.written out.new) (K.faults out.old) (K.faults out.new) }
+{
+    match ending {
+        Ok(Done::LaidOut(summary)) => report_laid(out, summary),
+        Ok(Done::Judged(judged)) => report_judged(out, judged),
+        Err(stop) => report_stop(out, stop),
+    }
 }

@@ -2,26 +2,23 @@
 
 ghost use Rattle.commands.specs.Causes.{IsQuiet, ReadFails, WriteFails};
 ghost use Rattle.command_words.specs.Command as asked;
-ghost use Rattle.command_words.specs.Command.{CheckNames, IsOfStyle, Names, command_of, writes_of};
+ghost use Rattle.command_words.specs.Command.{CheckNames, Names, command_of, writes_of};
 ghost use Rattle.commands.specs.Done.{IsStatusOf};
 ghost use Rattle.commands.specs.Headline.{Headline};
 ghost use Rattle.command_inputs.specs.Origin.{IsSourceText};
 ghost use Rattle.commands.specs.Outcome.{AreKept, EndsAs, Holds, HoldsFront};
-ghost use Rattle.command_words.specs.Seen.{command_seen};
 ghost use Rattle.command_ends.specs.Gains.{Gains};
 ghost use Rattle.command_ends.specs.Line.{line_of};
 ghost use Rattle.command_ends.specs.Status.{is_status};
 ghost use Rattle.command_ends.specs.declared.stop.Stop.TheVariants.{WriteFault};
-ghost use Rattle.commands.specs.Verdict.{Comes, command_verdict, verdict};
+ghost use Rattle.commands.specs.Verdict.{Comes, verdict};
 ghost use Rattle.shelf_io.specs.Count.{Still};
 ghost use Rattle.std.specs.Prelude.{◌≡◌, ◌≢◌, ◌⊎◌, ◌<◌, ◌≤◌, List, [], ℕ, length, map, Some, None, true};
 
-use crate::judging::check_named;
-use crate::report::report_stop;
-use crate::routing::route_named;
+use crate::doing::carry_out;
+use crate::report::report;
 use choose_core::{Chooser, Chooses, Style};
-use command_ends::{Refusal, Stop};
-use command_words::{Command, Word, WordsFault, read_command};
+use command_words::Word;
 use greedy_router::Routed;
 use shelf_io::{Shelf, Sink};
 use std::alloc::Global;
@@ -35,66 +32,6 @@ pub struct Ended {
     pub status: u8,
     /// On 0 and 9 of a command to route the routed channels of the layout, from the lowest up, whose wirings are those of the text; else none.
     pub kept: Vec<Routed>,
-}
-
-// Does a command, prints what it has done or what stopped it, and gives the status.
-fn obey<S: Shelf, K: Sink>(
-    alloc: Global,
-    shelf: &mut S,
-    out: &mut K,
-    command: &Command<'_>,
-    styles: &[Style],
-    kept: &mut Vec<Routed>,
-) -> u8
-    requires style { IsOfStyle (length styles.now) (command_seen command.now) }
-    requires none { kept.old.items ≡ [] }
-    ensures listed { is_status result ≡ true }
-    ensures command { result ≢ 2 }
-    ensures ends { EndsAs (command_verdict (command_seen command.now) (S.holds shelf.old)) kept.new.items result
-        (K.written out.old) (K.written out.new) (K.faults out.old) (K.faults out.new) }
-    ensures kept { (said : _) (file : List ℕ) → command_verdict (command_seen command.now) (S.holds shelf.old) ≡ Some said
-        → writes_of (command_seen command.now) ≡ Some file → (result ≡ 0) ⊎ (result ≡ 9)
-        → AreKept styles.now (λ s. s.plan) (λ s. ⟦<Chooser as Chooses>⟧.answers s.chooser) (command_seen command.now) said kept.new.items }
-    ensures none { result ≢ 0 → result ≢ 9 → kept.new.items ≡ [] }
-    ensures unkept { writes_of (command_seen command.now) ≡ None → kept.new.items ≡ [] }
-    ensures written { (said : _) (file : List ℕ) → command_verdict (command_seen command.now) (S.holds shelf.old) ≡ Some said
-        → writes_of (command_seen command.now) ≡ Some file → result ≡ 0 → Holds said kept.new.items (S.holds shelf.new file) }
-    ensures whole { (said : _) (file : List ℕ) → command_verdict (command_seen command.now) (S.holds shelf.old) ≡ Some said
-        → writes_of (command_seen command.now) ≡ Some file → result ≡ 9 → Still (S.write_faults shelf.old file) (S.write_faults shelf.new file)
-        → Holds said kept.new.items (S.holds shelf.new file) }
-    ensures headline { (names : Names) (stated bytes held : List ℕ) → command_seen command.now ≡ asked.route names
-        → S.holds shelf.old names.rules ≡ Some stated → IsSourceText names.design (S.holds shelf.old) stated bytes
-        → result ≡ 0 → S.holds shelf.new names.out ≡ Some held → Headline stated bytes held }
-    ensures good { (names : CheckNames) (stated bytes text : List ℕ) → command_seen command.now ≡ asked.check names
-        → S.holds shelf.old names.rules ≡ Some stated → S.holds shelf.old names.design ≡ Some bytes → S.holds shelf.old names.cif ≡ Some text
-        → result ≡ 0 → Headline stated bytes text }
-    ensures faulty { (names : CheckNames) (stated bytes text : List ℕ) → command_seen command.now ≡ asked.check names
-        → S.holds shelf.old names.rules ≡ Some stated → S.holds shelf.old names.design ≡ Some bytes → S.holds shelf.old names.cif ≡ Some text
-        → result ≡ 1 → Headline stated bytes text → ⊥ }
-    ensures front { (said : _) (file : List ℕ) → command_verdict (command_seen command.now) (S.holds shelf.old) ≡ Some said
-        → writes_of (command_seen command.now) ≡ Some file
-        → result ≡ 9 → HoldsFront said kept.new.items (S.holds shelf.old file) (S.holds shelf.new file) }
-    ensures read_cause { result ≡ 8 → ReadFails (command_seen command.now) (S.holds shelf.old) (S.read_faults shelf.old) (S.read_faults shelf.new) }
-    ensures write_cause { result ≡ 9
-        → WriteFails (writes_of (command_seen command.now)) (S.write_faults shelf.old) (S.write_faults shelf.new) (K.faults out.old) (K.faults out.new) }
-    ensures fault { (file : List ℕ) → writes_of (command_seen command.now) ≡ Some file → S.write_faults shelf.old file < S.write_faults shelf.new file
-        → Gains (line_of WriteFault) (K.written out.old) (K.written out.new) (K.faults out.old) (K.faults out.new) }
-    ensures reads { result ≢ 8 → S.read_faults shelf.new ≡ S.read_faults shelf.old }
-    ensures writes { result ≢ 9 → S.write_faults shelf.new ≡ S.write_faults shelf.old }
-    ensures untouched { result ≢ 0 → result ≢ 9 → S.holds shelf.new ≡ S.holds shelf.old }
-    ensures others { (other : List ℕ) → writes_of (command_seen command.now) ≢ Some other → S.holds shelf.new other ≡ S.holds shelf.old other }
-    ensures files { writes_of (command_seen command.now) ≡ None → S.holds shelf.new ≡ S.holds shelf.old }
-    ensures unwritten { writes_of (command_seen command.now) ≡ None → S.write_faults shelf.new ≡ S.write_faults shelf.old }
-    ensures complete { (said : _) → command_verdict (command_seen command.now) (S.holds shelf.old) ≡ Some said
-        → IsQuiet (command_seen command.now) (S.read_faults shelf.old) (S.read_faults shelf.new) (S.write_faults shelf.old) (S.write_faults shelf.new)
-        (K.faults out.old) (K.faults out.new)
-        → IsStatusOf said result ⊎ (result ≡ 10) }
-    ensures calm { (result ≡ 0) ⊎ (result ≡ 1) → K.faults out.new ≡ K.faults out.old }
-{
-    match command {
-        Command::Route(names) => route_named(alloc, shelf, out, names, styles, kept),
-        Command::Check(names) => check_named(alloc, shelf, out, names),
-    }
 }
 
 /// Does the command that the words give.
@@ -203,10 +140,7 @@ pub fn run<S: Shelf, K: Sink>(
     ensures calm { (result.status ≡ 0) ⊎ (result.status ≡ 1) → K.faults out.new ≡ K.faults out.old }
 {
     let mut kept = Vec::new(alloc);
-    let status = match read_command(alloc, styles, words) {
-        Ok(command) => obey(alloc, shelf, out, &command, styles, &mut kept),
-        Err(WordsFault::Usage) => report_stop(out, &Stop::Refused(Refusal::Usage)),
-        Err(WordsFault::Memory) => report_stop(out, &Stop::Refused(Refusal::Memory)),
-    };
+    let ending = carry_out(alloc, words, shelf, styles, &mut kept);
+    let status = report(out, &ending);
     Ended { status, kept }
 }

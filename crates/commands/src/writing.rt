@@ -1,26 +1,22 @@
-//! A design that is laid out and written, and what is told of it.
+//! A design that is laid out and written into a file.
 
 ghost use Rattle.cif_writer.specs.LayoutText as cif;
 ghost use Rattle.commands.specs.Ends.{Ends};
-ghost use Rattle.commands.specs.Causes.{WriteFails};
-ghost use Rattle.commands.specs.Done.{IsStatusOf, routed_end};
+ghost use Rattle.commands.specs.Done.{routed_end};
 ghost use Rattle.command_inputs.specs.Origin.{AreInputsFrom};
 ghost use Rattle.commands.specs.Headline.{Headline};
 ghost use Rattle.command_jobs.specs.Written.{IsGoodText};
 ghost use Rattle.commands.specs.Accepted.{to_lay_out};
-ghost use Rattle.commands.specs.Outcome.{EndsAs, Holds, HoldsFront, IsRoutedSo};
-ghost use Rattle.command_ends.specs.Gains.{Gains};
-ghost use Rattle.command_ends.specs.Line.{line_of};
-ghost use Rattle.command_ends.specs.Status.{ending_status, is_status};
+ghost use Rattle.commands.specs.Outcome.{Holds, HoldsFront, IsRoutedSo};
+ghost use Rattle.command_ends.specs.Status.{ending_status};
 ghost use Rattle.command_ends.specs.declared.stop.Stop.TheVariants.{WriteFault};
 ghost use Rattle.command_jobs.specs.Text.{job_text};
 ghost use Rattle.commands.specs.Verdict.{job_verdict};
 ghost use Rattle.design_model.specs.Room.{HasRoom};
-ghost use Rattle.shelf_io.specs.Count.{Rose, Still};
+ghost use Rattle.shelf_io.specs.Count.{Rose};
 ghost use Rattle.shelf_io.specs.Told.{Refines};
-ghost use Rattle.std.specs.Prelude.{◌≡◌, ◌≢◌, ◌<◌, ◌⊎◌, List, [], ℕ, Err, IfErr, IfOk, Ok, Some, true};
+ghost use Rattle.std.specs.Prelude.{◌≡◌, ◌≢◌, ◌<◌, ◌⊎◌, List, [], ℕ, Err, IfErr, IfOk, Ok, Some};
 
-use crate::report::{report_laid, report_stop};
 use choose_core::{Chooser, Chooses, Style};
 use command_ends::Stop;
 use command_inputs::Inputs;
@@ -78,8 +74,8 @@ fn write_prepared<S: Shelf>(
     ended(ending, prepared.told(), kept)
 }
 
-// Lays a design out as is wanted, routes it by the choices of a style, and writes it into a file.
-fn lay_and_write<S: Shelf>(
+/// Lays a design out as is wanted, routes it by the choices of a style, writes it into a file, and gives it in short.
+pub(crate) fn lay_and_write<S: Shelf>(
     alloc: Global,
     shelf: &mut S,
     inputs: Inputs,
@@ -105,54 +101,9 @@ fn lay_and_write<S: Shelf>(
     ensures others { (other : List ℕ) → other ≢ out.now → S.holds shelf.new other ≡ S.holds shelf.old other }
     ensures command { ending_status result ≢ 2 }
     ensures unread { ending_status result ≢ 8 }
-    ensures complete { Still (S.write_faults shelf.old out.now) (S.write_faults shelf.new out.now)
-        → IsStatusOf (job_verdict wanted inputs) (ending_status result) ⊎ (ending_status result ≡ 10) }
 {
     match lay_out(alloc, inputs.design, inputs.rules, wanted, style) {
         Ok(prepared) => write_prepared(alloc, shelf, prepared, out, kept),
         Err(refusal) => Err(Stop::Refused(refusal)),
-    }
-}
-
-/// Lays a design out as `route` wants it, routes it by the choices of a style, writes it into its file, prints the layout in short or the line of what stopped
-/// that, and gives the status: 0 where all is written and printed, 9 where the file or the sink failed, or that of the first refusal.
-pub(crate) fn lay_and_report<S: Shelf, K: Sink>(
-    alloc: Global,
-    shelf: &mut S,
-    sink: &mut K,
-    inputs: Inputs,
-    route: &Route<'_>,
-    style: &Style,
-    kept: &mut Vec<Routed>,
-) -> u8
-    requires high { HasRoom inputs.rules inputs.design }
-    requires none { kept.old.items ≡ [] }
-    ensures listed { is_status result ≡ true }
-    ensures command { result ≢ 2 }
-    ensures unread { result ≢ 8 }
-    ensures ends { EndsAs (Some (job_verdict route.now.wanted inputs)) kept.new.items result
-        (K.written sink.old) (K.written sink.new) (K.faults sink.old) (K.faults sink.new) }
-    ensures kept { (result ≡ 0) ⊎ (result ≡ 9) → IsRoutedSo route.now.wanted.edge style.now.plan (⟦<Chooser as Chooses>⟧.answers style.now.chooser) (job_verdict route.now.wanted inputs) kept.new.items }
-    ensures none { result ≢ 0 → result ≢ 9 → kept.new.items ≡ [] }
-    ensures written { result ≡ 0 → Holds (job_verdict route.now.wanted inputs) kept.new.items (S.holds shelf.new route.now.out.now) }
-    ensures whole { result ≡ 9 → Still (S.write_faults shelf.old route.now.out.now) (S.write_faults shelf.new route.now.out.now)
-        → Holds (job_verdict route.now.wanted inputs) kept.new.items (S.holds shelf.new route.now.out.now) }
-    ensures headline { (stated bytes held : List ℕ) → AreInputsFrom stated bytes inputs → result ≡ 0
-        → S.holds shelf.new route.now.out.now ≡ Some held → Headline stated bytes held }
-    ensures front { result ≡ 9 → HoldsFront (job_verdict route.now.wanted inputs) kept.new.items (S.holds shelf.old route.now.out.now) (S.holds shelf.new route.now.out.now) }
-    ensures cause { result ≡ 9 → WriteFails (Some route.now.out.now) (S.write_faults shelf.old) (S.write_faults shelf.new) (K.faults sink.old) (K.faults sink.new) }
-    ensures fault { S.write_faults shelf.old route.now.out.now < S.write_faults shelf.new route.now.out.now
-        → Gains (line_of WriteFault) (K.written sink.old) (K.written sink.new) (K.faults sink.old) (K.faults sink.new) }
-    ensures reads { S.read_faults shelf.new ≡ S.read_faults shelf.old }
-    ensures writes { result ≢ 9 → S.write_faults shelf.new ≡ S.write_faults shelf.old }
-    ensures untouched { result ≢ 0 → result ≢ 9 → S.holds shelf.new ≡ S.holds shelf.old }
-    ensures others { (other : List ℕ) → other ≢ route.now.out.now → S.holds shelf.new other ≡ S.holds shelf.old other }
-    ensures complete { Still (S.write_faults shelf.old route.now.out.now) (S.write_faults shelf.new route.now.out.now) → Still (K.faults sink.old) (K.faults sink.new)
-        → IsStatusOf (job_verdict route.now.wanted inputs) result ⊎ (result ≡ 10) }
-    ensures calm { (result ≡ 0) ⊎ (result ≡ 1) → K.faults sink.new ≡ K.faults sink.old }
-{
-    match lay_and_write(alloc, shelf, inputs, route.wanted, style, route.out, kept) {
-        Ok(summary) => report_laid(sink, &summary),
-        Err(stop) => report_stop(sink, &stop),
     }
 }

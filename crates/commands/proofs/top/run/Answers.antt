@@ -1,41 +1,83 @@
-use Rattle.std.proofs.Common.{◌≡◌, ◌⊎◌, ◌∙◌, ℕ, Vec, Global, ap, arith, subst, sym}
-use Rattle.std.proofs.lemmas.Option.{same_Some}
-use Rattle.greedy_router.specs.declared.sweep.Routed.{Routed}
-use Rattle.command_words.specs.Command.{writes_of}
-use Rattle.commands.specs.Outcome.{AreKept}
-use Rattle.command_words.specs.Seen.{command_seen}
-use Rattle.commands.proofs.RunLaws.{asked-ends, kept-so, memory-ends, moved-ends, usage-ends}
+use Rattle.commands.proofs.CarriedLaws.{carried-complete, carried-ends, carried-fault, carried-files, carried-front, carried-none, carried-reads, carried-unkept, carried-unwritten, carried-usage, carried-whole, carried-write_cause, carried-writes}
+use Rattle.commands.proofs.Tellings.{tells-begun, tells-calm, tells-faulty, tells-good, tells-high, tells-listed, tells-not-begun, tells-zero}
+use Rattle.std.proofs.Common.{arith, ◌∙◌}
 use Rattle.commands.proofs.top.run.Goals as goal
-use Rattle.commands.proofs.top.run.Goals.{in-Ok, in-Err-Usage, in-Err-Memory}
+
+pub returns-clause-listed : goal.returns-clause-listed
+returns-clause-listed g c = tells-listed _ _ _ _ _ _ c.report-status.ensures
+
+pub returns-clause-usage : goal.returns-clause-usage
+returns-clause-usage g c = carried-usage _ _ _ _ _ c.carry_out-ending.ensures c.report-status.ensures
+
+pub returns-clause-no_command : goal.returns-clause-no_command
+returns-clause-no_command g c = carried-none _ _ _ _ _ c.carry_out-ending.ensures c.report-status.ensures
 
 pub returns-clause-ends : goal.returns-clause-ends
-returns-clause-ends g c = elim c.match-read_command.branch [
-  | in-Ok w ↦
-      moved-ends _ _ _ _ _ _ _ _ _ _ _ (ap (λ (v : Vec Routed Global). v.items) w.kept-is) w.status-is (ap g.K.Sink.written w.out-is) (ap g.K.Sink.faults w.out-is)
-      (asked-ends _ _ _ _ _ _ _ _ _ w.in-Ok.ensures.reads w.obey-status.ensures.ends)
-  | in-Err-Usage w ↦
-      moved-ends _ _ _ _ _ _ _ _ _ _ _ (ap (λ (v : Vec Routed Global). v.items) w.kept-is) w.status-is (ap g.K.Sink.written w.out-is) (ap g.K.Sink.faults w.out-is)
-      (usage-ends _ _ _ _ _ _ _ _ (rw w.in-Err-Usage.field-0-is at w.in-Err-Usage.ensures.reads) w.report_stop-status.ensures.tells)
-  | in-Err-Memory w ↦
-      moved-ends _ _ _ _ _ _ _ _ _ _ _ (ap (λ (v : Vec Routed Global). v.items) w.kept-is) w.status-is (ap g.K.Sink.written w.out-is) (ap g.K.Sink.faults w.out-is)
-      (memory-ends _ _ _ _ _ _ _ w.report_stop-status-in-Err-Memory.ensures.tells)
-]
+returns-clause-ends g c = carried-ends _ _ _ _ _ c.carry_out-ending.ensures c.report-status.ensures
 
 pub returns-clause-kept : goal.returns-clause-kept
-returns-clause-kept g c = λ command said file comes writes begun. elim c.match-read_command.branch [
-  | in-Ok w ↦
-      let one : command ≡ command_seen w.in-Ok.command = same_Some _ _ (sym comes.asked ∙ w.in-Ok.ensures.reads) in
-      subst (AreKept c.args.styles.now _ _ command said) (sym (ap (λ (v : Vec Routed Global). v.items) w.kept-is))
-      (kept-so c.args.styles.now _ _ (g.S.Shelf.holds c.args.shelf.now) (command_seen w.in-Ok.command) command said _ one comes.says
-      (λ s says. w.obey-status.ensures.kept s file says (ap writes_of (sym one) ∙ writes) (subst (λ (n : ℕ). (n ≡ 0) ⊎ (n ≡ 9)) w.status-is begun)))
-  | in-Err-Usage w ↦ absurd (omega (arith, w.status-is, w.report_stop-status.ensures.tells.number, begun))
-  | in-Err-Memory w ↦ absurd (omega (arith, w.status-is, w.report_stop-status-in-Err-Memory.ensures.tells.number, begun))
-]
+returns-clause-kept g c = λ command said file comes writes few.
+    let k = c.carry_out-ending.ensures in
+    k.kept_so command said comes.asked comes.says (tells-begun _ _ _ _ _ _ command file c.report-status.ensures (k.is_done_by command comes.asked) writes few)
+
+pub returns-clause-none : goal.returns-clause-none
+returns-clause-none g c = λ not_zero not_nine. c.carry_out-ending.ensures.none (tells-not-begun _ _ _ _ _ _ c.report-status.ensures not_zero not_nine)
+
+pub returns-clause-unkept : goal.returns-clause-unkept
+returns-clause-unkept g c = carried-unkept c.carry_out-ending.ensures
+
+pub returns-clause-written : goal.returns-clause-written
+returns-clause-written g c = λ command said file comes writes zero.
+    c.carry_out-ending.ensures.written command said file comes.asked comes.says writes (tells-zero _ _ _ _ _ _ c.report-status.ensures zero)
+
+pub returns-clause-headline : goal.returns-clause-headline
+returns-clause-headline g c = λ names stated bytes held asked states source zero told.
+    c.carry_out-ending.ensures.headline names stated bytes held asked states source (tells-zero _ _ _ _ _ _ c.report-status.ensures zero) told
+
+pub returns-clause-good : goal.returns-clause-good
+returns-clause-good g c = λ names stated bytes text asked states design cif zero.
+    tells-good _ _ _ _ _ _ _ c.report-status.ensures (c.carry_out-ending.ensures.judges names stated bytes text asked states design cif) zero
 
 pub returns-clause-faulty : goal.returns-clause-faulty
-returns-clause-faulty g c = λ names stated bytes text asked rules design cif one headline. elim c.match-read_command.branch [
-  | in-Ok w ↦
-      w.obey-status.ensures.faulty names stated bytes text (same_Some _ _ (sym w.in-Ok.ensures.reads ∙ asked)) rules design cif (sym w.status-is ∙ one) headline
-  | in-Err-Usage w ↦ absurd (omega (arith, w.status-is, w.report_stop-status.ensures.tells.number, one))
-  | in-Err-Memory w ↦ absurd (omega (arith, w.status-is, w.report_stop-status-in-Err-Memory.ensures.tells.number, one))
-]
+returns-clause-faulty g c = λ names stated bytes text asked states design cif one.
+    tells-faulty _ _ _ _ _ _ _ c.report-status.ensures (c.carry_out-ending.ensures.judges names stated bytes text asked states design cif) one
+
+pub returns-clause-front : goal.returns-clause-front
+returns-clause-front g c = λ command said file comes. carried-front _ _ _ _ _ c.carry_out-ending.ensures c.report-status.ensures command said file comes.asked comes.says
+
+pub returns-clause-whole : goal.returns-clause-whole
+returns-clause-whole g c = λ command said file comes. carried-whole _ _ _ _ _ c.carry_out-ending.ensures c.report-status.ensures command said file comes.asked comes.says
+
+pub returns-clause-read_cause : goal.returns-clause-read_cause
+returns-clause-read_cause g c = λ command asked eight.
+    c.carry_out-ending.ensures.read_cause command asked (tells-high _ _ _ _ _ _ c.report-status.ensures (omega (arith, eight)) (λ nine. absurd (omega (arith, eight, nine))) ∙ eight)
+
+pub returns-clause-write_cause : goal.returns-clause-write_cause
+returns-clause-write_cause g c = carried-write_cause _ _ _ _ _ c.carry_out-ending.ensures c.report-status.ensures
+
+pub returns-clause-fault : goal.returns-clause-fault
+returns-clause-fault g c = carried-fault _ _ _ _ _ c.carry_out-ending.ensures c.report-status.ensures
+
+pub returns-clause-reads : goal.returns-clause-reads
+returns-clause-reads g c = carried-reads _ _ _ _ _ c.carry_out-ending.ensures c.report-status.ensures
+
+pub returns-clause-writes : goal.returns-clause-writes
+returns-clause-writes g c = carried-writes _ _ _ _ _ c.carry_out-ending.ensures c.report-status.ensures
+
+pub returns-clause-untouched : goal.returns-clause-untouched
+returns-clause-untouched g c = λ not_zero not_nine. c.carry_out-ending.ensures.untouched (tells-not-begun _ _ _ _ _ _ c.report-status.ensures not_zero not_nine)
+
+pub returns-clause-others : goal.returns-clause-others
+returns-clause-others g c = c.carry_out-ending.ensures.others
+
+pub returns-clause-files : goal.returns-clause-files
+returns-clause-files g c = carried-files c.carry_out-ending.ensures
+
+pub returns-clause-unwritten : goal.returns-clause-unwritten
+returns-clause-unwritten g c = carried-unwritten c.carry_out-ending.ensures
+
+pub returns-clause-complete : goal.returns-clause-complete
+returns-clause-complete g c = λ command said comes. carried-complete _ _ _ _ _ c.carry_out-ending.ensures c.report-status.ensures command said comes.asked comes.says
+
+pub returns-clause-calm : goal.returns-clause-calm
+returns-clause-calm g c = tells-calm _ _ _ _ _ _ c.report-status.ensures

@@ -9,8 +9,7 @@ use Rattle.command_jobs.specs.PreparedView.{RoutedJob}
 use Rattle.command_jobs.specs.Text.{job_text}
 use Rattle.commands.specs.Verdict.{job_verdict}
 use Rattle.command_ends.specs.declared.stop.Stop.TheVariants.{Refused}
-use Rattle.commands.proofs.Endings.{by-stop, rose-still, stopped, written-status}
-use Rattle.command_ends.proofs.StopLaws.{refusal-unread}
+use Rattle.commands.proofs.Endings.{stopped}
 use Rattle.command_ends.proofs.FindsLaws.{found-refusal, stops}
 use Rattle.commands.proofs.HeadlineLaws.{headline-from}
 use Rattle.commands.proofs.RunLaws.{front-so, holds-so, job-accepted, routed-so}
@@ -42,28 +41,9 @@ returns-in-Ok-clause-front g c = λ nine.
     let accepted = job-accepted c.args.wanted c.args.inputs c.in-Ok.prepared.job c.in-Ok.ensures.made in
     front-so _ c.in-Ok.prepared.job c.in-Ok.prepared.kept _ _ _ _ accepted (c.write_prepared.ensures.kept (inr nine)) refl (c.write_prepared.ensures.front nine)
 
-pub returns-in-Ok-clause-complete : goal.returns-in-Ok-clause-complete
-returns-in-Ok-clause-complete g c = λ still.
-    let accepted = job-accepted c.args.wanted c.args.inputs c.in-Ok.prepared.job c.in-Ok.ensures.made in
-    elim c.write_prepared.ensures.listed [
-      | inl zero ↦ inl (written-status _ c.in-Ok.prepared.job _ accepted zero)
-      | inr failed ↦ elim failed [
-        | inl nine ↦ absurd (rose-still _ _ (c.write_prepared.ensures.cause nine) still)
-        | inr ten ↦ inr ten
-      ]
-    ]
-
 pub returns-in-Err-clause-ends : goal.returns-in-Err-clause-ends
 unfolding job_verdict
 returns-in-Err-clause-ends g c =
     stopped (λ (p : RoutedJob). to_lay_out p.job) c.args.kept.now.items (Refused c.in-Err.refusal) _
     (stops (λ (p : RoutedJob). p.job) (λ (p : RoutedJob). to_lay_out p.job) (Refused c.in-Err.refusal) _ (λ (job : Job). Ok (to_lay_out job))
     (found-refusal (λ (p : RoutedJob). p.job) c.in-Err.refusal _ c.in-Err.ensures.made))
-
-pub returns-in-Err-clause-complete : goal.returns-in-Err-clause-complete
-unfolding job_verdict
-returns-in-Err-clause-complete g c = λ still.
-    by-stop (λ (p : RoutedJob). to_lay_out p.job) (Refused c.in-Err.refusal) _
-    (stops (λ (p : RoutedJob). p.job) (λ (p : RoutedJob). to_lay_out p.job) (Refused c.in-Err.refusal) _ (λ (job : Job). Ok (to_lay_out job))
-    (found-refusal (λ (p : RoutedJob). p.job) c.in-Err.refusal _ c.in-Err.ensures.made))
-    (refusal-unread c.in-Err.refusal)
