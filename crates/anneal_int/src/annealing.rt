@@ -8,7 +8,7 @@ ghost use Rattle.row_model.specs.Rows.{ArePlaced};
 ghost use Rattle.std.specs.Bool.{OnFalse, OnTrue};
 ghost use Rattle.std.specs.Prelude.{◌≡◌, ◌+◌, ◌<◌, ◌≤◌, ℕ, IfOk, length, nat_le};
 
-use crate::draws::{Change, Drawn, Draws};
+use crate::draws::{Change, Draws, Proposal};
 use crate::fault::AnnealFault;
 use crate::schedule::Schedule;
 use crate::temperature::Temperature;
@@ -19,6 +19,13 @@ use limits::MOST_CHANGES;
 use row_board::Spans;
 use row_model::Rows;
 use std::alloc::{AllocError, Global};
+
+/// Rows, and what they cost.
+#[derive(Drop)]
+pub struct CostedRows {
+    pub rows: Rows,
+    pub cost: u64,
+}
 
 /// How many changes the annealing of a design has: for each stage and instance as many as the schedule has moves. Takes no memory.
 #[tactic(auto, unfolding(crate::specs::Annealed::all_changes))]
@@ -37,8 +44,8 @@ fn stage_changes(design: &Design, schedule: &Schedule) -> u64
     schedule.moves * design.instances.items().len() as u64
 }
 
-/// The annealed rows of a design: each change of the seed is made where it is taken at the temperature of its stage, and the rows behind all changes stand where they cost no
-/// more than those at first; else those. `TooMuch` exactly where there are more than 50,000,000 changes, with their number; all memory is taken before the first change.
+/// The annealed rows of a design with their cost: each change of the seed is made where it is taken at the temperature of its stage, and the rows behind all changes stand where they
+/// cost no more than those at first; else those. `TooMuch` exactly where there are more than 50,000,000 changes, with their number; all memory is taken before the first change.
 /// After a refusal the rows are given up.
 pub fn anneal(
     alloc: Global,
@@ -46,11 +53,12 @@ pub fn anneal(
     start: Rows,
     schedule: &Schedule,
     seed: u64,
-) -> Result<Rows, AnnealFault>
+) -> Result<CostedRows, AnnealFault>
     requires { ArePlaced design.now start }
-    ensures annealed { IfOk result (λ rows. rows ≡ annealed design.now start schedule.now seed) }
-    ensures placed { IfOk result (λ rows. ArePlaced design.now rows) }
-    ensures no_dearer { IfOk result (λ rows. cost_of design.now rows schedule.now.weights ≤ cost_of design.now start schedule.now.weights) }
+    ensures annealed { IfOk result (λ made. made.rows ≡ annealed design.now start schedule.now seed) }
+    ensures placed { IfOk result (λ made. ArePlaced design.now made.rows) }
+    ensures cost { IfOk result (λ made. made.cost ≡ cost_of design.now made.rows schedule.now.weights) }
+    ensures no_dearer { IfOk result (λ made. cost_of design.now made.rows schedule.now.weights ≤ cost_of design.now start schedule.now.weights) }
     ensures much { MOST_CHANGES < all_changes design.now schedule.now → result ≡ Err (AnnealFault.TooMuch (all_changes design.now schedule.now)) }
     ensures few { (n : ℕ) → result ≡ Err (AnnealFault.TooMuch n) → (MOST_CHANGES < n) × (n ≡ all_changes design.now schedule.now) }
 {
@@ -69,21 +77,29 @@ fn annealed(
     start: Rows,
     schedule: &Schedule,
     seed: u64,
-) -> Result<Rows, AllocError>
+) -> Result<CostedRows, AllocError>
     requires placed { ArePlaced design.now start }
     requires few { all_changes design.now schedule.now ≤ MOST_CHANGES }
-    ensures annealed { IfOk result (λ rows. rows ≡ annealed design.now start schedule.now seed) }
-    ensures placed { IfOk result (λ rows. ArePlaced design.now rows) }
-    ensures no_dearer { IfOk result (λ rows. cost_of design.now rows schedule.now.weights ≤ cost_of design.now start schedule.now.weights) }
+    ensures annealed { IfOk result (λ made. made.rows ≡ annealed design.now start schedule.now seed) }
+    ensures placed { IfOk result (λ made. ArePlaced design.now made.rows) }
+    ensures cost { IfOk result (λ made. made.cost ≡ cost_of design.now made.rows schedule.now.weights) }
+    ensures no_dearer { IfOk result (λ made. cost_of design.now made.rows schedule.now.weights ≤ cost_of design.now start schedule.now.weights) }
 {
     let kept = copy(alloc, &start)?;
     let mut spans = Spans::new(alloc, design, start, schedule.weights)?;
     let first_cost = spans.cost();
     run(&mut spans, design, schedule, seed);
-    if spans.cost() <= first_cost {
-        Ok(spans.end())
+    let cost = spans.cost();
+    if cost <= first_cost {
+        Ok(CostedRows {
+            rows: spans.end(),
+            cost,
+        })
     } else {
-        Ok(kept)
+        Ok(CostedRows {
+            rows: kept,
+            cost: first_cost,
+        })
     }
 }
 
@@ -136,7 +152,7 @@ fn run_stage(
 }
 
 // Judges a change: it is made where it is taken at this temperature.
-fn judge(spans: &mut Spans, temperature: Temperature, drawn: Drawn)
+fn judge(spans: &mut Spans, temperature: Temperature, drawn: Proposal)
     requires { IsAmong (length spans.old.design.instances) drawn.change }
     ensures { spans.new ≡ record spans.old { rows = judged spans.old.design spans.old.weights temperature drawn.chance drawn.change spans.old.rows } }
 {

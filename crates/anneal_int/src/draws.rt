@@ -17,7 +17,7 @@ pub enum Change {
 
 /// A change and the random word by which it is judged.
 #[derive(Clone, Copy, Debug, PartialEq, Eq)]
-pub struct Drawn {
+pub struct Proposal {
     pub change: Change,
     pub chance: u32,
 }
@@ -48,7 +48,7 @@ impl Draws {
 
     /// The next change of so many instances.
     #[tactic(auto, using(crate::proofs::WordLaws::words), unfolding(crate::specs::Words::word, crate::specs::Changes::change_number))]
-    pub fn next(&mut self, instances: u32) -> Drawn
+    pub fn next(&mut self, instances: u32) -> Proposal
         requires some { 0 < instances }
         requires few { self.old.number < MOST_CHANGES }
         ensures change { result.change ≡ change_number self.old.seed instances self.old.number }
@@ -61,7 +61,7 @@ impl Draws {
         let second = self.rng.next_word();
         let chance = self.rng.next_word();
         self.number += 1;
-        Drawn {
+        Proposal {
             change: change_of(instances, first, second),
             chance,
         }

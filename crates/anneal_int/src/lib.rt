@@ -8,8 +8,8 @@ mod schedule;
 mod temperature;
 mod thresholds;
 
-pub use annealing::{anneal, changes};
-pub use draws::{Change, Drawn, Draws};
+pub use annealing::{CostedRows, anneal, changes};
+pub use draws::{Change, Draws, Proposal};
 pub use fault::AnnealFault;
 pub use schedule::Schedule;
 pub use thresholds::threshold;

@@ -103,15 +103,16 @@ fn is_annealed(alloc: Global, case: &Annealed) -> Result<bool, Fail> {
     let design = made_design(alloc, case.made, case.cells)?;
     let first = first_rows(alloc, &design, case.rows)?;
     let before = cost(alloc, &design, &first, weights())?;
-    let rows = anneal(
+    let made = anneal(
         alloc,
         &design,
         first_rows(alloc, &design, case.rows)?,
         &schedule,
         case.seed,
     )?;
-    let after = cost(alloc, &design, &rows, weights())?;
-    Ok(before == case.before && after == case.after && are_same(&rows, &first) == (before == after))
+    let after = cost(alloc, &design, &made.rows, weights())?;
+    let costs = before == case.before && after == case.after && made.cost == case.after;
+    Ok(costs && are_same(&made.rows, &first) == (before == after))
 }
 
 #[test]
@@ -145,14 +146,14 @@ fn is_as_at_first(
     let schedule = schedule_of(1000, stages, moves).ok_or("a schedule")?;
     let design = designed(alloc, CELLS, calls)?;
     let first = first_rows(alloc, &design, 1)?;
-    let rows = anneal(
+    let made = anneal(
         alloc,
         &design,
         first_rows(alloc, &design, 1)?,
         &schedule,
         seed,
     )?;
-    Ok(are_same(&rows, &first))
+    Ok(are_same(&made.rows, &first))
 }
 
 #[test]

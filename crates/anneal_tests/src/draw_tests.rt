@@ -2,7 +2,7 @@
 
 ghost use Rattle.std.specs.Prelude.{◌<◌};
 
-use anneal_int::{Change, Drawn, Draws, threshold};
+use anneal_int::{Change, Draws, Proposal, threshold};
 use std::test::Fail;
 
 #[test]
@@ -13,7 +13,7 @@ fn thresholds_fall(rt: HostRuntime) {
 }
 
 /// The first two changes of seed 42 for so many instances.
-fn first_two(instances: u32) -> (Drawn, Drawn)
+fn first_two(instances: u32) -> (Proposal, Proposal)
     requires { 0 < instances }
 {
     let mut draws = Draws::new(42);

@@ -15,17 +15,18 @@ use Rattle.design_model.specs.declared.design.Inst.{Inst}
 use Rattle.list_facts.proofs.Different.{place-get}
 use Rattle.channel_model.specs.declared.wiring.Wiring.{Wiring}
 use Rattle.wire_geom.specs.Drawing.{drawing}
-use Rattle.row_model.specs.Rows.{ArePlaced, all_instances, instances_in}
-use Rattle.feed_cells.specs.Fed.{Fed, cells_in, item_width, seats_in}
+use Rattle.row_model.specs.Rows.{all_instances, instances_in}
+use Rattle.feed_cells.specs.Fed.{Fed, IsFed, cells_in, item_width, seats_in}
 use Rattle.feed_cells.specs.declared.fed.Item.{Item}
 use Rattle.feed_cells.specs.declared.fed.Item.TheVariants.{Cell, Feed}
 use Rattle.layout_laws.specs.Heights.{channel_height}
-use Rattle.channel_stack.specs.Layouts.{item_shapes, layout_of, row_cells, row_shapes, stacked_cells}
+use Rattle.channel_stack.proofs.Planned.{row_heights}
+use Rattle.channel_stack.specs.Layouts.{item_shapes, row_cells, row_shapes, stacked_cells}
 use Rattle.channel_stack.specs.declared.placed.PlacedItem.{PlacedItem}
-use Rattle.channel_stack.specs.Stack.{channel_bases, drawings, item_place, placed_from, placed_rows, row_bases, stack_of}
+use Rattle.channel_stack.specs.Stack.{item_place, placed_from}
 use Rattle.channel_stack.proofs.KnownItems.{IsKnown, KnownCell, rows-known}
 use Rattle.channel_stack.proofs.LayoutCells.{one-cell}
-use Rattle.channel_stack.proofs.LayoutShapes.{stack_layout}
+use Rattle.channel_stack.proofs.LayoutShapes.{channels_on, rows_on, stack-rows, stack_layout}
 use Rattle.std_laws.proofs.Bytes.{bytes-flips}
 use Rattle.std_laws.proofs.Places.{map-at}
 
@@ -43,38 +44,34 @@ name_at d n = name_in (slice_get d.instances n)
 module _ (r : RuleValues) (d : Netlist) where
   -- the cells of a row have the names of their seats' instances
   row-names : (first base left : ℕ) (items : List Item) → AllByRecursion (IsKnown d) items
-      → names_of (row_cells r d first (placed_from r d base left items)) ≡ map (name_at d) (instances_in (seats_in items))
+      → names_of (row_cells r d d.height first (placed_from r d base left items)) ≡ map (name_at d) (instances_in (seats_in items))
   row-names first base left [] known = refl
   row-names first base left (Cell s ∷ items) known =
       let place : Place = item_place r d base left (Cell s) in
       let here : KnownCell d s = known.0 in
-      let next : ℕ = first + length (item_shapes r d (record { item = Cell s; place = place })) in
-      let more : List layouts.Cell = row_cells r d next (placed_from r d base (left + item_width d (Cell s)) items) in
+      let next : ℕ = first + length (item_shapes r d d.height (record { item = Cell s; place = place })) in
+      let more : List layouts.Cell = row_cells r d d.height next (placed_from r d base (left + item_width d (Cell s)) items) in
       ap (λ (l : List layouts.Cell). names_of (l ++ more)) (one-cell r d first s place here)
       ∙ ap (λ (l : List (List ℕ)). here.inst.name ∷ l) (row-names next base (left + item_width d (Cell s)) items known.1)
       ∙ ap (λ (o : Option Inst). name_in o ∷ map (name_at d) (instances_in (seats_in items))) (sym here.is_instance)
   row-names first base left (Feed net ∷ items) known =
-      row-names (first + length (item_shapes r d (record { item = Feed net; place = item_place r d base left (Feed net) }))) base (left + item_width d (Feed net)) items known.1
+      row-names (first + length (item_shapes r d d.height (record { item = Feed net; place = item_place r d base left (Feed net) }))) base (left + item_width d (Feed net)) items known.1
 
   -- the cells of all rows have the names of all seats' instances
   levels-names : (first base : ℕ) (ws : List Wiring) (rows : List (List Item)) → length ws ≡ length rows + 1 → AllByRecursion (AllByRecursion (IsKnown d)) rows
-      → names_of (stacked_cells r d first (drawings r ws (channel_bases r d.height base ws)) (placed_rows r d rows (row_bases r d.height base ws)))
-      ≡ map (name_at d) (all_instances (cells_in rows))
-  levels-names first base [] [] each known = absurd (omega arith)
-  levels-names first base [] (items ∷ rows) each known = absurd (omega arith)
-  levels-names first base (w ∷ []) [] each known = refl
-  levels-names first base (w ∷ (v ∷ ws)) [] each known = refl
-  levels-names first base (w ∷ []) (items ∷ rows) each known = absurd (omega arith)
-  levels-names first base (w ∷ (v ∷ ws)) (items ∷ rows) each known =
+      → names_of (stacked_cells r d (row_heights d rows) first (channels_on r d base ws rows) (rows_on r d base ws rows)) ≡ map (name_at d) (all_instances (cells_in rows))
+  levels-names first base [] rows each known = absurd (omega arith)
+  levels-names first base (w ∷ ws) [] each known = refl
+  levels-names first base (w ∷ ws) (items ∷ rows) each known =
       let floor : ℕ = base + channel_height r w in
       let next : ℕ = floor + d.height in
       let placed : List PlacedItem = placed_from r d floor 0 items in
       let second : ℕ = first + length (drawing r base w) in
-      let third : ℕ = second + length (row_shapes r d placed) in
-      let above : List layouts.Cell = stacked_cells r d third (drawings r (v ∷ ws) (channel_bases r d.height next (v ∷ ws))) (placed_rows r d rows (row_bases r d.height next (v ∷ ws))) in
-      map-append (λ (c : layouts.Cell). c.name) (row_cells r d second placed) above
+      let third : ℕ = second + length (row_shapes r d d.height placed) in
+      let above : List layouts.Cell = stacked_cells r d (row_heights d rows) third (channels_on r d next ws rows) (rows_on r d next ws rows) in
+      map-append (λ (c : layouts.Cell). c.name) (row_cells r d d.height second placed) above
       ∙ ap (λ (l : List (List ℕ)). l ++ names_of above) (row-names second floor 0 items known.0)
-      ∙ ap (λ (l : List (List ℕ)). map (name_at d) (instances_in (seats_in items)) ++ l) (levels-names third next (v ∷ ws) rows (omega arith) known.1)
+      ∙ ap (λ (l : List (List ℕ)). map (name_at d) (instances_in (seats_in items)) ++ l) (levels-names third next ws rows (omega arith) known.1)
       ∙ sym (map-append (name_at d) (instances_in (seats_in items)) (all_instances (cells_in rows)))
 
 -- the values at all numbers of a list are those of its elements
@@ -89,18 +86,17 @@ names-range value at from (x ∷ xs) same =
 names-are : (d : Netlist) → map (name_at d) (range_with_len 0 (length d.instances)) ≡ instance_names d
 names-are d = names-range name_in (slice_get d.instances) 0 d.instances (λ k n is. ap (slice_get d.instances) (omega arith))
 
-module _ (r : RuleValues) (d : Netlist) (is : IsNetlist d) (fed : Fed) (placed : ArePlaced d (cells_in fed.rows)) (ws : List Wiring) (each : length ws ≡ length fed.rows + 1) where
+module _ (r : RuleValues) (d : Netlist) (is : IsNetlist d) (fed : Fed) (from : IsFed d fed) (ws : List Wiring) (each : length ws ≡ length fed.rows + 1) where
   -- the cells of the layout have the names of the seats' instances
   layout-names : cell_names (stack_layout r d fed ws) ≡ map (name_at d) (all_instances (cells_in fed.rows))
-  unfolding layout_of stack_of
-  layout-names = levels-names r d 0 0 ws fed.rows each (rows-known d fed placed is)
+  layout-names = ap cell_names (stack-rows r d fed ws from) ∙ levels-names r d 0 0 ws fed.rows each (rows-known d fed from.placed is)
 
   -- the cells have the names of the instances, each once
   pub stack-names : IsPermutation (instance_names d) (cell_names (stack_layout r d fed ws))
   stack-names =
       let range : List ℕ = range_with_len 0 (length d.instances) in
       let moved : IsPermutation (map (name_at d) range) (map (name_at d) (all_instances (cells_in fed.rows))) =
-      IsPermutation-map (name_at d) range (all_instances (cells_in fed.rows)) placed.once in
+      IsPermutation-map (name_at d) range (all_instances (cells_in fed.rows)) from.placed.once in
       subst (λ (l : List (List ℕ)). IsPermutation l (cell_names (stack_layout r d fed ws))) (names-are d)
       (subst (IsPermutation (map (name_at d) range)) (sym layout-names) moved)
 

@@ -1,4 +1,4 @@
-use Rattle.std.proofs.Common.{List, sym, subst}
+use Rattle.std.proofs.Common.{List, refl, sym, subst}
 use Rattle.geom_core.specs.declared.layout.Layout.{Layout}
 use Rattle.tech_rules.specs.Rules.{RuleValues, ValidRules}
 use Rattle.design_model.specs.Good.{Good}
@@ -8,7 +8,7 @@ use Rattle.channel_model.specs.declared.wiring.Wiring.{Wiring}
 use Rattle.row_model.specs.Rows.{ArePlaced}
 use Rattle.row_model.specs.declared.rows.Seat.{Seat}
 use Rattle.feed_cells.specs.Fed.{Fed, IsFed, fed_rows, cells_in}
-use Rattle.feed_cells.proofs.FedLaws.{cells-fed}
+use Rattle.feed_cells.proofs.RowFeedLaws.{fed-from}
 use Rattle.layout_laws.proofs.Labels.{IsLabelled}
 use Rattle.layout_laws.proofs.Plans.{plan_drawn}
 use Rattle.layout_laws.proofs.LabelLaws.{labelled-nets, labelled-spaced, labelled-wide}
@@ -25,23 +25,24 @@ use Rattle.channel_stack.proofs.LayoutShapes.{stack_layout}
 
 -- the layout of rows whose channels are wired is good
 rows-good : (r : RuleValues) → ValidRules r → (d : Netlist) → IsNetlist d → HasRoom r d
-    → (rows : List (List Seat)) → ArePlaced d rows → ArePlaced d (cells_in (fed_rows d rows).rows) → (ws : List Wiring) → AreWired d (fed_rows d rows) ws
+    → (rows : List (List Seat)) → ArePlaced d rows → (ws : List Wiring) → AreWired d (fed_rows d rows) ws
     → Good r d (stack_layout r d (fed_rows d rows) ws)
-rows-good r valid d is room rows placed seated ws wired =
+rows-good r valid d is room rows placed ws wired =
     let fed : Fed = fed_rows d rows in
+    let from : IsFed d fed = fed-from d rows fed placed refl in
     let l : Layout = stack_layout r d fed ws in
     let plan = plan_of r d fed ws in
     let planned = stack-plan r valid d is room rows placed ws wired in
-    let threaded = stack-threaded r valid d is rows placed ws l (stack-draws r valid d is room fed seated ws wired.each) in
+    let threaded = stack-threaded r valid d is rows placed ws l (stack-draws r valid d is room fed from ws wired.each) in
     let labelled : IsLabelled r d l (plan_drawn r plan) (net_at d) = record {
-      pins = stack-shows r valid d is room fed seated ws wired.each;
+      pins = stack-shows r valid d is room fed from ws wired.each;
       wide = plan-wide r valid plan planned;
       apart = plan-apart r valid plan planned;
       chained = plan-chained r valid d l plan planned threaded;
     } in
     record {
-      cells = stack-cells r valid d is room fed seated ws wired.each;
-      rows = stack-in_rows r valid d is room fed seated ws wired.each;
+      cells = stack-cells r valid d is room fed from ws wired.each;
+      rows = stack-in_rows r valid d is room fed from ws wired.each;
       wide = labelled-wide r d l (plan_drawn r plan) (net_at d) labelled;
       spaced = labelled-spaced r d l (plan_drawn r plan) (net_at d) valid labelled;
       nets = labelled-nets r d l (plan_drawn r plan) (net_at d) valid labelled;
@@ -52,6 +53,5 @@ pub stack-good : (r : RuleValues) → ValidRules r → (d : Netlist) → IsNetli
     → (fed : Fed) → IsFed d fed → (ws : List Wiring) → AreWired d fed ws → Good r d (stack_layout r d fed ws)
 stack-good r valid d is room fed from ws wired =
     let rows = cells_in fed.rows in
-    let seated : ArePlaced d (cells_in (fed_rows d rows).rows) = subst (ArePlaced d) (sym (cells-fed d rows)) from.placed in
     subst (λ (f : Fed). Good r d (stack_layout r d f ws)) (sym from.is)
-    (rows-good r valid d is room rows from.placed seated ws (subst (λ (f : Fed). AreWired d f ws) from.is wired))
+    (rows-good r valid d is room rows from.placed ws (subst (λ (f : Fed). AreWired d f ws) from.is wired))

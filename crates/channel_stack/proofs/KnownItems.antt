@@ -1,4 +1,4 @@
-use Rattle.std.proofs.Common.{◌≡◌, ap, sym, ◌∙◌, subst, ℕ, ◌+◌, ◌<◌, ◌≤◌, List, [], ◌∷◌, ◌++◌, length, map, Option, Some, None, Contains, arith, inl, inr}
+use Rattle.std.proofs.Common.{◌≡◌, ap, sym, ◌∙◌, subst, ℕ, ◌<◌, ◌≤◌, List, [], ◌∷◌, ◌++◌, length, map, Option, Some, None, Contains, arith, inl, inr}
 use Rattle.std.proofs.lemmas.List.Elements.{All-contains, All-weaker}
 use Rattle.std.proofs.lemmas.List.Sorted.{Contains-permutation, IsPermutation-sym}
 use Rattle.std.proofs.lemmas.Option.{slice_get_within}
@@ -158,7 +158,7 @@ known-drawn r valid d room s known base left =
 
 -- the shapes of an item are those of its seat
 pub item-drawn : (r : RuleValues) → ValidRules r → (d : Netlist) → HasRoom r d → (item : Item) → IsKnown d item → (base left : ℕ)
-    → item_shapes r d (record { item = item; place = item_place r d base left item }) ≡ map (λ (a : Drawn). a.shape) (seat_drawn r base d.height left (seat_of r d item))
+    → item_shapes r d d.height (record { item = item; place = item_place r d base left item }) ≡ map (λ (a : Drawn). a.shape) (seat_drawn r base d.height left (seat_of r d item))
 item-drawn r valid d room (Cell s) known base left =
     ap (λ (o : Option CellKind). map (moved_shape (turn_at (item_place r d base left (Cell s)))) (kind_drawing r d.height o)) known.is_kind_of
     ∙ known-drawn r valid d room s known base left

@@ -5,6 +5,7 @@ use Rattle.std.proofs.lemmas.List.Sums.{sum_by-cons}
 use Rattle.std.proofs.lemmas.Option.{none-some, same_Some}
 use Rattle.std.specs.List.{AllByRecursion}
 use Rattle.std.specs.Prelude.{slice_get}
+use Rattle.geom_core.specs.declared.layout.Layout.{Layout}
 use Rattle.geom_core.specs.declared.layout.Shape.{Shape}
 use Rattle.geom_core.specs.declared.turn.Place.{Place}
 use Rattle.tech_rules.specs.Rules.{RuleValues, ValidRules}
@@ -15,19 +16,18 @@ use Rattle.design_model.specs.Room.{HasRoom}
 use Rattle.channel_model.specs.declared.wiring.Wiring.{Wiring}
 use Rattle.wire_geom.specs.Drawing.{drawing}
 use Rattle.wire_geom.specs.declared.drawn.Drawn.{Drawn}
-use Rattle.row_model.specs.Rows.{ArePlaced}
 use Rattle.row_model.specs.declared.rows.Seat.{Seat}
-use Rattle.feed_cells.specs.Fed.{Fed, cells_in, item_width, items_width}
+use Rattle.feed_cells.specs.Fed.{Fed, IsFed, item_width, items_width}
 use Rattle.feed_cells.specs.declared.fed.Item.{Item}
 use Rattle.feed_cells.specs.declared.fed.Item.TheVariants.{Cell, Feed}
 use Rattle.layout_laws.specs.Heights.{channel_height}
 use Rattle.layout_laws.proofs.Plans.{plan_drawn, row_base}
-use Rattle.channel_stack.specs.Layouts.{cell_at, channel_shapes, instance_cells, item_cells, item_shapes, kind_cells, layout_of, row_cells, row_shapes, stacked_cells}
-use Rattle.channel_stack.proofs.Planned.{plan_of, row_drawn, seat_drawn, seat_of}
+use Rattle.channel_stack.specs.Layouts.{cell_at, channel_shapes, instance_cells, item_cells, item_shapes, kind_cells, row_cells, row_shapes, stacked_cells}
+use Rattle.channel_stack.proofs.Planned.{plan_of, row_drawn, row_heights, seat_drawn, seat_of}
 use Rattle.channel_stack.specs.declared.placed.PlacedItem.{PlacedItem}
-use Rattle.channel_stack.specs.Stack.{channel_bases, drawings, item_place, placed_from, placed_rows, row_bases, stack_of}
+use Rattle.channel_stack.specs.Stack.{item_place, placed_from}
 use Rattle.channel_stack.proofs.KnownItems.{IsKnown, KnownCell, item-drawn, rows-known}
-use Rattle.channel_stack.proofs.LayoutShapes.{levels, plan-levels, row-shapes, row_floor, stack_layout}
+use Rattle.channel_stack.proofs.LayoutShapes.{channels_on, levels, plan-levels, row-shapes, row_floor, rows_on, stack-rows, stack_layout}
 use Rattle.std_laws.proofs.Parts.{Part, part-before, part-behind}
 use Rattle.std_laws.proofs.Places.{get-before, get-behind}
 
@@ -86,16 +86,16 @@ module _ (r : RuleValues) (valid : ValidRules r) (d : Netlist) (room : HasRoom r
   -- the cell of a row behind these items
   row-stood : (front : List Item) (s : Seat) (back : List Item) → AllByRecursion (IsKnown d) (front ++ Cell s ∷ back) → (known : KnownCell d s)
       → (first base left at : ℕ) → left + items_width d front ≡ at
-      → Stood (row_cells r d first (placed_from r d base left (front ++ Cell s ∷ back))) first (row_drawn r base d.height left (map (seat_of r d) (front ++ Cell s ∷ back)))
+      → Stood (row_cells r d d.height first (placed_from r d base left (front ++ Cell s ∷ back))) first (row_drawn r base d.height left (map (seat_of r d) (front ++ Cell s ∷ back)))
       (cell_in base at s known) (own_of base at s)
   row-stood [] s back all known first base left at there =
-      subst (λ (n : ℕ). Stood (row_cells r d first (placed_from r d base left (Cell s ∷ back))) first (row_drawn r base d.height left (map (seat_of r d) (Cell s ∷ back)))
+      subst (λ (n : ℕ). Stood (row_cells r d d.height first (placed_from r d base left (Cell s ∷ back))) first (row_drawn r base d.height left (map (seat_of r d) (Cell s ∷ back)))
       (cell_in base n s known) (own_of base n s)) (let e : left ≡ at = omega arith in e)
       (record {
         number = 0;
         start = 0;
         at =
-            ap (λ (l : List layouts.Cell). slice_get (l ++ row_cells r d (first + length (item_shapes r d (record { item = Cell s; place = item_place r d base left (Cell s) })))
+            ap (λ (l : List layouts.Cell). slice_get (l ++ row_cells r d d.height (first + length (item_shapes r d d.height (record { item = Cell s; place = item_place r d base left (Cell s) })))
             (placed_from r d base (left + item_width d (Cell s)) back)) 0) (one-cell r d first s (item_place r d base left (Cell s)) known)
             ∙ ap (λ (n : ℕ). Some (cell_in base left s known n)) (omega arith);
         part = record { before = []; after = row_drawn r base d.height (left + item_width d (Cell s)) (map (seat_of r d) back); is = refl; at = refl };
@@ -107,53 +107,51 @@ module _ (r : RuleValues) (valid : ValidRules r) (d : Netlist) (room : HasRoom r
       sum_by-cons (λ (n : ℕ). n) (item_width d item) (map (item_width d) front) in
       let placed : PlacedItem = record { item = item; place = item_place r d base left item } in
       let own : List Drawn = seat_drawn r base d.height left (seat_of r d item) in
-      let even : length (item_shapes r d placed) ≡ length own = even-of (item_shapes r d placed) own (item-drawn r valid d room item all.0 base left) in
-      let behind : ℕ = first + length (item_shapes r d placed) in
-      stood-right (row_cells r d behind (placed_from r d base next items)) (item_cells r d first item placed.place) first behind
+      let even : length (item_shapes r d d.height placed) ≡ length own = even-of (item_shapes r d d.height placed) own (item-drawn r valid d room item all.0 base left) in
+      let behind : ℕ = first + length (item_shapes r d d.height placed) in
+      stood-right (row_cells r d d.height behind (placed_from r d base next items)) (item_cells r d first item placed.place) first behind
       (row_drawn r base d.height (left + (seat_of r d item).width) (map (seat_of r d) items)) own (cell_in base at s known) (own_of base at s) (omega arith)
-      (subst (λ (n : ℕ). Stood (row_cells r d behind (placed_from r d base next items)) behind (row_drawn r base d.height n (map (seat_of r d) items))
+      (subst (λ (n : ℕ). Stood (row_cells r d d.height behind (placed_from r d base next items)) behind (row_drawn r base d.height n (map (seat_of r d) items))
       (cell_in base at s known) (own_of base at s))
       (same_left item left) (row-stood front s back all.1 known behind base next at (omega arith)))
 
   -- the cell of a seat of row k, behind these items of its row
   stack-stood : (first base : ℕ) (ws : List Wiring) (rows : List (List Item)) → length ws ≡ length rows + 1 → AllByRecursion (AllByRecursion (IsKnown d)) rows
       → (k : ℕ) (front : List Item) (s : Seat) (back : List Item) → slice_get rows k ≡ Some (front ++ Cell s ∷ back) → (known : KnownCell d s)
-      → Stood (stacked_cells r d first (drawings r ws (channel_bases r d.height base ws)) (placed_rows r d rows (row_bases r d.height base ws))) first
-      (levels r d base ws rows) (cell_in (row_floor r d base ws k) (items_width d front) s known) (own_of (row_floor r d base ws k) (items_width d front) s)
+      → Stood (stacked_cells r d (row_heights d rows) first (channels_on r d base ws rows) (rows_on r d base ws rows)) first
+      (levels r d base ws rows) (cell_in (row_floor r d base ws rows k) (items_width d front) s known) (own_of (row_floor r d base ws rows k) (items_width d front) s)
   stack-stood first base ws [] each all k front s back at known = absurd (none-some (front ++ Cell s ∷ back) at)
   stack-stood first base [] (items ∷ rows) each all k front s back at known = absurd (omega arith)
-  stack-stood first base (w ∷ []) (items ∷ rows) each all k front s back at known = absurd (omega arith)
-  stack-stood first base (w ∷ (v ∷ ws)) (items ∷ rows) each all zero front s back at known =
+  stack-stood first base (w ∷ ws) (items ∷ rows) each all zero front s back at known =
       let floor : ℕ = base + channel_height r w in
       let next : ℕ = floor + d.height in
       let is : items ≡ front ++ Cell s ∷ back = same_Some items (front ++ Cell s ∷ back) at in
       let wires : List Drawn = drawing r base w in
       let placed : List PlacedItem = placed_from r d floor 0 items in
       let behind : ℕ = first + length wires in
-      let above : List layouts.Cell = stacked_cells r d (behind + length (row_shapes r d placed))
-      (drawings r (v ∷ ws) (channel_bases r d.height next (v ∷ ws))) (placed_rows r d rows (row_bases r d.height next (v ∷ ws))) in
+      let above : List layouts.Cell = stacked_cells r d (row_heights d rows) (behind + length (row_shapes r d d.height placed)) (channels_on r d next ws rows) (rows_on r d next ws rows) in
       let cell : ℕ → layouts.Cell = cell_in floor (items_width d front) s known in
       let own : List Drawn = own_of floor (items_width d front) s in
-      let row : Stood (row_cells r d behind placed) behind (row_drawn r floor d.height 0 (map (seat_of r d) items)) cell own =
-      subst (λ (l : List Item). Stood (row_cells r d behind (placed_from r d floor 0 l)) behind (row_drawn r floor d.height 0 (map (seat_of r d) l)) cell own) (sym is)
+      let row : Stood (row_cells r d d.height behind placed) behind (row_drawn r floor d.height 0 (map (seat_of r d) items)) cell own =
+      subst (λ (l : List Item). Stood (row_cells r d d.height behind (placed_from r d floor 0 l)) behind (row_drawn r floor d.height 0 (map (seat_of r d) l)) cell own) (sym is)
       (row-stood front s back (subst (AllByRecursion (IsKnown d)) is all.0) known behind floor 0 (items_width d front) (omega arith)) in
-      stood-right (row_cells r d behind placed ++ above) [] first behind (row_drawn r floor d.height 0 (map (seat_of r d) items) ++ levels r d next (v ∷ ws) rows) wires cell own refl
-      (stood-left (row_cells r d behind placed) above behind (row_drawn r floor d.height 0 (map (seat_of r d) items)) (levels r d next (v ∷ ws) rows) cell own row)
-  stack-stood first base (w ∷ (v ∷ ws)) (items ∷ rows) each all (suc k) front s back at known =
+      stood-right (row_cells r d d.height behind placed ++ above) [] first behind (row_drawn r floor d.height 0 (map (seat_of r d) items) ++ levels r d next ws rows) wires cell own refl
+      (stood-left (row_cells r d d.height behind placed) above behind (row_drawn r floor d.height 0 (map (seat_of r d) items)) (levels r d next ws rows) cell own row)
+  stack-stood first base (w ∷ ws) (items ∷ rows) each all (suc k) front s back at known =
       let floor : ℕ = base + channel_height r w in
       let next : ℕ = floor + d.height in
       let wires : List Drawn = drawing r base w in
       let placed : List PlacedItem = placed_from r d floor 0 items in
       let row : List Drawn = row_drawn r floor d.height 0 (map (seat_of r d) items) in
-      let even : length (row_shapes r d placed) ≡ length row = even-of (row_shapes r d placed) row (row-shapes r valid d room items all.0 floor 0) in
+      let even : length (row_shapes r d d.height placed) ≡ length row = even-of (row_shapes r d d.height placed) row (row-shapes r valid d room items all.0 floor 0) in
       let behind : ℕ = first + length wires in
-      let last : ℕ = behind + length (row_shapes r d placed) in
-      let above : List layouts.Cell = stacked_cells r d last (drawings r (v ∷ ws) (channel_bases r d.height next (v ∷ ws))) (placed_rows r d rows (row_bases r d.height next (v ∷ ws))) in
-      let cell : ℕ → layouts.Cell = cell_in (row_floor r d next (v ∷ ws) k) (items_width d front) s known in
-      let own : List Drawn = own_of (row_floor r d next (v ∷ ws) k) (items_width d front) s in
-      stood-right (row_cells r d behind placed ++ above) [] first behind (row ++ levels r d next (v ∷ ws) rows) wires cell own refl
-      (stood-right above (row_cells r d behind placed) behind last (levels r d next (v ∷ ws) rows) row cell own (omega arith)
-      (stack-stood last next (v ∷ ws) rows (omega arith) all.1 k front s back at known))
+      let last : ℕ = behind + length (row_shapes r d d.height placed) in
+      let above : List layouts.Cell = stacked_cells r d (row_heights d rows) last (channels_on r d next ws rows) (rows_on r d next ws rows) in
+      let cell : ℕ → layouts.Cell = cell_in (row_floor r d next ws rows k) (items_width d front) s known in
+      let own : List Drawn = own_of (row_floor r d next ws rows k) (items_width d front) s in
+      stood-right (row_cells r d d.height behind placed ++ above) [] first behind (row ++ levels r d next ws rows) wires cell own refl
+      (stood-right above (row_cells r d d.height behind placed) behind last (levels r d next ws rows) row cell own (omega arith)
+      (stack-stood last next ws rows (omega arith) all.1 k front s back at known))
 
 -- the cell of a seat of row k behind these items: its number, the number of its first shape, and the plan's rectangles from there on
 pub record CellStands (r : RuleValues) (d : Netlist) (fed : Fed) (ws : List Wiring) (k : ℕ) (front : List Item) (s : Seat) (inst : Inst) (kind : CellKind) : Type 0 where
@@ -165,16 +163,15 @@ pub record CellStands (r : RuleValues) (d : Netlist) (fed : Fed) (ws : List Wiri
 
 -- each seat of a row has a cell
 pub cell-stands : (r : RuleValues) → ValidRules r → (d : Netlist) → IsNetlist d → HasRoom r d
-    → (fed : Fed) → ArePlaced d (cells_in fed.rows) → (ws : List Wiring) → length ws ≡ length fed.rows + 1
+    → (fed : Fed) → IsFed d fed → (ws : List Wiring) → length ws ≡ length fed.rows + 1
     → (k : ℕ) (front : List Item) (s : Seat) (back : List Item) → slice_get fed.rows k ≡ Some (front ++ Cell s ∷ back) → (known : KnownCell d s)
     → CellStands r d fed ws k front s known.inst known.kind
-unfolding layout_of stack_of
-cell-stands r valid d is room fed placed ws each k front s back at known =
-    let stood = stack-stood r valid d room 0 0 ws fed.rows each (rows-known d fed placed is) k front s back at known in
-    let cell : ℕ → layouts.Cell = cell_at r d.height known.inst known.kind (item_place r d (row_floor r d 0 ws k) (items_width d front) (Cell s)) in
+cell-stands r valid d is room fed from ws each k front s back at known =
+    let stood = stack-stood r valid d room 0 0 ws fed.rows each (rows-known d fed from.placed is) k front s back at known in
+    let cell : ℕ → layouts.Cell = cell_at r d.height known.inst known.kind (item_place r d (row_floor r d 0 ws fed.rows k) (items_width d front) (Cell s)) in
     record {
       number = stood.number;
       first = stood.start;
-      at = stood.at ∙ ap (λ (n : ℕ). Some (cell n)) (omega arith);
+      at = ap (λ (l : Layout). slice_get l.cells stood.number) (stack-rows r d fed ws from) ∙ stood.at ∙ ap (λ (n : ℕ). Some (cell n)) (omega arith);
       part = record { before = stood.part.before; after = stood.part.after; is = plan-levels r d fed ws each ∙ stood.part.is; at = stood.part.at };
     }

@@ -10,7 +10,7 @@ use Rattle.channel_model.specs.declared.wiring.Wiring.{Wiring}
 use Rattle.row_model.specs.Rows.{ArePlaced}
 use Rattle.row_model.specs.Stands.{positions_in, positions_of}
 use Rattle.row_model.specs.declared.rows.Seat.{Seat}
-use Rattle.feed_cells.specs.Fed.{Fed, cells_in, items_width}
+use Rattle.feed_cells.specs.Fed.{Fed, IsFed, cells_in, items_width}
 use Rattle.feed_cells.specs.declared.fed.Item.{Item}
 use Rattle.feed_cells.specs.declared.fed.Item.TheVariants.{Cell}
 use Rattle.layout_laws.proofs.Plans.{plan_drawn, row_base}
@@ -68,9 +68,9 @@ cell-known d is fed placed k front s back at =
 
 -- the positions of all seats are drawn where they stand in the plan
 pub stack-draws : (r : RuleValues) → ValidRules r → (d : Netlist) → IsNetlist d → HasRoom r d
-    → (fed : Fed) → ArePlaced d (cells_in fed.rows) → (ws : List Wiring) → length ws ≡ length fed.rows + 1 → DrawsSeats r d fed ws (stack_layout r d fed ws)
-stack-draws r valid d is room fed placed ws each = record {
+    → (fed : Fed) → IsFed d fed → (ws : List Wiring) → length ws ≡ length fed.rows + 1 → DrawsSeats r d fed ws (stack_layout r d fed ws)
+stack-draws r valid d is room fed from ws each = record {
   seat = λ k front s back within at.
-      let known = cell-known d is fed placed k front s back at in
-      seat-draws r d fed ws k front s known (cell-stands r valid d is room fed placed ws each k front s back at known);
+      let known = cell-known d is fed from.placed k front s back at in
+      seat-draws r d fed ws k front s known (cell-stands r valid d is room fed from ws each k front s back at known);
 }

@@ -16,8 +16,7 @@ use Rattle.channel_model.specs.declared.wiring.Wiring.{Wiring}
 use Rattle.wire_geom.specs.Drawing.{Mask, on_horizontal, on_vertical, on_cut, name_of, drawn_by, drawn_of, drawing, pieces_of}
 use Rattle.wire_geom.specs.Grid.{scaled}
 use Rattle.wire_geom.specs.declared.drawn.Drawn.{Drawn}
-use Rattle.row_model.specs.Rows.{ArePlaced}
-use Rattle.feed_cells.specs.Fed.{Fed, cells_in}
+use Rattle.feed_cells.specs.Fed.{Fed, IsFed}
 use Rattle.feed_cells.specs.declared.fed.Item.{Item}
 use Rattle.layout_laws.specs.Heights.{channel_height}
 use Rattle.layout_laws.proofs.Plans.{plan_drawn}
@@ -191,12 +190,12 @@ follows-parted a b (beside same right) = right_of (omega (arith, ints))
 follows-parted a b (over high) = above (omega (arith, ints))
 
 module _ (r : RuleValues) (valid : ValidRules r) (d : Netlist) (is : IsNetlist d) (room : HasRoom r d)
-    (fed : Fed) (placed : ArePlaced d (cells_in fed.rows)) (ws : List Wiring) (each : length ws ≡ length fed.rows + 1) where
+    (fed : Fed) (from : IsFed d fed) (ws : List Wiring) (each : length ws ≡ length fed.rows + 1) where
   -- an outline of the layout follows an earlier one
   shapes-follow : (i j : ℕ) (s t : Shape) → i < j → slice_get (stack_layout r d fed ws).shapes i ≡ Some s → slice_get (stack_layout r d fed ws).shapes j ≡ Some t
       → s.layer ≡ r.outline.layer → t.layer ≡ r.outline.layer → Follows s.rect t.rect
   shapes-follow i j s t before at_s at_t out other =
-      let shapes = stack-shapes r valid d is room fed placed ws each in
+      let shapes = stack-shapes r valid d is room fed from ws each in
       let plan : List Drawn = plan_drawn r (plan_of r d fed ws) in
       let a = map-get (λ (x : Drawn). x.shape) plan i s (subst (λ (l : List Shape). slice_get l i ≡ Some s) shapes at_s) in
       let b = map-get (λ (x : Drawn). x.shape) plan j t (subst (λ (l : List Shape). slice_get l j ≡ Some t) shapes at_t) in

@@ -19,12 +19,11 @@ use Rattle.design_model.specs.declared.design.Pin.{Pin}
 use Rattle.design_model.specs.Room.{HasRoom}
 use Rattle.channel_model.specs.declared.wiring.Wiring.{Wiring}
 use Rattle.wire_geom.specs.declared.drawn.Drawn.{Drawn}
-use Rattle.row_model.specs.Rows.{ArePlaced}
 use Rattle.row_model.specs.Stands.{edge_column, positions_in, positions_of}
 use Rattle.row_model.specs.Widths.{kind_of}
 use Rattle.row_model.specs.declared.rows.Seat.{Seat}
 use Rattle.feed_cells.proofs.PinEdges.{pin-edge}
-use Rattle.feed_cells.specs.Fed.{Fed, cells_in, items_width}
+use Rattle.feed_cells.specs.Fed.{Fed, IsFed, items_width}
 use Rattle.feed_cells.specs.declared.fed.Item.{Item}
 use Rattle.feed_cells.specs.declared.fed.Item.TheVariants.{Cell}
 use Rattle.pin_assign.proofs.EdgeLaws.{EdgePosition, edge-position}
@@ -79,17 +78,17 @@ unfolding net_at
 pin-net d is p listed = ap net_found (pin-found d is p listed)
 
 module _ (r : RuleValues) (valid : ValidRules r) (d : Netlist) (is : IsNetlist d) (room : HasRoom r d)
-    (fed : Fed) (placed : ArePlaced d (cells_in fed.rows)) (ws : List Wiring) (each : length ws ≡ length fed.rows + 1) where
+    (fed : Fed) (from : IsFed d fed) (ws : List Wiring) (each : length ws ≡ length fed.rows + 1) where
   -- the cell with an instance's name is that of its seat
   pub cell-is : (number instance : ℕ) (copy : layouts.Cell) (inst : Inst) → slice_get (stack_layout r d fed ws).cells number ≡ Some copy
       → slice_get d.instances instance ≡ Some inst → copy.name ≡ inst.name → IsCellOf r d fed ws number instance copy inst
   cell-is number instance copy inst at_cell at_instance named =
-      let seat : SeatedAt fed.rows instance = seated d fed placed instance (slice_get_within d.instances instance inst at_instance) in
-      let known : KnownCell d seat.seat = cell-known d is fed placed seat.row seat.front seat.seat seat.back seat.at in
-      let stands = cell-stands r valid d is room fed placed ws each seat.row seat.front seat.seat seat.back seat.at known in
+      let seat : SeatedAt fed.rows instance = seated d fed from.placed instance (slice_get_within d.instances instance inst at_instance) in
+      let known : KnownCell d seat.seat = cell-known d is fed from.placed seat.row seat.front seat.seat seat.back seat.at in
+      let stands = cell-stands r valid d is room fed from ws each seat.row seat.front seat.seat seat.back seat.at known in
       let cell : layouts.Cell = cell_at r d.height known.inst known.kind (item_place r d (row_base r (plan_of r d fed ws) seat.row) (items_width d seat.front) (Cell seat.seat)) stands.first in
       let same : known.inst ≡ inst = same_Some known.inst inst (sym known.is_instance ∙ ap (slice_get d.instances) seat.own ∙ at_instance) in
-      let one : number ≡ stands.number = named-once r d is fed placed ws each number stands.number copy cell at_cell stands.at (named ∙ sym (ap (λ (i : Inst). i.name) same)) in
+      let one : number ≡ stands.number = named-once r d is fed from ws each number stands.number copy cell at_cell stands.at (named ∙ sym (ap (λ (i : Inst). i.name) same)) in
       record {
         row = seat.row;
         front = seat.front;
@@ -129,9 +128,9 @@ module _ (r : RuleValues) (valid : ValidRules r) (d : Netlist) (is : IsNetlist d
   -- a pin with a position on an edge is drawn
   edge-shown : (top : Bool) (p : Pin) (own : ℕ) → EdgePosition d top p own → (i : ℕ) × DrawsPin d (stack_layout r d fed ws) p i
   edge-shown top p own e =
-      let seat : SeatedAt fed.rows p.instance = seated d fed placed p.instance (kind-instance d p.instance e.kind e.is_kind) in
-      let known : KnownCell d seat.seat = cell-known d is fed placed seat.row seat.front seat.seat seat.back seat.at in
-      let stands = cell-stands r valid d is room fed placed ws each seat.row seat.front seat.seat seat.back seat.at known in
+      let seat : SeatedAt fed.rows p.instance = seated d fed from.placed p.instance (kind-instance d p.instance e.kind e.is_kind) in
+      let known : KnownCell d seat.seat = cell-known d is fed from.placed seat.row seat.front seat.seat seat.back seat.at in
+      let stands = cell-stands r valid d is room fed from ws each seat.row seat.front seat.seat seat.back seat.at known in
       let draws : DrawsSeat r d fed ws (stack_layout r d fed ws) seat.row seat.front seat.seat = seat-draws r d fed ws seat.row seat.front seat.seat known stands in
       let at : slice_get (positions_of d seat.seat.instance) e.place ≡ Some e.position =
       ap (λ (n : ℕ). slice_get (positions_of d n) e.place) seat.own ∙ ap (λ (o : Option CellKind). slice_get (positions_in o) e.place) e.is_kind ∙ e.at in
@@ -156,7 +155,7 @@ module _ (r : RuleValues) (valid : ValidRules r) (d : Netlist) (is : IsNetlist d
   -- the layout shows the pins of the design with their nets
   pub stack-shows : ShowsPins r d (stack_layout r d fed ws) (plan_drawn r (plan_of r d fed ws)) (net_at d)
   stack-shows = record {
-    shapes = stack-shapes r valid d is room fed placed ws each;
+    shapes = stack-shapes r valid d is room fed from ws each;
     drawn = stack-drawn;
     shown = stack-shown;
     nets = pin-net d is;
@@ -174,7 +173,7 @@ module _ (r : RuleValues) (valid : ValidRules r) (d : Netlist) (is : IsNetlist d
       let drawn : map turn (drawing_of r d.height known.kind) ≡ channel_shapes own = known-drawn r valid d room s known base left in
       let many : length (drawing_of r d.height known.kind) ≡ length (channel_shapes own) = sym (length-map (drawing_of r d.height known.kind) turn) ∙ ap length drawn in
       ap (λ (n : ℕ). take n (drop c.first (stack_layout r d fed ws).shapes)) many
-      ∙ ap (λ (l : List Shape). take (length (channel_shapes own)) (drop c.first l)) (stack-shapes r valid d is room fed placed ws each)
+      ∙ ap (λ (l : List Shape). take (length (channel_shapes own)) (drop c.first l)) (stack-shapes r valid d is room fed from ws each)
       ∙ part-taken (channel_shapes (plan_drawn r (plan_of r d fed ws))) c.first (channel_shapes own)
       (part-map (λ (a : Drawn). a.shape) (plan_drawn r (plan_of r d fed ws)) c.first own c.part)
       ∙ sym drawn
@@ -192,7 +191,7 @@ module _ (r : RuleValues) (valid : ValidRules r) (d : Netlist) (is : IsNetlist d
   -- the cells have the instances' names, each once, and each is a copy of its instance's kind
   pub stack-cells : CellsMatch r d (stack_layout r d fed ws)
   stack-cells = record {
-    names = stack-names r d is fed placed ws each;
+    names = stack-names r d is fed from ws each;
     copies = λ cell inst kind has_cell has_inst named is_kind.
         let n = member-place (stack_layout r d fed ws).cells cell has_cell in
         let m = member-place d.instances inst has_inst in

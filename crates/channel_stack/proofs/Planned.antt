@@ -9,7 +9,7 @@ use Rattle.channel_model.specs.declared.wiring.Wiring.{Wiring}
 use Rattle.row_model.specs.Stands.{turned_column, positions_of}
 use Rattle.row_model.specs.Widths.{columns_of}
 use Rattle.row_model.specs.declared.rows.Seat as seats
-use Rattle.feed_cells.specs.Fed.{Fed}
+use Rattle.feed_cells.specs.Fed.{Fed, cells_in, heights_of}
 use Rattle.feed_cells.specs.declared.fed.Item.{Item}
 use Rattle.feed_cells.specs.declared.fed.Item.TheVariants.{Cell, Feed}
 use Rattle.pin_assign.specs.Tables.{table_of}
@@ -88,8 +88,12 @@ row_seats r d fed k = map (seat_of r d) (unwrap_or (slice_get fed.rows k) [])
 abbrev pub wiring_at : List Wiring → ℕ → Wiring
 wiring_at ws k = unwrap_or (slice_get ws k) no_wiring
 
-abbrev pub base_at : RuleValues → Netlist → List Wiring → ℕ → ℕ
-base_at r d ws k = slice_index (channel_bases r d.height 0 ws) k
+-- the heights of rows with feeds
+abbrev pub row_heights : Netlist → List (List Item) → List ℕ
+row_heights d rows = heights_of d (cells_in rows)
+
+abbrev pub base_at : RuleValues → Netlist → Fed → List Wiring → ℕ → ℕ
+base_at r d fed ws k = slice_index (channel_bases r (row_heights d fed.rows) 0 ws) k
 
 -- the rows and channels of a routed design as a plan
 abbrev pub plan_of : RuleValues → Netlist → Fed → List Wiring → Plan
@@ -98,7 +102,7 @@ plan_of r d fed ws = record {
   height = λ (k : ℕ). d.height;
   pins = table_of d fed;
   wiring = wiring_at ws;
-  base = base_at r d ws;
+  base = base_at r d fed ws;
   seats = row_seats r d fed;
-  row = λ (k : ℕ). row_drawn r (base_at r d ws k + channel_height r (wiring_at ws k)) d.height 0 (row_seats r d fed k);
+  row = λ (k : ℕ). row_drawn r (base_at r d fed ws k + channel_height r (wiring_at ws k)) d.height 0 (row_seats r d fed k);
 }

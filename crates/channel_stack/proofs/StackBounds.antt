@@ -1,4 +1,4 @@
-use Rattle.std.proofs.Common.{◌≡◌, ℕ, zero, suc, ◌+◌, ◌*◌, ◌<◌, ◌≤◌, max, List, [], ◌∷◌, length, map, fold, Some, sym, ap, subst, ◌∙◌, refl, arith}
+use Rattle.std.proofs.Common.{◌≡◌, ℕ, suc, ◌+◌, ◌*◌, ◌<◌, ◌≤◌, max, List, [], ◌∷◌, length, map, fold, sum, Some, sym, ap, subst, ◌∙◌, refl, arith}
 use Rattle.std.proofs.Math.Nat.{mul-le-mul_left, mul-le-mul_right}
 use Rattle.std.proofs.lemmas.List.{length-map}
 use Rattle.std.proofs.lemmas.List.FromFn.{length-range_with_len}
@@ -10,9 +10,11 @@ use Rattle.tech_rules.specs.Rules.{RuleValues, ValidRules}
 use Rattle.design_model.specs.Netlist.{Netlist}
 use Rattle.channel_model.specs.Limits.{most_tracks}
 use Rattle.channel_model.specs.declared.wiring.Wiring.{Wiring}
-use Rattle.feed_cells.specs.Fed.{Fed, IsFed, cells_in, fed_rows, items_width, nets_in, seats_in}
+use Rattle.row_model.specs.declared.rows.Seat.{Seat}
+use Rattle.feed_cells.specs.Fed.{Fed, IsFed, cells_in, fed_rows, heights_of, items_width, nets_in, seats_in}
 use Rattle.feed_cells.specs.declared.fed.Item.{Item}
 use Rattle.feed_cells.proofs.FedLaws.{fed-width}
+use Rattle.pin_assign.proofs.FedBounds.{sum-more}
 use Rattle.pin_assign.specs.Bounds.{bound_of, channels_height, channels_width, most_nets}
 use Rattle.layout_laws.specs.Heights.{channel_height}
 use Rattle.channel_stack.specs.Routed.{IsRouted}
@@ -23,39 +25,31 @@ use Rattle.std_laws.proofs.Greatest.{greatest-at}
 use Rattle.std_laws.proofs.Numbers.{product-more}
 
 -- the lower edge of a stack is not above its upper one, and neither is the upper edge of its first channel
-pub base-below : (r : RuleValues) (height base : ℕ) (ws : List Wiring) → base ≤ stack_top r height base ws
-base-below r height base [] = omega arith
-base-below r height base (w ∷ []) = omega arith
-base-below r height base (w ∷ (v ∷ ws)) =
-    let more : (base + channel_height r w + height) ≤ stack_top r height (base + channel_height r w + height) (v ∷ ws) =
-    base-below r height (base + channel_height r w + height) (v ∷ ws) in
-    omega arith
+pub base-below : (r : RuleValues) (heights : List ℕ) (base : ℕ) (ws : List Wiring) → base ≤ stack_top r heights base ws
+base-below r heights base [] = omega arith
+base-below r [] base (w ∷ ws) = omega arith
+base-below r (h ∷ heights) base (w ∷ ws) = omega (arith, base-below r heights (base + channel_height r w + h) ws)
 
-pub channel-below : (r : RuleValues) (height base : ℕ) (w : Wiring) (ws : List Wiring) → base + channel_height r w ≤ stack_top r height base (w ∷ ws)
-channel-below r height base w [] = omega arith
-channel-below r height base w (v ∷ ws) =
-    let more : (base + channel_height r w + height) ≤ stack_top r height (base + channel_height r w + height) (v ∷ ws) =
-    base-below r height (base + channel_height r w + height) (v ∷ ws) in
-    omega arith
+pub channel-below : (r : RuleValues) (heights : List ℕ) (base : ℕ) (w : Wiring) (ws : List Wiring) → base + channel_height r w ≤ stack_top r heights base (w ∷ ws)
+channel-below r [] base w ws = omega arith
+channel-below r (h ∷ heights) base w ws = omega (arith, base-below r heights (base + channel_height r w + h) ws)
 
--- so is the upper edge of a first row
-pub row-below : (r : RuleValues) (height base : ℕ) (w v : Wiring) (ws : List Wiring) → base + channel_height r w + height ≤ stack_top r height base (w ∷ (v ∷ ws))
-row-below r height base w v ws = base-below r height (base + channel_height r w + height) (v ∷ ws)
+pub ruleset edge_laws = (base-below, channel-below)
 
 -- no lower edge of a channel or of a row is above the stack's upper edge
-channels-below : (r : RuleValues) (height top base : ℕ) (ws : List Wiring) → stack_top r height base ws ≤ top
-    → AllByRecursion (λ (b : ℕ). b ≤ top) (channel_bases r height base ws)
-channels-below r height top base [] low = tt
-channels-below r height top base (w ∷ []) low = (omega (arith, base-below r height base (w ∷ [])), tt)
-channels-below r height top base (w ∷ (v ∷ ws)) low =
-    (omega (arith, base-below r height base (w ∷ (v ∷ ws))), channels-below r height top (base + channel_height r w + height) (v ∷ ws) low)
+channels-below : (r : RuleValues) (heights : List ℕ) (top base : ℕ) (ws : List Wiring) → stack_top r heights base ws ≤ top
+    → AllByRecursion (λ (b : ℕ). b ≤ top) (channel_bases r heights base ws)
+channels-below r heights top base [] low = tt
+channels-below r [] top base (w ∷ ws) low = (omega arith, tt)
+channels-below r (h ∷ heights) top base (w ∷ ws) low =
+    (omega (arith, base-below r (h ∷ heights) base (w ∷ ws)), channels-below r heights top (base + channel_height r w + h) ws low)
 
-rows-below : (r : RuleValues) (height top base : ℕ) (ws : List Wiring) → stack_top r height base ws ≤ top
-    → AllByRecursion (λ (b : ℕ). b ≤ top) (row_bases r height base ws)
-rows-below r height top base [] low = tt
-rows-below r height top base (w ∷ []) low = tt
-rows-below r height top base (w ∷ (v ∷ ws)) low =
-    (omega (arith, channel-below r height base w (v ∷ ws)), rows-below r height top (base + channel_height r w + height) (v ∷ ws) low)
+rows-below : (r : RuleValues) (heights : List ℕ) (top base : ℕ) (ws : List Wiring) → stack_top r heights base ws ≤ top
+    → AllByRecursion (λ (b : ℕ). b ≤ top) (row_bases r heights base ws)
+rows-below r [] top base ws low = tt
+rows-below r (h ∷ heights) top base [] low = tt
+rows-below r (h ∷ heights) top base (w ∷ ws) low =
+    (omega (arith, channel-below r (h ∷ heights) base w ws), rows-below r heights top (base + channel_height r w + h) ws low)
 
 -- one channel more
 heights-more : (r : RuleValues) (n : ℕ) (ns : List ℕ) → channels_height r (n ∷ ns) ≡ (most_tracks n + 1) * r.grid.track + channels_height r ns
@@ -65,19 +59,18 @@ channel-low : (r : RuleValues) (n : ℕ) (w : Wiring) → w.tracks ≤ most_trac
 channel-low r n w few = let more : w.tracks + 1 ≤ most_tracks n + 1 = omega arith in mul-le-mul_right r.grid.track more
 
 -- a stack whose channels have no more tracks than a router may take for so many nets
-top-bound : (r : RuleValues) (height base rows : ℕ) (ws : List Wiring) (ns : List ℕ) → length ws ≡ rows + 1 → length ns ≡ rows + 1
+top-bound : (r : RuleValues) (heights : List ℕ) (base : ℕ) (ws : List Wiring) (ns : List ℕ) → length ws ≡ length heights + 1 → length ns ≡ length heights + 1
     → ((k n : ℕ) (w : Wiring) → slice_get ws k ≡ Some w → slice_get ns k ≡ Some n → w.tracks ≤ most_tracks n)
-    → stack_top r height base ws ≤ base + (rows * height + channels_height r ns)
-top-bound r height base rows [] ns many each few = absurd (omega arith)
-top-bound r height base rows (w ∷ ws) [] many each few = absurd (omega arith)
-top-bound r height base rows (w ∷ []) (n ∷ ns) many each few =
+    → stack_top r heights base ws ≤ base + (sum heights + channels_height r ns)
+top-bound r heights base [] ns many each few = absurd (omega arith)
+top-bound r heights base (w ∷ ws) [] many each few = absurd (omega arith)
+top-bound r [] base (w ∷ ws) (n ∷ ns) many each few =
     omega (arith, heights-more r n ns, channel-low r n w (few 0 n w refl refl))
-top-bound r height base zero (w ∷ (v ∷ ws)) (n ∷ ns) many each few = absurd (omega arith)
-top-bound r height base (suc rows) (w ∷ (v ∷ ws)) (n ∷ ns) many each few =
-    let others : stack_top r height (base + channel_height r w + height) (v ∷ ws) ≤ base + channel_height r w + height + (rows * height + channels_height r ns) =
-    top-bound r height (base + channel_height r w + height) rows (v ∷ ws) ns (omega arith) (omega arith)
-    (λ (k m : ℕ) (u : Wiring) (a : slice_get (v ∷ ws) k ≡ Some u) (b : slice_get ns k ≡ Some m). few (suc k) m u a b) in
-    omega (arith, heights-more r n ns, channel-low r n w (few 0 n w refl refl), product-more rows height)
+top-bound r (h ∷ heights) base (w ∷ ws) (n ∷ ns) many each few =
+    let others : stack_top r heights (base + channel_height r w + h) ws ≤ base + channel_height r w + h + (sum heights + channels_height r ns) =
+    top-bound r heights (base + channel_height r w + h) ws ns (omega arith) (omega arith)
+    (λ (k m : ℕ) (u : Wiring) (a : slice_get ws k ≡ Some u) (b : slice_get ns k ≡ Some m). few (suc k) m u a b) in
+    omega (arith, heights-more r n ns, channel-low r n w (few 0 n w refl refl), sum-more h heights)
 
 -- the greatest of numbers that do not pass a bound does not, and no number passes the greatest
 greatest-within : (bound first : ℕ) (ws : List Wiring) → first ≤ bound → AllByRecursion (λ (w : Wiring). w.columns ≤ bound) ws
@@ -97,6 +90,15 @@ nets-counted d fed is =
     let counted : length numbers ≡ length (cells_in fed.rows) + 1 = length-range_with_len 0 (length (cells_in fed.rows) + 1) in
     let rows : length (cells_in fed.rows) ≡ length fed.rows = length-map fed.rows seats_in in
     omega arith
+
+-- the heights of the rows with feeds are those of their rows, one for each
+pub heights-of : (d : Netlist) (fed : Fed) → IsFed d fed → fed.heights ≡ heights_of d (cells_in fed.rows)
+unfolding fed_rows
+heights-of d fed is = ap (λ (f : Fed). f.heights) is.is
+
+heights-counted : (d : Netlist) (fed : Fed) → IsFed d fed → length fed.heights ≡ length fed.rows
+heights-counted d fed is =
+    ap length (heights-of d fed is) ∙ length-map (cells_in fed.rows) (λ (seats : List Seat). d.height) ∙ length-map fed.rows seats_in
 
 -- there is a row
 pub some-row : (d : Netlist) (fed : Fed) → IsFed d fed → 0 < length fed.rows
@@ -133,29 +135,32 @@ columns-within r d fed ws is routed = greatest-within (channels_width fed) 0 ws 
 
 -- what keeps the numbers of a stack's layout small: its width and height, those of its rows, and its bases
 pub record IsBounded (r : RuleValues) (d : Netlist) (fed : Fed) (ws : List Wiring) : Type 0 where
-  pub height : stack_top r d.height 0 ws * r.grid.centi ≤ 1000000000
+  pub height : stack_top r fed.heights 0 ws * r.grid.centi ≤ 1000000000
   pub columns : most_columns ws * r.grid.column * r.grid.centi ≤ 1000000000
   pub width : fed.width * r.grid.column * r.grid.centi ≤ 1000000000
   pub rows : AllByRecursion (λ (items : List Item). items_width d items ≤ fed.width) fed.rows
-  pub channel_bases : AllByRecursion (λ (base : ℕ). base ≤ stack_top r d.height 0 ws) (channel_bases r d.height 0 ws)
-  pub row_bases : AllByRecursion (λ (base : ℕ). base ≤ stack_top r d.height 0 ws) (row_bases r d.height 0 ws)
+  pub channel_bases : AllByRecursion (λ (base : ℕ). base ≤ stack_top r fed.heights 0 ws) (channel_bases r fed.heights 0 ws)
+  pub row_bases : AllByRecursion (λ (base : ℕ). base ≤ stack_top r fed.heights 0 ws) (row_bases r fed.heights 0 ws)
 
 -- a stack is no higher than its bound
 pub top-bounded : (r : RuleValues) (d : Netlist) (fed : Fed) (ws : List Wiring) → IsFed d fed → IsRouted r d fed ws
-    → stack_top r d.height 0 ws * r.grid.centi ≤ (bound_of r d fed).height
+    → stack_top r fed.heights 0 ws * r.grid.centi ≤ (bound_of r d fed).height
 unfolding bound_of
 top-bounded r d fed ws is routed =
-    let low : stack_top r d.height 0 ws ≤ length fed.rows * d.height + channels_height r fed.nets =
-    let high : stack_top r d.height 0 ws ≤ 0 + (length fed.rows * d.height + channels_height r fed.nets) =
-    top-bound r d.height 0 (length fed.rows) ws fed.nets routed.each (nets-counted d fed is)
+    let many : length fed.heights ≡ length fed.rows = heights-counted d fed is in
+    let counted : length fed.nets ≡ length fed.rows + 1 = nets-counted d fed is in
+    let each : length ws ≡ length fed.rows + 1 = routed.each in
+    let low : stack_top r fed.heights 0 ws ≤ sum fed.heights + channels_height r fed.nets =
+    let high : stack_top r fed.heights 0 ws ≤ 0 + (sum fed.heights + channels_height r fed.nets) =
+    top-bound r fed.heights 0 ws fed.nets (omega arith) (omega arith)
     (λ (k n : ℕ) (w : Wiring) (a : slice_get ws k ≡ Some w) (b : slice_get fed.nets k ≡ Some n). routed.tracks k n w a b) in
     omega arith in
     mul-le-mul_right r.grid.centi low
 
 top-within : (r : RuleValues) (d : Netlist) (fed : Fed) (ws : List Wiring) → IsFed d fed → IsRouted r d fed ws
-    → stack_top r d.height 0 ws * r.grid.centi ≤ 1000000000
+    → stack_top r fed.heights 0 ws * r.grid.centi ≤ 1000000000
 top-within r d fed ws is routed =
-    let low : stack_top r d.height 0 ws * r.grid.centi ≤ (bound_of r d fed).height = top-bounded r d fed ws is routed in
+    let low : stack_top r fed.heights 0 ws * r.grid.centi ≤ (bound_of r d fed).height = top-bounded r d fed ws is routed in
     let limit : (bound_of r d fed).height ≤ 1000000000 = routed.height in
     omega arith
 
@@ -199,8 +204,8 @@ bases-within r d fed ws is routed = record {
   columns = width-within r d fed ws routed (most_columns ws) (columns-within r d fed ws is routed);
   width = width-within r d fed ws routed fed.width (omega arith);
   rows = rows-narrow d fed is;
-  channel_bases = channels-below r d.height (stack_top r d.height 0 ws) 0 ws (omega arith);
-  row_bases = rows-below r d.height (stack_top r d.height 0 ws) 0 ws (omega arith);
+  channel_bases = channels-below r fed.heights (stack_top r fed.heights 0 ws) 0 ws (omega arith);
+  row_bases = rows-below r fed.heights (stack_top r fed.heights 0 ws) 0 ws (omega arith);
 }
 
 -- so many units of at least four centimicrons are few, and so are the units of a stack
@@ -208,8 +213,8 @@ units-small : (units centi : ℕ) → 4 ≤ centi → units * centi ≤ 10000000
 units-small units centi fine near = let product : units * 4 ≤ units * centi = mul-le-mul_left units fine in omega arith
 
 pub top-small : (r : RuleValues) (d : Netlist) (fed : Fed) (ws : List Wiring) → ValidRules r → IsFed d fed → IsRouted r d fed ws
-    → stack_top r d.height 0 ws ≤ 250000000
-top-small r d fed ws valid is routed = units-small (stack_top r d.height 0 ws) r.grid.centi valid.ranges.grid.centi.0 (top-within r d fed ws is routed)
+    → stack_top r fed.heights 0 ws ≤ 250000000
+top-small r d fed ws valid is routed = units-small (stack_top r fed.heights 0 ws) r.grid.centi valid.ranges.grid.centi.0 (top-within r d fed ws is routed)
 
 -- a row is no wider than so many units
 pub width-small : (r : RuleValues) (d : Netlist) (fed : Fed) (ws : List Wiring) → ValidRules r → IsRouted r d fed ws → fed.width * r.grid.column ≤ 250000000
@@ -217,11 +222,16 @@ width-small r d fed ws valid routed =
     units-small (fed.width * r.grid.column) r.grid.centi valid.ranges.grid.centi.0 (width-within r d fed ws routed fed.width (omega arith))
 
 -- a row is no higher than the stack
+row-within : (r : RuleValues) (d : Netlist) (rows : List (List Seat)) (ws : List Wiring) → 0 < length rows → 0 < length ws
+    → d.height ≤ stack_top r (heights_of d rows) 0 ws
+row-within r d [] ws some many = absurd (omega arith)
+row-within r d (seats ∷ rows) [] some many = absurd (omega arith)
+row-within r d (seats ∷ rows) (w ∷ ws) some many = omega (arith, base-below r (heights_of d rows) (0 + channel_height r w + d.height) ws)
+
 pub height-within : (r : RuleValues) (d : Netlist) (fed : Fed) (ws : List Wiring) → IsFed d fed → length ws ≡ length fed.rows + 1
-    → d.height ≤ stack_top r d.height 0 ws
-height-within r d fed [] is each = absurd (omega arith)
-height-within r d fed (w ∷ []) is each = absurd (omega (arith, some-row d fed is))
-height-within r d fed (w ∷ (v ∷ ws)) is each = omega (arith, row-below r d.height 0 w v ws)
+    → d.height ≤ stack_top r fed.heights 0 ws
+height-within r d fed ws is each =
+    subst (λ (heights : List ℕ). d.height ≤ stack_top r heights 0 ws) (sym (heights-of d fed is)) (row-within r d (cells_in fed.rows) ws is.placed.some (omega arith))
 
 -- each wiring is at most as wide as the widest
 pub columns-most : (first : ℕ) (ws : List Wiring) → AllByRecursion (λ (w : Wiring). w.columns ≤ fold max first (map (λ (v : Wiring). v.columns) ws)) ws

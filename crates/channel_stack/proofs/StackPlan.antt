@@ -89,11 +89,11 @@ stack-plan r valid d good tall rows placed ws wired =
           let found = map-cases (seat_of r d) (row_at fed k) seat member in
           let room = tall (row-some d good rows placed k within found.0 found.1) in
           omega (arith, room);
-      next = λ k within. bases-next r d.height 0 ws k (omega (arith, within, wired.each));
+      next = λ k within. bases-next r d 0 ws fed.rows k within (omega (arith, within, wired.each));
       seated = λ k within seat member.
           let found = map-cases (seat_of r d) (row_at fed k) seat member in
           subst (IsSeat r d.height) found.2 (item-seat r valid d good (tall (row-some d good rows placed k within found.0 found.1)) found.0);
-      drawn = λ k within. row-drawn r valid d (base_at r d ws k + channel_height r (wiring_at ws k)) d.height (row_at fed k);
+      drawn = λ k within. row-drawn r valid d (base_at r d fed ws k + channel_height r (wiring_at ws k)) d.height (row_at fed k);
       top_entries = λ k within column net entry. lower-net r d good fed k within column net entry;
       bottom_entries = λ k within column net entry. upper-net r d good fed k within column net entry;
     }

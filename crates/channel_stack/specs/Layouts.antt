@@ -31,31 +31,32 @@ feed_wire r height = record {
 unfoldable pub feed_drawing : RuleValues → ℕ → List Shape
 feed_drawing r height = feed_outline r height ∷ (feed_wire r height ∷ [])
 
--- what an item draws: a cell the drawing of its instance's kind, and a feed its own
+-- what an item of a row of this height draws: a cell the drawing of its instance's kind, and a feed its own, as high as the row
 abbrev pub kind_drawing : RuleValues → ℕ → Option CellKind → List Shape
 kind_drawing r height None = []
 kind_drawing r height (Some kind) = drawing_of r height kind
 
-abbrev pub item_drawing : RuleValues → Netlist → Item → List Shape
-item_drawing r d (Cell s) = kind_drawing r d.height (kind_of d s.instance)
-item_drawing r d (Feed net) = feed_drawing r d.height
+abbrev pub item_drawing : RuleValues → Netlist → ℕ → Item → List Shape
+item_drawing r d height (Cell s) = kind_drawing r d.height (kind_of d s.instance)
+item_drawing r d height (Feed net) = feed_drawing r height
 
 -- the shapes of an item: what it draws, moved by its place
-abbrev pub item_shapes : RuleValues → Netlist → PlacedItem → List Shape
-item_shapes r d p = map (moved_shape (turn_at p.place)) (item_drawing r d p.item)
+abbrev pub item_shapes : RuleValues → Netlist → ℕ → PlacedItem → List Shape
+item_shapes r d height p = map (moved_shape (turn_at p.place)) (item_drawing r d height p.item)
 
 -- those of a row, item by item, and those of a channel
-abbrev pub row_shapes : RuleValues → Netlist → List PlacedItem → List Shape
-row_shapes r d row = flat_map (item_shapes r d) row
+abbrev pub row_shapes : RuleValues → Netlist → ℕ → List PlacedItem → List Shape
+row_shapes r d height row = flat_map (item_shapes r d height) row
 
 abbrev pub channel_shapes : List Drawn → List Shape
 channel_shapes drawn = map (λ (a : Drawn). a.shape) drawn
 
--- from the bottom up: the shapes of channel 0, of row 0, of channel 1, and so on
-abbrev pub stacked_shapes : RuleValues → Netlist → List (List Drawn) → List (List PlacedItem) → List Shape
-stacked_shapes r d [] rows = []
-stacked_shapes r d (channel ∷ channels) [] = channel_shapes channel
-stacked_shapes r d (channel ∷ channels) (row ∷ rows) = channel_shapes channel ++ (row_shapes r d row ++ stacked_shapes r d channels rows)
+-- from the bottom up: the shapes of channel 0, of row 0, of channel 1, and so on, with rows of these heights
+abbrev pub stacked_shapes : RuleValues → Netlist → List ℕ → List (List Drawn) → List (List PlacedItem) → List Shape
+stacked_shapes r d heights [] rows = []
+stacked_shapes r d heights (channel ∷ channels) [] = channel_shapes channel
+stacked_shapes r d [] (channel ∷ channels) (row ∷ rows) = channel_shapes channel
+stacked_shapes r d (h ∷ heights) (channel ∷ channels) (row ∷ rows) = channel_shapes channel ++ (row_shapes r d h row ++ stacked_shapes r d heights channels rows)
 
 -- the cell of an instance of a kind at a place, whose first shape has this number
 abbrev pub cell_at : RuleValues → ℕ → Inst → CellKind → Place → ℕ → layouts.Cell
@@ -80,18 +81,22 @@ abbrev pub item_cells : RuleValues → Netlist → ℕ → Item → Place → Li
 item_cells r d first (Cell s) place = instance_cells r d place first (slice_get d.instances s.instance)
 item_cells r d first (Feed net) place = []
 
--- the cells of a row whose first shape has this number
-abbrev pub row_cells : RuleValues → Netlist → ℕ → List PlacedItem → List layouts.Cell
-row_cells r d first [] = []
-row_cells r d first (p ∷ row) = item_cells r d first p.item p.place ++ row_cells r d (first + length (item_shapes r d p)) row
+-- the cells of a row of this height whose first shape has this number
+abbrev pub row_cells : RuleValues → Netlist → ℕ → ℕ → List PlacedItem → List layouts.Cell
+row_cells r d height first [] = []
+row_cells r d height first (p ∷ row) = item_cells r d first p.item p.place ++ row_cells r d height (first + length (item_shapes r d height p)) row
 
--- the cells of the rows, from the bottom up, behind a first shape of this number
-abbrev pub stacked_cells : RuleValues → Netlist → ℕ → List (List Drawn) → List (List PlacedItem) → List layouts.Cell
-stacked_cells r d first [] rows = []
-stacked_cells r d first (channel ∷ channels) [] = []
-stacked_cells r d first (channel ∷ channels) (row ∷ rows) =
-    row_cells r d (first + length channel) row ++ stacked_cells r d (first + length channel + length (row_shapes r d row)) channels rows
+-- the cells of the rows of these heights, from the bottom up, behind a first shape of this number
+abbrev pub stacked_cells : RuleValues → Netlist → List ℕ → ℕ → List (List Drawn) → List (List PlacedItem) → List layouts.Cell
+stacked_cells r d heights first [] rows = []
+stacked_cells r d heights first (channel ∷ channels) [] = []
+stacked_cells r d [] first (channel ∷ channels) (row ∷ rows) = []
+stacked_cells r d (h ∷ heights) first (channel ∷ channels) (row ∷ rows) =
+    row_cells r d h (first + length channel) row ++ stacked_cells r d heights (first + length channel + length (row_shapes r d h row)) channels rows
 
 -- the layout that a placed design is
 unfoldable pub layout_of : RuleValues → Netlist → Stacked → Layout
-layout_of r d placed = record { cells = stacked_cells r d 0 placed.shapes placed.cells; shapes = stacked_shapes r d placed.shapes placed.cells }
+layout_of r d placed = record {
+  cells = stacked_cells r d placed.heights 0 placed.shapes placed.cells;
+  shapes = stacked_shapes r d placed.heights placed.shapes placed.cells;
+}

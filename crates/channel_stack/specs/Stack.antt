@@ -12,22 +12,23 @@ use Rattle.wire_geom.specs.Drawing.{drawing}
 use Rattle.wire_geom.specs.declared.drawn.Drawn.{Drawn}
 use Rattle.channel_stack.specs.declared.placed.PlacedItem.{PlacedItem}
 
--- the lower edges of channels in units, the first of which lies at `base`, with rows of one height between them
-abbrev pub channel_bases : RuleValues → ℕ → ℕ → List Wiring → List ℕ
-channel_bases r height base [] = []
-channel_bases r height base (w ∷ ws) = base ∷ channel_bases r height (base + channel_height r w + height) ws
+-- the lower edges of channels in units, the first of which lies at `base`, with rows of these heights between them
+abbrev pub channel_bases : RuleValues → List ℕ → ℕ → List Wiring → List ℕ
+channel_bases r heights base [] = []
+channel_bases r [] base (w ∷ ws) = base ∷ []
+channel_bases r (h ∷ heights) base (w ∷ ws) = base ∷ channel_bases r heights (base + channel_height r w + h) ws
 
--- the lower edges of rows, each of which lies on one of these channels
-abbrev pub row_bases : RuleValues → ℕ → ℕ → List Wiring → List ℕ
-row_bases r height base [] = []
-row_bases r height base (w ∷ []) = []
-row_bases r height base (w ∷ (v ∷ ws)) = (base + channel_height r w) ∷ row_bases r height (base + channel_height r w + height) (v ∷ ws)
+-- the lower edges of the rows, each of which lies on one of these channels
+abbrev pub row_bases : RuleValues → List ℕ → ℕ → List Wiring → List ℕ
+row_bases r [] base ws = []
+row_bases r (h ∷ heights) base [] = []
+row_bases r (h ∷ heights) base (w ∷ ws) = (base + channel_height r w) ∷ row_bases r heights (base + channel_height r w + h) ws
 
 -- the upper edge of the last of these channels
-abbrev pub stack_top : RuleValues → ℕ → ℕ → List Wiring → ℕ
-stack_top r height base [] = base
-stack_top r height base (w ∷ []) = base + channel_height r w
-stack_top r height base (w ∷ (v ∷ ws)) = stack_top r height (base + channel_height r w + height) (v ∷ ws)
+abbrev pub stack_top : RuleValues → List ℕ → ℕ → List Wiring → ℕ
+stack_top r heights base [] = base
+stack_top r [] base (w ∷ ws) = base + channel_height r w
+stack_top r (h ∷ heights) base (w ∷ ws) = stack_top r heights (base + channel_height r w + h) ws
 
 -- a number of units in half centimicrons
 abbrev pub in_halves : RuleValues → ℕ → ℕ
@@ -76,10 +77,11 @@ most_columns ws = fold max 0 (map (λ (w : Wiring). w.columns) ws)
 abbrev pub total_columns : List Wiring → ℕ
 total_columns ws = sum (map (λ (w : Wiring). w.columns) ws)
 
--- rows and channels on one another, from y 0 up
+-- rows of these heights and channels on one another, from y 0 up
 pub record Stacked : Type 0 where
   pub channel_base : List ℕ
   pub row_base : List ℕ
+  pub heights : List ℕ
   pub cells : List (List PlacedItem)
   pub shapes : List (List Drawn)
   pub width : ℕ
@@ -87,15 +89,16 @@ pub record Stacked : Type 0 where
 
 unfoldable pub stack_of : RuleValues → Netlist → Fed → List Wiring → Stacked
 stack_of r d fed ws = record {
-  channel_base = channel_bases r d.height 0 ws;
-  row_base = row_bases r d.height 0 ws;
-  cells = placed_rows r d fed.rows (row_bases r d.height 0 ws);
-  shapes = drawings r ws (channel_bases r d.height 0 ws);
+  channel_base = channel_bases r fed.heights 0 ws;
+  row_base = row_bases r fed.heights 0 ws;
+  heights = fed.heights;
+  cells = placed_rows r d fed.rows (row_bases r fed.heights 0 ws);
+  shapes = drawings r ws (channel_bases r fed.heights 0 ws);
   width = most_columns ws * r.grid.column * r.grid.centi;
-  height = stack_top r d.height 0 ws * r.grid.centi;
+  height = stack_top r fed.heights 0 ws * r.grid.centi;
 }
 
--- the same without the rectangles of channels
+-- the same without the heights and the rectangles of channels
 pub record LaidOut : Type 0 where
   pub channel_base : List ℕ
   pub row_base : List ℕ

@@ -3,4 +3,4 @@ use Rattle.channel_stack.specs.Stack.{Stacked}
 use Rattle.channel_stack.specs.declared.placed.Placed.TheInside.{Inside}
 
 abbrev pub stacked_in : Inside → Stacked
-stacked_in a = record { channel_base = a.channel_base; row_base = a.row_base; cells = a.cells; shapes = a.shapes; width = a.width; height = a.height }
+stacked_in a = record { channel_base = a.channel_base; row_base = a.row_base; heights = a.heights; cells = a.cells; shapes = a.shapes; width = a.width; height = a.height }

@@ -17,65 +17,77 @@ fn channel_height(wiring: &Wiring, rules: &Rules) -> u64
     (u64::from(wiring.tracks) + 1) * u64::from(rules.grid.track)
 }
 
-/// The lower edges of the channels in units, with rows of this height between them. The one error is want of memory.
+/// The lower edges of the channels in units, with rows of these heights between them. The one error is want of memory.
+#[tactic(auto, using(crate::proofs::StackBounds::edge_laws))]
 pub(crate) fn channel_bases(
     alloc: Global,
     wirings: &[Wiring],
-    height: u32,
+    heights: &[u32],
     rules: &Rules,
 ) -> Result<Vec<u32>, AllocError>
-    requires { stack_top rules.now height 0 wirings.now < 2 ^ 32 }
-    ensures { IfOk result (λ bases. bases.items ≡ channel_bases rules.now height 0 wirings.now) }
+    requires { stack_top rules.now heights.now 0 wirings.now < 2 ^ 32 }
+    ensures { IfOk result (λ bases. bases.items ≡ channel_bases rules.now heights.now 0 wirings.now) }
 {
     let mut bases = Vec::new(alloc);
     let mut base = 0;
+    let mut rows = heights;
     let mut rest = wirings;
     while let Some((wiring, above)) = rest.split_first() {
         bases.push(base as u32)?;
-        base += channel_height(wiring, rules) + u64::from(height);
+        let Some((height, others)) = rows.split_first() else {
+            return Ok(bases);
+        };
+        base += channel_height(wiring, rules) + u64::from(*height);
+        rows = others;
         rest = above;
     }
     Ok(bases)
 }
 
-/// The lower edges of the rows in units: each lies on its channel, and the last channel has none above it. The one error is want of memory.
+/// The lower edges of the rows in units: each lies on its channel. The one error is want of memory.
+#[tactic(auto, using(crate::proofs::StackBounds::edge_laws))]
 pub(crate) fn row_bases(
     alloc: Global,
     wirings: &[Wiring],
-    height: u32,
+    heights: &[u32],
     rules: &Rules,
 ) -> Result<Vec<u32>, AllocError>
-    requires { stack_top rules.now height 0 wirings.now < 2 ^ 32 }
-    ensures { IfOk result (λ bases. bases.items ≡ row_bases rules.now height 0 wirings.now) }
+    requires { stack_top rules.now heights.now 0 wirings.now < 2 ^ 32 }
+    ensures { IfOk result (λ bases. bases.items ≡ row_bases rules.now heights.now 0 wirings.now) }
 {
     let mut bases = Vec::new(alloc);
     let mut base = 0;
     let mut rest = wirings;
-    while let Some((wiring, above)) = rest.split_first() {
-        if above.is_empty() {
+    let mut rows = heights;
+    while let Some((height, others)) = rows.split_first() {
+        let Some((wiring, above)) = rest.split_first() else {
             return Ok(bases);
-        }
+        };
         let row = base + channel_height(wiring, rules);
         bases.push(row as u32)?;
-        base = row + u64::from(height);
+        base = row + u64::from(*height);
         rest = above;
+        rows = others;
     }
     Ok(bases)
 }
 
 /// The upper edge of the last channel in units. Takes no memory.
-pub(crate) fn stack_top(wirings: &[Wiring], height: u32, rules: &Rules) -> u64
-    requires { stack_top rules.now height 0 wirings.now < 2 ^ 32 }
-    ensures { result ≡ stack_top rules.now height 0 wirings.now }
+#[tactic(auto, using(crate::proofs::StackBounds::edge_laws))]
+pub(crate) fn stack_top(wirings: &[Wiring], heights: &[u32], rules: &Rules) -> u64
+    requires { stack_top rules.now heights.now 0 wirings.now < 2 ^ 32 }
+    ensures { result ≡ stack_top rules.now heights.now 0 wirings.now }
 {
     let mut base = 0;
+    let mut rows = heights;
     let mut rest = wirings;
     while let Some((wiring, above)) = rest.split_first() {
         let top = base + channel_height(wiring, rules);
-        if above.is_empty() {
+        let Some((height, others)) = rows.split_first() else {
             return top;
-        }
-        base = top + u64::from(height);
+        };
+        base = top + u64::from(*height);
+        rows = others;
         rest = above;
     }
     base

@@ -48,7 +48,7 @@ fn drawings(
     Ok(drawn)
 }
 
-/// Where the channels, rows, cells and feeds of a routed design lie: from y 0 up, channel 0, row 0, channel 1, and so on, each row of the design's height and
+/// Where the channels, rows, cells and feeds of a routed design lie: from y 0 up, channel 0, row 0, channel 1, and so on, each row of its own height and
 /// each channel of t tracks as high as t + 1 tracks. The rows with feeds are those of their cells; there is one wiring for each channel, within the tracks and
 /// columns of the bound, which passes no limit. The one error is want of memory.
 ///
@@ -69,15 +69,17 @@ pub fn lay(
     ensures good { IfOk result (λ _. HasRoom rules.now design.now → AreWired design.now fed.now wirings.now
         → Good rules.now design.now (layout_of rules.now design.now (stack_of rules.now design.now fed.now wirings.now))) }
 {
+    // The bounds of the design's type are known once a field is read.
+    let _pins = &design.pins;
     let centi = u64::from(rules.grid.centi);
-    let height = design.height;
-    let channel_base = channel_bases(alloc, wirings, height, rules)?;
-    let row_base = row_bases(alloc, wirings, height, rules)?;
+    let heights = fed.heights.items();
+    let channel_base = channel_bases(alloc, wirings, heights, rules)?;
+    let row_base = row_bases(alloc, wirings, heights, rules)?;
     let cells = placed_rows(alloc, design, rules, fed.rows.items(), row_base.as_slice())?;
     let columns = u64::from(most_columns(wirings));
     Ok(Laid {
         width: columns * u64::from(rules.grid.column) * centi,
-        height: stack_top(wirings, height, rules) * centi,
+        height: stack_top(wirings, heights, rules) * centi,
         channel_base: Items::new(channel_base),
         row_base: Items::new(row_base),
         cells: Items::new(cells),
@@ -106,9 +108,11 @@ pub fn stack(
 {
     let laid = lay(alloc, design, fed, wirings, rules)?;
     let shapes = drawings(alloc, wirings, laid.channel_base.items(), rules)?;
+    let heights = fed.heights.items().to_vec(alloc)?;
     Ok(Placed {
         channel_base: laid.channel_base,
         row_base: laid.row_base,
+        heights: Items::new(heights),
         cells: laid.cells,
         shapes: Items::new(shapes),
         width: laid.width,

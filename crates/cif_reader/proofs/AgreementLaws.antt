@@ -3,7 +3,7 @@ use Rattle.std.specs.Prelude.{if◌then◌else◌, unwrap_or, Bool, true, false,
 use Rattle.geom_core.specs.declared.layout.Layout.{Layout}
 use Rattle.cif_text.specs.declared.command.Command.{Command}
 use Rattle.cif_text.specs.declared.command.Command.TheVariants as commands
-use Rattle.cif_text.specs.InOrder.{◌>>=◌}
+use Rattle.read_base.specs.Steps.{◌>>=◌}
 use Rattle.cif_text.specs.Symbols.{Symbol, Level, State}
 use Rattle.cif_text.specs.Meaning.{Unmeant, undefined, twice, inexact, no_layer, no_symbol_name, at_command, step, run, layout_of, meaning}
 use Rattle.cif_reader.specs.declared.fault.ExpandKind.{ExpandKind}

@@ -7,7 +7,7 @@ use Rattle.geom_core.specs.declared.layout.Cell.{Cell}
 use Rattle.geom_core.specs.declared.layout.Shape.{Shape}
 use Rattle.cif_text.specs.Meaning.{name_behind, layer_behind, waiting_behind, cells_by, with_main, with_inside}
 use Rattle.cif_text.specs.Symbols.{Symbol, Definition, Main, State, symbol_of}
-use Rattle.cif_reader.specs.declared.refusal.Refusal.{Refusal}
+use Rattle.cif_reader.specs.declared.refusal.ExpandStop.{ExpandStop}
 use Rattle.cif_reader.specs.declared.inside.Open.{Open}
 use Rattle.cif_reader.specs.declared.level.Pen.{Pen}
 use Rattle.cif_reader.specs.declared.table.Kept.{Kept}
@@ -55,7 +55,7 @@ few-inside symbols d h =
     let few : d.kept.count ≤ most_shapes = h.few in omega arith
 
 -- a command inside the definition that is open
-pub inside-behind : (old : Standing) (d e : Open) (drawing : Command) (result : Result (Unit {0}) Refusal) → IsStanding old → old.definition ≡ Some d
+pub inside-behind : (old : Standing) (d e : Open) (drawing : Command) (result : Result (Unit {0}) ExpandStop) → IsStanding old → old.definition ≡ Some d
     → is_drawing drawing ≡ true
     → Takes result (definition_given old.table.symbols old.table.depths (definition_seen old.table.symbols d) drawing)
     (IsInsideBehind old.table.symbols d e)
@@ -76,7 +76,7 @@ inside-behind old d e drawing result is there draws taken =
     }) taken)
 
 -- a command of the main level
-pub outside-behind : (old : Standing) (main : MainKept) (drawing : Command) (result : Result (Unit {0}) Refusal) → IsStanding old → old.definition ≡ None
+pub outside-behind : (old : Standing) (main : MainKept) (drawing : Command) (result : Result (Unit {0}) ExpandStop) → IsStanding old → old.definition ≡ None
     → is_drawing drawing ≡ true
     → Takes result (main_given old.table.symbols old.table.depths (main_seen old.main) drawing) (IsOutsideBehind old.main main)
     → Takes result (advance (seen old) drawing) (IsBehind (record old { main = main }) false)

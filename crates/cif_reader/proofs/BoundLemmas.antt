@@ -10,7 +10,7 @@ use Rattle.geom_core.specs.Reach.{IsExtentInReach}
 use Rattle.geom_core.specs.Turning.{Turning, flipped, quarter_turned, quarters_turned, shifted, moved}
 use Rattle.cif_text.specs.Symbols.{moved_shapes}
 use Rattle.cif_reader.specs.Limits.{farthest, first_far, coordinates_of, sides_of}
-use Rattle.cif_reader.specs.Sides.{IsNear}
+use Rattle.cif_reader.specs.Sides.{AreSidesNear}
 use Rattle.cif_reader.specs.Bounds.{around_both, joined}
 use Rattle.cif_reader.specs.Table.{Spans, AreAround, ReachesWithin}
 use Rattle.cif_reader.specs.Within.{IsNotFar}
@@ -103,7 +103,7 @@ reaches-moved times t (Some e) across up h = λ x is.
     let same : moved t e ≡ x = cc in subst (ReachesWithin (suc times)) same (reach-moved times t e across up (h e refl))
 
 -- no shape inside a rectangle is too far that is not too far itself
-near-spanned : (e s : Extent) → IsNear e → Spans e s → IsNear s
+near-spanned : (e s : Extent) → AreSidesNear e → Spans e s → AreSidesNear s
 near-spanned e s near h = record {
   x0 = omega (arith, ints, near.x0, near.x1, h.x0, h.x0_below);
   y0 = omega (arith, ints, near.y0, near.y1, h.y0, h.y0_below);
@@ -114,15 +114,15 @@ near-spanned e s near h = record {
 not-far : (z : ℤ) (zs : List ℤ) → IsNotFar z → first_far (z ∷ zs) ≡ first_far zs
 not-far z zs near = let test : nat_lt farthest (nat_abs z) ≡ false = grind (arith, nat_tests) in rw test refl
 
-near-sides : (e : Extent) (zs : List ℤ) → IsNear e → first_far (sides_of e ++ zs) ≡ first_far zs
+near-sides : (e : Extent) (zs : List ℤ) → AreSidesNear e → first_far (sides_of e ++ zs) ≡ first_far zs
 near-sides e zs h =
     not-far e.x0 (e.y0 ∷ e.x1 ∷ e.y1 ∷ zs) h.x0 ∙ not-far e.y0 (e.x1 ∷ e.y1 ∷ zs) h.y0 ∙ not-far e.x1 (e.y1 ∷ zs) h.x1 ∙ not-far e.y1 zs h.y1
 
-near-all : (e : Extent) (shapes : List Shape) → IsNear e → AllByRecursion (λ s. Spans e s.rect) shapes → first_far (coordinates_of shapes) ≡ None
+near-all : (e : Extent) (shapes : List Shape) → AreSidesNear e → AllByRecursion (λ s. Spans e s.rect) shapes → first_far (coordinates_of shapes) ≡ None
 near-all e [] near h = refl
 near-all e (s ∷ ss) near h = near-sides s.rect (coordinates_of ss) (near-spanned e s.rect near h.0) ∙ near-all e ss near h.1
 
-pub around-near : (bounds : Option Extent) (shapes : List Shape) → ForSome bounds IsNear → AreAround bounds shapes → first_far (coordinates_of shapes) ≡ None
+pub around-near : (bounds : Option Extent) (shapes : List Shape) → ForSome bounds AreSidesNear → AreAround bounds shapes → first_far (coordinates_of shapes) ≡ None
 around-near None shapes near h = rw h refl
 around-near (Some e) shapes near h = near-all e shapes (near e refl) h
 

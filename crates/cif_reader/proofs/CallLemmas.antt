@@ -7,7 +7,7 @@ use Rattle.geom_core.specs.Turning.{Turning, moved}
 use Rattle.cif_text.specs.Symbols.{Symbol, moved_shapes}
 use Rattle.cif_reader.specs.declared.table.Kept.{Kept}
 use Rattle.cif_reader.specs.Limits.{first_far, coordinates_of}
-use Rattle.cif_reader.specs.Sides.{IsNear}
+use Rattle.cif_reader.specs.Sides.{AreSidesNear}
 use Rattle.cif_reader.specs.Table.{AreAround, symbol_at, symbols_behind, items_drawn}
 use Rattle.cif_reader.proofs.BoundLemmas.{around-moved, around-near}
 use Rattle.cif_reader.proofs.TableLemmas.{IsCopied}
@@ -18,6 +18,6 @@ pub shapes-at : (table : List Kept) (of : ℕ) (kept : Kept) → IsCopied table 
 shapes-at table of kept there = ap (λ (s : Symbol). s.shapes) there.symbol
 
 -- shapes in a rectangle that is near under a turn are near under it
-pub near-none : (t : Turning) (bounds : Option Extent) (shapes : List Shape) → AreAround bounds shapes → ForSome (option_map (moved t) bounds) IsNear
+pub near-none : (t : Turning) (bounds : Option Extent) (shapes : List Shape) → AreAround bounds shapes → ForSome (option_map (moved t) bounds) AreSidesNear
     → first_far (coordinates_of (moved_shapes t shapes)) ≡ None
 near-none t bounds shapes around near = around-near (option_map (moved t) bounds) (moved_shapes t shapes) near (around-moved t bounds shapes around)

@@ -1,16 +1,17 @@
 use Rattle.cif_text.specs.declared.command.Command.TheVariants as commands
-use Rattle.cif_reader.specs.declared.refusal.Refusal.TheVariants as refusals
-use Rattle.std.proofs.Common.{◌≡◌, refl, ap, sym, ◌∙◌, subst, ℕ, suc, ◌+◌, List, [], ◌∷◌, length, Bool, true, false, Ok, Err, arith}
+use Rattle.cif_reader.specs.declared.refusal.ExpandStop.TheVariants as refusals
+use Rattle.std.proofs.Common.{◌≡◌, refl, ap, sym, ◌∙◌, subst, ℕ, suc, ◌+◌, List, [], ◌∷◌, length, Bool, true, false, Ok, arith}
 use Rattle.std.specs.Prelude.{is_some, not}
 use Rattle.cif_text.specs.declared.command.Command.{Command}
 use Rattle.cif_text.specs.CifReads.{is_open_behind}
 use Rattle.cif_text.specs.Sound.{AreSound, IsInPlace}
-use Rattle.cif_reader.specs.declared.refusal.Refusal.{Refusal}
+use Rattle.cif_reader.specs.declared.refusal.ExpandStop.{ExpandStop}
 use Rattle.cif_reader.specs.declared.standing.Standing.{Standing}
 use Rattle.cif_reader.specs.Behind.{seen, IsStanding, IsBehind}
-use Rattle.cif_reader.specs.Expanding.{Expands, fault_of}
+use Rattle.cif_reader.specs.Expanding.{fault_of, told_of}
+use Rattle.read_base.specs.Answers.{Fails}
 use Rattle.cif_reader.specs.Expansion.{Progress, advance, progress, at_first, expansion}
-use Rattle.cif_reader.specs.Refusals.{Takes}
+use Rattle.cif_reader.specs.Refusals.{Takes, kind_of}
 use Rattle.std_laws.proofs.Options.{ok-and}
 
 -- sound commands, or none behind the end
@@ -68,11 +69,11 @@ up-to-next all s t at rest cs c h is taken =
     }
 
 -- a command that is refused
-pub refused-at : (all : List Command) (s : Standing) (at : ℕ) (rest cs : List Command) (c : Command) (refusal : Refusal) (P : Progress → Type 0) → IsUpTo all s at rest
-    → rest ≡ c ∷ cs → Takes {X = Unit {0}} (Err refusal) (advance (seen s) c) P → Expands (Err (fault_of refusal at)) (expansion all)
+pub refused-at : (all : List Command) (s : Standing) (at : ℕ) (rest cs : List Command) (c : Command) (refusal : ExpandStop) → IsUpTo all s at rest
+    → rest ≡ c ∷ cs → Fails kind_of refusal (advance (seen s) c) → Fails told_of (fault_of refusal at) (expansion all)
 unfolding progress expansion
-refused-at all s at rest cs c refusals.Memory P h is taken = tt
-refused-at all s at rest cs c (refusals.Because kind) P h is taken = rw (h.done, is, taken) refl
+refused-at all s at rest cs c refusals.Memory h is taken = tt
+refused-at all s at rest cs c (refusals.Because kind) h is taken = rw (h.done, is, taken) refl
 
 -- the end
 pub expanded : (all : List Command) (s : Standing) (at : ℕ) (rest : List Command) → IsUpTo all s at rest → length rest ≡ 0

@@ -7,13 +7,13 @@ use Rattle.geom_core.specs.Extent.{Extent}
 use Rattle.geom_core.specs.Turning.{Turning}
 use Rattle.cif_text.specs.declared.command.Command.{Command}
 use Rattle.cif_text.specs.declared.command.Command.TheVariants as commands
-use Rattle.cif_text.specs.InOrder.{◌>>=◌}
+use Rattle.read_base.specs.Steps.{◌>>=◌}
 use Rattle.cif_text.specs.Scales.{box_around, scaled_extent, scaled_turning}
 use Rattle.cif_text.specs.Symbols.{Symbol, Level, Definition, State, symbol_of, moved_shapes}
 use Rattle.cif_text.specs.Meaning.{Unmeant, undefined, inexact, no_symbol_name, found, on_layer, drawn_by, definition_with, cells_by, main_with, step, with_main, with_inside, started, finished, opened}
 use Rattle.cif_reader.specs.declared.fault.ExpandKind.{ExpandKind}
 use Rattle.cif_reader.specs.declared.fault.ExpandKind.TheVariants as kinds
-use Rattle.cif_reader.specs.declared.calls.Call.{Call}
+use Rattle.cif_reader.specs.declared.calls.CalledSymbol.{CalledSymbol}
 use Rattle.cif_reader.specs.declared.level.Given.TheVariants as givens
 use Rattle.cif_reader.specs.Sides.{IsNearTurn}
 use Rattle.cif_reader.specs.Standing.{IsGiven}
@@ -107,7 +107,7 @@ call-turn n before (Some symbol) (Some turn) call is =
     by (Some kind) is = cc
     by None is = let whole : (symbol, turn) ≡ call = cc is in ap (λ (c : Symbol × Turning). Some c.1) whole
 
-pub copied-given : (t : Tabled) (l : Level) (c : Command) (n : ℕ) (flip : Bool) (quarters : ℕ) (dx dy : ℤ) (turn : Option Turning) (before : ℕ) (call : Call)
+pub copied-given : (t : Tabled) (l : Level) (c : Command) (n : ℕ) (flip : Bool) (quarters : ℕ) (dx dy : ℤ) (turn : Option Turning) (before : ℕ) (call : CalledSymbol)
     → c ≡ commands.Call n flip quarters dx dy → turn ≡ scaled_turning l.a l.b flip quarters dx dy
     → call_of n before (symbol_of n t.symbols) turn ≡ Ok (symbol_at t.symbols call.symbol.place, call.turn)
     → call.symbol.table.now ≡ t → IsPlaceOf n t call.symbol.place → IsNearTurn call.turn → IsGiven t l c (givens.Copied call)

@@ -3,6 +3,7 @@ use Rattle.geom_core.specs.declared.layout.Layout.{Layout}
 use Rattle.cif_text.specs.declared.command.Command.{Command}
 use Rattle.cif_text.specs.declared.command.Command.TheVariants as commands
 use Rattle.cif_text.specs.declared.fault.CifKind.{CifKind}
+use Rattle.read_base.specs.Digits.{number_within}
 use Rattle.cif_text.specs.Numbers.{natural, positive, number}
 use Rattle.cif_text.specs.Forms.{box_end, box_form, layer_form, start_form, definition_form, user_form}
 use Rattle.cif_text.specs.Calls.{step_of, steps_of, call_form}
@@ -25,41 +26,41 @@ abbrev refused : ExpandKind → ℕ → Option (Result Layout (ExpandKind × ℕ
 refused kind at = Some (Err (kind, at))
 
 undefined_call : gives (codes "C 2; E") ≡ refused (kinds.Undefined 2) 0
-unfolding cif_reads commands_at after_comment box_end box_form layer_form start_form definition_form call_form user_form step_of steps_of natural positive number step advance progress expansion
+unfolding cif_reads commands_at after_comment box_end box_form layer_form start_form definition_form call_form user_form step_of steps_of natural positive number number_within step advance progress expansion
 undefined_call = refl
 
 open_call : gives (codes "DS 5; C 5; DF; E") ≡ refused (kinds.Undefined 5) 1
-unfolding cif_reads commands_at after_comment box_end box_form layer_form start_form definition_form call_form user_form step_of steps_of natural positive number step advance progress expansion
+unfolding cif_reads commands_at after_comment box_end box_form layer_form start_form definition_form call_form user_form step_of steps_of natural positive number number_within step advance progress expansion
 open_call = refl
 
 second_definition : gives (codes "DS 1; DF; DS 1; DF; E") ≡ refused (kinds.Twice 1) 2
-unfolding cif_reads commands_at after_comment box_end box_form layer_form start_form definition_form call_form user_form step_of steps_of natural positive number step advance progress expansion
+unfolding cif_reads commands_at after_comment box_end box_form layer_form start_form definition_form call_form user_form step_of steps_of natural positive number number_within step advance progress expansion
 second_definition = refl
 
 inexact_box : gives (codes "DS 1 1 2; L NM; B 3 4 2 2; DF; C 1; E") ≡ refused kinds.Inexact 2
-unfolding cif_reads commands_at after_comment box_end box_form layer_form start_form definition_form call_form user_form step_of steps_of natural positive number step advance progress expansion
+unfolding cif_reads commands_at after_comment box_end box_form layer_form start_form definition_form call_form user_form step_of steps_of natural positive number number_within step advance progress expansion
 inexact_box = refl
 
 far_offset : gives (codes "DS 1; L NM; B 2 2 0 0; DF; C 1 T 2000000001 0; E") ≡ refused (kinds.TooFar (pos 4000000002)) 4
-unfolding cif_reads commands_at after_comment box_end box_form layer_form start_form definition_form call_form user_form step_of steps_of natural positive number step advance progress expansion
+unfolding cif_reads commands_at after_comment box_end box_form layer_form start_form definition_form call_form user_form step_of steps_of natural positive number number_within step advance progress expansion
 far_offset = refl
 
 -- the far side of a shape, under its call's turn; and the offset before it
 far_shape : gives (codes "DS 1; L NM; B 2 2 0 0; DF; C 1 R 0 1 T 0 -2000000000; E") ≡ refused (kinds.TooFar (negsuc 4000000001)) 4
-unfolding cif_reads commands_at after_comment box_end box_form layer_form start_form definition_form call_form user_form step_of steps_of natural positive number step advance progress expansion
+unfolding cif_reads commands_at after_comment box_end box_form layer_form start_form definition_form call_form user_form step_of steps_of natural positive number number_within step advance progress expansion
 far_shape = refl
 
 -- a far box without a layer is far first
 far_box : gives (codes "B 2 2 0 2000000000; E") ≡ refused (kinds.TooFar (pos 4000000002)) 0
-unfolding cif_reads commands_at after_comment box_end box_form layer_form start_form definition_form call_form user_form step_of steps_of natural positive number step advance progress expansion
+unfolding cif_reads commands_at after_comment box_end box_form layer_form start_form definition_form call_form user_form step_of steps_of natural positive number number_within step advance progress expansion
 far_box = refl
 
 box_without_layer : gives (codes "L NM; DS 1; B 2 2 0 0; DF; E") ≡ refused kinds.NoLayer 2
-unfolding cif_reads commands_at after_comment box_end box_form layer_form start_form definition_form call_form user_form step_of steps_of natural positive number step advance progress expansion
+unfolding cif_reads commands_at after_comment box_end box_form layer_form start_form definition_form call_form user_form step_of steps_of natural positive number number_within step advance progress expansion
 box_without_layer = refl
 
 call_of_no_name : gives (codes "DS 1; DF; 91 u; C 1; E") ≡ refused kinds.NoSymbolName 3
-unfolding cif_reads commands_at after_comment box_end box_form layer_form start_form definition_form call_form user_form step_of steps_of natural positive number step advance progress expansion
+unfolding cif_reads commands_at after_comment box_end box_form layer_form start_form definition_form call_form user_form step_of steps_of natural positive number number_within step advance progress expansion
 call_of_no_name = refl
 
 -- definitions from this number on, each of which calls the one before it

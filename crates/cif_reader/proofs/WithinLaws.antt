@@ -12,7 +12,7 @@ use Rattle.geom_core.specs.Extent.{Extent}
 use Rattle.geom_core.specs.Moving.{moved_shape}
 use Rattle.geom_core.specs.Turning.{Turning}
 use Rattle.cif_text.specs.declared.command.Command.{Command}
-use Rattle.cif_text.specs.InOrder.{◌>>=◌}
+use Rattle.read_base.specs.Steps.{◌>>=◌}
 use Rattle.cif_text.specs.Scales.{scaled, doubled, box_around, scaled_extent, turning_of, scaled_turning}
 use Rattle.cif_text.specs.Sound.{IsSound, AreSound}
 use Rattle.cif_text.specs.Symbols.{Symbol, Level, Definition, Main, State, symbol_of, moved_shapes}

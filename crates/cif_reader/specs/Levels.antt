@@ -6,7 +6,7 @@ use Rattle.geom_core.specs.Extent.{Extent}
 use Rattle.geom_core.specs.Turning.{Turning}
 use Rattle.cif_text.specs.declared.command.Command.{Command}
 use Rattle.cif_text.specs.declared.command.Command.TheVariants as commands
-use Rattle.cif_text.specs.InOrder.{◌>>=◌}
+use Rattle.read_base.specs.Steps.{◌>>=◌}
 use Rattle.cif_text.specs.Symbols.{Symbol, Level, Definition, Main, moved_shapes}
 use Rattle.cif_text.specs.Meaning.{drawn_by, definition_with, cells_by, main_with}
 use Rattle.cif_reader.specs.declared.fault.ExpandKind.{ExpandKind}

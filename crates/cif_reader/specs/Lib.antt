@@ -26,7 +26,7 @@ pub mod Growing
 pub mod Standing
 -- the progress that the program keeps
 pub mod Behind
--- how commands are expanded
+-- what a fault of commands tells
 pub mod Expanding
 -- sound commands
 pub mod SoundCommands

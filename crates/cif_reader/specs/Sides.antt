@@ -11,7 +11,7 @@ pub record IsProper (e : Extent) : Type 0 where
   pub up : e.y0 <ℤ e.y1
 
 -- a rectangle of which no side is too far
-pub record IsNear (e : Extent) : Type 0 where
+pub record AreSidesNear (e : Extent) : Type 0 where
   pub x0 : IsNotFar e.x0
   pub y0 : IsNotFar e.y0
   pub x1 : IsNotFar e.x1

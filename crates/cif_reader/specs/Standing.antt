@@ -5,7 +5,7 @@ use Rattle.geom_core.specs.declared.layout.Cell.{Cell}
 use Rattle.cif_text.specs.declared.command.Command.{Command}
 use Rattle.cif_text.specs.Meaning.{cells_of, cells_by}
 use Rattle.cif_text.specs.Symbols.{Symbol, Level, Definition, Main, moved_shapes}
-use Rattle.cif_reader.specs.declared.calls.Call.{Call}
+use Rattle.cif_reader.specs.declared.calls.CalledSymbol.{CalledSymbol}
 use Rattle.cif_reader.specs.declared.fault.ExpandKind.{ExpandKind}
 use Rattle.cif_reader.specs.declared.inside.Open.{Open}
 use Rattle.cif_reader.specs.declared.level.Given.{Given}
@@ -23,7 +23,7 @@ use Rattle.cif_reader.specs.Tabled.{Tabled, depth_at}
 abbrev pub level_seen : Pen → List Shape → Level
 level_seen pen shapes = record { a = pen.scale.a; b = pen.scale.b; layer = pen.layer; shapes = shapes }
 
-abbrev pub symbol_called : Call → Symbol
+abbrev pub symbol_called : CalledSymbol → Symbol
 symbol_called call = symbol_at call.symbol.table.now.symbols call.symbol.place
 
 -- the shapes that are given, the depth that they make, and their cells where a name waits and so many shapes stand before

@@ -1,7 +1,7 @@
 //! The rectangles around what symbols draw: joined, moved under a turn, and tested for sides that are too far.
 
 ghost use Rattle.cif_reader.specs.Bounds.{around_both, joined};
-ghost use Rattle.cif_reader.specs.Sides.{IsNear};
+ghost use Rattle.cif_reader.specs.Sides.{AreSidesNear};
 ghost use Rattle.cif_reader.specs.Table.{ReachesWithin};
 ghost use Rattle.geom_core.specs.Turning.{moved};
 ghost use Rattle.std.specs.Bool.{OnTrue};
@@ -69,7 +69,7 @@ pub(crate) fn moved_bounds(bounds: Option<Rect>, turn: &NearTurn) -> Option<Rect
 
 /// Whether no side of the rectangle is too far, where there is one.
 pub(crate) fn are_near(bounds: Option<Rect>) -> bool
-    ensures { OnTrue result (ForSome bounds IsNear) }
+    ensures { OnTrue result (ForSome bounds AreSidesNear) }
 {
     match bounds {
         Some(rect) => far_side(&wide(&rect)).is_none(),

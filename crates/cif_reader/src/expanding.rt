@@ -1,6 +1,7 @@
 //! The layout that a list of CIF commands gives, or the number of the first refused command and the reason.
 
-ghost use Rattle.cif_reader.specs.Expanding.{Expands, fault_of};
+ghost use Rattle.cif_reader.specs.Expanding.{fault_of, told_of};
+ghost use Rattle.read_base.specs.Answers.{AnswersAs};
 ghost use Rattle.cif_reader.specs.Expansion.{expansion};
 ghost use Rattle.cif_reader.specs.Within.{IsLayoutWithin};
 ghost use Rattle.cif_text.specs.Bodies.{IsDrawnBy};
@@ -8,18 +9,18 @@ ghost use Rattle.cif_text.specs.Sound.{AreSound};
 ghost use Rattle.std.specs.Prelude.{◌≡◌, ◌^◌, ◌<◌, false, length, IfOk};
 
 use crate::fault::ExpandFault;
-use crate::refusal::Refusal;
+use crate::refusal::ExpandStop;
 use crate::standing::{Standing, at_first, step};
 use cif_text::Command;
 use geom_core::{Items, Layout};
 use std::alloc::Global;
 
-fn fault_at(refusal: Refusal, at: u32) -> ExpandFault
+fn fault_at(refusal: ExpandStop, at: u32) -> ExpandFault
     ensures { result ≡ fault_of refusal at }
 {
     match refusal {
-        Refusal::Because(kind) => ExpandFault::Bad { kind, at },
-        Refusal::Memory => ExpandFault::Memory,
+        ExpandStop::Because(kind) => ExpandFault::Bad { kind, at },
+        ExpandStop::Memory => ExpandFault::Memory,
     }
 }
 
@@ -40,7 +41,7 @@ fn layout_of(standing: Standing) -> Layout
 pub fn expand(alloc: Global, commands: &[Command]) -> Result<Layout, ExpandFault>
     requires sound { AreSound false commands.now }
     requires few { length commands.now < 2 ^ 32 }
-    ensures expands { Expands result (expansion commands.now) }
+    ensures expands { AnswersAs (λ layout. layout) told_of result (expansion commands.now) }
     ensures drawn { IfOk result (λ layout. IsDrawnBy commands.now layout) }
     ensures within { IfOk result (λ layout. IsLayoutWithin (length commands.now) layout) }
 {

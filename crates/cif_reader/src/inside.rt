@@ -9,7 +9,7 @@ ghost use Rattle.std.specs.Prelude.{◌≡◌, OnOk};
 use crate::drawing_command::DrawingCommand;
 use crate::growing::push;
 use crate::level::Pen;
-use crate::refusal::Refusal;
+use crate::refusal::ExpandStop;
 use crate::symbol_table::SymbolTable;
 use crate::table::Kept;
 use cif_text::{Command, UserKind};
@@ -43,7 +43,7 @@ pub(crate) fn step_inside(
     table: &SymbolTable,
     definition: &mut Open,
     command: DrawingCommand,
-) -> Result<(), Refusal>
+) -> Result<(), ExpandStop>
     requires { IsOpen table.now.symbols definition.old }
     ensures { Takes result
         (definition_given table.now.symbols table.now.depths (definition_seen table.now.symbols definition.old) command.entry.command.now)

@@ -1,16 +1,16 @@
 //! What a drawing command gives a level, that of a definition or the main level.
 ghost use Rattle.cif_reader.specs.Levels.{given};
 ghost use Rattle.cif_reader.specs.Limits.{most_shapes};
-ghost use Rattle.cif_reader.specs.Refusals.{Gives};
+ghost use Rattle.cif_reader.specs.Refusals.{Answers};
 ghost use Rattle.cif_reader.specs.Standing.{IsGiven, depth_made, level_seen, shapes_made};
 ghost use Rattle.cif_text.specs.Meaning.{layer_behind};
 ghost use Rattle.std.specs.Prelude.{◌≡◌, ◌≤◌, List, length, IfOk};
 
-use crate::calls::{Call, called, depth_above};
+use crate::calls::{CalledSymbol, called, depth_above};
 use crate::drawing_command::DrawingCommand;
 use crate::fault::ExpandKind;
 use crate::limit_passing::boxed;
-use crate::refusal::Refusal;
+use crate::refusal::ExpandStop;
 use crate::scales::Scale;
 use crate::symbol_table::SymbolTable;
 use crate::unscaled::{UnscaledBox, UnscaledTurn};
@@ -30,7 +30,7 @@ pub(crate) struct Pen {
 pub(crate) enum Given<'t> {
     Nothing,
     Own(Shape),
-    Copied(Call<'t>),
+    Copied(CalledSymbol<'t>),
 }
 
 impl Pen {
@@ -50,8 +50,8 @@ impl Pen {
         table: &'t SymbolTable,
         before: usize,
         command: DrawingCommand,
-    ) -> Result<Given<'t>, Refusal>
-        ensures gives { (shapes : List Shape) → length shapes ≡ before → before ≤ most_shapes → Gives shapes_made result
+    ) -> Result<Given<'t>, ExpandStop>
+        ensures gives { (shapes : List Shape) → length shapes ≡ before → before ≤ most_shapes → Answers shapes_made result
             (given table.now.symbols (level_seen self.now shapes) command.entry.command.now) }
         ensures is { IfOk result (λ given. (shapes : List Shape) → length shapes ≡ before
             → IsGiven table.now (level_seen self.now shapes) command.entry.command.now given) }
@@ -74,7 +74,7 @@ impl Pen {
                 let sides = self.scale.scaled_sides(numbers.sides());
                 match boxed(self.layer, before, sides) {
                     Ok(shape) => Ok(Given::Own(shape)),
-                    Err(kind) => Err(Refusal::Because(kind)),
+                    Err(kind) => Err(ExpandStop::Because(kind)),
                 }
             }
             Command::Call {

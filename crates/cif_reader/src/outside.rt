@@ -2,7 +2,7 @@
 
 ghost use Rattle.cif_reader.specs.Levels.{main_given, named};
 ghost use Rattle.cif_reader.specs.Limits.{most_shapes};
-ghost use Rattle.cif_reader.specs.Refusals.{Gives, Takes};
+ghost use Rattle.cif_reader.specs.Refusals.{Answers, Takes};
 ghost use Rattle.cif_reader.specs.Standing.{IsOutsideBehind, cells_made, main_seen, shapes_made};
 ghost use Rattle.cif_text.specs.Meaning.{waiting_behind};
 ghost use Rattle.std.specs.Option.{option_to_list};
@@ -11,7 +11,7 @@ ghost use Rattle.std.specs.Prelude.{◌≡◌, ◌≤◌, length, IfOk, OnOk, �
 use crate::drawing_command::DrawingCommand;
 use crate::fault::ExpandKind;
 use crate::level::{Given, Pen};
-use crate::refusal::Refusal;
+use crate::refusal::ExpandStop;
 use crate::symbol_table::SymbolTable;
 use cif_text::{Command, UserKind};
 use geom_core::{Cell, Name, Shape, Turn};
@@ -54,8 +54,8 @@ fn cell_of(
     waiting: &Option<Name>,
     given: &Given,
     first: u32,
-) -> Result<Option<Cell>, Refusal>
-    ensures { Gives option_to_list result (named (cells_made waiting.now first given.now)) }
+) -> Result<Option<Cell>, ExpandStop>
+    ensures { Answers option_to_list result (named (cells_made waiting.now first given.now)) }
 {
     let Some(name) = waiting else {
         return Ok(None);
@@ -65,11 +65,11 @@ fn cell_of(
     };
     let kept = call.symbol.kept();
     let Some(symbol) = &kept.name else {
-        return Err(Refusal::Because(ExpandKind::NoSymbolName));
+        return Err(ExpandStop::Because(ExpandKind::NoSymbolName));
     };
     match named_cell(alloc, name, symbol, *call.turn.turn(), first, kept.count) {
         Ok(cell) => Ok(Some(cell)),
-        Err(_) => Err(Refusal::Memory),
+        Err(_) => Err(ExpandStop::Memory),
     }
 }
 
@@ -122,7 +122,7 @@ pub(crate) fn step_outside(
     table: &SymbolTable,
     main: &mut Main,
     command: DrawingCommand,
-) -> Result<(), Refusal>
+) -> Result<(), ExpandStop>
     requires { length main.old.shapes.items ≤ most_shapes }
     ensures { Takes result
         (main_given table.now.symbols table.now.depths (main_seen main.old) command.entry.command.now) (IsOutsideBehind main.old main.new) }

@@ -5,40 +5,40 @@ use std::alloc::{AllocError, AllocFailed};
 
 /// Why a command is not taken: it is refused, or memory ran out.
 #[derive(Clone, Copy, Debug)]
-pub(crate) enum Refusal {
+pub(crate) enum ExpandStop {
     Because(ExpandKind),
     Memory,
 }
 
-impl From<ExpandKind> for Refusal {
+impl From<ExpandKind> for ExpandStop {
     ghost use Rattle.std.specs.Prelude.{◌≡◌};
-    ghost use Rattle.cif_reader.specs.declared.refusal.Refusal.TheVariants as refusals;
+    ghost use Rattle.cif_reader.specs.declared.refusal.ExpandStop.TheVariants as refusals;
 
     ghost from_gives = { λ kind refusal. refusal ≡ refusals.Because kind };
 
-    fn from(kind: ExpandKind) -> Refusal {
-        Refusal::Because(kind)
+    fn from(kind: ExpandKind) -> ExpandStop {
+        ExpandStop::Because(kind)
     }
 }
 
-impl From<AllocError> for Refusal {
+impl From<AllocError> for ExpandStop {
     ghost use Rattle.std.specs.Prelude.{◌≡◌};
-    ghost use Rattle.cif_reader.specs.declared.refusal.Refusal.TheVariants as refusals;
+    ghost use Rattle.cif_reader.specs.declared.refusal.ExpandStop.TheVariants as refusals;
 
     ghost from_gives = { λ _ refusal. refusal ≡ refusals.Memory };
 
-    fn from(_: AllocError) -> Refusal {
-        Refusal::Memory
+    fn from(_: AllocError) -> ExpandStop {
+        ExpandStop::Memory
     }
 }
 
-impl<T: Drop> From<AllocFailed<T>> for Refusal {
+impl<T: Drop> From<AllocFailed<T>> for ExpandStop {
     ghost use Rattle.std.specs.Prelude.{◌≡◌};
-    ghost use Rattle.cif_reader.specs.declared.refusal.Refusal.TheVariants as refusals;
+    ghost use Rattle.cif_reader.specs.declared.refusal.ExpandStop.TheVariants as refusals;
 
     ghost from_gives = { λ _ refusal. refusal ≡ refusals.Memory };
 
-    fn from(_: AllocFailed<T>) -> Refusal {
-        Refusal::Memory
+    fn from(_: AllocFailed<T>) -> ExpandStop {
+        ExpandStop::Memory
     }
 }

@@ -14,7 +14,7 @@ use crate::found::Found;
 use crate::inside::{Open, step_inside};
 use crate::level::Pen;
 use crate::outside::{Main, step_outside};
-use crate::refusal::Refusal;
+use crate::refusal::ExpandStop;
 use crate::scales::Scale;
 use crate::symbol_table::SymbolTable;
 use crate::table::Kept;
@@ -60,7 +60,7 @@ fn finished(standing: &mut Standing, definition: Open) -> Result<(), AllocError>
     standing.table.push(definition.kept)
 }
 
-fn step_finish(standing: &mut Standing) -> Result<(), Refusal>
+fn step_finish(standing: &mut Standing) -> Result<(), ExpandStop>
     requires is { IsStanding standing.old }
     requires inside { is_some standing.old.definition ≡ true }
     ensures { Takes result (advance (seen standing.old) Command.Finish) (IsBehind standing.new false) }
@@ -68,7 +68,7 @@ fn step_finish(standing: &mut Standing) -> Result<(), Refusal>
     match standing.definition.take() {
         Some(definition) => match finished(standing, definition) {
             Ok(()) => Ok(()),
-            Err(_) => Err(Refusal::Memory),
+            Err(_) => Err(ExpandStop::Memory),
         },
         None => Ok(()),
     }
@@ -90,13 +90,18 @@ fn opened(alloc: Global, n: u64, scale: Scale) -> Open
     }
 }
 
-fn step_start(alloc: Global, standing: &mut Standing, n: u64, scale: Scale) -> Result<(), Refusal>
+fn step_start(
+    alloc: Global,
+    standing: &mut Standing,
+    n: u64,
+    scale: Scale,
+) -> Result<(), ExpandStop>
     requires is { IsStanding standing.old }
     requires outside { standing.old.definition ≡ None }
     ensures { Takes result (advance (seen standing.old) (Command.Start n scale.a scale.b)) (IsBehind standing.new true) }
 {
     match Found::by_number(&standing.table, n) {
-        Some(_) => Err(Refusal::Because(ExpandKind::Twice(n))),
+        Some(_) => Err(ExpandStop::Because(ExpandKind::Twice(n))),
         None => {
             standing.main.waiting = None;
             standing.definition = Some(opened(alloc, n, scale));
@@ -109,7 +114,7 @@ fn step_drawing(
     alloc: Global,
     standing: &mut Standing,
     command: DrawingCommand,
-) -> Result<(), Refusal>
+) -> Result<(), ExpandStop>
     requires { IsStanding standing.old }
     ensures { Takes result (advance (seen standing.old) command.entry.command.now) (IsBehind standing.new (is_some standing.old.definition)) }
 {
@@ -120,7 +125,11 @@ fn step_drawing(
 }
 
 /// What stands behind a command.
-pub(crate) fn step(alloc: Global, standing: &mut Standing, command: &Command) -> Result<(), Refusal>
+pub(crate) fn step(
+    alloc: Global,
+    standing: &mut Standing,
+    command: &Command,
+) -> Result<(), ExpandStop>
     requires is { IsStanding standing.old }
     requires place { IsInPlace (is_some standing.old.definition) command.now }
     ensures { Takes result (advance (seen standing.old) command.now)

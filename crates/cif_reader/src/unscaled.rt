@@ -1,5 +1,5 @@
 //! What commands say in the unit of their numbers, before the scale of their definition.
-ghost use Rattle.cif_text.specs.Printable.{IsNear, IsSize};
+ghost use Rattle.cif_text.specs.Printable.{IsCifNumber, IsSize};
 ghost use Rattle.cif_text.specs.Scales.{around, box_around, doubled};
 ghost use Rattle.std.specs.Prelude.{◌≡◌, ◌≤◌, ◌-ℤ◌, ◌+ℤ◌};
 
@@ -8,7 +8,7 @@ use std::marker::Model;
 #[derive(Clone, Copy, Debug)]
 struct Number {
     value: i64,
-    ghost near: { IsNear value },
+    ghost near: { IsCifNumber value },
 }
 
 #[derive(Clone, Copy, Debug)]
@@ -27,8 +27,8 @@ pub(crate) struct UnscaledBox {
     pub(crate) upright: bool,
     ghost length_is: { IsSize length },
     ghost width_is: { IsSize width },
-    ghost cx_near: { IsNear cx },
-    ghost cy_near: { IsNear cy },
+    ghost cx_near: { IsCifNumber cx },
+    ghost cy_near: { IsCifNumber cy },
 }
 
 /// The turn of a call.
@@ -39,8 +39,8 @@ pub(crate) struct UnscaledTurn {
     pub(crate) dx: i64,
     pub(crate) dy: i64,
     ghost turned: { quarters ≤ 3 },
-    ghost across_near: { IsNear dx },
-    ghost up_near: { IsNear dy },
+    ghost across_near: { IsCifNumber dx },
+    ghost up_near: { IsCifNumber dy },
 }
 
 /// The sides of a rectangle in half of the unit.

@@ -3,7 +3,8 @@ use Rattle.std.proofs.Common.{◌≡◌, refl, ap, ◌∙◌, append_assoc, ℕ,
 use Rattle.std.specs.List.{list_all}
 use Rattle.std.specs.Prelude.{◌==◌, ◌&&◌, if◌then◌else◌}
 use Rattle.cif_text.specs.declared.command.Command.{Command}
-use Rattle.cif_text.specs.InOrder.{◌>>=◌, in_order}
+use Rattle.cif_text.specs.InOrder.{in_order}
+use Rattle.read_base.specs.Steps.{◌>>=◌}
 use Rattle.cif_text.specs.Symbols.{Symbol, Main, symbol_of}
 use Rattle.cif_text.specs.CifReads.{is_open_behind}
 use Rattle.cif_text.specs.Meaning.{Unmeant, undefined, found, drawn_by, main_behind}

@@ -4,7 +4,8 @@ use Rattle.std.proofs.lemmas.List.{append-nil}
 use Rattle.std.specs.List.{list_all}
 use Rattle.geom_core.specs.declared.layout.Layout.{Layout}
 use Rattle.cif_text.specs.declared.command.Command.{Command}
-use Rattle.cif_text.specs.InOrder.{◌>>=◌, in_order}
+use Rattle.cif_text.specs.InOrder.{in_order}
+use Rattle.read_base.specs.Steps.{◌>>=◌}
 use Rattle.cif_text.specs.Symbols.{Symbol, Definition, Main, State, symbol_of}
 use Rattle.cif_text.specs.CifReads.{is_open_behind}
 use Rattle.cif_text.specs.Meaning.{Unmeant, drawn_by, definition_with, opened, definition_behind, symbol_of_definition, empty_main, main_behind, started, finished, with_main, with_inside, at_command, step, step_in, run, nothing, layout_of, meaning}

@@ -1,3 +1,4 @@
+use Rattle.read_base.specs.Digits.{number_within}
 use Rattle.cif_text.specs.declared.command.Command.TheVariants as commands
 use Rattle.cif_text.specs.declared.command.UserKind.TheVariants as users
 use Rattle.std.proofs.Common.{◌≡◌, refl, ap, ◌∙◌, ℕ, zero, suc, ◌≤◌, List, [], ◌∷◌, ◌++◌, length, length-append, Bool, true, false, ℤ, pos, negsuc, arith, decimal}
@@ -13,11 +14,11 @@ use Rattle.geom_core.specs.LayerText.{is_layer_code, is_layer_text}
 use Rattle.cif_text.specs.declared.command.UserKind.{UserKind}
 use Rattle.cif_text.specs.Printing.{blanked, upright_parts, flip_parts, quarter_parts}
 use Rattle.cif_text.specs.Bytes.{is_blank, is_separator, span, skip, begins, ends, trimmed}
-use Rattle.cif_text.specs.InOrder.{◌>>=◌}
+use Rattle.read_base.specs.Steps.{◌>>=◌}
 use Rattle.cif_text.specs.Numbers.{greatest, natural, number}
 use Rattle.cif_text.specs.Forms.{box_end, box_form, layer_of, layer_form, start_form, definition_form, naming, user_form}
 use Rattle.cif_text.specs.Calls.{Step, translate, point_of, step_of, steps_of, after_all, at_rest, call_of, call_form}
-use Rattle.cif_text.specs.Printable.{IsNear, IsSize, IsNatural, IsPart}
+use Rattle.cif_text.specs.Printable.{IsCifNumber, IsSize, IsNatural, IsPart}
 use Rattle.cif_text.proofs.PrintableTexts.{IsNameText}
 use Rattle.cif_text.proofs.SpanLemmas.{begins-other, ends-other, span-all, skip-blank}
 use Rattle.cif_text.proofs.NumberLemmas.{blank-gap, separator-gap, begins-decimal, number-apart, number-skipped, positive-apart, positive-skipped, natural-skipped}
@@ -29,14 +30,14 @@ upright-stops false = refl
 
 upright-is : (n m : ℕ) (cx cy : ℤ) (upright : Bool)
     → box_end n m cx cy (blanked (upright_parts upright)) ≡ Ok (Ok (commands.Box (pos n) (pos m) cx cy upright))
-unfolding box_end number natural
+unfolding box_end number natural number_within
 upright-is n m cx cy true = refl
 upright-is n m cx cy false = refl
 
 size-part : (n : ℕ) → IsSize (pos n) → IsPart n
 size-part n size = record { low = omega (arith, ints); high = omega (arith, ints) }
 
-pub box-is : (long wide cx cy : ℤ) (upright : Bool) → IsSize long → IsSize wide → IsNear cx → IsNear cy
+pub box-is : (long wide cx cy : ℤ) (upright : Bool) → IsSize long → IsSize wide → IsCifNumber cx → IsCifNumber cy
     → box_form (blanked (signed_decimal long ∷ signed_decimal wide ∷ signed_decimal cx ∷ signed_decimal cy ∷ upright_parts upright))
     ≡ Ok (Ok (commands.Box long wide cx cy upright))
 unfolding box_form
@@ -104,17 +105,17 @@ instance-is text name =
     ap (naming users.InstanceName) bare ∙ naming-some users.InstanceName text name.some
 
 -- two numbers, of which a step is made
-point-is : (step : ℤ → ℤ → Step) (dx dy : ℤ) → IsNear dx → IsNear dy
+point-is : (step : ℤ → ℤ → Step) (dx dy : ℤ) → IsCifNumber dx → IsCifNumber dy
     → point_of step (blanked (signed_decimal dx ∷ signed_decimal dy ∷ [])) ≡ Ok (step dx dy, [])
 point-is step dx dy dx_near dy_near =
     rw (number-skipped is_blank blank-gap dx (blanked (signed_decimal dy ∷ [])) dx_near refl, number-apart is_blank blank-gap dy [] dy_near refl) refl
 
-near-abs : (z : ℤ) → IsNear z → nat_le (nat_abs z) greatest ≡ true
+near-abs : (z : ℤ) → IsCifNumber z → nat_le (nat_abs z) greatest ≡ true
 near-abs (pos n) near = le-leb n greatest (omega (arith, ints))
 near-abs (negsuc n) near = le-leb (suc n) greatest (omega (arith, ints))
 
 -- a call whose offset is near is one
-call-of-is : (n quarters : ℕ) (flip : Bool) (dx dy : ℤ) → IsNear dx → IsNear dy
+call-of-is : (n quarters : ℕ) (flip : Bool) (dx dy : ℤ) → IsCifNumber dx → IsCifNumber dy
     → call_of n (record { flip = flip; quarters = quarters; dx = pos 0 +ℤ dx; dy = pos 0 +ℤ dy }) ≡ Ok (commands.Call n flip quarters dx dy)
 call-of-is n quarters flip dx dy dx_near dy_near =
     rw (+ℤ_idl dx, +ℤ_idl dy, near-abs dx dx_near, near-abs dy dy_near) refl
@@ -130,11 +131,11 @@ turning-stops false (suc zero) dx dy few = refl
 turning-stops false (suc (suc zero)) dx dy few = refl
 turning-stops false (suc (suc (suc k))) dx dy few = refl
 
-turning-is : (n : ℕ) (flip : Bool) (quarters : ℕ) (dx dy : ℤ) → quarters ≤ 3 → IsNear dx → IsNear dy
+turning-is : (n : ℕ) (flip : Bool) (quarters : ℕ) (dx dy : ℤ) → quarters ≤ 3 → IsCifNumber dx → IsCifNumber dy
     → (steps_of (length (turning_text flip quarters dx dy)) (skip is_blank (turning_text flip quarters dx dy))
     >>= λ steps. Ok (after_all steps at_rest >>= call_of n))
     ≡ Ok (Ok (commands.Call n flip quarters dx dy))
-unfolding steps_of step_of number natural
+unfolding steps_of step_of number natural number_within
 turning-is n true zero dx dy few dx_near dy_near =
     rw (point-is translate dx dy dx_near dy_near) (ap Ok (call-of-is n 0 true dx dy dx_near dy_near))
 turning-is n true (suc zero) dx dy few dx_near dy_near =
@@ -154,7 +155,7 @@ turning-is n false (suc (suc (suc zero))) dx dy few dx_near dy_near =
     rw (point-is translate dx dy dx_near dy_near) (ap Ok (call-of-is n 3 false dx dy dx_near dy_near))
 turning-is n false (suc (suc (suc (suc k)))) dx dy few dx_near dy_near = absurd (omega arith)
 
-pub call-is : (n : ℕ) (flip : Bool) (quarters : ℕ) (dx dy : ℤ) → IsNatural n → quarters ≤ 3 → IsNear dx → IsNear dy
+pub call-is : (n : ℕ) (flip : Bool) (quarters : ℕ) (dx dy : ℤ) → IsNatural n → quarters ≤ 3 → IsCifNumber dx → IsCifNumber dy
     → call_form (32 ∷ decimal n ++ turning_text flip quarters dx dy) ≡ Ok (Ok (commands.Call n flip quarters dx dy))
 unfolding call_form
 call-is n flip quarters dx dy n_near few dx_near dy_near =

@@ -1,11 +1,13 @@
 use Rattle.std.proofs.Common.{◌≡◌, refl, ap, ℕ, zero, suc, ◌<◌, ◌≤◌, ℤ, List, [], ◌∷◌, length, Bool, true, false, cond, IfOk, IfSome, Result, Ok, Err, Option, Some, None, arith}
 use Rattle.std.specs.Char.{is_ascii_digit}
-use Rattle.std.specs.Prelude.{◌&&◌, ◌==◌, if◌then◌else◌, nat_le}
-use Rattle.std.specs.Str.Parse.{digits_value}
+use Rattle.std.specs.Prelude.{◌&&◌, ◌==◌, if◌then◌else◌}
 use Rattle.cif_text.specs.declared.fault.CifKind.TheVariants as kinds
 use Rattle.cif_text.specs.Bytes.{is_between, is_blank, not_semicolon, span, skip, begins, ends}
-use Rattle.cif_text.specs.InOrder.{◌>>=◌}
-use Rattle.cif_text.specs.Numbers.{Wrong, too_great, malformed, greatest, value_at, natural, number, apart}
+use Rattle.read_base.specs.Digits.{number_within}
+use Rattle.read_base.specs.Steps.{◌>>=◌}
+use Rattle.cif_text.specs.declared.misfit.Misfit.{Misfit}
+use Rattle.cif_text.specs.declared.misfit.Misfit.TheVariants.{TooGreat, Malformed}
+use Rattle.cif_text.specs.Numbers.{greatest, unless_great, value_at, natural, number, apart}
 use Rattle.cif_text.specs.Forms.{Form}
 use Rattle.cif_text.specs.Calls.{Step, translate, mirror_x, mirror_y, rotate, point_of, mirror_of, step_of, steps_of}
 use Rattle.cif_text.specs.Commands.{fails, open_behind, after_comment, is_left_out, form_of, may_stand, reading_of, cut_of, comment_end, comment_of, command_at}
@@ -43,9 +45,11 @@ span-rest p (c ∷ cs) = by (p c) (span-rest p cs)
 -- numbers
 pub value-leaves : (place : ℕ) (found : List ℕ × List ℕ) → Leaves (length found.1) (value_at place found)
 value-leaves place ([], rest) = record { holds = tt }
-value-leaves place (d ∷ ds, rest) =
-    either-leaves (length rest) (nat_le (digits_value 10 (d ∷ ds)) greatest) (Ok (digits_value 10 (d ∷ ds), rest)) (Err (too_great place))
-    (record { holds = omega arith }) (record { holds = tt })
+value-leaves place (d ∷ ds, rest) = by (number_within greatest (d ∷ ds))
+  where
+    by : (n : Option ℕ) → Leaves (length rest) (unless_great place rest n)
+    by (Some n) = record { holds = omega arith }
+    by None = record { holds = tt }
 
 pub natural-leaves : (bytes : List ℕ) → Leaves (length bytes) (natural bytes)
 unfolding natural
@@ -79,7 +83,7 @@ mirror-leaves : (bytes : List ℕ) → Leaves (length bytes) (mirror_of bytes)
 mirror-leaves [] = record { holds = tt }
 mirror-leaves (c ∷ cs) =
     either-leaves (length (c ∷ cs)) (c == 88) (Ok (mirror_x, cs)) _ (record { holds = omega arith })
-    (either-leaves (length (c ∷ cs)) (c == 89) (Ok (mirror_y, cs)) (Err malformed) (record { holds = omega arith }) (record { holds = tt }))
+    (either-leaves (length (c ∷ cs)) (c == 89) (Ok (mirror_y, cs)) (Err Malformed) (record { holds = omega arith }) (record { holds = tt }))
 
 pub step-leaves : (c : ℕ) (bytes : List ℕ) → Leaves (length bytes) (step_of c bytes)
 unfolding step_of
@@ -103,7 +107,7 @@ steps-enough (suc n) zero (c ∷ cs) enough_n enough_m = absurd (omega arith)
 steps-enough (suc n) (suc m) (c ∷ cs) enough_n enough_m =
     bind-same (length cs) (step_of c cs) _ _ (step-leaves c cs) (λ step few.
     let less : length (skip is_blank step.1) ≤ length step.1 = span-rest is_blank step.1 in
-    ap (λ (r : Result (List Step) Wrong). r >>= λ others. Ok (step.0 ∷ others))
+    ap (λ (r : Result (List Step) Misfit). r >>= λ others. Ok (step.0 ∷ others))
     (steps-enough n m (skip is_blank step.1) (omega arith) (omega arith)))
 
 -- a comment
@@ -135,8 +139,8 @@ reading-leaves : (inside : Bool) (left : ℕ) (rest : List ℕ) (form : Form) �
 reading-leaves inside left rest (Ok (Ok command)) =
     either-leaves (length rest) (may_stand inside command) (Ok (command, rest)) (fails kinds.BadCommand left) (record { holds = omega arith }) (record { holds = tt })
 reading-leaves inside left rest (Ok (Err kind)) = record { holds = tt }
-reading-leaves inside left rest (Err (too_great before)) = record { holds = tt }
-reading-leaves inside left rest (Err malformed) = record { holds = tt }
+reading-leaves inside left rest (Err (TooGreat before)) = record { holds = tt }
+reading-leaves inside left rest (Err Malformed) = record { holds = tt }
 
 cut-leaves : (inside : Bool) (left c : ℕ) (body rest : List ℕ) → Leaves (length rest) (cut_of inside left c body rest)
 cut-leaves inside left c body [] = record { holds = tt }

@@ -4,7 +4,6 @@ pub mod MeaningSamples
 -- fronts of lists, and the numbers that stand in a printed line
 pub mod SpanLemmas
 pub mod ScanLemmas
-pub mod ValueLemmas
 pub mod NumberLemmas
 -- what a printed form reads as
 pub mod FormLemmas

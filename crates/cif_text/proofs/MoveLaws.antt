@@ -2,8 +2,9 @@ use Rattle.std.proofs.Common.{◌≡◌, refl, ap, ℕ, ◌≤◌, List, [], ◌
 use Rattle.geom_core.specs.Turning.{Turning}
 use Rattle.cif_text.specs.declared.fault.CifKind.{CifKind}
 use Rattle.cif_text.specs.Bytes.{is_blank, is_separator, skip}
-use Rattle.cif_text.specs.InOrder.{◌>>=◌}
-use Rattle.cif_text.specs.Numbers.{Wrong, natural}
+use Rattle.read_base.specs.Steps.{◌>>=◌}
+use Rattle.cif_text.specs.declared.misfit.Misfit.{Misfit}
+use Rattle.cif_text.specs.Numbers.{natural}
 use Rattle.cif_text.specs.Calls.{Step, step_of, steps_of, after, after_all, at_rest, call_of, call_form}
 use Rattle.cif_text.specs.Transforms.{IsWithin, followed, moves_of}
 use Rattle.cif_text.proofs.Moves.{moves_from, call_by_moves}
@@ -27,12 +28,12 @@ moves-on so_far c cs rest step is =
     behind (Ok t) others = refl
     behind (Err kind) others = refl
 
-    joined : (r : Result (List Step) Wrong) → ((others : List Step) → (so_far >>= after_all (step ∷ others)) ≡ (followed so_far step >>= after_all others))
+    joined : (r : Result (List Step) Misfit) → ((others : List Step) → (so_far >>= after_all (step ∷ others)) ≡ (followed so_far step >>= after_all others))
         → ((r >>= λ others. Ok (step ∷ others)) >>= λ steps. Ok (so_far >>= after_all steps)) ≡ (r >>= λ steps. Ok (followed so_far step >>= after_all steps))
     joined (Ok others) same = ap Ok (same others)
     joined (Err e) same = refl
 
-pub moves-fail : (so_far : Result Turning CifKind) (c : ℕ) (cs : List ℕ) (e : Wrong) → step_of c cs ≡ Err e → moves_from so_far (c ∷ cs) ≡ Err e
+pub moves-fail : (so_far : Result Turning CifKind) (c : ℕ) (cs : List ℕ) (e : Misfit) → step_of c cs ≡ Err e → moves_from so_far (c ∷ cs) ≡ Err e
 unfolding steps_of
 moves-fail so_far c cs e is = rw is refl
 
@@ -50,12 +51,12 @@ pub call-moves : (body : List ℕ) → call_form body ≡ call_by_moves body
 unfolding call_form
 call-moves body = numbered (natural (skip is_separator body))
   where
-    joined : (n : ℕ) (r : Result (List Step) Wrong)
+    joined : (n : ℕ) (r : Result (List Step) Misfit)
         → (r >>= λ steps. Ok (after_all steps at_rest >>= call_of n)) ≡ ((r >>= λ steps. Ok (after_all steps at_rest)) >>= λ whole. Ok (whole >>= call_of n))
     joined n (Ok steps) = refl
     joined n (Err e) = refl
 
-    numbered : (r : Result (ℕ × List ℕ) Wrong)
+    numbered : (r : Result (ℕ × List ℕ) Misfit)
         → (r >>= λ n. steps_of (length n.1) (skip is_blank n.1) >>= λ steps. Ok (after_all steps at_rest >>= call_of n.0))
         ≡ (r >>= λ n. moves_of (skip is_blank n.1) >>= λ whole. Ok (whole >>= call_of n.0))
     numbered (Ok n) =

@@ -10,9 +10,10 @@ use Rattle.std.specs.List.{list_all}
 use Rattle.std.specs.Prelude.{Ok, ◌==◌}
 use Rattle.std.specs.Str.Parse.{AllDigits, digits_value}
 use Rattle.cif_text.specs.Bytes.{is_blank, is_separator, span, skip, begins}
-use Rattle.cif_text.specs.InOrder.{◌>>=◌}
+use Rattle.read_base.specs.Digits.{number_within}
+use Rattle.read_base.specs.Steps.{◌>>=◌}
 use Rattle.cif_text.specs.Numbers.{greatest, value_of, value_at, natural, number, positive, apart}
-use Rattle.cif_text.specs.Printable.{IsNear, IsNatural, IsPart}
+use Rattle.cif_text.specs.Printable.{IsCifNumber, IsNatural, IsPart}
 use Rattle.cif_text.proofs.SpanLemmas.{span-append, begins-other, skip-blank, apart-blank}
 
 -- digits, as the test of CIF has them
@@ -29,15 +30,17 @@ pub decimal-some : (n : ℕ) → n ≤ greatest → 1 ≤ length (decimal n)
 decimal-some n small = omega (arith, (decimal_is_IsNumeral n (omega arith)).0.0)
 
 -- the value of some digits, of which there are any
-value-some : (place : ℕ) (ds r : List ℕ) (n : ℕ) → 1 ≤ length ds → digits_value 10 ds ≡ n → n ≤ greatest → value_of place ds r ≡ Ok (n, r)
-value-some place [] r n some value small = absurd (omega arith)
-value-some place (d ∷ ds) r n some value small = rw (value, le-leb n greatest small) refl
+value-some : (place : ℕ) (ds r : List ℕ) (n : ℕ) → 1 ≤ length ds → list_all is_ascii_digit ds ≡ true → digits_value 10 ds ≡ n → n ≤ greatest
+    → value_of place ds r ≡ Ok (n, r)
+unfolding number_within
+value-some place [] r n some every value small = absurd (omega arith)
+value-some place (d ∷ ds) r n some every value small = rw (every, value, le-leb n greatest small) refl
 
 pub value-decimal : (place n : ℕ) (r : List ℕ) → n ≤ greatest → begins is_ascii_digit r ≡ false
     → value_at place (span is_ascii_digit (decimal n ++ r)) ≡ Ok (n, r)
 value-decimal place n r small stop =
     rw (span-append is_ascii_digit (decimal n) r (decimal-all n small) stop)
-    (value-some place (decimal n) r n (decimal-some n small) (decimal_is_IsNumeral n (omega arith)).1 small)
+    (value-some place (decimal n) r n (decimal-some n small) (decimal-all n small) (decimal_is_IsNumeral n (omega arith)).1 small)
 
 pub natural-decimal : (n : ℕ) (r : List ℕ) → IsNatural n → begins is_ascii_digit r ≡ false → natural (decimal n ++ r) ≡ Ok (n, r)
 unfolding natural
@@ -60,7 +63,7 @@ number-digits [] r some every = absurd (omega arith)
 number-digits (d ∷ ds) r some every =
     rw (digit-no-minus d (and_parts (is_ascii_digit d) (list_all is_ascii_digit ds) every).0) refl
 
-pub number-signed : (z : ℤ) (r : List ℕ) → IsNear z → begins is_ascii_digit r ≡ false → number (signed_decimal z ++ r) ≡ Ok (z, r)
+pub number-signed : (z : ℤ) (r : List ℕ) → IsCifNumber z → begins is_ascii_digit r ≡ false → number (signed_decimal z ++ r) ≡ Ok (z, r)
 unfolding number
 number-signed (pos n) r near stop =
     let small : n ≤ greatest = omega (arith, ints) in
@@ -92,17 +95,17 @@ separator-gap = record { blank = refl; digit = digit-no-separator; minus = refl 
 pub begins-decimal : (p : ℕ → Bool) (gap : IsGap p) (n : ℕ) (r : List ℕ) → n ≤ greatest → begins p (decimal n ++ r) ≡ false
 begins-decimal p gap n r small = begins-other p is_ascii_digit gap.digit (decimal n) r (decimal-some n small) (decimal-all n small)
 
-pub begins-signed : (p : ℕ → Bool) (gap : IsGap p) (z : ℤ) (r : List ℕ) → IsNear z → begins p (signed_decimal z ++ r) ≡ false
+pub begins-signed : (p : ℕ → Bool) (gap : IsGap p) (z : ℤ) (r : List ℕ) → IsCifNumber z → begins p (signed_decimal z ++ r) ≡ false
 begins-signed p gap (pos n) r near = begins-decimal p gap n r (omega (arith, ints))
 begins-signed p gap (negsuc n) r near = gap.minus
 
 -- numbers behind a blank
-pub number-apart : (p : ℕ → Bool) (gap : IsGap p) (z : ℤ) (r : List ℕ) → IsNear z → begins is_ascii_digit r ≡ false
+pub number-apart : (p : ℕ → Bool) (gap : IsGap p) (z : ℤ) (r : List ℕ) → IsCifNumber z → begins is_ascii_digit r ≡ false
     → apart p number (32 ∷ signed_decimal z ++ r) ≡ Ok (z, r)
 number-apart p gap z r near stop =
     apart-blank p number (signed_decimal z ++ r) gap.blank (begins-signed p gap z r near) ∙ number-signed z r near stop
 
-pub number-skipped : (p : ℕ → Bool) (gap : IsGap p) (z : ℤ) (r : List ℕ) → IsNear z → begins is_ascii_digit r ≡ false
+pub number-skipped : (p : ℕ → Bool) (gap : IsGap p) (z : ℤ) (r : List ℕ) → IsCifNumber z → begins is_ascii_digit r ≡ false
     → number (skip p (32 ∷ signed_decimal z ++ r)) ≡ Ok (z, r)
 number-skipped p gap z r near stop =
     ap number (skip-blank p (signed_decimal z ++ r) gap.blank (begins-signed p gap z r near)) ∙ number-signed z r near stop

@@ -1,57 +1,59 @@
-use Rattle.std.proofs.Common.{ℕ, zero, suc, ◌+◌, ◌≤◌, ℤ, List, [], ◌∷◌, length, Bool, true, false, cond, IfErr, Result, Ok, Err, arith}
+use Rattle.std.proofs.Common.{ℕ, zero, suc, ◌+◌, ◌≤◌, ℤ, List, [], ◌∷◌, length, Bool, true, false, cond, IfErr, Option, Some, None, Result, Ok, Err, arith}
 use Rattle.std.specs.Char.{is_ascii_digit}
-use Rattle.std.specs.Prelude.{◌==◌, ◌&&◌, codes, nat_le}
+use Rattle.std.specs.Prelude.{◌==◌, ◌&&◌, codes}
 use Rattle.std.specs.Str.{bytes_eq}
-use Rattle.std.specs.Str.Parse.{digits_value}
 use Rattle.geom_core.specs.LayerText.{is_layer_code, is_layer_text}
 use Rattle.cif_text.specs.declared.command.Command.{Command}
 use Rattle.cif_text.specs.declared.command.UserKind.{UserKind}
 use Rattle.cif_text.specs.declared.command.UserKind.TheVariants as users
 use Rattle.cif_text.specs.declared.fault.CifKind.{CifKind}
-use Rattle.cif_text.specs.declared.stop.Misfit.{Misfit}
-use Rattle.cif_text.specs.declared.stop.Misfit.TheVariants as misfits
-use Rattle.cif_text.specs.Answers.{HasPlaceWithin, form_seen}
+use Rattle.cif_text.specs.Answers.{HasPlaceWithin}
 use Rattle.cif_text.specs.Bytes.{is_blank, is_separator, span, skip, begins, ends, trimmed}
-use Rattle.cif_text.specs.InOrder.{◌>>=◌}
-use Rattle.cif_text.specs.Numbers.{Wrong, too_great, malformed, greatest, value_at, natural, number, above_zero, positive, apart}
+use Rattle.read_base.specs.Digits.{number_within}
+use Rattle.read_base.specs.Steps.{◌>>=◌}
+use Rattle.cif_text.specs.declared.misfit.Misfit.{Misfit}
+use Rattle.cif_text.specs.declared.misfit.Misfit.TheVariants.{TooGreat, Malformed}
+use Rattle.cif_text.specs.Numbers.{greatest, unless_great, value_at, natural, number, above_zero, positive, apart}
 use Rattle.cif_text.specs.Forms.{finished, box_end, box_form, layer_form, start_form, definition_of, definition_form, naming, user_form}
 use Rattle.cif_text.specs.Calls.{Step, translate, rotate, point_of, mirror_of, step_of, steps_of, after_all, at_rest, call_of, call_form}
 use Rattle.cif_text.specs.Commands.{form_of}
 use Rattle.cif_text.proofs.FuelLaws.{Leaves, next-leaves, either-leaves, fewer-leaves, span-rest, value-leaves, natural-leaves, number-leaves, step-leaves}
 
 -- a number that is too great begins at most so many bytes before the semicolon
-abbrev pub IsPlace : ℕ → Wrong → Type 0
-IsPlace most (too_great left) = left ≤ most
-IsPlace most malformed = Unit {0}
+abbrev pub IsPlace : ℕ → Misfit → Type 0
+IsPlace most (TooGreat left) = left ≤ most
+IsPlace most Malformed = Unit {0}
 
-pub record Places {A : Type 0} (most : ℕ) (r : Result A Wrong) : Type 0 where
+pub record Places {A : Type 0} (most : ℕ) (r : Result A Misfit) : Type 0 where
   pub holds : IfErr r (IsPlace most)
 
 found-places : {A : Type 0} (most : ℕ) (x : A) → Places most (Ok x)
 found-places most x = record { holds = tt }
 
-bad-places : {x : Type 0} (most : ℕ) → Places {A = x} most (Err malformed)
+bad-places : {x : Type 0} (most : ℕ) → Places {A = x} most (Err Malformed)
 bad-places most = record { holds = tt }
 
-next-places : {A B : Type 0} (n : ℕ) (r : Result (A × List ℕ) Wrong) (f : A × List ℕ → Result B Wrong)
+next-places : {A B : Type 0} (n : ℕ) (r : Result (A × List ℕ) Misfit) (f : A × List ℕ → Result B Misfit)
     → Leaves n r → Places n r → ((x : A × List ℕ) → length x.1 ≤ n → Places n (f x)) → Places n (r >>= f)
 next-places n (Ok x) f left first onward = onward x left.holds
 next-places n (Err e) f left first onward = record { holds = first.holds }
 
-either-places : {A : Type 0} (n : ℕ) (b : Bool) (r s : Result A Wrong) → Places n r → Places n s → Places n (cond b r s)
+either-places : {A : Type 0} (n : ℕ) (b : Bool) (r s : Result A Misfit) → Places n r → Places n s → Places n (cond b r s)
 either-places n true r s first second = first
 either-places n false r s first second = second
 
-more-places : {A : Type 0} (n m : ℕ) (r : Result A Wrong) → n ≤ m → Places n r → Places m r
+more-places : {A : Type 0} (n m : ℕ) (r : Result A Misfit) → n ≤ m → Places n r → Places m r
 more-places n m (Ok x) le h = record { holds = tt }
-more-places n m (Err (too_great left)) le h = let few : left ≤ n = h.holds in record { holds = omega arith }
-more-places n m (Err malformed) le h = record { holds = tt }
+more-places n m (Err (TooGreat left)) le h = let few : left ≤ n = h.holds in record { holds = omega arith }
+more-places n m (Err Malformed) le h = record { holds = tt }
 
 value-places : (place : ℕ) (found : List ℕ × List ℕ) → Places place (value_at place found)
 value-places place ([], rest) = record { holds = tt }
-value-places place (d ∷ ds, rest) =
-    either-places place (nat_le (digits_value 10 (d ∷ ds)) greatest) (Ok (digits_value 10 (d ∷ ds), rest)) (Err (too_great place))
-    (record { holds = tt }) (record { holds = omega arith })
+value-places place (d ∷ ds, rest) = by (number_within greatest (d ∷ ds))
+  where
+    by : (n : Option ℕ) → Places place (unless_great place rest n)
+    by (Some n) = record { holds = tt }
+    by None = record { holds = omega arith }
 
 natural-places : (bytes : List ℕ) → Places (length bytes) (natural bytes)
 unfolding natural
@@ -88,7 +90,7 @@ unfolding positive
 positive-leaves bytes = next-leaves (length bytes) (length bytes) (natural bytes) _ (natural-leaves bytes) (λ n few. fewer-leaves _ _ _ few (above-leaves n.0 n.1))
 
 -- a reading of numbers: what it leaves, and where it is at fault
-record Reader {A : Type 0} (read : List ℕ → Result (A × List ℕ) Wrong) : Type 0 where
+record Reader {A : Type 0} (read : List ℕ → Result (A × List ℕ) Misfit) : Type 0 where
   left : (bytes : List ℕ) → Leaves (length bytes) (read bytes)
   place : (bytes : List ℕ) → Places (length bytes) (read bytes)
 
@@ -102,20 +104,20 @@ numbers : Reader number
 numbers = record { left = number-leaves; place = number-places }
 
 -- behind bytes that are passed over
-skipped : {A : Type 0} (p : ℕ → Bool) (read : List ℕ → Result (A × List ℕ) Wrong) → Reader read → Reader (λ bytes. read (skip p bytes))
+skipped : {A : Type 0} (p : ℕ → Bool) (read : List ℕ → Result (A × List ℕ) Misfit) → Reader read → Reader (λ bytes. read (skip p bytes))
 skipped p read r = record {
   left = λ bytes. fewer-leaves _ _ (read (skip p bytes)) (span-rest p bytes) (r.left (skip p bytes));
   place = λ bytes. more-places _ _ (read (skip p bytes)) (span-rest p bytes) (r.place (skip p bytes));
 }
 
-parted : {A : Type 0} (p : ℕ → Bool) (read : List ℕ → Result (A × List ℕ) Wrong) → Reader read → Reader (apart p read)
+parted : {A : Type 0} (p : ℕ → Bool) (read : List ℕ → Result (A × List ℕ) Misfit) → Reader read → Reader (apart p read)
 parted p read r = record {
   left = λ bytes. either-leaves (length bytes) (begins p bytes) _ _ ((skipped p read r).left bytes) (record { holds = tt });
   place = λ bytes. either-places (length bytes) (begins p bytes) _ _ ((skipped p read r).place bytes) (record { holds = tt });
 }
 
 -- a reading, and then others of what it leaves
-onward : {A B : Type 0} (most : ℕ) (read : List ℕ → Result (A × List ℕ) Wrong) (bytes : List ℕ) (f : A × List ℕ → Result B Wrong)
+onward : {A B : Type 0} (most : ℕ) (read : List ℕ → Result (A × List ℕ) Misfit) (bytes : List ℕ) (f : A × List ℕ → Result B Misfit)
     → Reader read → length bytes ≤ most → ((x : A × List ℕ) → length x.1 ≤ most → Places most (f x)) → Places most (read bytes >>= f)
 onward most read bytes f r few more =
     next-places most (read bytes) f (fewer-leaves _ _ _ few (r.left bytes)) (more-places _ _ _ few (r.place bytes)) more
@@ -203,7 +205,7 @@ steps-places (suc n) most (c ∷ cs) few =
     let shorter = span-rest is_blank step.1 in
     joined (steps_of n (skip is_blank step.1)) step.0 (steps-places n most (skip is_blank step.1) (omega arith)))
   where
-    joined : (r : Result (List Step) Wrong) (step : Step) → Places most r → Places most (r >>= λ others. Ok (step ∷ others))
+    joined : (r : Result (List Step) Misfit) (step : Step) → Places most r → Places most (r >>= λ others. Ok (step ∷ others))
     joined (Ok others) step h = record { holds = tt }
     joined (Err e) step h = record { holds = h.holds }
 
@@ -215,7 +217,7 @@ call-places body =
     whole n.0 (steps_of (length n.1) (skip is_blank n.1))
     (steps-places (length n.1) (length body) (skip is_blank n.1) (omega arith)))
   where
-    whole : (n : ℕ) (r : Result (List Step) Wrong) → Places (length body) r → Places (length body) (r >>= λ steps. Ok (after_all steps at_rest >>= call_of n))
+    whole : (n : ℕ) (r : Result (List Step) Misfit) → Places (length body) r → Places (length body) (r >>= λ steps. Ok (after_all steps at_rest >>= call_of n))
     whole n (Ok steps) h = record { holds = tt }
     whole n (Err e) h = record { holds = h.holds }
 
@@ -229,8 +231,8 @@ form-places c body =
     (either-places (length body) (c == 67) _ _ (call-places body) (bad-places (length body))))))
 
 -- a program's form
-pub has-place : (left behind most : ℕ) (form : Result (Result Command CifKind) Misfit) → most + 1 + behind ≤ left → Places most (form_seen form)
+pub has-place : (left behind most : ℕ) (form : Result (Result Command CifKind) Misfit) → most + 1 + behind ≤ left → Places most form
     → HasPlaceWithin left behind form
 has-place left behind most (Ok found) le h = tt
-has-place left behind most (Err (misfits.TooGreat before)) le h = let few : before ≤ most = h.holds in omega arith
-has-place left behind most (Err misfits.Malformed) le h = tt
+has-place left behind most (Err (TooGreat before)) le h = let few : before ≤ most = h.holds in omega arith
+has-place left behind most (Err Malformed) le h = tt

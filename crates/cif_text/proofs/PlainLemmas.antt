@@ -11,7 +11,7 @@ use Rattle.std.specs.Prelude.{codes, nat_le, ◌&&◌}
 use Rattle.cif_text.specs.declared.command.Command.{Command}
 use Rattle.cif_text.specs.Numbers.{greatest}
 use Rattle.cif_text.specs.Printing.{blanked, bytes_of, upright_parts, flip_parts, quarter_parts}
-use Rattle.cif_text.specs.Printable.{IsNear, IsSize}
+use Rattle.cif_text.specs.Printable.{IsCifNumber, IsSize}
 use Rattle.cif_text.proofs.PrintableTexts.{is_plain_byte, IsPrintable}
 use Rattle.cif_text.proofs.NumberLemmas.{decimal-all}
 use Rattle.std.proofs.lemmas.Bool.{and_parts}
@@ -33,11 +33,11 @@ plain-joined xs ys first second = list_all-joined is_plain_byte xs ys first seco
 plain-decimal : (n : ℕ) → n ≤ greatest → Plain (decimal n)
 plain-decimal n small = list_all-weaker is_ascii_digit is_plain_byte plain-digit (decimal n) (decimal-all n small)
 
-plain-signed : (z : ℤ) → IsNear z → Plain (signed_decimal z)
+plain-signed : (z : ℤ) → IsCifNumber z → Plain (signed_decimal z)
 plain-signed (pos n) near = plain-decimal n (omega (arith, ints))
 plain-signed (negsuc n) near = plain-decimal (suc n) (omega (arith, ints))
 
-size-near : (z : ℤ) → IsSize z → IsNear z
+size-near : (z : ℤ) → IsSize z → IsCifNumber z
 size-near z size = record { low = omega (arith, ints); high = size.high }
 
 -- parts that are plain, each behind a blank

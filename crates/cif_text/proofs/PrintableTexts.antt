@@ -5,7 +5,7 @@ use Rattle.cif_text.specs.declared.command.Command.{Command}
 use Rattle.cif_text.specs.declared.command.Command.TheVariants as commands
 use Rattle.cif_text.specs.declared.command.UserKind.TheVariants as users
 use Rattle.cif_text.specs.Bytes.{is_ascii_byte, not_semicolon, trimmed}
-use Rattle.cif_text.specs.Printable.{IsNatural, IsNear, IsPart, IsSize}
+use Rattle.cif_text.specs.Printable.{IsNatural, IsCifNumber, IsPart, IsSize}
 
 -- a byte of ASCII that is no semicolon
 abbrev pub is_plain_byte : ℕ → Bool
@@ -19,10 +19,10 @@ pub record IsNameText (text : List ℕ) : Type 0 where
 
 -- a command whose line reads as that command
 abbrev pub IsPrintable : Command → Type 0
-IsPrintable (commands.Box long wide cx cy upright) = IsSize long × IsSize wide × IsNear cx × IsNear cy
+IsPrintable (commands.Box long wide cx cy upright) = IsSize long × IsSize wide × IsCifNumber cx × IsCifNumber cy
 IsPrintable (commands.Layer text) = is_layer_text text ≡ true
 IsPrintable (commands.Start n a b) = IsNatural n × IsPart a × IsPart b
-IsPrintable (commands.Call n flip quarters dx dy) = IsNatural n × (quarters ≤ 3) × IsNear dx × IsNear dy
+IsPrintable (commands.Call n flip quarters dx dy) = IsNatural n × (quarters ≤ 3) × IsCifNumber dx × IsCifNumber dy
 IsPrintable (commands.User users.SymbolName text) = IsNameText text
 IsPrintable (commands.User users.InstanceName text) = IsNameText text
 IsPrintable (commands.User users.Other text) = ⊥

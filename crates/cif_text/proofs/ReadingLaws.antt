@@ -1,16 +1,18 @@
 use Rattle.std.proofs.Common.{◌≡◌, refl, ap, sym, ◌∙◌, append_assoc, ℕ, ◌<◌, ◌≤◌, List, [], ◌∷◌, ◌++◌, length, Bool, true, false, Result, Ok, Err, arith}
 use Rattle.cif_text.specs.declared.command.Command.{Command}
-use Rattle.cif_text.specs.declared.stop.Stop.{Stop}
-use Rattle.cif_text.specs.declared.stop.Stop.TheVariants as stops
-use Rattle.cif_text.specs.Answers.{Fails, commands_of}
+use Rattle.cif_text.specs.Flaws.{Stop}
+use Rattle.read_base.specs.declared.stop.Stop.TheVariants as stops
+use Rattle.read_base.specs.Answers.{Fails, flaw_of}
+use Rattle.cif_text.specs.Answers.{commands_of}
 use Rattle.cif_text.specs.Bytes.{is_between, skip}
-use Rattle.cif_text.specs.Commands.{Fault, command_at}
+use Rattle.cif_text.specs.Flaws.{Flaw}
+use Rattle.cif_text.specs.Commands.{command_at}
 use Rattle.cif_text.specs.CifReads.{is_end, is_open_behind}
-use Rattle.cif_text.specs.InOrder.{◌>>=◌}
+use Rattle.read_base.specs.Steps.{◌>>=◌}
 use Rattle.cif_text.proofs.FuelLaws.{span-rest, command-leaves, commands-in-order}
 
 -- commands that were read, and then those of the rest
-abbrev pub with_front : List Command → Result (List Command) Fault → Result (List Command) Fault
+abbrev pub with_front : List Command → Result (List Command) Flaw → Result (List Command) Flaw
 with_front front (Ok others) = Ok (front ++ others)
 with_front front (Err fault) = Err fault
 
@@ -26,8 +28,8 @@ command-shorter inside bytes c rest is =
     let few = span-rest is_between bytes in
     omega arith
 
-pub command-stops : (stop : Stop) (front : List Command) (inside : Bool) (bytes : List ℕ) (total : Result (List Command) Fault)
-    → Fails stop (command_at inside (skip is_between bytes)) → with_front front (commands_of inside bytes) ≡ total → Fails stop total
+pub command-stops : (stop : Stop) (front : List Command) (inside : Bool) (bytes : List ℕ) (total : Result (List Command) Flaw)
+    → Fails flaw_of stop (command_at inside (skip is_between bytes)) → with_front front (commands_of inside bytes) ≡ total → Fails flaw_of stop total
 command-stops (stops.At flaw) front inside bytes total is so_far = sym so_far ∙ rw (commands-in-order inside bytes, is) refl
 command-stops stops.Memory front inside bytes total is so_far = tt
 
@@ -40,6 +42,6 @@ pub command-on : (front : List Command) (inside : Bool) (bytes : List ℕ) (c : 
     → with_front front (commands_of inside bytes) ≡ with_front (front ++ c ∷ []) (commands_of (is_open_behind inside c) rest)
 command-on front inside bytes c rest is more = rw (commands-in-order inside bytes, is, more) (joined (commands_of (is_open_behind inside c) rest))
   where
-    joined : (r : Result (List Command) Fault) → with_front front (r >>= λ others. Ok (c ∷ others)) ≡ with_front (front ++ c ∷ []) r
+    joined : (r : Result (List Command) Flaw) → with_front front (r >>= λ others. Ok (c ∷ others)) ≡ with_front (front ++ c ∷ []) r
     joined (Ok others) = ap Ok (sym (append_assoc front (c ∷ []) others))
     joined (Err fault) = refl

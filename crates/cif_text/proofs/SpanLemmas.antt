@@ -3,7 +3,8 @@ use Rattle.std.proofs.lemmas.List.{append-nil}
 use Rattle.std.specs.List.{list_all}
 use Rattle.std.specs.Prelude.{Result, if◌then◌else◌}
 use Rattle.cif_text.specs.Bytes.{span, skip, begins, ends}
-use Rattle.cif_text.specs.Numbers.{Wrong, apart}
+use Rattle.cif_text.specs.declared.misfit.Misfit.{Misfit}
+use Rattle.cif_text.specs.Numbers.{apart}
 use Rattle.std.proofs.lemmas.Bool.{and_parts}
 
 -- the front of a list is such bytes, and the rest begins with none
@@ -34,7 +35,7 @@ skip-blank p r blank stop =
     subst (λ (b : Bool). (if◌then◌else◌ {A = List ℕ × List ℕ} b (32 ∷ (span p r).0, (span p r).1) ([], 32 ∷ r)).1 ≡ r) (sym blank) (skip-stop p r stop)
 
 -- a part behind a blank
-pub apart-blank : {A : Type 0} (p : ℕ → Bool) (read : List ℕ → Result (A × List ℕ) Wrong) (r : List ℕ)
+pub apart-blank : {A : Type 0} (p : ℕ → Bool) (read : List ℕ → Result (A × List ℕ) Misfit) (r : List ℕ)
     → p 32 ≡ true → begins p r ≡ false → apart p read (32 ∷ r) ≡ read r
 apart-blank p read r blank stop = rw blank (ap read (skip-blank p r blank stop))
 

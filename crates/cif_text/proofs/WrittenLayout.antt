@@ -8,7 +8,7 @@ use Rattle.geom_core.specs.Extent.{Extent}
 use Rattle.geom_core.specs.LayerText.{is_layer_text}
 use Rattle.geom_core.specs.Moving.{turn_at}
 use Rattle.cif_text.specs.Numbers.{greatest}
-use Rattle.cif_text.specs.Printable.{IsNear, IsSize, IsNatural}
+use Rattle.cif_text.specs.Printable.{IsCifNumber, IsSize, IsNatural}
 use Rattle.cif_text.proofs.PrintableTexts.{IsNameText}
 use Rattle.cif_text.specs.Scales.{doubled, around}
 use Rattle.cif_text.specs.Symbols.{Symbol, symbol_of, moved_shapes}
@@ -63,8 +63,8 @@ pub record IsBox (e : Extent) : Type 0 where
   pub drawn : around long wide cx cy ≡ e
   pub long_size : IsSize long
   pub wide_size : IsSize wide
-  pub cx_near : IsNear cx
-  pub cy_near : IsNear cy
+  pub cx_near : IsCifNumber cx
+  pub cy_near : IsCifNumber cy
 
 pub record IsShape (s : Shape) : Type 0 where
   pub layer : is_layer_text s.layer ≡ true
@@ -76,8 +76,8 @@ pub record IsWhole (place : Place) : Type 0 where
   pub up : ℤ
   pub across_is : doubled across ≡ place.dx
   pub up_is : doubled up ≡ place.dy
-  pub across_near : IsNear across
-  pub up_near : IsNear up
+  pub across_near : IsCifNumber across
+  pub up_near : IsCifNumber up
 
 pub record IsDrawn (d : WrittenSymbol) : Type 0 where
   pub name : IfSome d.name IsNameText

@@ -11,7 +11,7 @@ use Rattle.geom_core.specs.declared.layout.Cell.{Cell}
 use Rattle.geom_core.specs.declared.turn.Place.{Place}
 use Rattle.geom_core.specs.Extent.{Extent}
 use Rattle.cif_text.specs.declared.command.Command.{Command}
-use Rattle.cif_text.specs.InOrder.{◌>>=◌}
+use Rattle.read_base.specs.Steps.{◌>>=◌}
 use Rattle.cif_text.specs.Scales.{scaled_natural, scaled, scaled_extent, scaled_turning, doubled, around}
 use Rattle.cif_text.specs.Symbols.{Symbol, Level, State, symbol_of}
 use Rattle.cif_text.specs.Meaning.{Unmeant, layout_of, step, run, meaning}

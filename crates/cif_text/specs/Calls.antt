@@ -7,8 +7,10 @@ use Rattle.cif_text.specs.declared.command.Command.TheVariants as commands
 use Rattle.cif_text.specs.declared.fault.CifKind.{CifKind}
 use Rattle.cif_text.specs.declared.fault.CifKind.TheVariants as kinds
 use Rattle.cif_text.specs.Bytes.{is_blank, is_separator, skip}
-use Rattle.cif_text.specs.InOrder.{◌>>=◌}
-use Rattle.cif_text.specs.Numbers.{Wrong, malformed, greatest, natural, number, apart}
+use Rattle.read_base.specs.Steps.{◌>>=◌}
+use Rattle.cif_text.specs.declared.misfit.Misfit.{Misfit}
+use Rattle.cif_text.specs.declared.misfit.Misfit.TheVariants.{Malformed}
+use Rattle.cif_text.specs.Numbers.{greatest, natural, number, apart}
 use Rattle.cif_text.specs.Forms.{Form}
 
 -- a step of a call's transformation
@@ -23,27 +25,27 @@ pub data Step : Type 0 where
   rotate : ℤ → ℤ → Step
 
 -- two numbers among blanks, of which a step is made
-abbrev pub point_of : (ℤ → ℤ → Step) → List ℕ → Result (Step × List ℕ) Wrong
+abbrev pub point_of : (ℤ → ℤ → Step) → List ℕ → Result (Step × List ℕ) Misfit
 point_of step bytes = do
   x ← number (skip is_blank bytes)
   y ← apart is_blank number x.1
   Ok (step x.0 y.0, y.1)
 
-abbrev pub mirror_of : List ℕ → Result (Step × List ℕ) Wrong
-mirror_of [] = Err malformed
-mirror_of (c ∷ cs) = if c == byte "X" then Ok (mirror_x, cs) else if c == byte "Y" then Ok (mirror_y, cs) else Err malformed
+abbrev pub mirror_of : List ℕ → Result (Step × List ℕ) Misfit
+mirror_of [] = Err Malformed
+mirror_of (c ∷ cs) = if c == byte "X" then Ok (mirror_x, cs) else if c == byte "Y" then Ok (mirror_y, cs) else Err Malformed
 
 -- CIF 2.0: `T` and a point, `M X`, `M Y`, or `R` and a direction
-unfoldable pub step_of : ℕ → List ℕ → Result (Step × List ℕ) Wrong
+unfoldable pub step_of : ℕ → List ℕ → Result (Step × List ℕ) Misfit
 step_of c bytes =
     if c == byte "T" then point_of translate bytes else
     if c == byte "M" then mirror_of (skip is_blank bytes) else
-    if c == byte "R" then point_of rotate bytes else Err malformed
+    if c == byte "R" then point_of rotate bytes else Err Malformed
 
 -- any number of steps, among blanks; the first number is at least that of the bytes
-unfoldable pub steps_of : ℕ → List ℕ → Result (List Step) Wrong
+unfoldable pub steps_of : ℕ → List ℕ → Result (List Step) Misfit
 steps_of n [] = Ok []
-steps_of zero (c ∷ cs) = Err malformed
+steps_of zero (c ∷ cs) = Err Malformed
 steps_of (suc n) (c ∷ cs) = do
   step ← step_of c cs
   others ← steps_of n (skip is_blank step.1)

@@ -6,21 +6,17 @@ use Rattle.cif_text.specs.declared.command.Command.{Command}
 use Rattle.cif_text.specs.declared.command.Command.TheVariants as commands
 use Rattle.cif_text.specs.declared.fault.CifKind.{CifKind}
 use Rattle.cif_text.specs.declared.fault.CifKind.TheVariants as kinds
+use Rattle.cif_text.specs.Flaws.{Flaw}
 use Rattle.cif_text.specs.Bytes.{is_blank, span, skip, begins, ends, not_semicolon}
-use Rattle.cif_text.specs.Numbers.{too_great, malformed}
+use Rattle.cif_text.specs.declared.misfit.Misfit.TheVariants.{TooGreat, Malformed}
 use Rattle.cif_text.specs.Forms.{Form, box_form, layer_form, definition_form, user_form}
 use Rattle.cif_text.specs.Calls.{call_form}
 
--- what is wrong, and how many bytes there are from its place to the end of the text
-pub record Fault : Type 0 where
-  pub kind : CifKind
-  pub left : ℕ
-
 -- a command and the bytes behind it
 abbrev pub Reading : Type 0
-Reading = Result (Command × List ℕ) Fault
+Reading = Result (Command × List ℕ) Flaw
 
-abbrev pub fails : {A : Type 0} → CifKind → ℕ → Result A Fault
+abbrev pub fails : {A : Type 0} → CifKind → ℕ → Result A Flaw
 fails kind left = Err (record { kind = kind; left = left })
 
 -- how many parentheses are open behind a byte inside a comment
@@ -43,7 +39,7 @@ form_of c body =
     if c == byte "B" then box_form body else
     if c == byte "L" then layer_form body else
     if c == byte "D" then definition_form body else
-    if c == byte "C" then call_form body else Err malformed
+    if c == byte "C" then call_form body else Err Malformed
 
 -- CIF 2.0: a definition starts outside of definitions and finishes inside one. Which commands may stand here
 abbrev pub may_stand : Bool → Command → Bool
@@ -55,8 +51,8 @@ may_stand inside _ = true
 abbrev pub reading_of : Bool → ℕ → List ℕ → Form → Reading
 reading_of inside left rest (Ok (Ok command)) = if may_stand inside command then Ok (command, rest) else fails kinds.BadCommand left
 reading_of inside left rest (Ok (Err kind)) = fails kind left
-reading_of inside left rest (Err (too_great before)) = fails kinds.Number (before + suc (length rest))
-reading_of inside left rest (Err malformed) = fails kinds.BadCommand left
+reading_of inside left rest (Err (TooGreat before)) = fails kinds.Number (before + suc (length rest))
+reading_of inside left rest (Err Malformed) = fails kinds.BadCommand left
 
 -- a command that is cut at its semicolon, in its first byte, the others before the semicolon, and the bytes from there on
 abbrev pub cut_of : Bool → ℕ → ℕ → List ℕ → List ℕ → Reading

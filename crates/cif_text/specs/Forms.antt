@@ -10,17 +10,19 @@ use Rattle.cif_text.specs.declared.command.UserKind.TheVariants as users
 use Rattle.cif_text.specs.declared.fault.CifKind.{CifKind}
 use Rattle.cif_text.specs.declared.fault.CifKind.TheVariants as kinds
 use Rattle.cif_text.specs.Bytes.{is_blank, is_separator, span, skip, ends, trimmed}
-use Rattle.cif_text.specs.InOrder.{◌>>=◌}
-use Rattle.cif_text.specs.Numbers.{Wrong, malformed, natural, number, positive, apart}
+use Rattle.read_base.specs.Steps.{◌>>=◌}
+use Rattle.cif_text.specs.declared.misfit.Misfit.{Misfit}
+use Rattle.cif_text.specs.declared.misfit.Misfit.TheVariants.{Malformed}
+use Rattle.cif_text.specs.Numbers.{natural, number, positive, apart}
 
 -- what the bytes of a command, from behind its first byte to before its semicolon, read as: none of the command's forms,
 -- or a form, which is a command or has a fault of its own
 abbrev pub Form : Type 0
-Form = Result (Result Command CifKind) Wrong
+Form = Result (Result Command CifKind) Misfit
 
 -- a form that ends here: such bytes may follow, and no others
 abbrev pub finished : (ℕ → Bool) → List ℕ → Command → Form
-finished p rest command = if ends p rest then Ok (Ok command) else Err malformed
+finished p rest command = if ends p rest then Ok (Ok command) else Err Malformed
 
 -- the axis that a direction points along, either way
 pub data Axis : Type 0 where
@@ -46,7 +48,7 @@ box_end long wide cx cy bytes =
     if ends is_separator bytes then Ok (box_along long wide cx cy (Some along_x)) else do
       dx ← apart is_separator number bytes
       dy ← apart is_separator number dx.1
-      if ends is_separator dy.1 then Ok (box_along long wide cx cy (axis_of dx.0 dy.0)) else Err malformed
+      if ends is_separator dy.1 then Ok (box_along long wide cx cy (axis_of dx.0 dy.0)) else Err Malformed
 
 -- CIF 2.0: `B` length width centre, and perhaps a direction
 unfoldable pub box_form : List ℕ → Form
@@ -59,7 +61,7 @@ box_form body = do
 
 -- CIF 2.0: a short name is one to four digits or upper-case letters
 abbrev pub layer_of : List ℕ × List ℕ → Form
-layer_of found = if is_layer_text found.0 then finished is_blank found.1 (commands.Layer found.0) else Err malformed
+layer_of found = if is_layer_text found.0 then finished is_blank found.1 (commands.Layer found.0) else Err Malformed
 
 -- CIF 2.0: `L` and a short name
 unfoldable pub layer_form : List ℕ → Form
@@ -76,17 +78,17 @@ start_form body = do
 
 -- CIF 2.0: `D`, blanks, and then `S` for the start or `F` for the finish of a definition
 abbrev pub definition_of : List ℕ → Form
-definition_of [] = Err malformed
+definition_of [] = Err Malformed
 definition_of (c ∷ cs) =
     if c == byte "S" then start_form cs else
-    if c == byte "F" then finished is_blank cs commands.Finish else Err malformed
+    if c == byte "F" then finished is_blank cs commands.Finish else Err Malformed
 
 unfoldable pub definition_form : List ℕ → Form
 definition_form body = definition_of (skip is_blank body)
 
 -- a user command that names something needs a name
 abbrev pub naming : UserKind → List ℕ → Form
-naming kind [] = Err malformed
+naming kind [] = Err Malformed
 naming kind (c ∷ cs) = Ok (Ok (commands.User kind (c ∷ cs)))
 
 -- the product's own: `9` names the symbol, and `91` names the next call. The digits are those behind the first one

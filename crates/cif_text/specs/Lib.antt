@@ -2,7 +2,7 @@
 pub mod Printing
 -- bytes and what separates numbers
 pub mod Bytes
--- one step after another, and numbers
+-- a step for each member of a list, and numbers
 pub mod InOrder
 pub mod Numbers
 -- the forms of boxes, layers, definitions and user commands
@@ -10,6 +10,7 @@ pub mod Forms
 -- the form of calls
 pub mod Calls
 -- a command, by its first byte, and its faults
+pub mod Flaws
 pub mod Commands
 -- the reading of a whole text
 pub mod CifReads

@@ -8,7 +8,7 @@ use Rattle.geom_core.specs.Turning.{Turning}
 use Rattle.cif_text.specs.declared.command.Command.{Command}
 use Rattle.cif_text.specs.declared.command.Command.TheVariants as commands
 use Rattle.cif_text.specs.declared.command.UserKind.TheVariants as users
-use Rattle.cif_text.specs.InOrder.{◌>>=◌}
+use Rattle.read_base.specs.Steps.{◌>>=◌}
 use Rattle.cif_text.specs.Scales.{box_around, scaled_extent, scaled_turning}
 use Rattle.cif_text.specs.Symbols.{Symbol, Level, Definition, Main, State, symbol_of, moved_shapes}
 

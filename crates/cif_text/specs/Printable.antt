@@ -4,7 +4,7 @@ use Rattle.limits.specs.declared.TheConstants.{MOST_NUMBER}
 use Rattle.cif_text.specs.Numbers.{greatest}
 
 -- a number that can be read
-pub record IsNear (z : ℤ) : Type 0 where
+pub record IsCifNumber (z : ℤ) : Type 0 where
   pub low : negsuc 999999999999 ≤ℤ z
   pub high : z ≤ℤ pos MOST_NUMBER
 

@@ -3,16 +3,16 @@ use Rattle.std.specs.Prelude.{◌≡◌, ◌≤◌, List, [], ◌∷◌, Bool, t
 use Rattle.cif_text.specs.declared.command.Command.{Command}
 use Rattle.cif_text.specs.declared.command.Command.TheVariants as commands
 use Rattle.cif_text.specs.declared.fault.CifKind.{CifKind}
-use Rattle.cif_text.specs.declared.stop.Misfit.{Misfit}
+use Rattle.cif_text.specs.declared.misfit.Misfit.{Misfit}
 use Rattle.cif_text.specs.CifReads.{is_end}
 use Rattle.cif_text.specs.Commands.{may_stand}
-use Rattle.cif_text.specs.Printable.{IsNear, IsSize, IsNatural, IsPart}
+use Rattle.cif_text.specs.Printable.{IsCifNumber, IsSize, IsNatural, IsPart}
 
 -- a command has the numbers that a text can give it
 abbrev pub IsSound : Command → Type 0
-IsSound (commands.Box long wide cx cy upright) = IsSize long × IsSize wide × IsNear cx × IsNear cy
+IsSound (commands.Box long wide cx cy upright) = IsSize long × IsSize wide × IsCifNumber cx × IsCifNumber cy
 IsSound (commands.Start n a b) = IsNatural n × IsPart a × IsPart b
-IsSound (commands.Call n flip quarters dx dy) = IsNatural n × (quarters ≤ 3) × IsNear dx × IsNear dy
+IsSound (commands.Call n flip quarters dx dy) = IsNatural n × (quarters ≤ 3) × IsCifNumber dx × IsCifNumber dy
 IsSound _ = Unit {0}
 
 -- sound commands whose definitions each start outside of others and finish, up to the one end command; the first argument says

@@ -6,8 +6,8 @@ use Rattle.cif_text.specs.declared.transform.Step.TheVariants as moves
 use Rattle.cif_text.specs.declared.command.Command.{Command}
 use Rattle.cif_text.specs.declared.fault.CifKind.{CifKind}
 use Rattle.cif_text.specs.Calls.{Step, translate, mirror_x, mirror_y, rotate, steps_of, after, after_all, at_rest, call_of}
-use Rattle.cif_text.specs.InOrder.{◌>>=◌}
-use Rattle.cif_text.specs.Numbers.{Wrong}
+use Rattle.read_base.specs.Steps.{◌>>=◌}
+use Rattle.cif_text.specs.declared.misfit.Misfit.{Misfit}
 
 -- a step, as a program has it
 abbrev pub step_seen : Move → Step
@@ -26,7 +26,7 @@ abbrev pub followed : Result Turning CifKind → Step → Result Turning CifKind
 followed so_far step = so_far >>= after step
 
 -- what the steps of a call do together
-abbrev pub moves_of : List ℕ → Result (Result Turning CifKind) Wrong
+abbrev pub moves_of : List ℕ → Result (Result Turning CifKind) Misfit
 moves_of bytes = steps_of (length bytes) bytes >>= λ steps. Ok (after_all steps at_rest)
 
 -- the call of a symbol under what its steps do together

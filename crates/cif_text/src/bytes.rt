@@ -137,19 +137,11 @@ fn digits_len(bytes: &[u8]) -> usize
         .count()
 }
 
-/// Digits alone.
-#[derive(Clone, Copy)]
-pub(crate) struct Digits<'a> {
-    pub(crate) bytes: &'a [u8],
-    ghost are_digits: { list_all is_digit_byte bytes.now ≡ true },
-}
-
 /// The digits that come first, and what stands behind them.
-pub(crate) fn split_digits(bytes: &[u8]) -> (Digits<'_>, &[u8])
-    ensures { (result.0.bytes.now, result.1.now) ≡ span is_digit_byte bytes.now }
+pub(crate) fn split_digits(bytes: &[u8]) -> (&[u8], &[u8])
+    ensures { (result.0.now, result.1.now) ≡ span is_digit_byte bytes.now }
 {
-    let (digits, rest) = bytes.split_at(digits_len(bytes));
-    (Digits { bytes: digits }, rest)
+    bytes.split_at(digits_len(bytes))
 }
 
 fn is_layer_byte(byte: u8) -> bool

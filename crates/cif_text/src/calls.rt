@@ -1,6 +1,6 @@
 //! The form of a call: a symbol's number, and translations, mirrorings and rotations in order.
 
-ghost use Rattle.cif_text.specs.Answers.{Finds, form_seen};
+ghost use Rattle.read_base.specs.Answers.{AnswersAs};
 ghost use Rattle.cif_text.specs.Calls.{Step as SpecStep, call_form, call_of, mirror_of, point_of, rotate, step_of, translate};
 ghost use Rattle.cif_text.specs.Numbers.{greatest};
 ghost use Rattle.cif_text.specs.Sound.{FormIsSound, IsFormed};
@@ -11,14 +11,14 @@ use crate::bytes::{after_blanks, after_separators};
 use crate::command::Command;
 use crate::fault::CifKind;
 use crate::forms::Form;
+use crate::misfit::Misfit;
 use crate::numbers::{Number, natural_at, next_among_blanks, number_at};
-use crate::stop::Misfit;
 use crate::transform::{Step, Transform, after, at_rest};
 use limits::MOST_NUMBER;
 
 /// Two numbers among blanks, and what stands behind them. Takes no memory.
 fn point_at(bytes: &[u8]) -> Result<((Number, Number), &[u8]), Misfit>
-    ensures { (step : ℤ → ℤ → SpecStep) → Finds (λ x. (step x.0.0.value x.0.1.value, x.1.now)) result (point_of step bytes.now) }
+    ensures { (step : ℤ → ℤ → SpecStep) → AnswersAs (λ x. (step x.0.0.value x.0.1.value, x.1.now)) Some result (point_of step bytes.now) }
 {
     let (x, rest) = number_at(after_blanks(bytes))?;
     let (y, rest) = next_among_blanks(rest)?;
@@ -27,7 +27,7 @@ fn point_at(bytes: &[u8]) -> Result<((Number, Number), &[u8]), Misfit>
 
 /// The axis that a mirroring negates, and what stands behind it. Takes no memory.
 fn mirror_at(bytes: &[u8]) -> Result<(Step, &[u8]), Misfit>
-    ensures { Finds (λ x. (step_seen x.0, x.1.now)) result (mirror_of bytes.now) }
+    ensures { AnswersAs (λ x. (step_seen x.0, x.1.now)) Some result (mirror_of bytes.now) }
 {
     let Some((letter, rest)) = bytes.split_first() else {
         return Err(Misfit::Malformed);
@@ -42,7 +42,7 @@ fn mirror_at(bytes: &[u8]) -> Result<(Step, &[u8]), Misfit>
 /// The step that begins with this letter, and what stands behind it. Takes no memory.
 #[tactic(auto, unfolding(crate::specs::Calls::step_of))]
 fn step_at(letter: u8, bytes: &[u8]) -> Result<(Step, &[u8]), Misfit>
-    ensures { Finds (λ x. (step_seen x.0, x.1.now)) result (step_of letter bytes.now) }
+    ensures { AnswersAs (λ x. (step_seen x.0, x.1.now)) Some result (step_of letter bytes.now) }
 {
     if letter == b'T' {
         let ((x, y), rest) = point_at(bytes)?;
@@ -72,7 +72,7 @@ fn followed(so_far: Result<Transform, CifKind>, step: Step) -> Result<Transform,
 
 /// What the steps of a call do together, or the fault of the first direction that is not along an axis. Takes no memory.
 fn moves_at(bytes: &[u8]) -> Result<Result<Transform, CifKind>, Misfit>
-    ensures { Finds (λ x. x) result (moves_of bytes.now) }
+    ensures { AnswersAs (λ x. x) Some result (moves_of bytes.now) }
 {
     let mut whole = Ok(at_rest());
     let mut rest = bytes;
@@ -123,7 +123,7 @@ fn call_under(n: SymbolNumber, whole: Result<Transform, CifKind>) -> Result<Comm
 
 /// The form of a call: the symbol's number and the transformation.
 pub(crate) fn call_form(body: &[u8]) -> Form
-    ensures is { call_form body.now ≡ form_seen result }
+    ensures is { call_form body.now ≡ result }
     ensures sound { FormIsSound result }
 {
     let (n, rest) = natural_at(after_separators(body))?;

@@ -1,6 +1,7 @@
 //! The next command of a text by its first byte, nested comments among them, and commands that are left out.
 
-ghost use Rattle.cif_text.specs.Answers.{Gives, HasPlaceWithin, Tells, form_seen};
+ghost use Rattle.read_base.specs.Answers.{Answers, AnswersAs};
+ghost use Rattle.cif_text.specs.Answers.{HasPlaceWithin};
 ghost use Rattle.cif_text.specs.Bytes.{not_semicolon, span};
 ghost use Rattle.cif_text.specs.Commands.{after_comment, command_at, comment_of, cut_of, form_of, is_left_out, may_stand, open_behind, reading_of};
 ghost use Rattle.cif_text.specs.Sound.{FormIsSound, IsInPlace};
@@ -10,9 +11,9 @@ ghost use Rattle.std.specs.Prelude.{◌≡◌, ◌≤◌, ◌<◌, ◌+◌, ◌^
 use crate::bytes::{after_blanks, are_blanks, begins_with, split_body};
 use crate::calls::call_form;
 use crate::command::Command;
-use crate::fault::CifKind;
+use crate::fault::{CifKind, Flaw, Stop};
 use crate::forms::{Form, box_form, definition_form, layer_form, user_form};
-use crate::stop::{Flaw, Misfit, Stop};
+use crate::misfit::Misfit;
 use std::alloc::{AllocError, Global};
 
 /// How many parentheses are open inside a comment behind a byte of it.
@@ -48,7 +49,7 @@ fn after_comment(bytes: &[u8]) -> Option<&[u8]>
 /// A comment that begins where so many bytes are left, from what stands behind its first byte. Takes no memory.
 fn comment(left: usize, bytes: &[u8]) -> Result<(Command, &[u8]), Flaw>
     ensures stands { IfOk result (λ x. x.0 ≡ commands.Comment) }
-    ensures tells { Tells (λ x. (x.0, x.1.now)) result (comment_of left (after_comment 0 bytes.now)) }
+    ensures tells { AnswersAs (λ x. (x.0, x.1.now)) Some result (comment_of left (after_comment 0 bytes.now)) }
 {
     let Some(bytes) = after_comment(bytes) else {
         return Err(Flaw {
@@ -85,7 +86,7 @@ fn is_left_out(first: u8, body: &[u8]) -> bool
 
 /// The form of a command that begins with this byte. The one error is want of memory.
 fn form_at(alloc: Global, first: u8, body: &[u8]) -> Result<Form, AllocError>
-    ensures is { IfOk result (λ form. form_of first body.now ≡ form_seen form) }
+    ensures is { IfOk result (λ form. form_of first body.now ≡ form) }
     ensures sound { IfOk result FormIsSound }
 {
     if first.is_ascii_digit() {
@@ -116,7 +117,7 @@ fn from_form(inside: bool, left: usize, rest: &[u8], form: Form) -> Result<Comma
     requires place { HasPlaceWithin left (length rest.now) form }
     requires sound { FormIsSound form }
     ensures stands { IfOk result (IsInPlace inside) }
-    ensures tells { Tells (λ command. (command, rest.now)) result (reading_of inside left rest.now (form_seen form)) }
+    ensures tells { AnswersAs (λ command. (command, rest.now)) Some result (reading_of inside left rest.now form) }
 {
     match form {
         Ok(Ok(command)) => {
@@ -148,7 +149,7 @@ fn cut_command(
     bytes: &[u8],
 ) -> Result<(Command, &[u8]), Stop>
     ensures stands { IfOk result (λ x. IsInPlace inside x.0) }
-    ensures gives { Gives (λ x. (x.0, x.1.now)) result (cut_of inside (length bytes.now + 1) first (span not_semicolon bytes.now).0 (span not_semicolon bytes.now).1) }
+    ensures gives { Answers (λ x. (x.0, x.1.now)) result (cut_of inside (length bytes.now + 1) first (span not_semicolon bytes.now).0 (span not_semicolon bytes.now).1) }
 {
     let left = bytes.len() + 1;
     let (body, tail) = split_body(bytes);
@@ -176,7 +177,7 @@ pub(crate) fn command_at(
     bytes: &[u8],
 ) -> Result<(Command, &[u8]), Stop>
     ensures stands { IfOk result (λ x. IsInPlace inside x.0) }
-    ensures gives { Gives (λ x. (x.0, x.1.now)) result (command_at inside bytes.now) }
+    ensures gives { Answers (λ x. (x.0, x.1.now)) result (command_at inside bytes.now) }
 {
     let Some((first, after)) = bytes.split_first() else {
         return Err(Stop::At(Flaw {

@@ -34,3 +34,9 @@ pub enum CifFault {
     #[error("memory ran out")]
     Memory,
 }
+
+/// A flaw of a text that is to be CIF.
+pub(crate) type Flaw = read_base::Flaw<CifKind>;
+
+/// Why reading such a text ended early.
+pub(crate) type Stop = read_base::Stop<CifKind>;

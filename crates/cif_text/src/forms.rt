@@ -1,9 +1,9 @@
 //! What the bytes of boxes, layers, definitions and user commands read as.
 
-ghost use Rattle.cif_text.specs.Answers.{form_seen, user_kind_of};
+ghost use Rattle.cif_text.specs.Answers.{user_kind_of};
 ghost use Rattle.cif_text.specs.Bytes.{is_blank};
 ghost use Rattle.cif_text.specs.Forms.{axis_of, box_along, box_end, box_form, definition_form, finished, layer_form, naming, start_form, user_form};
-ghost use Rattle.cif_text.specs.Printable.{IsNear, IsPart};
+ghost use Rattle.cif_text.specs.Printable.{IsCifNumber, IsPart};
 ghost use Rattle.cif_text.specs.Sound.{FormIsSound, IsFormed};
 ghost use Rattle.cif_text.specs.declared.command.Command.TheVariants as commands;
 ghost use Rattle.std.specs.Prelude.{◌≡◌, IfOk};
@@ -15,8 +15,8 @@ use crate::bytes::{
 use crate::command::{Command, UserKind};
 use crate::directions::is_upright;
 use crate::fault::CifKind;
+use crate::misfit::Misfit;
 use crate::numbers::{natural_at, next_number, next_positive, positive_at};
-use crate::stop::Misfit;
 use geom_core::{LayerName, Name};
 use std::alloc::{AllocError, Global};
 
@@ -32,8 +32,8 @@ struct BoxNumbers {
     cy: i64,
     ghost length_is: { IsPart length },
     ghost width_is: { IsPart width },
-    ghost cx_near: { IsNear cx },
-    ghost cy_near: { IsNear cy },
+    ghost cx_near: { IsCifNumber cx },
+    ghost cy_near: { IsCifNumber cy },
 }
 
 /// A box whose length lies along a direction.
@@ -56,7 +56,7 @@ fn box_along(numbers: BoxNumbers, dx: i64, dy: i64) -> Result<Command, CifKind>
 /// What stands behind a box's centre: perhaps a direction, else the length lies along x.
 #[tactic(auto, unfolding(crate::specs::Forms::box_end))]
 fn box_end(numbers: BoxNumbers, bytes: &[u8]) -> Form
-    ensures is { box_end numbers.length numbers.width numbers.cx numbers.cy bytes.now ≡ form_seen result }
+    ensures is { box_end numbers.length numbers.width numbers.cx numbers.cy bytes.now ≡ result }
     ensures sound { FormIsSound result }
 {
     if are_separators(bytes) {
@@ -73,7 +73,7 @@ fn box_end(numbers: BoxNumbers, bytes: &[u8]) -> Form
 /// The form of a box: length, width, centre, and perhaps a direction.
 #[tactic(auto, unfolding(crate::specs::Forms::box_form))]
 pub(crate) fn box_form(body: &[u8]) -> Form
-    ensures is { box_form body.now ≡ form_seen result }
+    ensures is { box_form body.now ≡ result }
     ensures sound { FormIsSound result }
 {
     let (length, rest) = positive_at(after_separators(body))?;
@@ -92,7 +92,7 @@ pub(crate) fn box_form(body: &[u8]) -> Form
 /// The form of a layer: its short name.
 #[tactic(auto, unfolding(crate::specs::Forms::layer_form))]
 pub(crate) fn layer_form(body: &[u8]) -> Form
-    ensures is { layer_form body.now ≡ form_seen result }
+    ensures is { layer_form body.now ≡ result }
     ensures sound { FormIsSound result }
 {
     let (text, rest) = split_layer(after_blanks(body));
@@ -108,7 +108,7 @@ pub(crate) fn layer_form(body: &[u8]) -> Form
 /// The form of a definition's start, behind its letters: the symbol's number, and perhaps a scale.
 #[tactic(auto, unfolding(crate::specs::Forms::start_form))]
 fn start_form(body: &[u8]) -> Form
-    ensures is { start_form body.now ≡ form_seen result }
+    ensures is { start_form body.now ≡ result }
     ensures sound { FormIsSound result }
 {
     let (n, rest) = natural_at(after_separators(body))?;
@@ -125,7 +125,7 @@ fn start_form(body: &[u8]) -> Form
 
 /// The form of a definition's finish, behind its letters.
 fn finish_form(body: &[u8]) -> Form
-    ensures is { finished is_blank body.now commands.Finish ≡ form_seen result }
+    ensures is { finished is_blank body.now commands.Finish ≡ result }
     ensures sound { FormIsSound result }
 {
     if !are_blanks(body) {
@@ -137,7 +137,7 @@ fn finish_form(body: &[u8]) -> Form
 /// The form of a definition's start or finish.
 #[tactic(auto, unfolding(crate::specs::Forms::definition_form))]
 pub(crate) fn definition_form(body: &[u8]) -> Form
-    ensures is { definition_form body.now ≡ form_seen result }
+    ensures is { definition_form body.now ≡ result }
     ensures sound { FormIsSound result }
 {
     let Some((letter, rest)) = after_blanks(body).split_first() else {
@@ -160,7 +160,7 @@ fn user_command(alloc: Global, kind: UserKind, text: &[u8]) -> Result<Command, A
 
 /// A user command that names something needs a name. The one error is want of memory.
 fn naming(alloc: Global, kind: UserKind, text: &[u8]) -> Result<Form, AllocError>
-    ensures is { IfOk result (λ form. naming kind text.now ≡ form_seen form) }
+    ensures is { IfOk result (λ form. naming kind text.now ≡ form) }
     ensures sound { IfOk result FormIsSound }
 {
     if text.is_empty() {
@@ -187,12 +187,12 @@ fn user_kind(first: u8, digits: &[u8]) -> UserKind
 /// The form of a user command that begins with this digit. The one error is want of memory.
 #[tactic(auto, unfolding(crate::specs::Forms::user_form))]
 pub(crate) fn user_form(alloc: Global, first: u8, body: &[u8]) -> Result<Form, AllocError>
-    ensures is { IfOk result (λ form. user_form first body.now ≡ form_seen form) }
+    ensures is { IfOk result (λ form. user_form first body.now ≡ form) }
     ensures sound { IfOk result FormIsSound }
 {
     let (digits, rest) = split_digits(body);
     let text = without_white(rest);
-    match user_kind(first, digits.bytes) {
+    match user_kind(first, digits) {
         UserKind::Other => {
             let command = user_command(alloc, UserKind::Other, text)?;
             Ok(Ok(Ok(command)))

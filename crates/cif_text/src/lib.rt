@@ -9,10 +9,10 @@ mod commands;
 mod directions;
 mod fault;
 mod forms;
+mod misfit;
 mod numbers;
 mod print;
 mod reading;
-mod stop;
 mod transform;
 
 pub use command::{Command, UserKind};

@@ -1,52 +1,35 @@
 //! Integers of a text with a sign, without one, or above 0, of magnitude at most 1,000,000,000,000.
 
-ghost use Rattle.cif_text.specs.Answers.{Finds};
+ghost use Rattle.read_base.specs.Answers.{AnswersAs};
 ghost use Rattle.cif_text.specs.Bytes.{is_blank, is_separator};
 ghost use Rattle.cif_text.specs.Numbers.{apart, greatest, natural, number, positive, value_of};
-ghost use Rattle.cif_text.specs.Printable.{IsNear, IsPart};
+ghost use Rattle.cif_text.specs.Printable.{IsCifNumber, IsPart};
 ghost use Rattle.std.specs.Prelude.{◌≡◌, ◌<◌, ◌≤◌, if◌then◌else◌, None, Some, length, nat_le, IfOk, IfSome};
-ghost use Rattle.std.specs.Str.Parse.{digits_value};
 
 use crate::bytes::{
-    Digits, after_blanks, after_separators, begins_with_blank, begins_with_separator, split_digits,
+    after_blanks, after_separators, begins_with_blank, begins_with_separator, split_digits,
 };
-use crate::stop::Misfit;
+use crate::misfit::Misfit;
 use limits::MOST_NUMBER;
+use read_base::number_within;
 
 /// A number that can be read.
 #[derive(Clone, Copy, Debug)]
 pub(crate) struct Number {
     pub(crate) value: i64,
-    ghost near: { IsNear value },
-}
-
-/// What these digits make, or None where it is above the greatest.
-fn value_within(digits: &Digits) -> Option<u64>
-    ensures value { result ≡ (if nat_le (digits_value 10 digits.now.bytes.now) greatest then Some (digits_value 10 digits.now.bytes.now) else None) }
-    ensures near { IfSome result (λ n. n ≤ greatest) }
-{
-    let mut n: u64 = 0;
-    let mut rest = digits.bytes;
-    while let Some((byte, after)) = rest.split_first() {
-        n = 10 * n + u64::from(*byte - b'0');
-        if n > MOST_NUMBER {
-            return None;
-        }
-        rest = after;
-    }
-    Some(n)
+    ghost near: { IsCifNumber value },
 }
 
 /// The number of some digits that begin at a place, and what stands behind them.
-fn value_at<'a>(place: usize, digits: &Digits, rest: &'a [u8]) -> Result<(u64, &'a [u8]), Misfit>
-    ensures gives { Finds (λ x. (x.0, x.1.now)) result (value_of place digits.now.bytes.now rest.entry.now) }
+fn value_at<'a>(place: usize, digits: &[u8], rest: &'a [u8]) -> Result<(u64, &'a [u8]), Misfit>
+    ensures gives { AnswersAs (λ x. (x.0, x.1.now)) Some result (value_of place digits.now rest.entry.now) }
     ensures near { IfOk result (λ x. x.0 ≤ greatest) }
     ensures rest { IfOk result (λ x. x.1.now ≡ rest.entry.now) }
 {
-    if digits.bytes.is_empty() {
+    if digits.is_empty() {
         return Err(Misfit::Malformed);
     }
-    match value_within(digits) {
+    match number_within(MOST_NUMBER, digits) {
         Some(n) => Ok((n, rest)),
         None => Err(Misfit::TooGreat(place)),
     }
@@ -55,17 +38,17 @@ fn value_at<'a>(place: usize, digits: &Digits, rest: &'a [u8]) -> Result<(u64, &
 /// The number without a sign that stands first, and what stands behind it. Takes no memory.
 #[tactic(auto, unfolding(crate::specs::Numbers::natural))]
 pub(crate) fn natural_at(bytes: &[u8]) -> Result<(u64, &[u8]), Misfit>
-    ensures gives { Finds (λ x. (x.0, x.1.now)) result (natural bytes.now) }
+    ensures gives { AnswersAs (λ x. (x.0, x.1.now)) Some result (natural bytes.now) }
     ensures near { IfOk result (λ x. x.0 ≤ greatest) }
 {
     let (digits, rest) = split_digits(bytes);
-    value_at(bytes.len(), &digits, rest)
+    value_at(bytes.len(), digits, rest)
 }
 
 /// The number above 0 that stands first, and what stands behind it. Takes no memory.
 #[tactic(auto, unfolding(crate::specs::Numbers::positive))]
 pub(crate) fn positive_at(bytes: &[u8]) -> Result<(u64, &[u8]), Misfit>
-    ensures gives { Finds (λ x. (x.0, x.1.now)) result (positive bytes.now) }
+    ensures gives { AnswersAs (λ x. (x.0, x.1.now)) Some result (positive bytes.now) }
     ensures near { IfOk result (λ x. IsPart x.0) }
 {
     let (n, rest) = natural_at(bytes)?;
@@ -78,15 +61,15 @@ pub(crate) fn positive_at(bytes: &[u8]) -> Result<(u64, &[u8]), Misfit>
 /// The number that stands first, perhaps behind a minus sign, and what stands behind it. Takes no memory.
 #[tactic(auto, unfolding(crate::specs::Numbers::number))]
 pub(crate) fn number_at(bytes: &[u8]) -> Result<(i64, &[u8]), Misfit>
-    ensures gives { Finds (λ x. (x.0, x.1.now)) result (number bytes.now) }
-    ensures near { IfOk result (λ x. IsNear x.0) }
+    ensures gives { AnswersAs (λ x. (x.0, x.1.now)) Some result (number bytes.now) }
+    ensures near { IfOk result (λ x. IsCifNumber x.0) }
 {
     let Some((first, after)) = bytes.split_first() else {
         return Err(Misfit::Malformed);
     };
     if *first == b'-' {
         let (digits, rest) = split_digits(after);
-        let (n, rest) = value_at(bytes.len(), &digits, rest)?;
+        let (n, rest) = value_at(bytes.len(), digits, rest)?;
         return Ok((-(n as i64), rest));
     }
     let (n, rest) = natural_at(bytes)?;
@@ -95,7 +78,7 @@ pub(crate) fn number_at(bytes: &[u8]) -> Result<(i64, &[u8]), Misfit>
 
 /// The number above 0 behind one separator or more, and what stands behind it. Takes no memory.
 pub(crate) fn next_positive(bytes: &[u8]) -> Result<(u64, &[u8]), Misfit>
-    ensures gives { Finds (λ x. (x.0, x.1.now)) result (apart is_separator positive bytes.now) }
+    ensures gives { AnswersAs (λ x. (x.0, x.1.now)) Some result (apart is_separator positive bytes.now) }
     ensures near { IfOk result (λ x. IsPart x.0) }
 {
     if !begins_with_separator(bytes) {
@@ -106,8 +89,8 @@ pub(crate) fn next_positive(bytes: &[u8]) -> Result<(u64, &[u8]), Misfit>
 
 /// The number behind one separator or more, and what stands behind it. Takes no memory.
 pub(crate) fn next_number(bytes: &[u8]) -> Result<(i64, &[u8]), Misfit>
-    ensures gives { Finds (λ x. (x.0, x.1.now)) result (apart is_separator number bytes.now) }
-    ensures near { IfOk result (λ x. IsNear x.0) }
+    ensures gives { AnswersAs (λ x. (x.0, x.1.now)) Some result (apart is_separator number bytes.now) }
+    ensures near { IfOk result (λ x. IsCifNumber x.0) }
 {
     if !begins_with_separator(bytes) {
         return Err(Misfit::Malformed);
@@ -117,8 +100,8 @@ pub(crate) fn next_number(bytes: &[u8]) -> Result<(i64, &[u8]), Misfit>
 
 /// The number behind one blank or more, and what stands behind it. Takes no memory.
 pub(crate) fn next_among_blanks(bytes: &[u8]) -> Result<(i64, &[u8]), Misfit>
-    ensures gives { Finds (λ x. (x.0, x.1.now)) result (apart is_blank number bytes.now) }
-    ensures near { IfOk result (λ x. IsNear x.0) }
+    ensures gives { AnswersAs (λ x. (x.0, x.1.now)) Some result (apart is_blank number bytes.now) }
+    ensures near { IfOk result (λ x. IsCifNumber x.0) }
 {
     if !begins_with_blank(bytes) {
         return Err(Misfit::Malformed);

@@ -1,6 +1,7 @@
 //! All commands of a text up to its end command, or the first byte that has no reading.
 
-ghost use Rattle.cif_text.specs.Answers.{Gives, Reads, commands_of};
+ghost use Rattle.read_base.specs.Answers.{Answers, AnswersAs};
+ghost use Rattle.cif_text.specs.Answers.{commands_of, told_of};
 ghost use Rattle.cif_text.specs.Bytes.{is_ascii_byte, span};
 ghost use Rattle.cif_text.specs.CifReads.{cif_reads, is_end, is_open_behind};
 ghost use Rattle.cif_text.specs.Sound.{AreSound};
@@ -10,8 +11,7 @@ ghost use Rattle.std.specs.Prelude.{◌≡◌, ◌≤◌, IfOk, MatchOption, fal
 use crate::bytes::after_between;
 use crate::command::Command;
 use crate::commands::command_at;
-use crate::fault::{CifFault, CifKind};
-use crate::stop::Stop;
+use crate::fault::{CifFault, CifKind, Stop};
 use std::alloc::Global;
 
 fn is_end(command: &Command) -> bool
@@ -36,7 +36,7 @@ fn is_open_behind(inside: bool, command: &Command) -> bool
 
 /// The commands of a text, up to its end command.
 fn commands_in(alloc: Global, bytes: &[u8]) -> Result<Vec<Command>, Stop>
-    ensures gives { Gives (λ found. found.items) result (commands_of false bytes.now) }
+    ensures gives { Answers (λ found. found.items) result (commands_of false bytes.now) }
     ensures sound { IfOk result (λ found. AreSound false found.items) }
     ensures short { IfOk result (λ found. length found.items ≤ length bytes.now) }
 {
@@ -77,7 +77,7 @@ fn first_foreign(bytes: &[u8]) -> Option<usize>
 /// no more of them than bytes. The text is read once, from the front to its end command.
 #[tactic(auto, unfolding(crate::specs::CifReads::cif_reads))]
 pub fn read_commands(alloc: Global, bytes: &[u8]) -> Result<Vec<Command>, CifFault>
-    ensures reads { Reads (λ found. found.items) result (cif_reads bytes.now) }
+    ensures reads { AnswersAs (λ found. found.items) told_of result (cif_reads bytes.now) }
     ensures sound { IfOk result (λ found. AreSound false found.items) }
     ensures short { IfOk result (λ found. length found.items ≤ length bytes.now) }
 {

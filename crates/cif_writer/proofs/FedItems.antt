@@ -5,7 +5,7 @@ use Rattle.std.proofs.lemmas.List.Elements.{Contains-append_right, recursion_fro
 use Rattle.std.proofs.lemmas.List.Sums.{get_or-le-sum_by}
 use Rattle.std.proofs.lemmas.Option.{slice_get_within}
 use Rattle.std.specs.List.{AllByRecursion, list_any}
-use Rattle.std.specs.Prelude.{◌==◌, slice_get, option_map}
+use Rattle.std.specs.Prelude.{◌==◌, slice_get, slice_index, option_map}
 use Rattle.std.specs.Option.{option_and_then}
 use Rattle.row_model.specs.declared.stands.Stand.{Stand}
 use Rattle.design_model.proofs.DesignPins.{pin-within}
@@ -18,12 +18,13 @@ use Rattle.row_model.specs.Widths.{kind_of, columns_of, width_of}
 use Rattle.row_model.specs.declared.rows.Seat.{Seat}
 use Rattle.row_model.proofs.PlacedLaws.{IsWithin, rows-within}
 use Rattle.row_model.proofs.StandLaws.{IsStand, stand-is, stand-there}
-use Rattle.feed_cells.specs.Fed.{Fed, IsFed, cells_in, fed_row, fed_rows, item_width, items_width, seats_in}
+use Rattle.feed_cells.specs.Fed.{Fed, IsFed, cells_in, fed_row, fed_rows, heights_of, item_width, items_width, seats_in}
 use Rattle.feed_cells.proofs.Standing.{Stands, seated, feeding}
 use Rattle.feed_cells.specs.declared.fed.Item.{Item}
 use Rattle.feed_cells.specs.declared.fed.Item.TheVariants.{Cell, Feed}
 use Rattle.feed_cells.proofs.FedLaws.{fed-row, fed-row-some, fed-width, item-stands, seat-stands}
-use Rattle.cif_writer.specs.Symbols.{is_feed, has_feed}
+use Rattle.channel_stack.proofs.StackBounds.{heights-of}
+use Rattle.cif_writer.specs.Symbols.{feed_height, is_feed, has_feed}
 use Rattle.std_laws.proofs.Members.{find-member, map-member, member-head, member-place}
 use Rattle.std_laws.proofs.Places.{at-place}
 use Rattle.std_laws.proofs.Every.{every-from-get, every-get}
@@ -95,6 +96,14 @@ feed-kind d fed good is any =
     of : (item : Item) → is_feed item ≡ true → (row : ℕ) (seats : List Seat) → Stands d (cells_in fed.rows) row seats item → 0 < length d.kinds
     of item test row seats (seated s member same) = absurd (both_ways (is_feed item) (ap is_feed same) test)
     of item test row seats (feeding net feed same) = net-kind d good net feed.some feed.few
+
+-- feeds are as high as the design's rows
+pub feed-high : (d : Netlist) (fed : Fed) → IsFed d fed → feed_height fed ≡ d.height
+feed-high d fed is = ap (λ (heights : List ℕ). slice_index heights 0) (heights-of d fed is) ∙ first (cells_in fed.rows) is.placed.some
+  where
+    first : (rows : List (List Seat)) → 0 < length rows → slice_index (heights_of d rows) 0 ≡ d.height
+    first [] some = absurd (omega arith)
+    first (seats ∷ rows) some = refl
 
 -- an item of rows of a design: a cell's instance is one of the design's, and a feed stands where there are feeds
 abbrev pub IsThere : Netlist → Bool → Item → Type 0

@@ -10,7 +10,7 @@ use Rattle.design_model.specs.Netlist.{Netlist}
 use Rattle.design_model.specs.declared.design.CellKind.{CellKind}
 use Rattle.feed_cells.specs.Fed.{Fed}
 use Rattle.channel_stack.specs.Layouts.{feed_drawing}
-use Rattle.cif_writer.specs.Symbols.{symbol_for, feed_symbol, has_feed, symbols_of}
+use Rattle.cif_writer.specs.Symbols.{symbol_for, feed_height, feed_symbol, has_feed, symbols_of}
 use Rattle.std_laws.proofs.Places.{map-at, get-before, get-behind}
 
 -- the symbols of a layout, numbered from 1
@@ -18,8 +18,8 @@ abbrev pub symbols_in : RuleValues → Netlist → Fed → List Symbol
 symbols_in r d fed = symbols_from 1 (symbols_of r d fed)
 
 -- the symbol of feeds
-abbrev pub feeds_symbol : RuleValues → Netlist → written.WrittenSymbol
-feeds_symbol r d = record { name = None; shapes = feed_drawing r d.height }
+abbrev pub feeds_symbol : RuleValues → Fed → written.WrittenSymbol
+feeds_symbol r fed = record { name = None; shapes = feed_drawing r (feed_height fed) }
 
 module _ (r : RuleValues) (d : Netlist) (fed : Fed) where
   -- the symbol that stands at a place has the number behind it
@@ -32,13 +32,13 @@ module _ (r : RuleValues) (d : Netlist) (fed : Fed) where
       → symbol_of (k + 1) (symbols_in r d fed) ≡ Some (symbol_at (k + 1) (symbol_for r d.height kind))
   kind-found k kind at =
       numbered k (symbol_for r d.height kind)
-      (get-before (map (symbol_for r d.height) d.kinds) (feed_symbol r d.height (has_feed fed.rows)) k (symbol_for r d.height kind)
+      (get-before (map (symbol_for r d.height) d.kinds) (feed_symbol r (feed_height fed) (has_feed fed.rows)) k (symbol_for r d.height kind)
       (map-at (symbol_for r d.height) d.kinds k kind at))
 
   -- the symbol of feeds stands behind those of the kinds
-  pub feed-found : has_feed fed.rows ≡ true → symbol_of (length d.kinds + 1) (symbols_in r d fed) ≡ Some (symbol_at (length d.kinds + 1) (feeds_symbol r d))
+  pub feed-found : has_feed fed.rows ≡ true → symbol_of (length d.kinds + 1) (symbols_in r d fed) ≡ Some (symbol_at (length d.kinds + 1) (feeds_symbol r fed))
   feed-found has =
-      numbered (length d.kinds) (feeds_symbol r d)
-      (get-behind (map (symbol_for r d.height) d.kinds) (feed_symbol r d.height (has_feed fed.rows)) (length d.kinds) 0
+      numbered (length d.kinds) (feeds_symbol r fed)
+      (get-behind (map (symbol_for r d.height) d.kinds) (feed_symbol r (feed_height fed) (has_feed fed.rows)) (length d.kinds) 0
       (let e = length-map d.kinds (symbol_for r d.height) in omega arith)
-      ∙ ap (λ (b : Bool). slice_get (feed_symbol r d.height b) 0) has)
+      ∙ ap (λ (b : Bool). slice_get (feed_symbol r (feed_height fed) b) 0) has)

@@ -1,7 +1,5 @@
--- bytes that go behind those that were buffered
-pub mod AppendsLaws
--- texts written one behind another
-pub mod WroteLaws
+-- texts that are put to a file that was empty
+pub mod BegunLaws
 -- the text of commands, one part after another
 pub mod Lines
 -- drawings lie within reach

@@ -1,16 +1,22 @@
-use Rattle.std.proofs.Common.{◌≡◌, ◌++◌, ◌∷◌, ◌∙◌, [], ap, ℕ, List, Option, None}
+use Rattle.std.proofs.Common.{◌≡◌, ◌++◌, ◌∷◌, ◌∙◌, [], ap, ℕ, List, Option, None, Some}
 use Rattle.std.proofs.lemmas.List.{append-nil}
 use Rattle.cif_text.proofs.TextLemmas.{text_of-append}
 use Rattle.cif_text.specs.Printing.{line, text_of}
 use Rattle.cif_text.specs.Written.{name_commands, shapes_commands, symbol_commands}
 use Rattle.cif_text.specs.declared.command.Command.{Command}
 use Rattle.cif_text.specs.declared.command.Command.TheVariants as commands
+use Rattle.cif_text.specs.declared.command.UserKind.{UserKind}
 use Rattle.cif_text.specs.declared.command.UserKind.TheVariants as users
 use Rattle.geom_core.specs.declared.layout.Shape.{Shape}
 
 -- the text of commands and one more
 pub text-last : (cs : List Command) (c : Command) → text_of (cs ++ (c ∷ [])) ≡ text_of cs ++ line c
 text-last cs c = text_of-append cs (c ∷ []) ∙ ap (λ (l : List ℕ). text_of cs ++ l) (append-nil (line c))
+
+-- the text of a name, by the line of its command
+pub name-text : (kind : UserKind) (digits name : List ℕ) → line (commands.User kind name) ≡ digits ++ (name ++ 59 ∷ 10 ∷ [])
+    → text_of (name_commands kind (Some name)) ≡ digits ++ (name ++ 59 ∷ 10 ∷ [])
+name-text kind digits name is = append-nil (line (commands.User kind name)) ∙ is
 
 -- the text of a symbol: its number, its name, its shapes and its end
 pub symbol-text : (n : ℕ) (name : Option (List ℕ)) (shapes : List Shape) → text_of (symbol_commands n (record { name = name; shapes = shapes }))

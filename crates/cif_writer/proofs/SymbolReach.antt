@@ -6,12 +6,13 @@ use Rattle.channel_stack.specs.Layouts.{feed_drawing}
 use Rattle.design_model.specs.Drawing.{drawing_of, middle_of}
 use Rattle.design_model.specs.Netlist.{IsKind, IsNetlist, Netlist}
 use Rattle.design_model.specs.declared.design.CellKind.{CellKind}
-use Rattle.feed_cells.specs.Fed.{Fed}
+use Rattle.feed_cells.specs.Fed.{Fed, IsFed}
 use Rattle.geom_core.specs.Reach.{IsShapeInReach}
 use Rattle.geom_core.specs.declared.layout.Shape.{Shape}
 use Rattle.tech_rules.specs.Rules.{RuleValues, ValidRules}
-use Rattle.cif_writer.specs.Symbols.{feed_symbol, has_feed, symbol_drawings}
+use Rattle.cif_writer.specs.Symbols.{feed_height, feed_symbol, has_feed, symbol_drawings}
 use Rattle.cif_writer.proofs.DrawingReach.{drawing-in-reach, scaled-in-reach}
+use Rattle.cif_writer.proofs.FedItems.{feed-high}
 use Rattle.cif_writer.proofs.SymbolDrawings.{parted}
 use Rattle.std_laws.proofs.Every.{every-append}
 
@@ -53,9 +54,10 @@ feeds-reach r height valid low true = (feed-reach r height valid low, tt)
 feeds-reach r height valid low false = tt
 
 -- the drawings of the symbols of a layout are in reach
-pub symbols-reach : (r : RuleValues) (d : Netlist) (fed : Fed) → ValidRules r → IsNetlist d → AreInReach (symbol_drawings r d fed)
-symbols-reach r d fed valid is =
+pub symbols-reach : (r : RuleValues) (d : Netlist) (fed : Fed) → ValidRules r → IsNetlist d → IsFed d fed → AreInReach (symbol_drawings r d fed)
+symbols-reach r d fed valid is from =
+    let high = feed-high d fed from in
     subst AreInReach (sym (parted r d fed (has_feed fed.rows) refl))
     (every-append (λ (shapes : List Shape). AllByRecursion IsShapeInReach shapes) (map (drawing_of r d.height) d.kinds)
-    (map (λ (s : written.WrittenSymbol). s.shapes) (feed_symbol r d.height (has_feed fed.rows)))
-    (kinds-reach r d.height valid is.low d.kinds (recursion_from_All IsKind d.kinds is.kinds)) (feeds-reach r d.height valid is.low (has_feed fed.rows)))
+    (map (λ (s : written.WrittenSymbol). s.shapes) (feed_symbol r (feed_height fed) (has_feed fed.rows)))
+    (kinds-reach r d.height valid is.low d.kinds (recursion_from_All IsKind d.kinds is.kinds)) (feeds-reach r (feed_height fed) valid (omega (arith, is.low)) (has_feed fed.rows)))

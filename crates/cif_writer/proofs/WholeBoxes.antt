@@ -4,7 +4,7 @@ use Rattle.std.proofs.Math.Nat.{mul-le-mul, mul-le-mul_right, mul_assoc, mul_lef
 use Rattle.std.specs.Prelude.{◌+ℤ◌, ◌-ℤ◌}
 use Rattle.geom_core.specs.Extent.{Extent}
 use Rattle.design_model.specs.Drawing.{extent_of}
-use Rattle.cif_text.specs.Printable.{IsNear, IsSize}
+use Rattle.cif_text.specs.Printable.{IsCifNumber, IsSize}
 use Rattle.cif_text.specs.Scales.{doubled}
 use Rattle.cif_text.proofs.WrittenLayout.{IsBox}
 
@@ -51,7 +51,7 @@ same-extent : (a b c d e f g h : ℤ) → a ≡ e → b ≡ f → c ≡ g → d 
 same-extent a b c d e f g h first second third fourth = λ i. made (first i) (second i) (third i) (fourth i)
 
 -- a number of up to 10^12 can be read
-pub near-of : (n : ℕ) → n ≤ 1000000000000 → IsNear (pos n)
+pub near-of : (n : ℕ) → n ≤ 1000000000000 → IsCifNumber (pos n)
 near-of n small = record { low = omega (arith, ints); high = omega (arith, ints) }
 
 -- so can a length from 1 on

@@ -1,4 +1,4 @@
-use Rattle.std.proofs.Common.{◌≡◌, ℕ, ◌+◌, ◌*◌, ◌<◌, ◌≤◌, List, [], ◌∷◌, length, map, All, Bool, true, false, arith, length-append}
+use Rattle.std.proofs.Common.{◌≡◌, ℕ, ◌+◌, ◌*◌, ◌<◌, ◌≤◌, List, [], ◌∷◌, length, map, All, Bool, true, false, arith, length-append, subst, sym}
 use Rattle.std.proofs.Math.Nat.{mul-le-mul_right}
 use Rattle.std.proofs.lemmas.List.{length-map}
 use Rattle.std.proofs.lemmas.List.Elements.{recursion_from_All}
@@ -16,10 +16,10 @@ use Rattle.feed_cells.specs.Fed.{Fed, IsFed, items_width}
 use Rattle.feed_cells.specs.declared.fed.Item.{Item}
 use Rattle.layout_laws.specs.Heights.{channel_height}
 use Rattle.cif_text.proofs.WrittenLayout.{IsDrawn, IsWritable}
-use Rattle.cif_writer.specs.Symbols.{symbol_for, feed_symbol, has_feed, symbols_of, main_items}
+use Rattle.cif_writer.specs.Symbols.{symbol_for, feed_height, feed_symbol, has_feed, symbols_of, main_items}
 use Rattle.channel_stack.specs.Routed.{IsRouted}
 use Rattle.channel_stack.specs.Stack.{channel_bases, stack_top, most_columns, drawings, stack_of}
-use Rattle.cif_writer.proofs.FedItems.{IsThere, feed-kind, items-there, kinds-narrow}
+use Rattle.cif_writer.proofs.FedItems.{IsThere, feed-high, feed-kind, items-there, kinds-narrow}
 use Rattle.channel_stack.proofs.StackBounds.{IsBounded, bases-within, channel-below, columns-most, height-within}
 use Rattle.cif_writer.proofs.WritableItems.{IsLaid, IsRow, items-are}
 use Rattle.cif_writer.proofs.WritableSymbols.{feed-are, kinds-are}
@@ -47,10 +47,11 @@ feed-few : (r : RuleValues) (height : ℕ) (feeds : Bool) → length (feed_symbo
 feed-few r height false = omega arith
 feed-few r height true = omega arith
 
--- where there are feeds rows have some height
-pub feed-room : (r : RuleValues) (d : Netlist) (fed : Fed) → ValidRules r → IsNetlist d → IsFed d fed → HasRoom r d → has_feed fed.rows ≡ true → 0 < d.height
+-- feeds have some height
+pub feed-room : (r : RuleValues) (d : Netlist) (fed : Fed) → ValidRules r → IsNetlist d → IsFed d fed → HasRoom r d → has_feed fed.rows ≡ true → 0 < feed_height fed
 feed-room r d fed valid good is tall some =
     let pin : 1 ≤ r.grid.pin = valid.ranges.grid.pin.0 in
+    let high : feed_height fed ≡ d.height = feed-high d fed is in
     let room : least_height r ≤ d.height = tall (feed-kind d fed good is some) in
     omega arith
 
@@ -60,9 +61,9 @@ symbols-are : (r : RuleValues) (d : Netlist) (fed : Fed) → ValidRules r → Is
     → fed.width * r.grid.column * r.grid.centi ≤ 1000000000 → d.height * r.grid.centi ≤ 1000000000
     → AllByRecursion IsDrawn (symbols_of r d fed)
 symbols-are r d fed valid good is tall across up =
-    every-append IsDrawn (map (symbol_for r d.height) d.kinds) (feed_symbol r d.height (has_feed fed.rows))
+    every-append IsDrawn (map (symbol_for r d.height) d.kinds) (feed_symbol r (feed_height fed) (has_feed fed.rows))
     (kinds-are r d.height fed.width valid across up d.kinds (kinds-narrow d fed good is) (recursion_from_All IsKind d.kinds good.kinds) tall)
-    (feed-are r d.height valid up (has_feed fed.rows) (feed-room r d fed valid good is tall))
+    (feed-are r (feed_height fed) valid (subst (λ (n : ℕ). n * r.grid.centi ≤ 1000000000) (sym (feed-high d fed is)) up) (has_feed fed.rows) (feed-room r d fed valid good is tall))
 
 -- the layout of a routed design can be written
 pub stack-writable : (r : RuleValues) (d : Netlist) (fed : Fed) (ws : List Wiring) → ValidRules r → IsNetlist d → IsFed d fed
@@ -71,18 +72,18 @@ pub stack-writable : (r : RuleValues) (d : Netlist) (fed : Fed) (ws : List Wirin
 unfolding stack_of
 stack-writable r d fed ws valid good is tall routed =
     let bounds : IsBounded r d fed ws = bases-within r d fed ws is routed in
-    let row : d.height * r.grid.centi ≤ stack_top r d.height 0 ws * r.grid.centi = mul-le-mul_right r.grid.centi (height-within r d fed ws is routed.each) in
+    let row : d.height * r.grid.centi ≤ stack_top r fed.heights 0 ws * r.grid.centi = mul-le-mul_right r.grid.centi (height-within r d fed ws is routed.each) in
     let low : d.height * r.grid.centi ≤ 1000000000 = omega (arith, bounds.height) in
     let few : length d.kinds < 4294967296 = good.few_kinds in
     let kinds : length (map (symbol_for r d.height) d.kinds) ≡ length d.kinds = length-map d.kinds (symbol_for r d.height) in
-    let one : length (feed_symbol r d.height (has_feed fed.rows)) ≤ 1 = feed-few r d.height (has_feed fed.rows) in
-    let count : length (symbols_of r d fed) ≡ length (map (symbol_for r d.height) d.kinds) + length (feed_symbol r d.height (has_feed fed.rows)) =
-    length-append (map (symbol_for r d.height) d.kinds) (feed_symbol r d.height (has_feed fed.rows)) in
+    let one : length (feed_symbol r (feed_height fed) (has_feed fed.rows)) ≤ 1 = feed-few r (feed_height fed) (has_feed fed.rows) in
+    let count : length (symbols_of r d fed) ≡ length (map (symbol_for r d.height) d.kinds) + length (feed_symbol r (feed_height fed) (has_feed fed.rows)) =
+    length-append (map (symbol_for r d.height) d.kinds) (feed_symbol r (feed_height fed) (has_feed fed.rows)) in
     record {
       few = omega arith;
       symbols = symbols-are r d fed valid good is tall bounds.width low;
-      items = items-are r d (has_feed fed.rows) valid good fed.width (stack_top r d.height 0 ws) bounds.width bounds.height (most_columns ws) bounds.columns
-          0 ws fed.rows (omega arith) (wirings-laid r d fed ws routed) (rows-fit d fed good is bounds.rows);
+      items = items-are r d (feed_height fed) (has_feed fed.rows) valid good fed.width (stack_top r fed.heights 0 ws) bounds.width bounds.height (most_columns ws) bounds.columns
+          fed.heights 0 ws fed.rows (omega arith) (wirings-laid r d fed ws routed) (rows-fit d fed good is bounds.rows);
     }
 
 -- rectangles in reach, and those of channels
@@ -98,16 +99,16 @@ channel-reach r columns high base w valid across up low laid =
     every-weaker IsWire (λ (a : Drawn). IsShapeInReach a.shape) (λ (a : Drawn) (wire : IsWire a). wire.reach) (drawing r base w)
     (drawing-is r valid columns high across up base w laid.narrow low laid.on_grid)
 
-channels-reach : (r : RuleValues) (height columns high base : ℕ) (ws : List Wiring) → ValidRules r → columns * r.grid.column * r.grid.centi ≤ 1000000000
-    → high * r.grid.centi ≤ 1000000000 → stack_top r height base ws ≤ high → AllByRecursion (IsLaid columns) ws
-    → AreReached (drawings r ws (channel_bases r height base ws))
-channels-reach r height columns high base [] valid across up low laid = tt
-channels-reach r height columns high base (w ∷ []) valid across up low laid =
-    (channel-reach r columns high base w valid across up low laid.0, tt)
-channels-reach r height columns high base (w ∷ (v ∷ ws)) valid across up low laid =
-    let edge : base + channel_height r w ≤ high = omega (arith, channel-below r height base w (v ∷ ws)) in (
+channels-reach : (r : RuleValues) (heights : List ℕ) (columns high base : ℕ) (ws : List Wiring) → ValidRules r → columns * r.grid.column * r.grid.centi ≤ 1000000000
+    → high * r.grid.centi ≤ 1000000000 → stack_top r heights base ws ≤ high → AllByRecursion (IsLaid columns) ws
+    → AreReached (drawings r ws (channel_bases r heights base ws))
+channels-reach r heights columns high base [] valid across up low laid = tt
+channels-reach r [] columns high base (w ∷ []) valid across up low laid = (channel-reach r columns high base w valid across up low laid.0, tt)
+channels-reach r [] columns high base (w ∷ (v ∷ ws)) valid across up low laid = (channel-reach r columns high base w valid across up low laid.0, tt)
+channels-reach r (h ∷ heights) columns high base (w ∷ ws) valid across up low laid =
+    let edge : base + channel_height r w ≤ high = omega (arith, channel-below r (h ∷ heights) base w ws) in (
       channel-reach r columns high base w valid across up edge laid.0,
-      channels-reach r height columns high (base + channel_height r w + height) (v ∷ ws) valid across up low laid.1,
+      channels-reach r heights columns high (base + channel_height r w + h) ws valid across up low laid.1,
     )
 
 -- the rectangles of the channels of a routed design are in reach
@@ -116,4 +117,4 @@ pub stack-reach : (r : RuleValues) (d : Netlist) (fed : Fed) (ws : List Wiring) 
 unfolding stack_of
 stack-reach r d fed ws valid is routed =
     let bounds : IsBounded r d fed ws = bases-within r d fed ws is routed in
-    channels-reach r d.height (most_columns ws) (stack_top r d.height 0 ws) 0 ws valid bounds.columns bounds.height (omega arith) (wirings-laid r d fed ws routed)
+    channels-reach r fed.heights (most_columns ws) (stack_top r fed.heights 0 ws) 0 ws valid bounds.columns bounds.height (omega arith) (wirings-laid r d fed ws routed)

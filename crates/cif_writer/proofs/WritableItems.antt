@@ -58,10 +58,10 @@ first-fits left w ws total wide parted room = omega arith
 others-fit : (left w ws total wide : ℕ) → total ≡ w + ws → left + total ≤ wide → (left + w) + ws ≤ wide
 others-fit left w ws total wide parted room = omega arith
 
-module _ (r : RuleValues) (d : Netlist) (feeds : Bool) (valid : ValidRules r) (good : IsNetlist d) (wide high : ℕ)
+module _ (r : RuleValues) (d : Netlist) (height : ℕ) (feeds : Bool) (valid : ValidRules r) (good : IsNetlist d) (wide high : ℕ)
     (across : wide * r.grid.column * r.grid.centi ≤ 1000000000) (up : high * r.grid.centi ≤ 1000000000) where
   abbrev symbols : List written.WrittenSymbol
-  symbols = map (symbol_for r d.height) d.kinds ++ feed_symbol r d.height feeds
+  symbols = map (symbol_for r d.height) d.kinds ++ feed_symbol r height feeds
 
   -- the place of an item is whole in centimicrons
   place-whole : (base : ℕ) (mirror : Bool) (column : ℕ) → base ≤ high → column ≤ wide → IsWhole (place_at r base mirror column)
@@ -86,7 +86,7 @@ module _ (r : RuleValues) (d : Netlist) (feeds : Bool) (valid : ValidRules r) (g
       let drawn : slice_get (map (symbol_for r d.height) d.kinds) i.kind ≡ Some (symbol_for r d.height found.0) =
       slice_get-map (symbol_for r d.height) d.kinds i.kind ∙ ap (option_map (symbol_for r d.height)) found.1 in
       let among : slice_get symbols i.kind ≡ Some (symbol_for r d.height found.0) =
-      get-before (map (symbol_for r d.height) d.kinds) (feed_symbol r d.height feeds) i.kind (symbol_for r d.height found.0) drawn in
+      get-before (map (symbol_for r d.height) d.kinds) (feed_symbol r height feeds) i.kind (symbol_for r d.height found.0) drawn in
       let few : length d.kinds < 4294967296 = good.few_kinds in
       record {
         number = record { high = omega arith };
@@ -114,10 +114,10 @@ module _ (r : RuleValues) (d : Netlist) (feeds : Bool) (valid : ValidRules r) (g
   feed-is : (place : Place) → feeds ≡ true → IsWhole place → IsCopy (symbols_from 1 symbols) None (length d.kinds + 1) place
   feed-is place some whole =
       let kinds : List written.WrittenSymbol = map (symbol_for r d.height) d.kinds in
-      let feed : written.WrittenSymbol = record { name = None; shapes = feed_drawing r d.height } in
+      let feed : written.WrittenSymbol = record { name = None; shapes = feed_drawing r height } in
       let count : length kinds ≡ length d.kinds = length-map d.kinds (symbol_for r d.height) in
       let last : slice_get symbols (length d.kinds) ≡ Some feed =
-      ap (λ (b : Bool). slice_get (kinds ++ feed_symbol r d.height b) (length d.kinds)) some
+      ap (λ (b : Bool). slice_get (kinds ++ feed_symbol r height b) (length d.kinds)) some
       ∙ get-behind kinds (feed ∷ []) (length d.kinds) 0 (omega arith) in
       let few : length d.kinds < 4294967296 = good.few_kinds in
       record {
@@ -159,22 +159,20 @@ module _ (r : RuleValues) (d : Netlist) (feeds : Bool) (valid : ValidRules r) (g
         (drawing r base w) (drawing-is r valid columns high channels up base w laid.narrow low laid.on_grid))
 
     -- rows and channels on one another are items that can be written
-    pub items-are : (base : ℕ) (ws : List Wiring) (rows : List (List items.Item)) → stack_top r d.height base ws ≤ high
+    pub items-are : (heights : List ℕ) (base : ℕ) (ws : List Wiring) (rows : List (List items.Item)) → stack_top r heights base ws ≤ high
         → AllByRecursion (IsLaid columns) ws → AllByRecursion (IsRow d feeds wide) rows
         → AllByRecursion (IsItem (symbols_from 1 symbols))
-        (items_of d (drawings r ws (channel_bases r d.height base ws)) (placed_rows r d rows (row_bases r d.height base ws)))
-    items-are base [] rows low laid fit = tt
-    items-are base (w ∷ []) [] low laid fit = wires-are base w low laid.0
-    items-are base (w ∷ []) (row ∷ rows) low laid fit = wires-are base w low laid.0
-    items-are base (w ∷ (v ∷ ws)) [] low laid fit = wires-are base w (omega (arith, channel-below r d.height base w (v ∷ ws))) laid.0
-    items-are base (w ∷ (v ∷ ws)) (row ∷ rows) low laid fit =
-        let edge : base + channel_height r w ≤ high = omega (arith, channel-below r d.height base w (v ∷ ws)) in
-        let next : ℕ = base + channel_height r w + d.height in
-        every-append (IsItem (symbols_from 1 symbols)) (wires_of (drawing r base w))
-        (copies_of d (placed_from r d (base + channel_height r w) 0 row)
-        ++ items_of d (drawings r (v ∷ ws) (channel_bases r d.height next (v ∷ ws))) (placed_rows r d rows (row_bases r d.height next (v ∷ ws))))
+        (items_of d (drawings r ws (channel_bases r heights base ws)) (placed_rows r d rows (row_bases r heights base ws)))
+    items-are heights base [] rows low laid fit = tt
+    items-are [] base (w ∷ ws) [] low laid fit = wires-are base w low laid.0
+    items-are [] base (w ∷ ws) (row ∷ rows) low laid fit = wires-are base w low laid.0
+    items-are (h ∷ heights) base (w ∷ ws) [] low laid fit = wires-are base w (omega (arith, channel-below r (h ∷ heights) base w ws)) laid.0
+    items-are (h ∷ heights) base (w ∷ ws) (row ∷ rows) low laid fit =
+        let edge : base + channel_height r w ≤ high = omega (arith, channel-below r (h ∷ heights) base w ws) in
+        let next : ℕ = base + channel_height r w + h in
+        let above : List written.MainItem = items_of d (drawings r ws (channel_bases r heights next ws)) (placed_rows r d rows (row_bases r heights next ws)) in
+        every-append (IsItem (symbols_from 1 symbols)) (wires_of (drawing r base w)) (copies_of d (placed_from r d (base + channel_height r w) 0 row) ++ above)
         (wires-are base w edge laid.0)
-        (every-append (IsItem (symbols_from 1 symbols)) (copies_of d (placed_from r d (base + channel_height r w) 0 row))
-        (items_of d (drawings r (v ∷ ws) (channel_bases r d.height next (v ∷ ws))) (placed_rows r d rows (row_bases r d.height next (v ∷ ws))))
+        (every-append (IsItem (symbols_from 1 symbols)) (copies_of d (placed_from r d (base + channel_height r w) 0 row)) above
         (copies-are (base + channel_height r w) 0 row edge (omega (arith, fit.0.narrow)) fit.0.there)
-        (items-are next (v ∷ ws) rows low laid.1 fit.1))
+        (items-are heights next ws rows low laid.1 fit.1))

@@ -24,13 +24,15 @@ use Rattle.cif_text.proofs.WrittenText.{written-reads}
 use Rattle.cif_text.specs.ReadsAs.{ReadsAs}
 use Rattle.cif_text.specs.Symbols.{Symbol}
 use Rattle.channel_stack.proofs.KnownItems.{KnownCell, instance-known}
-use Rattle.channel_stack.specs.Layouts.{channel_shapes, instance_cells, item_cells, item_shapes, kind_cells, kind_drawing, layout_of, row_cells, row_shapes, stacked_cells, stacked_shapes}
+use Rattle.channel_stack.proofs.Planned.{row_heights}
+use Rattle.channel_stack.proofs.StackBounds.{heights-of}
+use Rattle.channel_stack.specs.Layouts.{channel_shapes, feed_drawing, instance_cells, item_cells, item_shapes, kind_cells, kind_drawing, layout_of, row_cells, row_shapes, stacked_cells, stacked_shapes}
 use Rattle.channel_stack.specs.Routed.{IsRouted}
 use Rattle.channel_stack.specs.Stack.{Stacked, placed_from, placed_rows, row_bases, stack_of}
 use Rattle.channel_stack.specs.declared.placed.PlacedItem.{PlacedItem}
 use Rattle.cif_writer.specs.LayoutText.{placed_text}
 use Rattle.cif_writer.specs.Symbols.{copies_of, copy_of, has_feed, items_of, main_items, name_of, number_of, symbols_of, wires_of}
-use Rattle.cif_writer.proofs.FedItems.{IsThere, items-there}
+use Rattle.cif_writer.proofs.FedItems.{IsThere, feed-high, items-there}
 use Rattle.cif_writer.proofs.FoundSymbols.{symbols_in, kind-found, feed-found}
 use Rattle.cif_writer.proofs.Writable.{stack-writable}
 use Rattle.std_laws.proofs.Places.{at-place}
@@ -64,7 +66,7 @@ wires-cells : (symbols : List Symbol) (first : ℕ) (drawn : List Drawn) → lay
 wires-cells symbols first [] = refl
 wires-cells symbols first (a ∷ drawn) = wires-cells symbols (first + 1) drawn
 
-module _ (r : RuleValues) (d : Netlist) (is : IsNetlist d) (fed : Fed) where
+module _ (r : RuleValues) (d : Netlist) (is : IsNetlist d) (fed : Fed) (from : IsFed d fed) where
   abbrev symbols : List Symbol
   symbols = symbols_in r d fed
 
@@ -74,13 +76,14 @@ module _ (r : RuleValues) (d : Netlist) (is : IsNetlist d) (fed : Fed) where
 
   -- an item's copy has the item's shapes and its cell
   item-shapes : (item : Item) (place : Place) → IsThere d (has_feed fed.rows) item
-      → layout.item_shapes symbols (copy_of d item place) ≡ item_shapes r d (record { item = item; place = place })
+      → layout.item_shapes symbols (copy_of d item place) ≡ item_shapes r d d.height (record { item = item; place = place })
   item-shapes (Cell s) place there =
       let known : KnownCell d s = known-of s there in
       ap (λ (o : Option Inst). layout.item_shapes symbols (written.copy (name_of o) (number_of o) place)) known.is_instance
       ∙ ap (layout.copied_shapes place) (kind-found r d fed known.inst.kind known.kind known.is_kind)
       ∙ ap (λ (o : Option CellKind). map (moved_shape (turn_at place)) (kind_drawing r d.height o)) (sym known.is_kind_of)
-  item-shapes (Feed net) place there = ap (layout.copied_shapes place) (feed-found r d fed there)
+  item-shapes (Feed net) place there =
+      ap (layout.copied_shapes place) (feed-found r d fed there) ∙ ap (λ (n : ℕ). map (moved_shape (turn_at place)) (feed_drawing r n)) (feed-high d fed from)
 
   item-cells : (first : ℕ) (item : Item) (place : Place) → IsThere d (has_feed fed.rows) item
       → layout.item_cells symbols first (copy_of d item place) ≡ item_cells r d first item place
@@ -95,40 +98,54 @@ module _ (r : RuleValues) (d : Netlist) (is : IsNetlist d) (fed : Fed) where
   abbrev AreThere : List PlacedItem → Type 0
   AreThere row = AllByRecursion (λ (p : PlacedItem). IsThere d (has_feed fed.rows) p.item) row
 
-  row-shapes : (row : List PlacedItem) → AreThere row → layout.items_shapes symbols (copies_of d row) ≡ row_shapes r d row
+  row-shapes : (row : List PlacedItem) → AreThere row → layout.items_shapes symbols (copies_of d row) ≡ row_shapes r d d.height row
   row-shapes [] there = refl
   row-shapes (p ∷ row) there =
       ap (λ (l : List Shape). l ++ layout.items_shapes symbols (copies_of d row)) (item-shapes p.item p.place there.0)
-      ∙ ap (λ (l : List Shape). item_shapes r d p ++ l) (row-shapes row there.1)
+      ∙ ap (λ (l : List Shape). item_shapes r d d.height p ++ l) (row-shapes row there.1)
 
-  row-cells : (first : ℕ) (row : List PlacedItem) → AreThere row → layout.items_cells symbols first (copies_of d row) ≡ row_cells r d first row
+  row-cells : (first : ℕ) (row : List PlacedItem) → AreThere row → layout.items_cells symbols first (copies_of d row) ≡ row_cells r d d.height first row
   row-cells first [] there = refl
   row-cells first (p ∷ row) there =
       ap (λ (l : List layouts.Cell). l ++ layout.items_cells symbols (first + length (layout.item_shapes symbols (copy_of d p.item p.place))) (copies_of d row))
       (item-cells first p.item p.place there.0)
       ∙ ap (λ (l : List Shape). item_cells r d first p.item p.place ++ layout.items_cells symbols (first + length l) (copies_of d row)) (item-shapes p.item p.place there.0)
-      ∙ ap (λ (l : List layouts.Cell). item_cells r d first p.item p.place ++ l) (row-cells (first + length (item_shapes r d p)) row there.1)
+      ∙ ap (λ (l : List layouts.Cell). item_cells r d first p.item p.place ++ l) (row-cells (first + length (item_shapes r d d.height p)) row there.1)
+
+  -- items that are there are so at their places
+  placed-there : (base left : ℕ) (items : List Item) → AllByRecursion (IsThere d (has_feed fed.rows)) items → AreThere (placed_from r d base left items)
+  placed-there base left [] there = tt
+  placed-there base left (item ∷ items) there = (there.0, placed-there base (left + item_width d item) items there.1)
 
   -- and so have channels and rows on one another
-  main-shapes : (channels : List (List Drawn)) (rows : List (List PlacedItem)) → AllByRecursion AreThere rows
-      → layout.items_shapes symbols (items_of d channels rows) ≡ stacked_shapes r d channels rows
-  main-shapes [] rows there = refl
-  main-shapes (drawn ∷ channels) [] there = wires-shapes symbols drawn
-  main-shapes (drawn ∷ channels) (row ∷ rows) there =
-      let above : List written.MainItem = items_of d channels rows in
+  abbrev AreAllThere : List (List Item) → Type 0
+  AreAllThere rows = AllByRecursion (AllByRecursion (IsThere d (has_feed fed.rows))) rows
+
+  main-shapes : (channels : List (List Drawn)) (rows : List (List Item)) (bases : List ℕ) → AreAllThere rows
+      → layout.items_shapes symbols (items_of d channels (placed_rows r d rows bases)) ≡ stacked_shapes r d (row_heights d rows) channels (placed_rows r d rows bases)
+  main-shapes [] rows bases there = refl
+  main-shapes (drawn ∷ channels) [] bases there = wires-shapes symbols drawn
+  main-shapes (drawn ∷ channels) (items ∷ rows) [] there = wires-shapes symbols drawn
+  main-shapes (drawn ∷ channels) (items ∷ rows) (base ∷ bases) there =
+      let row : List PlacedItem = placed_from r d base 0 items in
+      let above : List written.MainItem = items_of d channels (placed_rows r d rows bases) in
       shapes-append symbols (wires_of drawn) (copies_of d row ++ above)
       ∙ ap (λ (l : List Shape). l ++ layout.items_shapes symbols (copies_of d row ++ above)) (wires-shapes symbols drawn)
       ∙ ap (λ (l : List Shape). channel_shapes drawn ++ l)
       (shapes-append symbols (copies_of d row) above
-      ∙ ap (λ (l : List Shape). l ++ layout.items_shapes symbols above) (row-shapes row there.0)
-      ∙ ap (λ (l : List Shape). row_shapes r d row ++ l) (main-shapes channels rows there.1))
+      ∙ ap (λ (l : List Shape). l ++ layout.items_shapes symbols above) (row-shapes row (placed-there base 0 items there.0))
+      ∙ ap (λ (l : List Shape). row_shapes r d d.height row ++ l) (main-shapes channels rows bases there.1))
 
-  main-cells : (first : ℕ) (channels : List (List Drawn)) (rows : List (List PlacedItem)) → AllByRecursion AreThere rows
-      → layout.items_cells symbols first (items_of d channels rows) ≡ stacked_cells r d first channels rows
-  main-cells first [] rows there = refl
-  main-cells first (drawn ∷ channels) [] there = wires-cells symbols first drawn
-  main-cells first (drawn ∷ channels) (row ∷ rows) there =
-      let above : List written.MainItem = items_of d channels rows in
+  main-cells : (first : ℕ) (channels : List (List Drawn)) (rows : List (List Item)) (bases : List ℕ) → AreAllThere rows
+      → layout.items_cells symbols first (items_of d channels (placed_rows r d rows bases))
+      ≡ stacked_cells r d (row_heights d rows) first channels (placed_rows r d rows bases)
+  main-cells first [] rows bases there = refl
+  main-cells first (drawn ∷ channels) [] bases there = wires-cells symbols first drawn
+  main-cells first (drawn ∷ channels) (items ∷ rows) [] there = wires-cells symbols first drawn
+  main-cells first (drawn ∷ channels) (items ∷ rows) (base ∷ bases) there =
+      let row : List PlacedItem = placed_from r d base 0 items in
+      let here : AreThere row = placed-there base 0 items there.0 in
+      let above : List written.MainItem = items_of d channels (placed_rows r d rows bases) in
       let behind : ℕ = first + length drawn in
       let wires : length (layout.items_shapes symbols (wires_of drawn)) ≡ length drawn =
       ap length (wires-shapes symbols drawn) ∙ length-map drawn (λ (a : Drawn). a.shape) in
@@ -137,31 +154,21 @@ module _ (r : RuleValues) (d : Netlist) (is : IsNetlist d) (fed : Fed) where
       (wires-cells symbols first drawn)
       ∙ ap (λ (n : ℕ). layout.items_cells symbols (first + n) (copies_of d row ++ above)) wires
       ∙ cells-append symbols behind (copies_of d row) above
-      ∙ ap (λ (l : List layouts.Cell). l ++ layout.items_cells symbols (behind + length (layout.items_shapes symbols (copies_of d row))) above) (row-cells behind row there.0)
-      ∙ ap (λ (l : List Shape). row_cells r d behind row ++ layout.items_cells symbols (behind + length l) above) (row-shapes row there.0)
-      ∙ ap (λ (l : List layouts.Cell). row_cells r d behind row ++ l) (main-cells (behind + length (row_shapes r d row)) channels rows there.1)
-
-  -- items that are there are so at their places
-  placed-there : (base left : ℕ) (items : List Item) → AllByRecursion (IsThere d (has_feed fed.rows)) items → AreThere (placed_from r d base left items)
-  placed-there base left [] there = tt
-  placed-there base left (item ∷ items) there = (there.0, placed-there base (left + item_width d item) items there.1)
-
-  rows-there : (rows : List (List Item)) (bases : List ℕ) → AllByRecursion (AllByRecursion (IsThere d (has_feed fed.rows))) rows
-      → AllByRecursion AreThere (placed_rows r d rows bases)
-  rows-there [] bases there = tt
-  rows-there (items ∷ rows) [] there = tt
-  rows-there (items ∷ rows) (base ∷ bases) there = (placed-there base 0 items there.0, rows-there rows bases there.1)
+      ∙ ap (λ (l : List layouts.Cell). l ++ layout.items_cells symbols (behind + length (layout.items_shapes symbols (copies_of d row))) above) (row-cells behind row here)
+      ∙ ap (λ (l : List Shape). row_cells r d d.height behind row ++ layout.items_cells symbols (behind + length l) above) (row-shapes row here)
+      ∙ ap (λ (l : List layouts.Cell). row_cells r d d.height behind row ++ l) (main-cells (behind + length (row_shapes r d d.height row)) channels rows bases there.1)
 
 -- what is written for a stack is the layout that it is
 written-stack : (r : RuleValues) (d : Netlist) (fed : Fed) → IsNetlist d → IsFed d fed → (ws : List Wiring)
     → layout.written_layout (symbols_of r d fed) (main_items d (stack_of r d fed ws)) ≡ layout_of r d (stack_of r d fed ws)
 unfolding layout_of stack_of
 written-stack r d fed is from ws =
-    let there : AllByRecursion (AreThere r d is fed) (stack_of r d fed ws).cells =
-    rows-there r d is fed fed.rows (row_bases r d.height 0 ws) (items-there d fed is from) in
+    let there = items-there d fed is from in
+    let bases : List ℕ = row_bases r fed.heights 0 ws in
     let placed : Stacked = stack_of r d fed ws in
-    let shapes = main-shapes r d is fed placed.shapes placed.cells there in
-    let cells = main-cells r d is fed 0 placed.shapes placed.cells there in
+    let same : row_heights d fed.rows ≡ fed.heights = sym (heights-of d fed from) in
+    let shapes = main-shapes r d is fed from placed.shapes fed.rows bases there ∙ ap (λ (l : List ℕ). stacked_shapes r d l placed.shapes placed.cells) same in
+    let cells = main-cells r d is fed from 0 placed.shapes fed.rows bases there ∙ ap (λ (l : List ℕ). stacked_cells r d l 0 placed.shapes placed.cells) same in
     (λ i. record { cells = cells i; shapes = shapes i })
 
 -- the text of a stack reads as that layout

@@ -1,5 +1,5 @@
 -- the symbols of a placed design, and what stands at its main level
-use Rattle.std.specs.Prelude.{ℕ, suc, ◌+◌, List, [], ◌∷◌, ◌++◌, map, length, Bool, true, false, Option, None, Some, option_map, slice_get}
+use Rattle.std.specs.Prelude.{ℕ, suc, ◌+◌, List, [], ◌∷◌, ◌++◌, map, length, Bool, true, false, Option, None, Some, option_map, slice_get, slice_index}
 use Rattle.std.specs.List.{list_any}
 use Rattle.geom_core.specs.declared.layout.Shape.{Shape}
 use Rattle.geom_core.specs.declared.turn.Place.{Place}
@@ -29,6 +29,10 @@ is_feed (Feed net) = true
 abbrev pub has_feed : List (List Item) → Bool
 has_feed rows = list_any (list_any is_feed) rows
 
+-- the height of feeds: that of the lowest row, which all rows have
+abbrev pub feed_height : Fed → ℕ
+feed_height fed = slice_index fed.heights 0
+
 -- the symbol of feeds, which has no name, where there are feeds
 abbrev pub feed_symbol : RuleValues → ℕ → Bool → List written.WrittenSymbol
 feed_symbol r height false = []
@@ -36,7 +40,7 @@ feed_symbol r height true = record { name = None; shapes = feed_drawing r height
 
 -- the symbols of a layout: the kinds in their order, numbered from 1, and behind them that of feeds
 abbrev pub symbols_of : RuleValues → Netlist → Fed → List written.WrittenSymbol
-symbols_of r d fed = map (symbol_for r d.height) d.kinds ++ feed_symbol r d.height (has_feed fed.rows)
+symbols_of r d fed = map (symbol_for r d.height) d.kinds ++ feed_symbol r (feed_height fed) (has_feed fed.rows)
 
 -- an instance's name and the number of its symbol
 abbrev pub name_of : Option Inst → Option (List ℕ)

@@ -1,7 +1,7 @@
 //! The drawings of the symbols of a placed design.
 
 ghost use Rattle.channel_stack.specs.Layouts.{feed_drawing, feed_outline, feed_wire};
-ghost use Rattle.cif_writer.specs.Symbols.{has_feed, is_feed, symbol_drawings};
+ghost use Rattle.cif_writer.specs.Symbols.{feed_height, has_feed, is_feed, symbol_drawings};
 ghost use Rattle.design_model.specs.Drawing.{drawing_of};
 ghost use Rattle.design_model.specs.Room.{HasRoom};
 ghost use Rattle.feed_cells.specs.Fed.{IsFed};
@@ -37,6 +37,16 @@ fn has_feed(rows: &[Items<Item>]) -> bool
     ensures { result ≡ has_feed rows.now }
 {
     rows.iter().any(|row| row_has_feed(row.items()))
+}
+
+// The height of feeds: that of the lowest row.
+fn feed_height(fed: &FedRows) -> u32
+    ensures { result ≡ feed_height fed.now }
+{
+    match fed.heights.items() {
+        [height, ..] => *height,
+        [] => 0,
+    }
 }
 
 // A number of half units, in half centimicrons.
@@ -128,11 +138,13 @@ pub fn symbol_drawings(
     requires fed { IsFed design.now fed.now }
     ensures { IfOk result (λ drawings. drawings.items ≡ symbol_drawings rules.now design.now fed.now) }
 {
+    // The bounds of the design's type are known once a field is read.
+    let _kinds = &design.kinds;
     let mut drawings = kind_drawings(alloc, design, rules)?;
     if !has_feed(fed.rows.items()) {
         return Ok(drawings);
     }
-    let feed = feed_drawing(alloc, rules, design.height)?;
+    let feed = feed_drawing(alloc, rules, feed_height(fed))?;
     drawings.push(Items::new(feed))?;
     Ok(drawings)
 }

@@ -1,10 +1,10 @@
 //! Texts in CIF, written to a file as they are made: a symbol for each kind of cell and one for feeds, and then channels and rows from the bottom up.
 #![tactic(auto)]
 
-mod buffer;
 mod drawings;
 mod layout;
 mod printing;
+mod text;
 mod writer;
 
 pub use drawings::symbol_drawings;

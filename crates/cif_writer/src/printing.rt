@@ -3,97 +3,55 @@
 ghost use Rattle.cif_text.specs.Printing.{line, text_of, HasLine};
 ghost use Rattle.cif_text.specs.Written.{box_of, call_to, change, copy_commands, name_commands, shape_commands, shapes_commands, symbol_commands};
 ghost use Rattle.cif_text.specs.declared.command.Command.TheVariants as commands;
-ghost use Rattle.cif_text.specs.declared.command.UserKind.TheVariants as users;
-ghost use Rattle.cif_writer.specs.Appends.{Appends};
 ghost use Rattle.geom_core.specs.Reach.{IsInReach, IsShapeInReach};
-ghost use Rattle.shelf_io.specs.Count.{Rose};
-ghost use Rattle.shelf_io.specs.Told.{EndsWithin};
+ghost use Rattle.shelf_io.specs.Wrote.{Writes};
 ghost use Rattle.std.specs.List.{AllByRecursion};
-ghost use Rattle.std.specs.Prelude.{◌≡◌, ◌≢◌, ◌∷◌, ◌++◌, [], ◌-ℤ◌, ◌+ℤ◌, int_div, pos, List, ℕ, None, Some, option_map, IfOk, OnOk, OnErr};
+ghost use Rattle.std.specs.Prelude.{◌≡◌, ◌∷◌, ◌++◌, [], ◌-ℤ◌, ◌+ℤ◌, int_div, pos, List, ℕ, None, option_map};
 
-use crate::buffer::Buffer;
-use cif_text::{Command, print_command};
+use cif_text::{Command, UserKind, print_command};
 use geom_core::{LayerName, Name, Place, Shape};
-use shelf_io::{Failed, Shelf};
+use shelf_io::{Buffer, Failed, Sink};
 
 /// Puts the line of a command that is no user command.
-pub(crate) fn put_command<S: Shelf>(
+pub(crate) fn put_command<K: Sink>(
     buffer: &mut Buffer,
-    shelf: &mut S,
-    file: &str,
+    out: &mut K,
     command: &Command,
 ) -> Result<(), Failed>
     requires { HasLine command.now }
-    ensures appends { OnOk result (Appends (line command.now) buffer.old buffer.new (S.holds shelf.old file.now) (S.holds shelf.new file.now)) }
-    ensures front { OnErr result (EndsWithin (S.holds shelf.old file.now) (buffer.old ++ (line command.now)) (S.holds shelf.new file.now)) }
-    ensures others { (other : List ℕ) → other ≢ file.now → S.holds shelf.new other ≡ S.holds shelf.old other }
-    ensures reads { S.read_faults shelf.new ≡ S.read_faults shelf.old }
-    ensures quiet { OnOk result (S.write_faults shelf.new ≡ S.write_faults shelf.old) }
-    ensures cause { OnErr result (Rose (S.write_faults shelf.old file.now) (S.write_faults shelf.new file.now)) }
+    ensures { Writes result (line command.now) buffer.old buffer.new (K.written out.old) (K.written out.new) (K.faults out.old) (K.faults out.new) (K.same_place out.old out.new) (K.else_same out.old out.new) }
 {
     let mut text = [0; 160];
     let end = print_command(command, &mut text);
-    buffer.append(shelf, file, &text[..end])
+    buffer.append(out, &text[..end])
 }
 
-// Puts the line of a user command: the digits that it begins with, and the name.
-fn put_name<S: Shelf>(
-    buffer: &mut Buffer,
-    shelf: &mut S,
-    file: &str,
-    digits: &[u8],
-    name: &Name,
-) -> Result<(), Failed>
-    ensures appends { OnOk result (Appends (digits.now ++ (name.now ++ 59 ∷ 10 ∷ [])) buffer.old buffer.new (S.holds shelf.old file.now) (S.holds shelf.new file.now)) }
-    ensures front { OnErr result (EndsWithin (S.holds shelf.old file.now) (buffer.old ++ (digits.now ++ (name.now ++ 59 ∷ 10 ∷ []))) (S.holds shelf.new file.now)) }
-    ensures others { (other : List ℕ) → other ≢ file.now → S.holds shelf.new other ≡ S.holds shelf.old other }
-    ensures reads { S.read_faults shelf.new ≡ S.read_faults shelf.old }
-    ensures quiet { OnOk result (S.write_faults shelf.new ≡ S.write_faults shelf.old) }
-    ensures cause { OnErr result (Rose (S.write_faults shelf.old file.now) (S.write_faults shelf.new file.now)) }
+// What the line of a user command begins with.
+fn digits_of(kind: UserKind) -> &'static [u8]
+    ensures { (text : List ℕ) → line (commands.User kind text) ≡ result.now ++ (text ++ 59 ∷ 10 ∷ []) }
 {
-    buffer.append(shelf, file, digits)?;
-    buffer.append(shelf, file, name.items())?;
-    buffer.append(shelf, file, b";\n")
-}
-
-// Puts the line that names an instance, if it has a name.
-fn put_instance_name<S: Shelf>(
-    buffer: &mut Buffer,
-    shelf: &mut S,
-    file: &str,
-    name: Option<&Name>,
-) -> Result<(), Failed>
-    ensures appends { OnOk result (Appends (text_of (name_commands users.InstanceName (option_map (λ n. n.now) name.entry))) buffer.old buffer.new (S.holds shelf.old file.now) (S.holds shelf.new file.now)) }
-    ensures front { OnErr result (EndsWithin (S.holds shelf.old file.now) (buffer.old ++ (text_of (name_commands users.InstanceName (option_map (λ n. n.now) name.entry)))) (S.holds shelf.new file.now)) }
-    ensures others { (other : List ℕ) → other ≢ file.now → S.holds shelf.new other ≡ S.holds shelf.old other }
-    ensures reads { S.read_faults shelf.new ≡ S.read_faults shelf.old }
-    ensures quiet { OnOk result (S.write_faults shelf.new ≡ S.write_faults shelf.old) }
-    ensures cause { OnErr result (Rose (S.write_faults shelf.old file.now) (S.write_faults shelf.new file.now)) }
-{
-    match name {
-        Some(name) => put_name(buffer, shelf, file, b"91 ", name),
-        None => Ok(()),
+    match kind {
+        UserKind::SymbolName => b"9 ",
+        UserKind::InstanceName => b"91 ",
+        UserKind::Other => b"0 ",
     }
 }
 
-// Puts the line that names a symbol, if it has a name.
-fn put_symbol_name<S: Shelf>(
+// Puts the line of a user command with a name, if there is one.
+fn put_name<K: Sink>(
     buffer: &mut Buffer,
-    shelf: &mut S,
-    file: &str,
+    out: &mut K,
+    kind: UserKind,
     name: Option<&Name>,
 ) -> Result<(), Failed>
-    ensures appends { OnOk result (Appends (text_of (name_commands users.SymbolName (option_map (λ n. n.now) name.entry))) buffer.old buffer.new (S.holds shelf.old file.now) (S.holds shelf.new file.now)) }
-    ensures front { OnErr result (EndsWithin (S.holds shelf.old file.now) (buffer.old ++ (text_of (name_commands users.SymbolName (option_map (λ n. n.now) name.entry)))) (S.holds shelf.new file.now)) }
-    ensures others { (other : List ℕ) → other ≢ file.now → S.holds shelf.new other ≡ S.holds shelf.old other }
-    ensures reads { S.read_faults shelf.new ≡ S.read_faults shelf.old }
-    ensures quiet { OnOk result (S.write_faults shelf.new ≡ S.write_faults shelf.old) }
-    ensures cause { OnErr result (Rose (S.write_faults shelf.old file.now) (S.write_faults shelf.new file.now)) }
+    ensures { Writes result (text_of (name_commands kind (option_map (λ n. n.now) name.entry))) buffer.old buffer.new (K.written out.old) (K.written out.new) (K.faults out.old) (K.faults out.new) (K.same_place out.old out.new) (K.else_same out.old out.new) }
 {
-    match name {
-        Some(name) => put_name(buffer, shelf, file, b"9 ", name),
-        None => Ok(()),
-    }
+    let Some(name) = name else {
+        return Ok(());
+    };
+    buffer.append(out, digits_of(kind))?;
+    buffer.append(out, name.items())?;
+    buffer.append(out, b";\n")
 }
 
 // The box of a shape, in centimicrons.
@@ -103,23 +61,11 @@ fn box_of(shape: &Shape) -> Command
     ensures line { HasLine result }
 {
     let rect = shape.rect;
-    box_between(rect.x0, rect.y0, rect.x1, rect.y1)
-}
-
-// The box in centimicrons that has these left, lower, right and upper sides in half centimicrons.
-fn box_between(x0: i64, y0: i64, x1: i64, y1: i64) -> Command
-    requires left { IsInReach x0 }
-    requires lower { IsInReach y0 }
-    requires right { IsInReach x1 }
-    requires upper { IsInReach y1 }
-    ensures shape { result ≡ box_of (record { x0 = x0; y0 = y0; x1 = x1; y1 = y1 }) }
-    ensures line { HasLine result }
-{
     Command::Box {
-        length: length_of(x0, x1),
-        width: length_of(y0, y1),
-        cx: middle_of(x0, x1),
-        cy: middle_of(y0, y1),
+        length: length_of(rect.x0, rect.x1),
+        width: length_of(rect.y0, rect.y1),
+        cx: middle_of(rect.x0, rect.x1),
+        cy: middle_of(rect.y0, rect.y1),
         upright: false,
     }
 }
@@ -157,70 +103,48 @@ fn call_of(number: u64, place: &Place) -> Command
 }
 
 // Puts a layer's line where it is not the layer written last.
-fn put_layer<S: Shelf>(
+fn put_layer<K: Sink>(
     buffer: &mut Buffer,
-    shelf: &mut S,
-    file: &str,
+    out: &mut K,
     last: Option<LayerName>,
     layer: LayerName,
 ) -> Result<(), Failed>
-    ensures appends { OnOk result (Appends (text_of (change last layer)) buffer.old buffer.new (S.holds shelf.old file.now) (S.holds shelf.new file.now)) }
-    ensures front { OnErr result (EndsWithin (S.holds shelf.old file.now) (buffer.old ++ (text_of (change last layer))) (S.holds shelf.new file.now)) }
-    ensures others { (other : List ℕ) → other ≢ file.now → S.holds shelf.new other ≡ S.holds shelf.old other }
-    ensures reads { S.read_faults shelf.new ≡ S.read_faults shelf.old }
-    ensures quiet { OnOk result (S.write_faults shelf.new ≡ S.write_faults shelf.old) }
-    ensures cause { OnErr result (Rose (S.write_faults shelf.old file.now) (S.write_faults shelf.new file.now)) }
+    ensures { Writes result (text_of (change last layer)) buffer.old buffer.new (K.written out.old) (K.written out.new) (K.faults out.old) (K.faults out.new) (K.same_place out.old out.new) (K.else_same out.old out.new) }
 {
     match last {
-        None => put_command(buffer, shelf, file, &Command::Layer(layer)),
+        None => put_command(buffer, out, &Command::Layer(layer)),
         Some(last) => {
             if last == layer {
                 return Ok(());
             }
-            put_command(buffer, shelf, file, &Command::Layer(layer))
+            put_command(buffer, out, &Command::Layer(layer))
         }
     }
 }
 
 /// Puts a shape as a box, with the line of its layer where it is not the layer written last.
-pub(crate) fn put_shape<S: Shelf>(
+pub(crate) fn put_shape<K: Sink>(
     buffer: &mut Buffer,
-    shelf: &mut S,
-    file: &str,
+    out: &mut K,
     last: Option<LayerName>,
     shape: &Shape,
 ) -> Result<(), Failed>
     requires { IsShapeInReach shape.now }
-    ensures appends { OnOk result (Appends (text_of (shape_commands last shape.now)) buffer.old buffer.new (S.holds shelf.old file.now) (S.holds shelf.new file.now)) }
-    ensures front { OnErr result (EndsWithin (S.holds shelf.old file.now) (buffer.old ++ (text_of (shape_commands last shape.now))) (S.holds shelf.new file.now)) }
-    ensures others { (other : List ℕ) → other ≢ file.now → S.holds shelf.new other ≡ S.holds shelf.old other }
-    ensures reads { S.read_faults shelf.new ≡ S.read_faults shelf.old }
-    ensures quiet { OnOk result (S.write_faults shelf.new ≡ S.write_faults shelf.old) }
-    ensures cause { OnErr result (Rose (S.write_faults shelf.old file.now) (S.write_faults shelf.new file.now)) }
+    ensures { Writes result (text_of (shape_commands last shape.now)) buffer.old buffer.new (K.written out.old) (K.written out.new) (K.faults out.old) (K.faults out.new) (K.same_place out.old out.new) (K.else_same out.old out.new) }
 {
-    put_layer(buffer, shelf, file, last, shape.layer)?;
-    put_command(buffer, shelf, file, &box_of(shape))
+    put_layer(buffer, out, last, shape.layer)?;
+    put_command(buffer, out, &box_of(shape))
 }
 
 // Puts shapes, where no layer was written before.
-fn put_shapes<S: Shelf>(
-    buffer: &mut Buffer,
-    shelf: &mut S,
-    file: &str,
-    shapes: &[Shape],
-) -> Result<(), Failed>
+fn put_shapes<K: Sink>(buffer: &mut Buffer, out: &mut K, shapes: &[Shape]) -> Result<(), Failed>
     requires { AllByRecursion IsShapeInReach shapes.now }
-    ensures appends { OnOk result (Appends (text_of (shapes_commands None shapes.now)) buffer.old buffer.new (S.holds shelf.old file.now) (S.holds shelf.new file.now)) }
-    ensures front { OnErr result (EndsWithin (S.holds shelf.old file.now) (buffer.old ++ (text_of (shapes_commands None shapes.now))) (S.holds shelf.new file.now)) }
-    ensures others { (other : List ℕ) → other ≢ file.now → S.holds shelf.new other ≡ S.holds shelf.old other }
-    ensures reads { S.read_faults shelf.new ≡ S.read_faults shelf.old }
-    ensures quiet { OnOk result (S.write_faults shelf.new ≡ S.write_faults shelf.old) }
-    ensures cause { OnErr result (Rose (S.write_faults shelf.old file.now) (S.write_faults shelf.new file.now)) }
+    ensures { Writes result (text_of (shapes_commands None shapes.now)) buffer.old buffer.new (K.written out.old) (K.written out.new) (K.faults out.old) (K.faults out.new) (K.same_place out.old out.new) (K.else_same out.old out.new) }
 {
     let mut last = None;
     let mut rest = shapes;
     while let Some((shape, after)) = rest.split_first() {
-        put_shape(buffer, shelf, file, last, shape)?;
+        put_shape(buffer, out, last, shape)?;
         last = Some(shape.layer);
         rest = after;
     }
@@ -228,49 +152,37 @@ fn put_shapes<S: Shelf>(
 }
 
 /// Puts a numbered symbol with its name, if it has one, and its shapes.
-pub(crate) fn put_symbol<S: Shelf>(
+pub(crate) fn put_symbol<K: Sink>(
     buffer: &mut Buffer,
-    shelf: &mut S,
-    file: &str,
+    out: &mut K,
     number: u64,
     name: Option<&Name>,
     shapes: &[Shape],
 ) -> Result<(), Failed>
     requires { AllByRecursion IsShapeInReach shapes.now }
-    ensures appends { OnOk result (Appends (text_of (symbol_commands number (record { name = option_map (λ n. n.now) name.entry; shapes = shapes.now }))) buffer.old buffer.new (S.holds shelf.old file.now) (S.holds shelf.new file.now)) }
-    ensures front { OnErr result (EndsWithin (S.holds shelf.old file.now) (buffer.old ++ (text_of (symbol_commands number (record { name = option_map (λ n. n.now) name.entry; shapes = shapes.now })))) (S.holds shelf.new file.now)) }
-    ensures others { (other : List ℕ) → other ≢ file.now → S.holds shelf.new other ≡ S.holds shelf.old other }
-    ensures reads { S.read_faults shelf.new ≡ S.read_faults shelf.old }
-    ensures quiet { OnOk result (S.write_faults shelf.new ≡ S.write_faults shelf.old) }
-    ensures cause { OnErr result (Rose (S.write_faults shelf.old file.now) (S.write_faults shelf.new file.now)) }
+    ensures { Writes result (text_of (symbol_commands number (record { name = option_map (λ n. n.now) name.entry; shapes = shapes.now }))) buffer.old buffer.new (K.written out.old) (K.written out.new) (K.faults out.old) (K.faults out.new) (K.same_place out.old out.new) (K.else_same out.old out.new) }
 {
     let start = Command::Start {
         n: number,
         a: 1,
         b: 1,
     };
-    put_command(buffer, shelf, file, &start)?;
-    put_symbol_name(buffer, shelf, file, name)?;
-    put_shapes(buffer, shelf, file, shapes)?;
-    put_command(buffer, shelf, file, &Command::Finish)
+    put_command(buffer, out, &start)?;
+    put_name(buffer, out, UserKind::SymbolName, name)?;
+    put_shapes(buffer, out, shapes)?;
+    put_command(buffer, out, &Command::Finish)
 }
 
 /// Puts the call of a numbered symbol at a place, behind the copy's name, if it has one.
-pub(crate) fn put_copy<S: Shelf>(
+pub(crate) fn put_copy<K: Sink>(
     buffer: &mut Buffer,
-    shelf: &mut S,
-    file: &str,
+    out: &mut K,
     name: Option<&Name>,
     number: u64,
     place: &Place,
 ) -> Result<(), Failed>
-    ensures appends { OnOk result (Appends (text_of (copy_commands (option_map (λ n. n.now) name.entry) number place.now)) buffer.old buffer.new (S.holds shelf.old file.now) (S.holds shelf.new file.now)) }
-    ensures front { OnErr result (EndsWithin (S.holds shelf.old file.now) (buffer.old ++ (text_of (copy_commands (option_map (λ n. n.now) name.entry) number place.now))) (S.holds shelf.new file.now)) }
-    ensures others { (other : List ℕ) → other ≢ file.now → S.holds shelf.new other ≡ S.holds shelf.old other }
-    ensures reads { S.read_faults shelf.new ≡ S.read_faults shelf.old }
-    ensures quiet { OnOk result (S.write_faults shelf.new ≡ S.write_faults shelf.old) }
-    ensures cause { OnErr result (Rose (S.write_faults shelf.old file.now) (S.write_faults shelf.new file.now)) }
+    ensures { Writes result (text_of (copy_commands (option_map (λ n. n.now) name.entry) number place.now)) buffer.old buffer.new (K.written out.old) (K.written out.new) (K.faults out.old) (K.faults out.new) (K.same_place out.old out.new) (K.else_same out.old out.new) }
 {
-    put_instance_name(buffer, shelf, file, name)?;
-    put_command(buffer, shelf, file, &call_of(number, place))
+    put_name(buffer, out, UserKind::InstanceName, name)?;
+    put_command(buffer, out, &call_of(number, place))
 }

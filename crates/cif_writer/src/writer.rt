@@ -3,20 +3,19 @@
 ghost use Rattle.cif_text.specs.Printing.{line, text_of};
 ghost use Rattle.cif_text.specs.Written.{copy_commands, shape_commands, symbol_commands};
 ghost use Rattle.cif_text.specs.declared.command.Command.TheVariants as commands;
-ghost use Rattle.cif_writer.specs.Appends.{Appends};
 ghost use Rattle.cif_writer.specs.declared.writer.StartFault.TheVariants as faults;
 ghost use Rattle.geom_core.specs.Reach.{IsShapeInReach};
 ghost use Rattle.shelf_io.specs.Count.{Rose};
-ghost use Rattle.shelf_io.specs.Told.{Emptied, EndsWithin, Refines, appended};
+ghost use Rattle.shelf_io.specs.OtherFiles.{OthersSame};
+ghost use Rattle.shelf_io.specs.Told.{Emptied, Refines};
+ghost use Rattle.shelf_io.specs.Wrote as texts;
 ghost use Rattle.std.specs.List.{AllByRecursion};
-ghost use Rattle.std.specs.Prelude.{◌≡◌, ◌≢◌, ◌++◌, [], List, ℕ, None, Some, option_map, IfOk, OnOk, OnErr};
+ghost use Rattle.std.specs.Prelude.{◌≡◌, ◌++◌, [], None, Some, option_map, true, false, is_ok, IfOk, OnOk, OnErr};
 ghost use Rattle.std.specs.Result.{IsErrOf};
 
-use crate::buffer::Buffer;
-use crate::printing::{put_command, put_copy, put_shape, put_symbol};
-use cif_text::{Command, print_command};
-use geom_core::{LayerName, Name, Place, Shape};
-use shelf_io::{Failed, Shelf};
+use crate::text::Text;
+use geom_core::{Name, Place, Shape};
+use shelf_io::{Failed, FileSink, Shelf};
 use std::alloc::Global;
 use std::marker::Model;
 use thiserror::Error;
@@ -38,17 +37,15 @@ pub enum StartFault {
 /// A call that answers Failed, which comes only where the file's write count rose in that call, gives the writer up; the file holds a front of the text then.
 #[derive(Debug, Drop)]
 pub struct Writer {
-    buffer: Buffer,
-    last: Option<LayerName>,
+    text: Box<Text>,
 }
 
 impl Model for Writer {
     ghost use Rattle.cif_writer.specs.Begun.{Begun};
-    ghost use Rattle.cif_writer.specs.WriterView.{begun_in};
 
     ghost Value = { Begun };
 
-    ghost view = { begun_in };
+    ghost view = { λ writer. writer.text.value };
 }
 
 impl Writer {
@@ -59,18 +56,14 @@ impl Writer {
         ensures emptied { OnOk result (Refines (S.holds shelf.new file.now) (Some [])) }
         ensures failed { OnErr result (Emptied (S.holds shelf.old file.now) (S.holds shelf.new file.now)) }
         ensures memory { IsErrOf result faults.Memory → shelf.new ≡ shelf.old }
-        ensures others { (other : List ℕ) → other ≢ file.now → S.holds shelf.new other ≡ S.holds shelf.old other }
-        ensures reads { S.read_faults shelf.new ≡ S.read_faults shelf.old }
-        ensures quiet { OnOk result (S.write_faults shelf.new ≡ S.write_faults shelf.old) }
+        ensures others { OthersSame (is_ok result) file.now (S.holds shelf.old) (S.holds shelf.new) (S.read_faults shelf.old) (S.read_faults shelf.new) (S.write_faults shelf.old) (S.write_faults shelf.new) }
         ensures cause { IsErrOf result faults.Write → Rose (S.write_faults shelf.old file.now) (S.write_faults shelf.new file.now) }
     {
-        let mut text = [0; 160];
-        let end = print_command(&Command::Comment, &mut text);
-        let Ok(buffer) = Buffer::new(alloc, &text[..end]) else {
+        let Ok(text) = Box::new(alloc, Text::begin()) else {
             return Err(StartFault::Memory);
         };
         match shelf.begin(file) {
-            Ok(()) => Ok(Writer { buffer, last: None }),
+            Ok(()) => Ok(Writer { text }),
             Err(_) => Err(StartFault::Write),
         }
     }
@@ -86,16 +79,12 @@ impl Writer {
         shapes: &[Shape],
     ) -> Result<Writer, Failed>
         requires { AllByRecursion IsShapeInReach shapes.now }
-        ensures appends { IfOk result (λ writer. Appends (text_of (symbol_commands number (record { name = option_map (λ n. n.now) name.entry; shapes = shapes.now }))) self.buffered writer.buffered (S.holds shelf.old file.now) (S.holds shelf.new file.now)) }
+        ensures wrote { IfOk result (λ writer. texts.Wrote (text_of (symbol_commands number (record { name = option_map (λ n. n.now) name.entry; shapes = shapes.now }))) self.buffered writer.buffered (S.holds shelf.old file.now) (S.holds shelf.new file.now) (S.write_faults shelf.old file.now) (S.write_faults shelf.new file.now) (OthersSame true file.now (S.holds shelf.old) (S.holds shelf.new) (S.read_faults shelf.old) (S.read_faults shelf.new) (S.write_faults shelf.old) (S.write_faults shelf.new))) }
         ensures layer { IfOk result (λ writer. writer.last ≡ None) }
-        ensures front { OnErr result (EndsWithin (S.holds shelf.old file.now) (self.buffered ++ (text_of (symbol_commands number (record { name = option_map (λ n. n.now) name.entry; shapes = shapes.now })))) (S.holds shelf.new file.now)) }
-        ensures others { (other : List ℕ) → other ≢ file.now → S.holds shelf.new other ≡ S.holds shelf.old other }
-        ensures reads { S.read_faults shelf.new ≡ S.read_faults shelf.old }
-        ensures quiet { OnOk result (S.write_faults shelf.new ≡ S.write_faults shelf.old) }
-        ensures cause { OnErr result (Rose (S.write_faults shelf.old file.now) (S.write_faults shelf.new file.now)) }
+        ensures stopped { OnErr result (texts.Failed (self.buffered ++ (text_of (symbol_commands number (record { name = option_map (λ n. n.now) name.entry; shapes = shapes.now })))) (S.holds shelf.old file.now) (S.holds shelf.new file.now) (S.write_faults shelf.old file.now) (S.write_faults shelf.new file.now) (OthersSame false file.now (S.holds shelf.old) (S.holds shelf.new) (S.read_faults shelf.old) (S.read_faults shelf.new) (S.write_faults shelf.old) (S.write_faults shelf.new))) }
     {
-        put_symbol(&mut self.buffer, shelf, file, number, name, shapes)?;
-        self.last = None;
+        let mut out = FileSink::new(shelf, file);
+        self.text.symbol(&mut out, number, name, shapes)?;
         Ok(self)
     }
 
@@ -108,15 +97,12 @@ impl Writer {
         number: u64,
         place: &Place,
     ) -> Result<Writer, Failed>
-        ensures appends { IfOk result (λ writer. Appends (text_of (copy_commands (option_map (λ n. n.now) name.entry) number place.now)) self.buffered writer.buffered (S.holds shelf.old file.now) (S.holds shelf.new file.now)) }
+        ensures wrote { IfOk result (λ writer. texts.Wrote (text_of (copy_commands (option_map (λ n. n.now) name.entry) number place.now)) self.buffered writer.buffered (S.holds shelf.old file.now) (S.holds shelf.new file.now) (S.write_faults shelf.old file.now) (S.write_faults shelf.new file.now) (OthersSame true file.now (S.holds shelf.old) (S.holds shelf.new) (S.read_faults shelf.old) (S.read_faults shelf.new) (S.write_faults shelf.old) (S.write_faults shelf.new))) }
         ensures layer { IfOk result (λ writer. writer.last ≡ self.last) }
-        ensures front { OnErr result (EndsWithin (S.holds shelf.old file.now) (self.buffered ++ (text_of (copy_commands (option_map (λ n. n.now) name.entry) number place.now))) (S.holds shelf.new file.now)) }
-        ensures others { (other : List ℕ) → other ≢ file.now → S.holds shelf.new other ≡ S.holds shelf.old other }
-        ensures reads { S.read_faults shelf.new ≡ S.read_faults shelf.old }
-        ensures quiet { OnOk result (S.write_faults shelf.new ≡ S.write_faults shelf.old) }
-        ensures cause { OnErr result (Rose (S.write_faults shelf.old file.now) (S.write_faults shelf.new file.now)) }
+        ensures stopped { OnErr result (texts.Failed (self.buffered ++ (text_of (copy_commands (option_map (λ n. n.now) name.entry) number place.now))) (S.holds shelf.old file.now) (S.holds shelf.new file.now) (S.write_faults shelf.old file.now) (S.write_faults shelf.new file.now) (OthersSame false file.now (S.holds shelf.old) (S.holds shelf.new) (S.read_faults shelf.old) (S.read_faults shelf.new) (S.write_faults shelf.old) (S.write_faults shelf.new))) }
     {
-        put_copy(&mut self.buffer, shelf, file, name, number, place)?;
+        let mut out = FileSink::new(shelf, file);
+        self.text.cell(&mut out, name, number, place)?;
         Ok(self)
     }
 
@@ -128,29 +114,20 @@ impl Writer {
         shape: &Shape,
     ) -> Result<Writer, Failed>
         requires { IsShapeInReach shape.now }
-        ensures appends { IfOk result (λ writer. Appends (text_of (shape_commands self.last shape.now)) self.buffered writer.buffered (S.holds shelf.old file.now) (S.holds shelf.new file.now)) }
+        ensures wrote { IfOk result (λ writer. texts.Wrote (text_of (shape_commands self.last shape.now)) self.buffered writer.buffered (S.holds shelf.old file.now) (S.holds shelf.new file.now) (S.write_faults shelf.old file.now) (S.write_faults shelf.new file.now) (OthersSame true file.now (S.holds shelf.old) (S.holds shelf.new) (S.read_faults shelf.old) (S.read_faults shelf.new) (S.write_faults shelf.old) (S.write_faults shelf.new))) }
         ensures layer { IfOk result (λ writer. writer.last ≡ Some shape.now.layer) }
-        ensures front { OnErr result (EndsWithin (S.holds shelf.old file.now) (self.buffered ++ (text_of (shape_commands self.last shape.now))) (S.holds shelf.new file.now)) }
-        ensures others { (other : List ℕ) → other ≢ file.now → S.holds shelf.new other ≡ S.holds shelf.old other }
-        ensures reads { S.read_faults shelf.new ≡ S.read_faults shelf.old }
-        ensures quiet { OnOk result (S.write_faults shelf.new ≡ S.write_faults shelf.old) }
-        ensures cause { OnErr result (Rose (S.write_faults shelf.old file.now) (S.write_faults shelf.new file.now)) }
+        ensures stopped { OnErr result (texts.Failed (self.buffered ++ (text_of (shape_commands self.last shape.now))) (S.holds shelf.old file.now) (S.holds shelf.new file.now) (S.write_faults shelf.old file.now) (S.write_faults shelf.new file.now) (OthersSame false file.now (S.holds shelf.old) (S.holds shelf.new) (S.read_faults shelf.old) (S.read_faults shelf.new) (S.write_faults shelf.old) (S.write_faults shelf.new))) }
     {
-        put_shape(&mut self.buffer, shelf, file, self.last, shape)?;
-        self.last = Some(shape.layer);
+        let mut out = FileSink::new(shelf, file);
+        self.text.shape(&mut out, shape)?;
         Ok(self)
     }
 
     /// Writes the line `E` and puts all that is buffered.
     pub fn close<S: Shelf>(mut self, shelf: &mut S, file: &str) -> Result<(), Failed>
-        ensures put { OnOk result (Refines (S.holds shelf.new file.now) (appended (S.holds shelf.old file.now) (self.buffered ++ line commands.End))) }
-        ensures front { OnErr result (EndsWithin (S.holds shelf.old file.now) (self.buffered ++ line commands.End) (S.holds shelf.new file.now)) }
-        ensures others { (other : List ℕ) → other ≢ file.now → S.holds shelf.new other ≡ S.holds shelf.old other }
-        ensures reads { S.read_faults shelf.new ≡ S.read_faults shelf.old }
-        ensures quiet { OnOk result (S.write_faults shelf.new ≡ S.write_faults shelf.old) }
-        ensures cause { OnErr result (Rose (S.write_faults shelf.old file.now) (S.write_faults shelf.new file.now)) }
+        ensures { texts.Puts result (self.buffered ++ line commands.End) (S.holds shelf.old file.now) (S.holds shelf.new file.now) (S.write_faults shelf.old file.now) (S.write_faults shelf.new file.now) (Unit {0}) (λ calm. OthersSame calm file.now (S.holds shelf.old) (S.holds shelf.new) (S.read_faults shelf.old) (S.read_faults shelf.new) (S.write_faults shelf.old) (S.write_faults shelf.new)) }
     {
-        put_command(&mut self.buffer, shelf, file, &Command::End)?;
-        self.buffer.finish(shelf, file)
+        let mut out = FileSink::new(shelf, file);
+        self.text.end(&mut out)
     }
 }

@@ -23,3 +23,5 @@ pub mod KinLaws
 pub mod Placing
 -- pairs that are gathered row by row
 pub mod Gathering
+-- rectangles in planes that meet or are close
+pub mod PlaneLaws

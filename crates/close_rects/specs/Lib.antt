@@ -12,3 +12,5 @@ pub mod ScanView
 pub mod Crowds
 pub mod Kins
 pub mod CrowdView
+-- planes so far apart that rectangles of different planes neither meet nor are close
+pub mod Planes

@@ -11,6 +11,7 @@ mod kin;
 mod member;
 mod members;
 mod order;
+mod plane;
 mod reach;
 mod rect_set;
 mod scan;
@@ -18,5 +19,6 @@ mod span;
 
 pub use crowding::first_pairs;
 pub use member::Member;
+pub use plane::in_plane;
 pub use rect_set::RectSet;
 pub use scan::Scan;

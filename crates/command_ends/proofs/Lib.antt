@@ -1,7 +1,5 @@
--- bytes that are put to a sink in parts
+-- what is gained of a line that is put to a sink
 pub mod Puts
--- lines of findings that are put to a sink
-pub mod FindingPuts
 -- statuses of what stops a command
 pub mod StopLaws
 -- what was found in files, and what is said of them

@@ -10,7 +10,7 @@ use Rattle.design_model.specs.declared.design.Pin.{Pin}
 use Rattle.design_model.specs.declared.design.Terminal.{Terminal}
 use Rattle.layout_check.specs.declared.finding.Finding.{Finding}
 use Rattle.layout_check.specs.declared.finding.Finding.TheVariants.{Missing, Doubled, Strange, Drawing, Overlap, OutOfRow, Narrow, Close, BareCut, Opened, Short}
-use Rattle.command_ends.specs.Line.{line}
+use Rattle.shelf_io.specs.Lines.{line}
 
 abbrev pub instance_named : Option Inst → List ℕ
 instance_named None = []

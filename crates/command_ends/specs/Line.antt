@@ -1,6 +1,7 @@
 -- the words of each fault and refusal, and the line that says what stopped a command
-use Rattle.std.specs.Prelude.{ℕ, List, [], ◌∷◌, ◌++◌, codes, Some, None}
+use Rattle.std.specs.Prelude.{ℕ, List, [], ◌∷◌, codes, Some, None}
 use Rattle.std.specs.Fmt.{decimal}
+use Rattle.shelf_io.specs.Lines.{line}
 use Rattle.tech_rules.specs.Keys.{name_of}
 use Rattle.yal_reader.specs.declared.fault.YalKind.{YalKind}
 use Rattle.yal_reader.specs.declared.fault.YalKind.TheVariants as kinds
@@ -16,16 +17,6 @@ use Rattle.command_ends.specs.declared.refusal.Refusal.{Refusal}
 use Rattle.command_ends.specs.declared.refusal.Refusal.TheVariants.{Usage, Toml, Missing, Range, Tight, Yal, Design, Cif, Meaning, Limit, Memory}
 use Rattle.command_ends.specs.declared.stop.Stop.{Stop}
 use Rattle.command_ends.specs.declared.stop.Stop.TheVariants.{Refused, ReadFault, WriteFault}
-
--- what stands after a word: a blank where more words follow, else a line feed
-abbrev pub word_end : List (List ℕ) → List ℕ
-word_end [] = codes "\n"
-word_end (word ∷ words) = codes " "
-
--- a line of words
-abbrev pub line : List (List ℕ) → List ℕ
-line [] = []
-line (word ∷ words) = word ++ word_end words ++ line words
 
 unfoldable pub kind_word : YalKind → List ℕ
 kind_word kinds.NotAscii = codes "NotAscii"

@@ -1,19 +1,17 @@
 //! The lines that say what is wrong with a layout.
 
 ghost use Rattle.command_ends.specs.FindingLines.{finding_lines, finding_words, instance_of_pin, judged_text, name_of_cell, name_of_instance, name_of_terminal, pin_words, terminal_of_pin};
-ghost use Rattle.command_ends.specs.Line.{line};
 ghost use Rattle.design_model.specs.PinOrder.{instance_terminals};
-ghost use Rattle.shelf_io.specs.Count.{Rose};
-ghost use Rattle.shelf_io.specs.Told.{EndsWithin, Refines, appended};
+ghost use Rattle.shelf_io.specs.Lines.{line, word_text};
+ghost use Rattle.shelf_io.specs.Wrote.{Puts, Writes};
 ghost use Rattle.std.specs.Fmt.{decimal};
-ghost use Rattle.std.specs.Prelude.{◌≡◌, ◌≤◌, ◌∷◌, [], codes, OnErr, OnOk, slice_get};
+ghost use Rattle.std.specs.Prelude.{◌≡◌, ◌∷◌, [], map, slice_get};
 
-use crate::putting::{put_five, put_three, put_two};
 use design_model::{Design, Terminal};
 use geom_core::Layout;
-use itoa::Buffer;
 use layout_check::Finding;
-use shelf_io::{Failed, Sink};
+use shelf_io::LineWord::{self, Number, Text};
+use shelf_io::{Buffer, Failed, Sink, append_line};
 
 // The name of the instance with this number.
 fn name_of_instance(design: &Design, i: u32) -> &[u8]
@@ -78,135 +76,102 @@ fn terminal_of_pin(design: &Design, p: u32) -> &[u8]
     }
 }
 
-// Puts the line of a word and a number.
-fn put_shape<K: Sink>(out: &mut K, word: &[u8], i: u32) -> Result<(), Failed>
-    ensures whole { OnOk result (Refines (K.written out.new) (appended (K.written out.old) (line (word.now ∷ decimal i ∷ [])))) }
-    ensures front { OnErr result (EndsWithin (K.written out.old) (line (word.now ∷ decimal i ∷ [])) (K.written out.new)) }
-    ensures quiet { OnOk result (K.faults out.new ≡ K.faults out.old) }
-    ensures cause { OnErr result (Rose (K.faults out.old) (K.faults out.new)) }
-    ensures later { K.faults out.old ≤ K.faults out.new }
+// A word and two numbers.
+fn shape_words(word: &[u8], i: u32, j: u32) -> [LineWord<'_>; 3]
+    ensures { map word_text result ≡ word.now ∷ decimal i ∷ decimal j ∷ [] }
 {
-    let mut digits = Buffer::new();
-    put_two(out, word, digits.format(i).as_bytes())
+    [Text(word), Number(i as u64), Number(j as u64)]
 }
 
-// Puts the line of a word and two numbers.
-fn put_shapes<K: Sink>(out: &mut K, word: &[u8], i: u32, j: u32) -> Result<(), Failed>
-    ensures whole { OnOk result (Refines (K.written out.new) (appended (K.written out.old) (line (word.now ∷ decimal i ∷ decimal j ∷ [])))) }
-    ensures front { OnErr result (EndsWithin (K.written out.old) (line (word.now ∷ decimal i ∷ decimal j ∷ [])) (K.written out.new)) }
-    ensures quiet { OnOk result (K.faults out.new ≡ K.faults out.old) }
-    ensures cause { OnErr result (Rose (K.faults out.old) (K.faults out.new)) }
-    ensures later { K.faults out.old ≤ K.faults out.new }
+// A word and two pins.
+fn pin_words<'w>(design: &'w Design, word: &'w [u8], p: u32, q: u32) -> [LineWord<'w>; 5]
+    ensures { map word_text result ≡ pin_words design.now word.now p q }
 {
-    let mut first = Buffer::new();
-    let mut second = Buffer::new();
-    put_three(
-        out,
-        word,
-        first.format(i).as_bytes(),
-        second.format(j).as_bytes(),
-    )
+    [
+        Text(word),
+        Text(instance_of_pin(design, p)),
+        Text(terminal_of_pin(design, p)),
+        Text(instance_of_pin(design, q)),
+        Text(terminal_of_pin(design, q)),
+    ]
 }
 
-// Puts the line of a word and two pins.
-fn put_pins<K: Sink>(
-    out: &mut K,
-    design: &Design,
-    word: &[u8],
-    p: u32,
-    q: u32,
-) -> Result<(), Failed>
-    ensures whole { OnOk result (Refines (K.written out.new) (appended (K.written out.old) (line (pin_words design.now word.now p q)))) }
-    ensures front { OnErr result (EndsWithin (K.written out.old) (line (pin_words design.now word.now p q)) (K.written out.new)) }
-    ensures quiet { OnOk result (K.faults out.new ≡ K.faults out.old) }
-    ensures cause { OnErr result (Rose (K.faults out.old) (K.faults out.new)) }
-    ensures later { K.faults out.old ≤ K.faults out.new }
-{
-    put_five(
-        out,
-        word,
-        instance_of_pin(design, p),
-        terminal_of_pin(design, p),
-        instance_of_pin(design, q),
-        terminal_of_pin(design, q),
-    )
-}
-
-// Puts the line of a finding.
+// Puts the line of a finding behind what is buffered.
 #[tactic(auto, unfolding(crate::specs::FindingLines::finding_words))]
-fn put_finding<K: Sink>(
+fn append_finding<K: Sink>(
+    buffer: &mut Buffer,
     out: &mut K,
     design: &Design,
     layout: &Layout,
     finding: Finding,
 ) -> Result<(), Failed>
-    ensures whole { OnOk result (Refines (K.written out.new) (appended (K.written out.old) (line (finding_words design.now layout.now finding)))) }
-    ensures front { OnErr result (EndsWithin (K.written out.old) (line (finding_words design.now layout.now finding)) (K.written out.new)) }
-    ensures quiet { OnOk result (K.faults out.new ≡ K.faults out.old) }
-    ensures cause { OnErr result (Rose (K.faults out.old) (K.faults out.new)) }
-    ensures later { K.faults out.old ≤ K.faults out.new }
+    ensures { Writes result (line (finding_words design.now layout.now finding)) buffer.old buffer.new (K.written out.old) (K.written out.new) (K.faults out.old) (K.faults out.new) (K.same_place out.old out.new) (K.else_same out.old out.new) }
 {
     match finding {
-        Finding::Missing(i) => put_two(out, b"Missing", name_of_instance(design, i)),
-        Finding::Doubled(c, _) => put_two(out, b"Doubled", name_of_cell(layout, c)),
-        Finding::Strange(c) => put_two(out, b"Strange", name_of_cell(layout, c)),
-        Finding::Drawing(c) => put_two(out, b"Drawing", name_of_cell(layout, c)),
-        Finding::Overlap(i, j) => put_shapes(out, b"Overlap", i, j),
-        Finding::OutOfRow(i, j) => put_shapes(out, b"OutOfRow", i, j),
-        Finding::Narrow(i) => put_shape(out, b"Narrow", i),
-        Finding::Close(i, j) => put_shapes(out, b"Close", i, j),
-        Finding::BareCut(i) => put_shape(out, b"BareCut", i),
-        Finding::Opened(p, q) => put_pins(out, design, b"Open", p, q),
-        Finding::Short(p, q) => put_pins(out, design, b"Short", p, q),
+        Finding::Missing(i) => append_line(
+            buffer,
+            out,
+            &[Text(b"Missing"), Text(name_of_instance(design, i))],
+        ),
+        Finding::Doubled(c, _) => append_line(
+            buffer,
+            out,
+            &[Text(b"Doubled"), Text(name_of_cell(layout, c))],
+        ),
+        Finding::Strange(c) => append_line(
+            buffer,
+            out,
+            &[Text(b"Strange"), Text(name_of_cell(layout, c))],
+        ),
+        Finding::Drawing(c) => append_line(
+            buffer,
+            out,
+            &[Text(b"Drawing"), Text(name_of_cell(layout, c))],
+        ),
+        Finding::Overlap(i, j) => append_line(buffer, out, &shape_words(b"Overlap", i, j)),
+        Finding::OutOfRow(i, j) => append_line(buffer, out, &shape_words(b"OutOfRow", i, j)),
+        Finding::Narrow(i) => append_line(buffer, out, &[Text(b"Narrow"), Number(i as u64)]),
+        Finding::Close(i, j) => append_line(buffer, out, &shape_words(b"Close", i, j)),
+        Finding::BareCut(i) => append_line(buffer, out, &[Text(b"BareCut"), Number(i as u64)]),
+        Finding::Opened(p, q) => append_line(buffer, out, &pin_words(design, b"Open", p, q)),
+        Finding::Short(p, q) => append_line(buffer, out, &pin_words(design, b"Short", p, q)),
     }
 }
 
-// Puts a line for each finding.
-fn put_findings<K: Sink>(
+// Puts a line for each finding behind what is buffered.
+fn append_findings<K: Sink>(
+    buffer: &mut Buffer,
     out: &mut K,
     design: &Design,
     layout: &Layout,
     findings: &[Finding],
 ) -> Result<(), Failed>
-    ensures whole { OnOk result (Refines (K.written out.new) (appended (K.written out.old) (finding_lines design.now layout.now findings.now))) }
-    ensures front { OnErr result (EndsWithin (K.written out.old) (finding_lines design.now layout.now findings.now) (K.written out.new)) }
-    ensures quiet { OnOk result (K.faults out.new ≡ K.faults out.old) }
-    ensures cause { OnErr result (Rose (K.faults out.old) (K.faults out.new)) }
-    ensures later { K.faults out.old ≤ K.faults out.new }
+    ensures { Writes result (finding_lines design.now layout.now findings.now) buffer.old buffer.new (K.written out.old) (K.written out.new) (K.faults out.old) (K.faults out.new) (K.same_place out.old out.new) (K.else_same out.old out.new) }
 {
     let mut rest = findings;
     while let Some((finding, after)) = rest.split_first() {
-        put_finding(out, design, layout, *finding)?;
+        append_finding(buffer, out, design, layout, *finding)?;
         rest = after;
     }
     Ok(())
 }
 
-// Puts the line of the number of findings.
-fn put_number<K: Sink>(out: &mut K, number: u64) -> Result<(), Failed>
-    ensures whole { OnOk result (Refines (K.written out.new) (appended (K.written out.old) (line (codes "findings" ∷ decimal number ∷ [])))) }
-    ensures front { OnErr result (EndsWithin (K.written out.old) (line (codes "findings" ∷ decimal number ∷ [])) (K.written out.new)) }
-    ensures quiet { OnOk result (K.faults out.new ≡ K.faults out.old) }
-    ensures cause { OnErr result (Rose (K.faults out.old) (K.faults out.new)) }
-    ensures later { K.faults out.old ≤ K.faults out.new }
-{
-    let mut digits = Buffer::new();
-    put_two(out, b"findings", digits.format(number).as_bytes())
-}
-
-/// Puts what is printed of a layout that was judged for a design: a line for each finding, and then a line with their number. It errs where the sink failed, whose count
-/// then rose, and leaves a front of the text. Takes no memory.
+/// Puts what is printed of a layout that was judged for a design: a line for each finding, and then a line with their number, in pieces of 4,096 bytes where the sink
+/// takes them so. It errs where the sink failed, whose count then rose, and leaves a front of the text. Takes no memory.
 pub fn put_judged<K: Sink>(
     out: &mut K,
     design: &Design,
     layout: &Layout,
     findings: &[Finding],
 ) -> Result<(), Failed>
-    ensures whole { OnOk result (Refines (K.written out.new) (appended (K.written out.old) (judged_text design.now layout.now findings.now))) }
-    ensures front { OnErr result (EndsWithin (K.written out.old) (judged_text design.now layout.now findings.now) (K.written out.new)) }
-    ensures quiet { OnOk result (K.faults out.new ≡ K.faults out.old) }
-    ensures cause { OnErr result (Rose (K.faults out.old) (K.faults out.new)) }
+    ensures { Puts result (judged_text design.now layout.now findings.now) (K.written out.old) (K.written out.new) (K.faults out.old) (K.faults out.new) (K.same_place out.old out.new) (K.else_same out.old out.new) }
 {
-    put_findings(out, design, layout, findings)?;
-    put_number(out, findings.len() as u64)
+    let mut buffer = Buffer::new();
+    append_findings(&mut buffer, out, design, layout, findings)?;
+    append_line(
+        &mut buffer,
+        out,
+        &[Text(b"findings"), Number(findings.len() as u64)],
+    )?;
+    buffer.flush(out)
 }

@@ -3,7 +3,6 @@
 
 mod finding_line;
 mod line;
-mod putting;
 mod refusal;
 mod stop;
 

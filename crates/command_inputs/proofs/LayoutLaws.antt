@@ -1,4 +1,4 @@
-use Rattle.std.proofs.Common.{◌≡◌, ◌<◌, ◌^◌, ℕ, List, length, Result, Ok, Err, subst, arith}
+use Rattle.std.proofs.Common.{◌≡◌, ◌<◌, ◌^◌, ℕ, List, length, Result, Ok, Err, refl, arith}
 use Rattle.std.specs.Prelude.{ℤ, pos, negsuc}
 use Rattle.std.proofs.lemmas.Int.{ints}
 use Rattle.std.proofs.lemmas.List.Elements.{All-from_recursion, All-weaker}
@@ -6,14 +6,19 @@ use Rattle.geom_core.specs.Reach.{IsInReach, IsShapeInReach}
 use Rattle.geom_core.specs.declared.layout.Cell.{Cell}
 use Rattle.geom_core.specs.declared.layout.Layout.{Layout}
 use Rattle.geom_core.specs.declared.layout.Shape.{Shape}
-use Rattle.cif_text.specs.Meaning.{meaning}
+use Rattle.cif_text.specs.CifReads.{cif_reads}
+use Rattle.cif_text.specs.ReadsAs.{ReadsAs}
 use Rattle.cif_text.specs.declared.command.Command.{Command}
 use Rattle.cif_text.specs.declared.fault.CifKind.{CifKind}
-use Rattle.cif_reader.proofs.Agreement.{Agrees}
+use Rattle.cif_reader.proofs.AgreementLaws.{expansion-means}
 use Rattle.cif_reader.specs.Expansion.{expansion}
+use Rattle.cif_reader.specs.declared.fault.ExpandKind.{ExpandKind}
+use Rattle.command_ends.specs.Refusing.{◌>>=◌}
+use Rattle.command_ends.specs.declared.refusal.Refusal.{Refusal}
 use Rattle.cif_reader.specs.Within.{IsCellWithin, IsLayoutWithin, IsNotFar, IsShapeWithin}
 use Rattle.layout_check.specs.Measured.{IsCellAmong, IsMeasured}
-use Rattle.command_inputs.specs.LayoutFile.{cif_said}
+use Rattle.command_inputs.specs.LayoutFile.{cif_said, commands_verdict, layout_verdict, meaning_said}
+use Rattle.command_inputs.proofs.LimitLaws.{within-next}
 
 -- what is not too far for the reader is in the reach of a check
 in-reach : (z : ℤ) → IsNotFar z → IsInReach z
@@ -36,7 +41,23 @@ measured most l few within = record {
   shapes = All-weaker IsShapeWithin IsShapeInReach shape-in-reach l.shapes (All-from_recursion IsShapeWithin l.shapes within.shapes);
 }
 
--- the commands that are said are those that are read
-pub said-reads : (read : Result (List Command) (CifKind × ℕ)) (commands : List Command) → cif_said read ≡ Ok commands → read ≡ Ok commands
-said-reads (Ok found) commands is = cc
-said-reads (Err bad) commands is = cc
+-- the layout that the bytes of a file give is the one as which they read
+pub layout-reads : (bytes : List ℕ) (layout : Layout) → layout_verdict bytes ≡ Ok layout → ReadsAs bytes layout
+unfolding layout_verdict commands_verdict
+layout-reads bytes layout is = by (commands_verdict bytes) refl is
+  where
+    said-reads : (read : Result (List Command) (CifKind × ℕ)) (commands : List Command) → cif_said read ≡ Ok commands → read ≡ Ok commands
+    said-reads (Ok found) commands is = cc
+    said-reads (Err bad) commands is = cc
+
+    said-means : (found : Result Layout (ExpandKind × ℕ)) → meaning_said found ≡ Ok layout → found ≡ Ok layout
+    said-means (Ok l) is = cc
+    said-means (Err bad) is = cc
+
+    by : (said : Result (List Command) Refusal) → commands_verdict bytes ≡ said → (said >>= (λ cs. meaning_said (expansion cs))) ≡ Ok layout → ReadsAs bytes layout
+    by (Ok commands) found is = record {
+      commands = commands;
+      reads = said-reads (cif_reads bytes) commands (within-next _ _ bytes (λ whole. cif_said (cif_reads whole)) commands found);
+      means = expansion-means commands layout (said-means (expansion commands) is);
+    }
+    by (Err refusal) found is = cc

@@ -1,8 +1,8 @@
--- contents within the limits of files
+-- contents within the limits of files, and what they state
 pub mod LimitLaws
--- faults of a design as refusals
-pub mod FaultLaws
+-- what was read, and what stopped a reading
+pub mod ReadingLaws
 -- the layout that a file's commands give
 pub mod LayoutLaws
--- the text of a design from a source
+-- rules and a design that are what files say
 pub mod OriginLaws

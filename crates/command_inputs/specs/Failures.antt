@@ -5,9 +5,13 @@ use Rattle.command_words.specs.Command.{Source, from_file, from_seed}
 use Rattle.tech_rules.specs.Rules.{RuleValues}
 use Rattle.command_inputs.specs.Stated.{design_text, design_verdict, rules_verdict}
 
--- why a design from a source could not be read: the read count of its file rose
+-- why a file could not be read: its read count rose
+abbrev pub FileFails : List ℕ → (List ℕ → ℕ) → (List ℕ → ℕ) → Type 0
+FileFails name old new = Rose (old name) (new name)
+
+-- why a design from a source could not be read
 abbrev pub SourceFails : Source → (List ℕ → ℕ) → (List ℕ → ℕ) → Type 0
-SourceFails (from_file name) old new = Rose (old name) (new name)
+SourceFails (from_file name) old new = FileFails name old new
 SourceFails (from_seed seed count) old new = ⊥
 
 -- a read of the rules file failed, or one of the design's file, and the rules file, where it is told, states rules

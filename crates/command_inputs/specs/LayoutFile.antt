@@ -1,8 +1,9 @@
 -- the commands and the layout that the bytes of a layout's file give, or why the file is refused
-use Rattle.std.specs.Prelude.{ℕ, List, Result, Ok, Err}
+use Rattle.std.specs.Prelude.{◌<◌, ◌^◌, ℕ, List, false, length, Result, Ok, Err}
 use Rattle.limits.specs.declared.TheConstants.{MOST_LAYOUT_BYTES}
 use Rattle.geom_core.specs.declared.layout.Layout.{Layout}
 use Rattle.cif_text.specs.CifReads.{cif_reads}
+use Rattle.cif_text.specs.Sound.{AreSound}
 use Rattle.cif_text.specs.declared.command.Command as cif
 use Rattle.cif_text.specs.declared.fault.CifKind.{CifKind}
 use Rattle.cif_reader.specs.Expansion.{expansion}
@@ -20,6 +21,11 @@ cif_said (Err bad) = Err (Cif bad.0 bad.1)
 abbrev pub meaning_said : Result Layout (ExpandKind × ℕ) → Result Layout Refusal
 meaning_said (Ok layout) = Ok layout
 meaning_said (Err bad) = Err (Meaning bad.0 bad.1)
+
+-- commands that the reader can expand
+pub record AreExpandable (commands : List cif.Command) : Type 0 where
+  pub sound : AreSound false commands
+  pub few : length commands < 2 ^ 32
 
 -- the commands that the bytes of a layout's file are
 unfoldable pub commands_verdict : List ℕ → Result (List cif.Command) Refusal

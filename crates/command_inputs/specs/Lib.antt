@@ -1,3 +1,5 @@
+-- what a call that only reads does on a shelf, and what it says of a text
+pub mod Reading
 -- the names in the faults of a design
 pub mod FaultName
 -- what the files of rules and of a design state, and what the file of a layout says

@@ -20,6 +20,7 @@ use Rattle.command_ends.specs.Limits.{within_limit}
 use Rattle.command_ends.specs.Refusing.{◌>>=◌, told_then}
 use Rattle.command_ends.specs.declared.refusal.Limited.TheVariants as limits
 use Rattle.command_ends.specs.declared.refusal.Refusal.{Refusal}
+use Rattle.command_inputs.specs.declared.outcome.ReadDesign.{ReadDesign}
 use Rattle.command_inputs.specs.declared.stages.Inputs.{Inputs}
 use Rattle.command_ends.specs.declared.refusal.Refusal.TheVariants.{Toml, Missing, Range, Tight, Yal, Design, Limit, Memory}
 
@@ -46,8 +47,8 @@ design_refusal file (faults.Limit Pins n) = Limit limits.Pins n
 design_refusal file faults.Memory = Memory
 design_refusal file fault = Design fault (fault_name file fault)
 
-abbrev pub design_said : YalFile → Result Netlist DesignFault → Result Netlist Refusal
-design_said file (Ok design) = Ok design
+abbrev pub design_said : YalFile → Result Netlist DesignFault → Result ReadDesign Refusal
+design_said file (Ok design) = Ok (record { file = file; design = design })
 design_said file (Err fault) = Err (design_refusal file fault)
 
 -- the rules that a text states
@@ -60,23 +61,23 @@ rules_verdict bytes = do
   whole ← within_limit limits.Rules MOST_RULES_BYTES bytes
   stated_rules whole
 
--- the design that a text of YAL is
-unfoldable pub stated_design : RuleValues → List ℕ → Result Netlist Refusal
+-- the file that a text of YAL is, and the design that it says
+unfoldable pub stated_design : RuleValues → List ℕ → Result ReadDesign Refusal
 stated_design rules bytes = do
   file ← yal_said (yal_reads bytes)
   design_said file (on_grid rules file)
 
--- the design that the bytes of a design's file state
-unfoldable pub design_verdict : RuleValues → List ℕ → Result Netlist Refusal
+-- those that the bytes of a design's file state
+unfoldable pub design_verdict : RuleValues → List ℕ → Result ReadDesign Refusal
 design_verdict rules bytes = do
   whole ← within_limit limits.Design MOST_DESIGN_BYTES bytes
   stated_design rules whole
 
--- the rules, and the design that the bytes of a design's file state under them
+-- the rules, and what the bytes of a design's file state under them
 unfoldable pub inputs_under : RuleValues → List ℕ → Result Inputs Refusal
 inputs_under rules bytes = do
-  design ← design_verdict rules bytes
-  Ok (record { rules = rules; design = design })
+  read ← design_verdict rules bytes
+  Ok (record { rules = rules; file = read.file; design = read.design })
 
 -- the text of a design from a source, under rules: that of a file as far as it is told, or one that is made
 abbrev pub design_text : Source → (List ℕ → Option (List ℕ)) → RuleValues → Option (List ℕ)

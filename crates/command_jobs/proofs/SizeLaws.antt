@@ -1,6 +1,6 @@
-use Rattle.std.proofs.Common.{◌≡◌, ◌≤◌, Bool, true, false, Option, Some, None, if◌then◌else◌, refl}
+use Rattle.std.proofs.Common.{◌≡◌, ◌≤◌, Bool, true, false, Option, Some, None, Ok, if◌then◌else◌, refl}
 use Rattle.command_jobs.specs.Limits.{size_refusal}
-use Rattle.command_ends.specs.Refusing.{or_refusal}
+use Rattle.command_ends.specs.Refusing.{or_refusal, unless}
 use Rattle.pin_assign.specs.declared.bound.Bound.{Bound}
 use Rattle.command_ends.specs.declared.refusal.Refusal.{Refusal}
 use Rattle.std_laws.proofs.Tests.{nat_lt-is-within}
@@ -23,3 +23,8 @@ unrefused-within bound none =
       nat_lt-is-within 4000000 bound.grid grid.0,
       (nat_lt-is-within 1000000000 bound.width width.0, nat_lt-is-within 1000000000 bound.height (last-unrefused _ _ width.1)),
     )
+
+-- nothing is refused where what comes next is answered
+pub unless-passed : {A : Type 0} (refused : Option Refusal) (next answer : A) → unless refused (Ok next) ≡ Ok answer → refused ≡ None
+unless-passed None next answer is = refl
+unless-passed (Some refusal) next answer is = cc

@@ -1,4 +1,4 @@
-use Rattle.std.proofs.Common.{◌≡◌, ◌∙◌, ◌<◌, ◌≤◌, ◌*◌, ◌^◌, ℕ, List, [], ◌∷◌, length, map, fold, max, ap, sym, arith}
+use Rattle.std.proofs.Common.{◌≡◌, ◌∙◌, ◌<◌, ◌≤◌, ◌*◌, ◌^◌, ℕ, List, [], ◌∷◌, length, map, fold, max, ap, refl, sym, arith}
 use Rattle.std.proofs.lemmas.List.{length-map}
 use Rattle.design_model.specs.Netlist.{Netlist}
 use Rattle.feed_cells.specs.Fed.{Fed, IsFed, cells_in, fed_from, fed_rows, item_width, items_width, seats_in}
@@ -8,10 +8,9 @@ use Rattle.feed_cells.proofs.FedWidths.{width-cons}
 use Rattle.channel_stack.specs.Stack.{LaidOut, laid_of, stack_of}
 use Rattle.greedy_router.specs.declared.sweep.Routed.{Routed}
 use Rattle.layout_report.specs.declared.summary.ChannelLine.{ChannelLine}
-use Rattle.layout_report.specs.declared.summary.Summary.{Summary}
 use Rattle.command_jobs.specs.Job.{Job}
 use Rattle.command_jobs.specs.Kept.{wirings_of}
-use Rattle.command_jobs.specs.Summarized.{cost_for, feeds_at, feeds_in, feeds_of, line_of_channel, summary_at, summary_of}
+use Rattle.command_jobs.specs.Summarized.{cost_for, feeds_at, feeds_in, feeds_of, line_of_channel, summary_of, summary_with}
 use Rattle.command_jobs.specs.Text.{rows_with_feeds}
 use Rattle.std_laws.proofs.Greatest.{greatest-first}
 
@@ -51,42 +50,9 @@ feeds-few d fed is narrow =
     omega (arith, rows-few d fed is)
 
 -- a layout in short is that of its job
-pub summary-from : (job : Job) (fed : Fed) (cost : ℕ) (kept : List Routed) (channels : List ChannelLine) (laid : LaidOut) (summary : Summary)
+pub summary-from : (job : Job) (fed : Fed) (cost : ℕ) (kept : List Routed) (channels : List ChannelLine) (laid : LaidOut)
     → fed ≡ rows_with_feeds job → cost ≡ cost_for job → channels ≡ map (line_of_channel fed.width) kept
-    → laid ≡ laid_of (stack_of job.rules job.design fed (wirings_of kept))
-    → summary ≡ record {
-      cells = length job.design.instances;
-      nets = length job.design.nets;
-      rows = length fed.rows;
-      feeds = feeds_in fed.rows;
-      channels = channels;
-      width = laid.width;
-      height = laid.height;
-      cost = cost;
-    }
-    → summary ≡ summary_of job kept
+    → laid ≡ laid_of (stack_of job.rules job.drawn fed (wirings_of kept))
+    → summary_with job.drawn fed cost channels laid ≡ summary_of job kept
 unfolding summary_of
-summary-from job fed cost kept channels laid summary fed_is cost_is channels_are laid_is is =
-    is
-    ∙ ap (λ (cs : List ChannelLine). let s : Summary = record {
-      cells = length job.design.instances;
-      nets = length job.design.nets;
-      rows = length fed.rows;
-      feeds = feeds_in fed.rows;
-      channels = cs;
-      width = laid.width;
-      height = laid.height;
-      cost = cost;
-    } in s) channels_are
-    ∙ ap (λ (l : LaidOut). let s : Summary = record {
-      cells = length job.design.instances;
-      nets = length job.design.nets;
-      rows = length fed.rows;
-      feeds = feeds_in fed.rows;
-      channels = map (line_of_channel fed.width) kept;
-      width = l.width;
-      height = l.height;
-      cost = cost;
-    } in s) laid_is
-    ∙ ap (λ (f : Fed). summary_at job.rules job.design f cost kept) fed_is
-    ∙ ap (λ (c : ℕ). summary_at job.rules job.design (rows_with_feeds job) c kept) cost_is
+summary-from job fed cost kept channels laid fed_is cost_is channels_are laid_is = rw (channels_are, laid_is, cost_is, fed_is) refl

@@ -28,4 +28,4 @@ size_refusal bound =
 
 -- a job that passes the limits: that of the changes of its annealing, and those of its layout
 unfoldable pub within_limits : Job → Result Job Refusal
-within_limits job = unless (moves_refusal job.rules job.design) (unless (size_refusal (bound_for job)) (Ok job))
+within_limits job = unless (moves_refusal job.rules job.placed) (unless (size_refusal (bound_for job)) (Ok job))

@@ -14,9 +14,9 @@ abbrev pub rows_for : RuleValues → Netlist → Option ℕ → ℕ
 rows_for rules d None = default_rows rules d
 rows_for rules d (Some rows) = rows
 
--- the job of laying a design out so
+-- the job of laying a design out so, which is both placed and drawn
 abbrev pub job_of : RuleValues → Netlist → Wanted → Job
-job_of rules d wanted = record { rules = rules; design = d; rows = rows_for rules d wanted.rows; seed = wanted.seed }
+job_of rules d wanted = record { rules = rules; placed = d; drawn = d; rows = rows_for rules d wanted.rows; seed = wanted.seed }
 
 -- how rules have rows annealed
 abbrev pub schedule_of : RuleValues → Annealing
@@ -27,6 +27,6 @@ schedule_of rules = record {
   weights = record { row_cost = rules.annealing.row_cost; length_cost = rules.annealing.length_cost };
 }
 
--- the rows of a job: those that its design begins with, annealed
+-- the rows of a job: those that the design to be placed begins with, annealed
 unfoldable pub rows_of : Job → List (List Seat)
-rows_of job = annealed job.design (start_rows job.rules.annealing.start job.design job.rows) (schedule_of job.rules) job.seed
+rows_of job = annealed job.placed (start_rows job.rules.annealing.start job.placed job.rows) (schedule_of job.rules) job.seed

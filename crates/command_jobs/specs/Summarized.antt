@@ -1,12 +1,11 @@
 -- the layout in short
 use Rattle.std.specs.Prelude.{ℕ, ◌+◌, ◌-◌, List, [], ◌∷◌, length, map}
-use Rattle.tech_rules.specs.Rules.{RuleValues}
 use Rattle.design_model.specs.Netlist.{Netlist}
 use Rattle.row_board.specs.Cost.{cost_of}
 use Rattle.feed_cells.specs.Fed.{Fed}
 use Rattle.feed_cells.specs.declared.fed.Item.{Item}
 use Rattle.feed_cells.specs.declared.fed.Item.TheVariants.{Cell, Feed}
-use Rattle.channel_stack.specs.Stack.{stack_of}
+use Rattle.channel_stack.specs.Stack.{LaidOut, laid_of, stack_of}
 use Rattle.greedy_router.specs.declared.sweep.Routed.{Routed}
 use Rattle.layout_report.specs.declared.summary.ChannelLine.{ChannelLine}
 use Rattle.layout_report.specs.declared.summary.Summary.{Summary}
@@ -35,21 +34,23 @@ line_of_channel width r = record { tracks = r.wiring.tracks; extra = r.wiring.co
 
 -- what the annealed rows of a job cost
 unfoldable pub cost_for : Job → ℕ
-cost_for job = cost_of job.design (rows_of job) (schedule_of job.rules).weights
+cost_for job = cost_of job.placed (rows_of job) (schedule_of job.rules).weights
 
--- a layout in short, of rows with feeds that cost so, with these routed channels
-abbrev pub summary_at : RuleValues → Netlist → Fed → ℕ → List Routed → Summary
-summary_at r d fed cost kept = record {
+-- a layout in short, of a design in rows with feeds that cost so, with these channels, where all of it lies so
+abbrev pub summary_with : Netlist → Fed → ℕ → List ChannelLine → LaidOut → Summary
+summary_with d fed cost channels laid = record {
   cells = length d.instances;
   nets = length d.nets;
   rows = length fed.rows;
   feeds = feeds_in fed.rows;
-  channels = map (line_of_channel fed.width) kept;
-  width = (stack_of r d fed (wirings_of kept)).width;
-  height = (stack_of r d fed (wirings_of kept)).height;
+  channels = channels;
+  width = laid.width;
+  height = laid.height;
   cost = cost;
 }
 
 -- the layout of a job with these routed channels in short
 unfoldable pub summary_of : Job → List Routed → Summary
-summary_of job kept = summary_at job.rules job.design (rows_with_feeds job) (cost_for job) kept
+summary_of job kept =
+    let fed : Fed = rows_with_feeds job in
+    summary_with job.drawn fed (cost_for job) (map (line_of_channel fed.width) kept) (laid_of (stack_of job.rules job.drawn fed (wirings_of kept)))

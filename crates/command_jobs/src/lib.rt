@@ -2,7 +2,6 @@
 #![tactic(auto)]
 
 mod kept;
-mod laying;
 mod placing;
 mod prepared;
 mod routing;

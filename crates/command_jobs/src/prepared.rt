@@ -1,45 +1,47 @@
 //! A design that is laid out and routed, and ready to be written.
 
 ghost use Rattle.command_ends.specs.Answers.{Answers};
-ghost use Rattle.command_ends.specs.Status.{ending_status, refusal_status};
+ghost use Rattle.command_ends.specs.Status.{refusal_status};
 ghost use Rattle.command_jobs.specs.Limits.{within_limits};
 ghost use Rattle.command_jobs.specs.Rows.{job_of};
-ghost use Rattle.command_jobs.specs.Summarized.{summary_of};
-ghost use Rattle.command_jobs.specs.Text.{channels_of, job_text};
-ghost use Rattle.command_jobs.specs.Written.{IsGoodText, IsWriting};
+ghost use Rattle.command_jobs.specs.Summarized.{cost_for, summary_of};
+ghost use Rattle.command_jobs.specs.Text.{AreRoutedRows, channels_of, job_text};
+ghost use Rattle.command_jobs.specs.Written.{IsGoodText};
 ghost use Rattle.cif_writer.specs.LayoutText.{HoldsFront};
 ghost use Rattle.design_model.specs.Room.{HasRoom};
 ghost use Rattle.greedy_router.specs.Answers.{AreRouted};
 ghost use Rattle.shelf_io.specs.Count.{Rose};
+ghost use Rattle.shelf_io.specs.OtherFiles.{OthersSame};
 ghost use Rattle.shelf_io.specs.Told.{Refines};
-ghost use Rattle.std.specs.Prelude.{◌≡◌, ◌≢◌, ◌⊎◌, List, ℕ, Some, IfErr, IfOk};
+ghost use Rattle.std.specs.Prelude.{◌≡◌, ◌≢◌, is_ok, Some, IfErr, IfOk, OnErr, OnOk};
 
 use crate::kept::Apart;
-use crate::laying::{ReadyRows, ready_rows};
-use crate::placing::rows_for;
-use channel_stack::Laid;
+use crate::placing::annealed_rows;
+use crate::routing::route_rows;
+use crate::summarizing::{channel_lines, summarized};
+use anneal_int::CostedRows;
+use channel_stack::{Laid, lay};
 use choose_core::{Chooser, Chooses, Style};
-use cif_writer::{RoutedDesign, StartFault, write_layout};
-use command_ends::{Refusal, Stop};
+use cif_writer::{RoutedDesign, symbol_drawings, write_layout};
+use command_ends::Refusal;
 use command_words::Wanted;
 use design_model::Design;
-use feed_cells::FedRows;
+use feed_cells::{FedRows, insert_feeds, place};
 use geom_core::{Items, Shape};
 use greedy_router::Routed;
 use layout_report::Summary;
-use shelf_io::Shelf;
-use std::alloc::Global;
+use shelf_io::{Failed, Shelf};
+use std::alloc::{AllocError, Global};
 use std::marker::Model;
 use tech_rules::Rules;
 
-/// A design with its rules, in so many rows, annealed by a seed, with feeds, with its routed channels, where all of it lies, the drawings of its symbols, and the layout in short. Contracts
-/// see the rules, the design, the number of rows and the seed, and the routed channels, by which all else is given.
+/// A design with its rules, laid out as is wanted: its rows with feeds, its routed channels, where all of it lies, the drawings of its symbols, and the layout in short. Contracts see the job
+/// and the routed channels, by which all else is given.
 #[derive(Drop)]
 pub struct Prepared {
     rules: Rules,
     design: Design,
-    rows: u32,
-    seed: u64,
+    wanted: Wanted,
     fed: FedRows,
     kept: Apart,
     laid: Laid,
@@ -64,7 +66,42 @@ impl Model for Prepared {
     ghost invariant = { IsPrepared };
 }
 
+// Lays the rows of a job with feeds and routed channels, draws their symbols, and tells of them in short. They cost so before they got feeds. The one error is want of memory.
+fn ready(
+    alloc: Global,
+    design: Design,
+    rules: Rules,
+    wanted: Wanted,
+    fed: FedRows,
+    routed: Vec<Routed>,
+    cost: u64,
+) -> Result<Prepared, AllocError>
+    requires high { HasRoom rules design }
+    requires rows { AreRoutedRows (job_of rules design wanted) fed routed.items }
+    requires cost { cost ≡ cost_for (job_of rules design wanted) }
+    ensures { IfOk result (λ made. made ≡ record { job = job_of rules design wanted; kept = routed.items }) }
+{
+    // What every value of the rules keeps is known once a field is read.
+    let _ = &rules.version;
+    let lines = channel_lines(alloc, routed.as_slice(), &fed)?;
+    let kept = Apart::new(alloc, routed)?;
+    let symbols = symbol_drawings(alloc, &design, &fed, &rules)?;
+    let laid = lay(alloc, &design, &fed, kept.wirings(), &rules)?;
+    let summary = summarized(&design, &fed, lines, &laid, cost);
+    Ok(Prepared {
+        rules,
+        design,
+        wanted,
+        fed,
+        kept,
+        laid,
+        symbols,
+        summary,
+    })
+}
+
 /// A design laid out as is wanted and routed by the choices of a style, if that is within the limits. Each cell has room for its pins.
+#[tactic(auto, unfolding(crate::specs::Limits::within_limits))]
 pub fn lay_out(
     alloc: Global,
     design: Design,
@@ -78,44 +115,24 @@ pub fn lay_out(
     ensures kept { IfOk result (λ prepared. AreRouted wanted.edge style.now.plan (⟦<Chooser as Chooses>⟧.answers style.now.chooser) (channels_of prepared.job) prepared.kept) }
     ensures command { IfErr result (λ refusal. refusal_status refusal ≢ 2) }
 {
-    let rows = rows_for(&design, &rules, wanted.rows);
-    let ready = ready_rows(alloc, &design, &rules, &wanted, style)?;
-    let ReadyRows {
-        fed,
-        kept,
-        laid,
-        symbols,
-        summary,
-    } = ready;
-    Ok(Prepared {
-        rules,
-        design,
-        rows,
-        seed: wanted.seed,
-        fed,
-        kept,
-        laid,
-        symbols,
-        summary,
-    })
+    let CostedRows { rows, cost } = annealed_rows(alloc, &design, &rules, &wanted)?;
+    let placement = place(alloc, &design, &rows)?;
+    let fed = insert_feeds(alloc, &design, &rows, &placement)?;
+    let routed = route_rows(alloc, &design, &rules, &fed, placement, style, wanted.edge)?;
+    let made = ready(alloc, design, rules, wanted, fed, routed, cost)?;
+    Ok(made)
 }
 
 impl Prepared {
-    /// Makes a file hold the text of the design, and nothing else. It may end for want of memory, before the file is begun, and then the shelf is as before; or by
-    /// WriteFault, which comes only where the file's write count rose, and then the file holds what it held before, or a front of the text.
+    /// Makes a file hold the text of the design, and nothing else. Failed comes only where the file's write count rose, and then the file holds what it held before, or a front of the
+    /// text. Takes no memory.
     #[tactic(auto, unfolding(crate::specs::Text::job_text))]
-    pub fn write<S: Shelf>(&self, alloc: Global, shelf: &mut S, out: &str) -> Result<(), Stop>
-        ensures ends { IsWriting result }
-        ensures whole { ending_status result ≡ 0 → Refines (S.holds shelf.new out.now) (Some (job_text self.now.job self.now.kept)) }
-        ensures good { IsGoodText self.now.job.rules self.now.job.design (job_text self.now.job self.now.kept) }
-        ensures front { ending_status result ≡ 9 → HoldsFront (job_text self.now.job self.now.kept) (S.holds shelf.old out.now) (S.holds shelf.new out.now) }
-        ensures untouched { ending_status result ≢ 0 → ending_status result ≢ 9 → shelf.new ≡ shelf.old }
-        ensures listed { (ending_status result ≡ 0) ⊎ ((ending_status result ≡ 9) ⊎ (ending_status result ≡ 10)) }
-        ensures command { ending_status result ≢ 2 }
-        ensures others { (other : List ℕ) → other ≢ out.now → S.holds shelf.new other ≡ S.holds shelf.old other }
-        ensures reads { S.read_faults shelf.new ≡ S.read_faults shelf.old }
-        ensures writes { ending_status result ≢ 9 → S.write_faults shelf.new ≡ S.write_faults shelf.old }
-        ensures cause { ending_status result ≡ 9 → Rose (S.write_faults shelf.old out.now) (S.write_faults shelf.new out.now) }
+    pub fn write<S: Shelf>(&self, shelf: &mut S, out: &str) -> Result<(), Failed>
+        ensures whole { OnOk result (Refines (S.holds shelf.new out.now) (Some (job_text self.now.job self.now.kept))) }
+        ensures good { IsGoodText self.now.job.rules self.now.job.drawn (job_text self.now.job self.now.kept) }
+        ensures front { OnErr result (HoldsFront (job_text self.now.job self.now.kept) (S.holds shelf.old out.now) (S.holds shelf.new out.now)) }
+        ensures others { OthersSame (is_ok result) out.now (S.holds shelf.old) (S.holds shelf.new) (S.read_faults shelf.old) (S.read_faults shelf.new) (S.write_faults shelf.old) (S.write_faults shelf.new) }
+        ensures cause { OnErr result (Rose (S.write_faults shelf.old out.now) (S.write_faults shelf.new out.now)) }
     {
         let routed = RoutedDesign {
             design: &self.design,
@@ -125,11 +142,7 @@ impl Prepared {
             symbols: self.symbols.as_slice(),
             rules: &self.rules,
         };
-        match write_layout(alloc, shelf, out, &routed) {
-            Ok(()) => Ok(()),
-            Err(StartFault::Memory) => Err(Stop::Refused(Refusal::Memory)),
-            Err(StartFault::Write) => Err(Stop::WriteFault),
-        }
+        write_layout(shelf, out, &routed)
     }
 
     /// Its routed channels, and the layout in short. Takes no memory.

@@ -1,8 +1,8 @@
 //! A layout in short.
 
-ghost use Rattle.command_jobs.specs.Summarized.{feeds_at, feeds_in, feeds_of, line_of_channel};
+ghost use Rattle.command_jobs.specs.Summarized.{feeds_at, feeds_in, feeds_of, line_of_channel, summary_with};
 ghost use Rattle.feed_cells.specs.Fed.{IsFed};
-ghost use Rattle.std.specs.Prelude.{◌≡◌, ◌<◌, ◌≤◌, ◌^◌, IfOk, length, map};
+ghost use Rattle.std.specs.Prelude.{◌≡◌, ◌<◌, ◌≤◌, ◌^◌, IfOk, map};
 
 use channel_stack::Laid;
 use design_model::Design;
@@ -62,14 +62,15 @@ fn line_of_channel(width: u64, channel: &Routed) -> ChannelLine
     }
 }
 
-/// Routed channels in short, beside rows of this width. The one error is want of memory.
+/// Routed channels in short, beside these rows. The one error is want of memory.
 pub(crate) fn channel_lines(
     alloc: Global,
     channels: &[Routed],
-    width: u64,
+    fed: &FedRows,
 ) -> Result<Vec<ChannelLine>, AllocError>
-    ensures { IfOk result (λ v. v.items ≡ map (line_of_channel width) channels.now) }
+    ensures { IfOk result (λ v. v.items ≡ map (line_of_channel fed.now.width) channels.now) }
 {
+    let width = fed.width;
     channels
         .iter()
         .map(|channel| line_of_channel(width, channel))
@@ -87,16 +88,7 @@ pub(crate) fn summarized(
 ) -> Summary
     requires fed { IsFed design.now fed.now }
     requires narrow { fed.now.width ≤ MOST_COLUMNS }
-    ensures { result ≡ record {
-      cells = length design.now.instances;
-      nets = length design.now.nets;
-      rows = length fed.now.rows;
-      feeds = feeds_in fed.now.rows;
-      channels = channels.items;
-      width = laid.now.width;
-      height = laid.now.height;
-      cost = cost;
-    } }
+    ensures { result ≡ summary_with design.now fed.now cost channels.items laid.now }
 {
     Summary {
         cells: design.instances.items().len() as u32,

@@ -217,10 +217,12 @@ fn a_check_writes_nothing(rt: HostRuntime) -> Result<(), Fail> {
     Ok(())
 }
 
-/// Whether a check of a good layout, whose line is cut off by a failure of the sink's call of this number, ends with 9 and prints this.
+/// Whether a check of a good layout, whose line is cut off by a failure of the sink's call of this number, ends with 9 and prints this. The sink takes a byte at a
+/// time.
 fn is_cut_off(alloc: Global, call: u64, text: &str) -> Result<bool, AllocError> {
     let mut shelf = checked_shelf(alloc, JOINED, TWO_JOINED)?;
     let mut out = MemSink::new(alloc)?;
+    out.most(1);
     out.fail_at(call)?;
     is_ended_in(alloc, CHECK, &mut shelf, &mut out, 9, text)
 }
@@ -229,7 +231,7 @@ fn is_cut_off(alloc: Global, call: u64, text: &str) -> Result<bool, AllocError> 
 #[test]
 fn a_sink_that_fails(rt: HostRuntime) -> Result<(), Fail> {
     assert!(rt; is_cut_off(rt.alloc(), 0, "write fault\n")?);
-    assert!(rt; is_cut_off(rt.alloc(), 2, "findings write fault\n")?);
-    assert!(rt; is_cut_off(rt.alloc(), 3, "findings 0write fault\n")?);
+    assert!(rt; is_cut_off(rt.alloc(), 9, "findings write fault\n")?);
+    assert!(rt; is_cut_off(rt.alloc(), 10, "findings 0write fault\n")?);
     Ok(())
 }

@@ -227,9 +227,10 @@ fn changes_are_limited_before_layouts(rt: HostRuntime) -> Result<(), Fail> {
     Ok(())
 }
 
-/// A sink whose call of this number fails.
+/// A sink that takes a byte at a time, and whose call of this number fails.
 fn failing_sink(alloc: Global, call: u64) -> Result<MemSink, AllocError> {
     let mut out = MemSink::new(alloc)?;
+    out.most(1);
     out.fail_at(call)?;
     Ok(out)
 }
@@ -241,21 +242,19 @@ fn is_cut_off(alloc: Global, call: u64, front: &str) -> Result<bool, AllocError>
     is_ended_in(alloc, ROUTE, &mut shelf, &mut out, 5, front)
 }
 
-/// What is left of the line where its first put fails, its second, and so on: it is put word by word, each with what stands after it.
-const FRONTS: [&str; 5] = [
-    "",
-    "design",
-    "design ",
-    "design SignalCount",
-    "design SignalCount ",
+/// What is left of the line where this call of the sink fails.
+const FRONTS: [(u64, &str); 5] = [
+    (0, ""),
+    (6, "design"),
+    (7, "design "),
+    (18, "design SignalCount"),
+    (19, "design SignalCount "),
 ];
 
 #[test]
 fn a_failed_sink_keeps_the_status(rt: HostRuntime) -> Result<(), Fail> {
-    let mut call = 0u64;
-    for front in &FRONTS {
-        assert!(rt; is_cut_off(rt.alloc(), call, front)?, "at {call}");
-        call = call.saturating_add(1);
+    for case in &FRONTS {
+        assert!(rt; is_cut_off(rt.alloc(), case.0, case.1)?, "at {}", case.0);
     }
     Ok(())
 }

@@ -10,5 +10,5 @@ pub record IsCount (a : Inside) : Type 0 where
   pub some : 1 ≤ a.instances
   pub few : a.instances ≤ MOST_INSTANCES
 
-abbrev pub counted : ℕ → Inside
-counted n = record { instances = n }
+abbrev pub from_count : ℕ → Inside
+from_count n = record { instances = n }

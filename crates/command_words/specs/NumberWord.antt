@@ -1,18 +1,11 @@
 -- numbers that words ask for
-use Rattle.std.specs.Prelude.{ℕ, ◌+◌, ◌-◌, ◌*◌, ◌^◌, List, [], ◌∷◌, length, Bool, ◌&&◌, nat_le, nat_lt, if◌then◌else◌, Option, None, Some}
+use Rattle.std.specs.Prelude.{ℕ, ◌-◌, ◌^◌, List, length, ◌&&◌, nat_le, if◌then◌else◌, Option, None, Some}
+use Rattle.read_base.specs.Digits.{number_within}
 use Rattle.limits.specs.declared.TheConstants.{MOST_INSTANCES, MOST_ROWS}
 
-abbrev pub is_digit : ℕ → Bool
-is_digit c = nat_le 48 c && nat_le c 57
-
--- a number that goes on with decimal digits; none where a byte is no digit, or the number comes to 2 ^ 64
-abbrev pub number_from : ℕ → List ℕ → Option ℕ
-number_from n [] = Some n
-number_from n (c ∷ cs) = if is_digit c && nat_lt (n * 10 + (c - 48)) (2 ^ 64) then number_from (n * 10 + (c - 48)) cs else None
-
--- the number that one to twenty digits write
+-- the number below 2 ^ 64 that one to twenty digits write
 unfoldable pub number_of : List ℕ → Option ℕ
-number_of text = if nat_le 1 (length text) && nat_le (length text) 20 then number_from 0 text else None
+number_of text = if nat_le 1 (length text) && nat_le (length text) 20 then number_within (2 ^ 64 - 1) text else None
 
 -- a number of rows is 1 to 512
 abbrev pub within_rows : Option ℕ → Option ℕ

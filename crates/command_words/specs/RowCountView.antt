@@ -10,5 +10,5 @@ pub record IsCount (a : Inside) : Type 0 where
   pub some : 1 ≤ a.rows
   pub few : a.rows ≤ MOST_ROWS
 
-abbrev pub counted : ℕ → Inside
-counted n = record { rows = n }
+abbrev pub from_count : ℕ → Inside
+from_count n = record { rows = n }

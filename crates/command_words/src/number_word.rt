@@ -1,24 +1,11 @@
 //! The numbers that words ask for.
 
-ghost use Rattle.command_words.specs.NumberWord.{count_in, is_digit, number_from, number_of, rows_in};
-ghost use Rattle.std.specs.Prelude.{◌≡◌, ◌+◌, ◌-◌, ◌*◌, ◌^◌, ◌≤◌, if◌then◌else◌, nat_lt, true, None, Some};
+ghost use Rattle.command_words.specs.NumberWord.{count_in, number_of, rows_in};
+ghost use Rattle.std.specs.Prelude.{◌≡◌, ◌≤◌};
 
 use limits::{MOST_INSTANCES, MOST_ROWS};
+use read_base::number_within;
 use std::marker::Model;
-
-fn is_digit(byte: u8) -> bool
-    ensures { result ≡ is_digit byte }
-{
-    byte.is_ascii_digit()
-}
-
-// A number with one more digit, where it stays below 2^64.
-fn with_digit(number: u64, digit: u8) -> Option<u64>
-    requires { is_digit digit ≡ true }
-    ensures { result ≡ (if nat_lt (number * 10 + (digit - 48)) (2 ^ 64) then Some (number * 10 + (digit - 48)) else None) }
-{
-    number.checked_mul(10)?.checked_add(u64::from(digit - b'0'))
-}
 
 /// The number below 2^64 that a word of one to twenty digits writes. Takes no memory.
 #[tactic(auto, unfolding(crate::specs::NumberWord::number_of))]
@@ -29,19 +16,7 @@ pub(crate) fn read_number(word: &str) -> Option<u64>
     if text.is_empty() || text.len() > 20 {
         return None;
     }
-    let mut number = 0;
-    let mut rest = text;
-    while let Some((digit, after)) = rest.split_first() {
-        if !is_digit(*digit) {
-            return None;
-        }
-        let Some(more) = with_digit(number, *digit) else {
-            return None;
-        };
-        number = more;
-        rest = after;
-    }
-    Some(number)
+    number_within(u64::MAX, text)
 }
 
 /// A number of rows, 1 to 512, which contracts see as the number.
@@ -52,7 +27,7 @@ pub struct RowCount {
 
 impl Model for RowCount {
     ghost use Rattle.std.specs.Prelude.{ℕ};
-    ghost use Rattle.command_words.specs.RowCountView.{count_in, IsCount, counted};
+    ghost use Rattle.command_words.specs.RowCountView.{count_in, IsCount, from_count};
 
     ghost Value = { ℕ };
 
@@ -60,7 +35,7 @@ impl Model for RowCount {
 
     ghost invariant = { IsCount };
 
-    ghost inverse = { counted };
+    ghost inverse = { from_count };
 }
 
 impl RowCount {
@@ -94,7 +69,7 @@ pub struct MadeCount {
 
 impl Model for MadeCount {
     ghost use Rattle.std.specs.Prelude.{ℕ};
-    ghost use Rattle.command_words.specs.MadeCountView.{count_in, IsCount, counted};
+    ghost use Rattle.command_words.specs.MadeCountView.{count_in, IsCount, from_count};
 
     ghost Value = { ℕ };
 
@@ -102,7 +77,7 @@ impl Model for MadeCount {
 
     ghost invariant = { IsCount };
 
-    ghost inverse = { counted };
+    ghost inverse = { from_count };
 }
 
 impl MadeCount {

@@ -1,76 +1,122 @@
-use Rattle.std.proofs.Common.{◌≡◌, ◌≢◌, ◌⊎◌, ◌∙◌, ◌≤◌, ℕ, List, Option, Some, Result, Ok, Err, IfOk, true, inl, inr, refl, sym, ap, arith}
-use Rattle.shelf_io.specs.Count.{Rose}
+use Rattle.std.proofs.Common.{◌≡◌, ◌≢◌, ◌⊎◌, ◌∙◌, ◌≤◌, ◌<◌, ◌++◌, ℕ, List, [], ◌∷◌, Option, Some, None, Result, Ok, Err, IfOk, true, take, append_assoc, inl, inr, refl, sym, ap, subst, arith}
+use Rattle.std.proofs.lemmas.Option.{none-some, same_Some}
+use Rattle.shelf_io.specs.Count.{Rose, Still}
+use Rattle.shelf_io.specs.Told.{EndsWithin}
+use Rattle.greedy_router.specs.declared.sweep.Routed.{Routed}
 use Rattle.command_ends.proofs.StopLaws.{refusal-unwritten, stop-above, stop-listed}
+use Rattle.command_ends.specs.Gains.{Gains}
+use Rattle.command_ends.specs.Line.{line_of}
 use Rattle.command_ends.specs.Status.{ending_status, is_status, stop_status}
+use Rattle.command_ends.specs.declared.refusal.Refusal.{Refusal}
 use Rattle.command_ends.specs.declared.stop.Stop.{Stop}
 use Rattle.command_ends.specs.declared.stop.Stop.TheVariants.{Refused, ReadFault, WriteFault}
-use Rattle.command_words.specs.Command.{Command, check, route, writes_of}
-use Rattle.commands.specs.Carried.{HasBegun, IsDoneBy, IsJudgedBy}
-use Rattle.commands.specs.Done.{Done, judged, laid_out}
-use Rattle.commands.specs.Outcome.{Tells}
-use Rattle.commands.proofs.Judgements.{told-calm, told-cause, told-few, told-listed, told-none, told-some}
-use Rattle.commands.proofs.LaidLaws.{laid-calm, laid-cause, laid-few, laid-listed}
+use Rattle.commands.specs.Accepted.{Accepted}
+use Rattle.commands.specs.Carried.{IsJudgedBy}
+use Rattle.commands.specs.Changes.{HasBegun}
+use Rattle.commands.specs.Done.{Done, IsStatusOf, done_status, judged, laid_out}
+use Rattle.commands.specs.Ends.{Ends}
+use Rattle.commands.specs.Outcome.{GainsFronts, Tells}
+use Rattle.commands.proofs.Endings.{done-said, judged-number, rose-still, stop-said}
 
--- a write fault alone has the status 9
-begun-stop : (stop : Stop) → stop_status stop ≡ 9 → HasBegun (Err stop)
-begun-stop (Refused refusal) nine = absurd (refusal-unwritten refusal nine)
-begun-stop ReadFault nine = absurd (omega (arith, nine))
-begun-stop WriteFault nine = tt
+-- a count that rose has risen still
+pub rose-on : (old mid new : ℕ) → Rose old mid → mid ≤ new → Rose old new
+rose-on old mid new rose later = λ apart. let more : old < mid = rose apart in omega (arith, more, later)
 
-stop-begun : (stop : Stop) → HasBegun (Err stop) → stop_status stop ≡ 9
+-- a front of a text, and then a front of another
+pub fronts-both : (before mid after : Option (List ℕ)) (first second : List ℕ) → EndsWithin before first mid → EndsWithin mid second after
+    → GainsFronts first second before after
+fronts-both before None after first second one two = λ held at. let found = two held at in absurd (none-some held found.1)
+fronts-both None (Some m) after first second one two = λ held at. absurd (none-some m (one m refl).1)
+fronts-both (Some b) (Some m) after first second one two = λ held at.
+    let k = two held at in
+    let j = one m refl in
+    let start : b ++ take j.0 first ≡ m = same_Some (b ++ take j.0 first) m j.1 in
+    let whole : m ++ take k.0 second ≡ held = same_Some (m ++ take k.0 second) held k.1 in (
+      j.0,
+      k.0,
+      ap (λ (l : List ℕ). Some l) (sym (append_assoc b (take j.0 first) (take k.0 second)) ∙ ap (λ (l : List ℕ). l ++ take k.0 second) start ∙ whole),
+    )
+
+-- the status of what was done is 0 or 1
+done-few : (done : Done) → done_status done ≤ 1
+done-few (laid_out summary) = omega arith
+done-few (judged inputs layout []) = omega arith
+done-few (judged inputs layout (f ∷ fs)) = omega arith
+
+done-listed : (done : Done) → is_status (done_status done) ≡ true
+done-listed (laid_out summary) = refl
+done-listed (judged inputs layout []) = refl
+done-listed (judged inputs layout (f ∷ fs)) = refl
+
+-- of what stops a command, a write fault alone has status 9 and has begun a file
+pub stop-begun : (stop : Stop) → HasBegun (Err stop) → stop_status stop ≡ 9
 stop-begun (Refused refusal) begun = absurd begun
 stop-begun ReadFault begun = absurd begun
 stop-begun WriteFault begun = refl
 
--- what a status tells of the end of a command
+pub nine-begun : (e : Result Done Stop) → ending_status e ≡ 9 → HasBegun e
+nine-begun (Ok done) nine = absurd (omega (arith, nine))
+nine-begun (Err (Refused refusal)) nine = absurd (refusal-unwritten refusal nine)
+nine-begun (Err ReadFault) nine = absurd (omega (arith, nine))
+nine-begun (Err WriteFault) nine = tt
+
+-- a status is that of the end, but 9 where printing what was done failed, and 1 where a layout is not good
+abbrev pub IsTold : ℕ → ℕ → Type 0
+IsTold n status = ((2 ≤ status) × (n ≡ status)) ⊎ ((status ≡ 0) × ((n ≤ 1) ⊎ (n ≡ 9)))
+
+-- what the status and the lines of a command tell of its end
 module _ (n : ℕ) (before after : Option (List ℕ)) (old new : ℕ) where
+  pub tells-number : (e : Result Done Stop) → Tells e n before after old new → IsTold n (ending_status e)
+  tells-number (Ok done) tells = inr (refl, elim tells [ inl printed ↦ inl (omega (arith, done-few done, printed.number)) | inr cut ↦ inr cut.number ])
+  tells-number (Err stop) tells = inl (stop-above stop, tells.number)
+
   pub tells-listed : (e : Result Done Stop) → Tells e n before after old new → is_status n ≡ true
-  tells-listed (Ok (laid_out s)) tells = laid-listed s n before after old new tells
-  tells-listed (Ok (judged i l fs)) tells = told-listed i l fs n before after old new tells
+  tells-listed (Ok done) tells = elim tells [ inl printed ↦ ap is_status printed.number ∙ done-listed done | inr cut ↦ ap is_status cut.number ]
   tells-listed (Err stop) tells = ap is_status tells.number ∙ stop-listed stop
 
-  pub tells-high : (e : Result Done Stop) → Tells e n before after old new → 2 ≤ n → (n ≡ 9 → ⊥) → ending_status e ≡ n
-  tells-high (Ok (laid_out s)) tells high other = elim (laid-few s n before after old new tells) [ inl zero ↦ absurd (omega (arith, zero, high)) | inr nine ↦ absurd (other nine) ]
-  tells-high (Ok (judged i l fs)) tells high other = elim (told-few i l fs n before after old new tells) [ inl few ↦ absurd (omega (arith, few, high)) | inr nine ↦ absurd (other nine) ]
-  tells-high (Err stop) tells high other = sym tells.number
+  pub tells-rose : (e : Result Done Stop) → Tells e n before after old new → n ≡ 9 → ending_status e ≡ 0 → Rose old new
+  tells-rose (Ok done) tells nine zero = elim tells [
+    | inl printed ↦ absurd (omega (arith, done-few done, printed.number, nine))
+    | inr cut ↦ cut.rose
+  ]
+  tells-rose (Err stop) tells nine zero = absurd (omega (arith, stop-above stop, zero))
 
-  pub tells-back : (e : Result Done Stop) (k : ℕ) → Tells e n before after old new → ending_status e ≡ k → 2 ≤ k → n ≡ k
-  tells-back (Ok done) k tells is high = absurd (omega (arith, is, high))
-  tells-back (Err stop) k tells is high = tells.number ∙ is
-
-  pub tells-zero : (e : Result Done Stop) → Tells e n before after old new → n ≡ 0 → ending_status e ≡ 0
-  tells-zero (Ok done) tells zero = refl
-  tells-zero (Err stop) tells zero = absurd (omega (arith, stop-above stop, tells.number, zero))
-
-  pub tells-nine : (e : Result Done Stop) → Tells e n before after old new → n ≡ 9 → (ending_status e ≡ 9) ⊎ ((ending_status e ≡ 0) × Rose old new)
-  tells-nine (Ok (laid_out s)) tells nine = inr (refl, laid-cause s n before after old new tells nine)
-  tells-nine (Ok (judged i l fs)) tells nine = inr (refl, told-cause i l fs n before after old new tells nine)
-  tells-nine (Err stop) tells nine = inl (sym tells.number ∙ nine)
-
-  pub tells-begun : (e : Result Done Stop) (command : Command) (file : List ℕ) → Tells e n before after old new → IfOk e (IsDoneBy command) → writes_of command ≡ Some file
-      → (n ≡ 0) ⊎ (n ≡ 9) → HasBegun e
-  tells-begun (Ok (laid_out s)) command file tells done writes begun = tt
-  tells-begun (Ok (judged i l fs)) (route names) file tells done writes begun = absurd done
-  tells-begun (Ok (judged i l fs)) (check names) file tells done writes begun = let never : ⊥ = cc in absurd never
-  tells-begun (Err stop) command file tells done writes begun =
-      elim begun [ inl zero ↦ absurd (omega (arith, stop-above stop, tells.number, zero)) | inr nine ↦ begun-stop stop (sym tells.number ∙ nine) ]
-
-  pub tells-not-begun : (e : Result Done Stop) → Tells e n before after old new → n ≢ 0 → n ≢ 9 → HasBegun e → ⊥
-  tells-not-begun (Ok (laid_out s)) tells not_zero not_nine begun = elim (laid-few s n before after old new tells) [ inl zero ↦ not_zero zero | inr nine ↦ not_nine nine ]
-  tells-not-begun (Ok (judged i l fs)) tells not_zero not_nine begun = begun
-  tells-not-begun (Err stop) tells not_zero not_nine begun = not_nine (tells.number ∙ stop-begun stop begun)
-
-  pub tells-calm : (e : Result Done Stop) → Tells e n before after old new → (n ≡ 0) ⊎ (n ≡ 1) → new ≡ old
-  tells-calm (Ok (laid_out s)) tells few = laid-calm s n before after old new tells few
-  tells-calm (Ok (judged i l fs)) tells few = told-calm i l fs n before after old new tells few
+  pub tells-calm : (e : Result Done Stop) → Tells e n before after old new → n ≤ 1 → new ≡ old
+  tells-calm (Ok done) tells few = elim tells [ inl printed ↦ printed.calm | inr cut ↦ absurd (omega (arith, cut.number, few)) ]
   tells-calm (Err stop) tells few = absurd (omega (arith, stop-above stop, tells.number, few))
 
-  pub tells-good : (e : Result Done Stop) (good : Type 0) → Tells e n before after old new → IfOk e (IsJudgedBy good) → n ≡ 0 → good
-  tells-good (Ok (laid_out s)) good tells is zero = absurd is
-  tells-good (Ok (judged i l fs)) good tells is zero = is.0 (told-none i l fs n before after old new tells zero)
-  tells-good (Err stop) good tells is zero = absurd (omega (arith, stop-above stop, tells.number, zero))
+  pub tells-begun : (e : Result Done Stop) → Tells e n before after old new → HasBegun e → (n ≡ 0) ⊎ (n ≡ 9)
+  tells-begun (Ok (laid_out summary)) tells begun = elim tells [ inl printed ↦ inl printed.number | inr cut ↦ inr cut.number ]
+  tells-begun (Ok (judged inputs layout findings)) tells begun = absurd begun
+  tells-begun (Err stop) tells begun = inr (tells.number ∙ stop-begun stop begun)
 
-  pub tells-faulty : (e : Result Done Stop) (good : Type 0) → Tells e n before after old new → IfOk e (IsJudgedBy good) → n ≡ 1 → good → ⊥
-  tells-faulty (Ok (laid_out s)) good tells is one h = is
-  tells-faulty (Ok (judged i l fs)) good tells is one h = told-some i l fs n before after old new tells one (is.1 h)
-  tells-faulty (Err stop) good tells is one h = absurd (omega (arith, stop-above stop, tells.number, one))
+  -- a layout that was judged has status 0 only where this holds, and status 1 only where it does not
+  pub tells-judged : (e : Result Done Stop) (good : Type 0) → Tells e n before after old new → IfOk e (IsJudgedBy good) → (n ≡ 0 → good) × (n ≡ 1 → good → ⊥)
+  tells-judged (Ok (laid_out summary)) good tells is = absurd is
+  tells-judged (Ok (judged inputs layout findings)) good tells is = elim tells [
+    | inl printed ↦ elim (judged-number findings good n is printed.number) [
+      | inl none ↦ (λ zero. none.1, λ one. absurd (omega (arith, one, none.0)))
+      | inr some ↦ (λ zero. absurd (omega (arith, zero, some.0)), λ one. some.1)
+    ]
+    | inr cut ↦ (λ zero. absurd (omega (arith, cut.number, zero)), λ one. absurd (omega (arith, cut.number, one)))
+  ]
+  tells-judged (Err stop) good tells is =
+      (λ zero. absurd (omega (arith, stop-above stop, tells.number, zero)), λ one. absurd (omega (arith, stop-above stop, tells.number, one)))
+
+  -- where nothing failed the status is that of what is said, or memory ran out
+  pub tells-said : (e : Result Done Stop) (kept : List Routed) (said : Result Accepted Refusal) → Tells e n before after old new → Ends kept e said → Still old new
+      → ending_status e ≢ 8 → ending_status e ≢ 9 → IsStatusOf said n ⊎ (n ≡ 10)
+  tells-said (Ok done) kept said tells ends still unread unwritten = inl (elim tells [
+    | inl printed ↦ done-said kept done said n ends printed.number
+    | inr cut ↦ absurd (rose-still _ _ cut.rose still)
+  ])
+  tells-said (Err stop) kept said tells ends still unread unwritten =
+      subst (λ (m : ℕ). IsStatusOf said m ⊎ (m ≡ 10)) (sym tells.number) (stop-said kept stop said ends unread unwritten)
+
+  -- where the count of a file rose that rises only with status 9, the line is that of a write fault
+  pub tells-fault : (e : Result Done Stop) (was is : ℕ) → Tells e n before after old new → (ending_status e ≢ 9 → is ≡ was) → was < is
+      → Gains (line_of WriteFault) before after old new
+  tells-fault (Err WriteFault) was is tells still rose = tells.line
+  tells-fault (Err ReadFault) was is tells still rose = let same : is ≡ was = still (λ (e : 8 ≡ 9). absurd (omega (arith, e))) in absurd (omega (arith, same, rose))
+  tells-fault (Err (Refused refusal)) was is tells still rose = let same : is ≡ was = still (refusal-unwritten refusal) in absurd (omega (arith, same, rose))
+  tells-fault (Ok done) was is tells still rose = let same : is ≡ was = still (λ (e : 0 ≡ 9). absurd (omega (arith, e))) in absurd (omega (arith, same, rose))

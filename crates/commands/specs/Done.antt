@@ -14,8 +14,8 @@ use Rattle.command_jobs.specs.Summarized.{summary_of}
 use Rattle.command_ends.specs.declared.refusal.Refusal.{Refusal}
 use Rattle.command_inputs.specs.declared.stages.Inputs.{Inputs}
 use Rattle.command_ends.specs.declared.stop.Stop.{Stop}
-use Rattle.commands.specs.declared.doing.Done as seen
-use Rattle.commands.specs.declared.doing.Done.TheVariants as dones
+use Rattle.commands.specs.declared.done.Done as seen
+use Rattle.commands.specs.declared.done.Done.TheVariants as dones
 
 -- what a command has done: it has laid a design out, of which this is told, or found this of a layout
 pub data Done : Type 0 where
@@ -66,11 +66,6 @@ done_seen (dones.Judged j) = judged j.inputs j.layout j.findings.items
 abbrev pub end_seen : Result seen.Done Stop → Result Done Stop
 end_seen (Ok done) = Ok (done_seen done)
 end_seen (Err stop) = Err stop
-
--- how a command to route ended
-abbrev pub routed_end : Result Summary Stop → Result Done Stop
-routed_end (Ok summary) = Ok (laid_out summary)
-routed_end (Err stop) = Err stop
 
 -- 0 where a layout is good, and 1 where it is not
 abbrev pub IsJudgement : Type 0 → ℕ → Type 0

@@ -8,8 +8,6 @@ use Rattle.design_model.specs.Netlist.{Netlist}
 use Rattle.netlist_core.specs.OnGrid.{on_grid}
 use Rattle.design_model.specs.SameNet.{SameNet}
 use Rattle.netlist_core.specs.SignalWords.{parent_calls, word_of}
-use Rattle.command_jobs.specs.Job.{Job}
-use Rattle.command_inputs.specs.Origin.{IsDesignOf}
 use Rattle.command_jobs.specs.Written.{IsGoodText}
 
 -- a text is a good layout of what a file says: the file is a design on the grid, whose nets are its pins of equal signal words
@@ -31,8 +29,3 @@ pub record Headline (stated bytes text : List ℕ) : Type 0 where
   pub rules : RuleValues
   pub states : rules_of stated ≡ Ok rules
   pub good : IsGoodOf rules bytes text
-
--- a job is what the bytes of a rules file and of a design's file say
-pub record IsJobFrom (stated bytes : List ℕ) (job : Job) : Type 0 where
-  pub states : rules_of stated ≡ Ok job.rules
-  pub is : IsDesignOf job.rules bytes job.design

@@ -8,5 +8,6 @@ pub mod Causes
 pub mod Outcome
 -- the headline: what is written reads as a good layout of the design
 pub mod Headline
--- what a command has done to files and what it keeps, by how it ended
+-- what a command has done to files and what it keeps, by how it ended, and what was done for a command's words
+pub mod Changes
 pub mod Carried

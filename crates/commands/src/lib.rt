@@ -2,6 +2,7 @@
 #![tactic(auto)]
 
 mod doing;
+mod done;
 mod judging;
 mod report;
 mod routing;

@@ -5,8 +5,7 @@ ghost use Rattle.commands.specs.Done.{end_seen, findings_status};
 ghost use Rattle.commands.specs.Outcome.{IsStopped, Tells};
 ghost use Rattle.std.specs.Prelude.{◌≡◌, Ok};
 
-use crate::doing::Done;
-use crate::judging::Judged;
+use crate::done::{Done, Judged};
 use command_ends::{Stop, print_line, put_judged};
 use layout_report::{Summary, print_summary};
 use shelf_io::{Failed, Sink};

@@ -1,18 +1,23 @@
 //! The command to route a design.
 
+ghost use Rattle.command_inputs.specs.Reading.{files};
 ghost use Rattle.command_words.specs.Command as asked;
 ghost use Rattle.command_words.specs.Seen.{seen};
 ghost use Rattle.commands.specs.Carried.{Carried};
-ghost use Rattle.commands.specs.Done.{routed_end};
+ghost use Rattle.commands.specs.Changes.{HasBegun};
+ghost use Rattle.commands.specs.Done.{end_seen};
+ghost use Rattle.commands.specs.Outcome.{AreKept};
+ghost use Rattle.commands.specs.Verdict.{command_verdict};
 ghost use Rattle.std.specs.Prelude.{◌≡◌, ◌<◌, [], Some, length};
 
-use crate::writing::lay_and_write;
+use crate::done::Done;
+use crate::writing::write_prepared;
 use choose_core::{Chooser, Chooses, Style};
 use command_ends::Stop;
-use command_inputs::load_inputs;
+use command_inputs::{Inputs, load_inputs};
+use command_jobs::lay_out;
 use command_words::Route;
 use greedy_router::Routed;
-use layout_report::Summary;
 use shelf_io::Shelf;
 use std::alloc::Global;
 
@@ -23,15 +28,24 @@ pub(crate) fn route<S: Shelf>(
     names: &Route<'_>,
     styles: &[Style],
     kept: &mut Vec<Routed>,
-) -> Result<Summary, Stop>
+) -> Result<Done, Stop>
     requires style { names.now.style < length styles.now }
     requires none { kept.old.items ≡ [] }
-    ensures { Carried styles.now (λ s. s.plan) (λ s. ⟦<Chooser as Chooses>⟧.answers s.chooser) (Some (asked.route (seen names.now))) (routed_end result) kept.new.items
-        (S.holds shelf.old) (S.holds shelf.new) (S.read_faults shelf.old) (S.read_faults shelf.new) (S.write_faults shelf.old) (S.write_faults shelf.new) }
+    ensures carried { Carried (Some (asked.route (seen names.now))) (end_seen result) kept.new.items
+        (files (S.holds shelf.old) (S.read_faults shelf.old) (S.write_faults shelf.old)) (files (S.holds shelf.new) (S.read_faults shelf.new) (S.write_faults shelf.new)) }
+    ensures kept { (said : _) → command_verdict (asked.route (seen names.now)) (S.holds shelf.old) ≡ Some said → HasBegun (end_seen result)
+        → AreKept styles.now (λ s. s.plan) (λ s. ⟦<Chooser as Chooses>⟧.answers s.chooser) (asked.route (seen names.now)) said kept.new.items }
 {
     let style = &styles[names.style];
-    match load_inputs(alloc, shelf, names.rules, &names.design) {
-        Ok(inputs) => lay_and_write(alloc, shelf, inputs, names.wanted, style, names.out, kept),
-        Err(stop) => Err(stop),
+    let inputs = load_inputs(alloc, shelf, names.rules, &names.design)?;
+    let Inputs {
+        rules,
+        file,
+        design,
+    } = inputs;
+    drop(file);
+    match lay_out(alloc, design, rules, names.wanted, style) {
+        Ok(prepared) => write_prepared(shelf, prepared, names.out, kept),
+        Err(refusal) => Err(Stop::Refused(refusal)),
     }
 }

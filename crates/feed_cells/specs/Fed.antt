@@ -40,15 +40,21 @@ items_width d items = sum (map (item_width d) items)
 abbrev pub nets_in : Netlist → List (List Seat) → ℕ → List ℕ
 nets_in d rows channel = filter (λ (net : ℕ). is_in (crossing_of d rows net) channel) (all_nets d)
 
--- rows with feeds, the width of the widest, and how many nets stand in each channel
+-- the heights of rows in units: each is the design's
+abbrev pub heights_of : Netlist → List (List Seat) → List ℕ
+heights_of d rows = map (λ (seats : List Seat). d.height) rows
+
+-- rows with feeds, their heights, the width of the widest, and how many nets stand in each channel
 pub record Fed : Type 0 where
   pub rows : List (List Item)
+  pub heights : List ℕ
   pub width : ℕ
   pub nets : List ℕ
 
 unfoldable pub fed_rows : Netlist → List (List Seat) → Fed
 fed_rows d rows = record {
   rows = fed_from d rows 0 rows;
+  heights = heights_of d rows;
   width = fold max 0 (map (items_width d) (fed_from d rows 0 rows));
   nets = map (λ (channel : ℕ). length (nets_in d rows channel)) (range_with_len 0 (length rows + 1));
 }

@@ -21,6 +21,6 @@ abbrev pub HaveRoom : ℕ → List ℕ → Type 0
 HaveRoom more counts = (k n : ℕ) → slice_get counts k ≡ Some n → n + more ≤ MOST_PINS
 
 -- a number, and one more if this is so
-abbrev pub counted : Bool → ℕ → ℕ
-counted true n = n + 1
-counted false n = n
+abbrev pub one_more_if : Bool → ℕ → ℕ
+one_more_if true n = n + 1
+one_more_if false n = n

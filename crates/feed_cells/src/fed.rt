@@ -1,4 +1,4 @@
-//! Rows of cells and feeds, with the width of the widest and the number of nets in each channel.
+//! Rows of cells and feeds, with their heights, the width of the widest and the number of nets in each channel.
 
 ghost use Rattle.feed_cells.specs.Fed.{item_width};
 ghost use Rattle.std.specs.Prelude.{◌≡◌};
@@ -27,11 +27,12 @@ impl Item {
     }
 }
 
-/// Rows of cells and feeds, from the lowest row up and in each from left to right; the width of the widest row in columns; and for each channel, from
-/// channel 0 below row 0 to the one above the last row, how many nets stand in it. Contracts see the lists.
+/// Rows of cells and feeds, from the lowest row up and in each from left to right; the height of each row in units; the width of the widest row in columns; and
+/// for each channel, from channel 0 below row 0 to the one above the last row, how many nets stand in it. Contracts see the lists.
 #[derive(Debug, Drop)]
 pub struct FedRows {
     pub rows: Items<Items<Item>>,
+    pub heights: Items<u32>,
     pub width: u64,
     pub nets: Items<u32>,
 }

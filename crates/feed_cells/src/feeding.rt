@@ -16,8 +16,8 @@ use row_model::Rows;
 use std::alloc::{AllocError, Global};
 
 /// The rows with a feed wherever a net crosses a row in which it has no through pin, by where the pins and nets of the design stand: before the first
-/// cell that does not begin left of the middle of the net's pins, or behind the last; feeds at one place in the order of their nets. Then the width of the
-/// widest row, and how many nets stand in each channel. The cells stand as before. The one error is want of memory.
+/// cell that does not begin left of the middle of the net's pins, or behind the last; feeds at one place in the order of their nets. Then the height of
+/// each row, the width of the widest, and how many nets stand in each channel. The cells stand as before. The one error is want of memory.
 #[tactic(auto, using(crate::proofs::RowFeedLaws::fed_laws), unfolding(crate::specs::Placement::placement_of))]
 pub fn insert_feeds(
     alloc: Global,
@@ -31,9 +31,8 @@ pub fn insert_feeds(
     ensures fed { IfOk result (λ fed. IsFed design.now fed) }
     ensures cells { IfOk result (λ fed. cells_in fed.rows ≡ rows.now) }
 {
-    // The bounds of the design's type are known once a field is read.
-    let _pins = &design.pins;
     let rows = rows.rows.items();
+    let heights = vec![in alloc; design.height; rows.len()]?;
     let nets = placement.nets.items();
     let feeds = feeds_by_row(alloc, rows.len(), nets)?;
     let fed = fed_rows(alloc, design, rows, &feeds, nets)?;
@@ -41,6 +40,7 @@ pub fn insert_feeds(
     let counts = counts_in(alloc, rows.len() + 1, nets)?;
     Ok(FedRows {
         rows: Items::new(fed),
+        heights: Items::new(heights),
         width,
         nets: Items::new(counts),
     })

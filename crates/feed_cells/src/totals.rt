@@ -2,7 +2,7 @@
 
 ghost use Rattle.feed_cells.specs.Fed.{items_width};
 ghost use Rattle.feed_cells.specs.Crossings.{is_in};
-ghost use Rattle.feed_cells.specs.Sizes.{AreNarrow, HaveRoom, count_in, counted};
+ghost use Rattle.feed_cells.specs.Sizes.{AreNarrow, HaveRoom, count_in, one_more_if};
 ghost use Rattle.std.specs.List.{range_with_len};
 ghost use Rattle.std.specs.Option.{option_map};
 ghost use Rattle.std.specs.Prelude.{◌≡◌, ◌==◌, ◌≤◌, ◌<◌, ◌+◌, ◌^◌, ℕ, Some, length, fold, map, max, slice_get, IfOk};
@@ -71,7 +71,7 @@ fn count_all(counts: &mut [u32], nets: &[NetPlace])
 // Counts a net in its channels.
 fn count_net(counts: &mut [u32], crossing: Crossing)
     requires { HaveRoom 1 counts.old }
-    ensures { (k : ℕ) → slice_get counts.new k ≡ option_map (counted (is_in crossing k)) (slice_get counts.old k) }
+    ensures { (k : ℕ) → slice_get counts.new k ≡ option_map (one_more_if (is_in crossing k)) (slice_get counts.old k) }
 {
     let (first, end) = crossing.channels();
     for channel in first..end {
@@ -82,7 +82,7 @@ fn count_net(counts: &mut [u32], crossing: Crossing)
 // Counts a net in a channel, if there is this channel.
 fn count_one(counts: &mut [u32], channel: usize)
     requires { (n : ℕ) → slice_get counts.old channel ≡ Some n → n < MOST_PINS }
-    ensures { (k : ℕ) → slice_get counts.new k ≡ option_map (counted (channel == k)) (slice_get counts.old k) }
+    ensures { (k : ℕ) → slice_get counts.new k ≡ option_map (one_more_if (channel == k)) (slice_get counts.old k) }
 {
     if channel < counts.len() {
         counts[channel] += 1;

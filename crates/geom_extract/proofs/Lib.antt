@@ -2,8 +2,8 @@
 pub mod Reached
 -- that a walk which has come to its end leaves classes settled
 pub mod Settled
--- layers at different heights
-pub mod Heights
+-- rectangles of layers and places among ties that meet
+pub mod Meetings
 -- layers that conduct to one another
 pub mod Conducting
 -- what leads to a shape in a web

@@ -4,11 +4,12 @@ use Rattle.std.specs.List.{slice_get}
 use Rattle.geom_core.specs.Extent.{Extent}
 use Rattle.geom_core.specs.Rectangles.{Meet}
 use Rattle.geom_core.specs.declared.layout.Shape.{Shape}
+use Rattle.close_rects.proofs.PlaneLaws.{Meet-in_plane, in_plane-Meet}
 use Rattle.tech_rules.specs.Rules.{RuleValues, AreDifferent}
 use Rattle.tech_rules.specs.Lengths.{IsWire}
 use Rattle.design_model.specs.Joined.{Conducts}
 use Rattle.design_model.specs.Joined.Conducts.{on_one, cut_to_wire, wire_to_cut}
-use Rattle.geom_extract.specs.Planes.{height_of, plane_of, raised, tie_at}
+use Rattle.geom_extract.specs.Planes.{number_of, plane_of, raised, tie_at}
 use Rattle.geom_extract.specs.Touching.{Beside, IsWebOf, rect_of}
 use Rattle.geom_extract.specs.Asking.{asks_of}
 use Rattle.geom_extract.specs.Touching.Beside.{touching, tied, tied_back}
@@ -18,7 +19,7 @@ use Rattle.geom_extract.specs.declared.plane.Plane.TheVariants.{Horizontal, Vert
 use Rattle.geom_extract.specs.declared.asker.Asks.{Asks}
 use Rattle.geom_extract.proofs.Conducting.{Pass, conducts-pass, layer-is, pass-conducts}
 use Rattle.geom_extract.proofs.Conducting.Pass.{hh, hc, vv, vc, ch, cv}
-use Rattle.geom_extract.proofs.Heights.{Meet-lowered, Meet-raised, Meet-sym, no-tie, one-tie, own-tie, same-plane}
+use Rattle.geom_extract.proofs.Meetings.{Meet-sym, no-tie, one-tie, own-tie, same-plane}
 use Rattle.geom_extract.proofs.WebSides.{InReach, IsWay, asks-at, asks-shape, at-leads, leads-at, shape-at, tie-at, way-of}
 use Rattle.geom_extract.proofs.WebSides.IsWay.{of_shape, of_tie, of_tie_back}
 
@@ -50,26 +51,26 @@ beside-sym r shapes ties x y (tied among) = tied_back among
 beside-sym r shapes ties x y (tied_back among) = tied among
 
 module _ (r : RuleValues) (shapes : List Shape) (ties : List (ℕ × ℕ)) (web : Web) (of : IsWebOf r shapes ties web) (reach : InReach shapes) where
-  -- to what a shape's rectangle at a height leads, it touches
+  -- to what a shape's rectangle in a plane leads, it touches
   by-shape : (x y : ℕ) (s : Shape) (p : Plane) → slice_get shapes x ≡ Some s → Pass (plane_of r s.layer) p
-      → Leads web (raised (height_of p) s.rect) y → Beside r shapes ties x y
-  by-shape x y s p is pass leads = go (way-of r shapes ties web leads.rect y of (at-leads web (raised (height_of p) s.rect) y leads)) leads.meets
+      → Leads web (raised p s.rect) y → Beside r shapes ties x y
+  by-shape x y s p is pass leads = go (way-of r shapes ties web leads.rect y of (at-leads web (raised p s.rect) y leads)) leads.meets
     where
-      go : IsWay r shapes ties leads.rect y → Meet (raised (height_of p) s.rect) leads.rect → Beside r shapes ties x y
+      go : IsWay r shapes ties leads.rect y → Meet (raised p s.rect) leads.rect → Beside r shapes ties x y
       go (of_shape t there same) meets =
-          let met : Meet (raised (height_of p) s.rect) (rect_of r t) = subst (λ (e : Extent). Meet (raised (height_of p) s.rect) e) (sym same) meets in
+          let met : Meet (raised p s.rect) (rect_of r t) = subst (λ (e : Extent). Meet (raised p s.rect) e) (sym same) meets in
           let one : p ≡ plane_of r t.layer = same-plane p (plane_of r t.layer) s.rect t.rect (reach x s is) (reach y t there) met in
-          let level : Meet (raised (height_of (plane_of r t.layer)) s.rect) (rect_of r t) =
-          subst (λ (q : Plane). Meet (raised (height_of q) s.rect) (rect_of r t)) one met in
+          let level : Meet (raised (plane_of r t.layer) s.rect) (rect_of r t) =
+          subst (λ (q : Plane). Meet (raised q s.rect) (rect_of r t)) one met in
           touching s t is there (record {
             layers = pass-conducts r s.layer t.layer (plane_of r s.layer) (plane_of r t.layer) (layer-is r s.layer) (layer-is r t.layer)
                 (subst (λ (q : Plane). Pass (plane_of r s.layer) q) one pass);
-            meet = Meet-lowered (height_of (plane_of r t.layer)) s.rect t.rect level;
+            meet = in_plane-Meet (number_of (plane_of r t.layer)) s.rect t.rect level;
           })
       go (of_tie a among same) meets =
-          absurd (no-tie p a s.rect (reach x s is) (subst (λ (e : Extent). Meet (raised (height_of p) s.rect) e) (sym same) meets))
+          absurd (no-tie p a s.rect (reach x s is) (subst (λ (e : Extent). Meet (raised p s.rect) e) (sym same) meets))
       go (of_tie_back a among same) meets =
-          absurd (no-tie p a s.rect (reach x s is) (subst (λ (e : Extent). Meet (raised (height_of p) s.rect) e) (sym same) meets))
+          absurd (no-tie p a s.rect (reach x s is) (subst (λ (e : Extent). Meet (raised p s.rect) e) (sym same) meets))
 
   -- to what its place among ties leads, it is tied
   by-tie : (x y : ℕ) → Leads web (tie_at x) y → Beside r shapes ties x y
@@ -113,9 +114,9 @@ module _ (r : RuleValues) (shapes : List Shape) (ties : List (ℕ × ℕ)) (web 
       by-asks x y found.0 (plane_of r found.0.layer) found.1 refl (subst (λ (a : Asks). LeadsTo web a y) same link.leads)
 
   leads-to : (y : ℕ) (s t : Shape) (q : Plane) → slice_get shapes y ≡ Some t → plane_of r t.layer ≡ q → Meet s.rect t.rect
-      → Leads web (raised (height_of q) s.rect) y
-  leads-to y s t q is plane met = leads-at web (raised (height_of q) s.rect) (rect_of r t) y (shape-at r shapes ties web y t of is)
-      (subst (λ (p : Plane). Meet (raised (height_of q) s.rect) (raised (height_of p) t.rect)) (sym plane) (Meet-raised (height_of q) s.rect t.rect met))
+      → Leads web (raised q s.rect) y
+  leads-to y s t q is plane met = leads-at web (raised q s.rect) (rect_of r t) y (shape-at r shapes ties web y t of is)
+      (subst (λ (p : Plane). Meet (raised q s.rect) (raised p t.rect)) (sym plane) (Meet-in_plane (number_of q) s.rect t.rect met))
 
   leads-by : (x y : ℕ) (s t : Shape) (p q : Plane) → slice_get shapes y ≡ Some t → plane_of r t.layer ≡ q → Meet s.rect t.rect → Pass p q
       → LeadsTo web (asks_of p s.rect x) y

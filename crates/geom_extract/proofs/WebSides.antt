@@ -18,7 +18,7 @@ use Rattle.std.proofs.lemmas.List.{length-map}
 abbrev pub InReach : List Shape → Type 0
 InReach shapes = (k : ℕ) (s : Shape) → slice_get shapes k ≡ Some s → IsExtentInReach s.rect
 
--- a rectangle that leads to a shape is its own at its height, or the place of a shape to which it is tied
+-- a rectangle that leads to a shape is its own in its plane, or the place of a shape to which it is tied
 pub data IsWay (r : RuleValues) (shapes : List Shape) (ties : List (ℕ × ℕ)) (rect : Extent) (y : ℕ) : Type 0 where
   of_shape : (s : Shape) → slice_get shapes y ≡ Some s → rect_of r s ≡ rect → IsWay r shapes ties rect y
   of_tie : (a : ℕ) → Contains ties (a, y) → tie_at a ≡ rect → IsWay r shapes ties rect y

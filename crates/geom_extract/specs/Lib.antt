@@ -4,7 +4,7 @@ pub mod Webs
 pub mod Walks
 pub mod WalkView
 pub mod ClassesView
--- layers at different heights
+-- layers, each in a plane of its own
 pub mod Planes
 -- what a shape asks for others with
 pub mod Asking

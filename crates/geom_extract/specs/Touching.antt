@@ -6,7 +6,7 @@ use Rattle.geom_core.specs.declared.layout.Shape.{Shape}
 use Rattle.tech_rules.specs.Rules.{RuleValues}
 use Rattle.design_model.specs.Joined.{Touch}
 use Rattle.geom_extract.specs.Asking.{asks_of}
-use Rattle.geom_extract.specs.Planes.{height_of, plane_of, raised, tie_at}
+use Rattle.geom_extract.specs.Planes.{plane_of, raised, tie_at}
 use Rattle.geom_extract.specs.declared.asker.Asks.{Asks}
 use Rattle.geom_extract.specs.Webs.{Web}
 
@@ -27,9 +27,9 @@ pub data Connected (r : RuleValues) (shapes : List Shape) (ties : List (ℕ × �
   here : Connected r shapes ties from from
   step : {x : ℕ} (y : ℕ) → Connected r shapes ties from x → Beside r shapes ties x y → Connected r shapes ties from y
 
--- a shape's rectangle at the height of its layer
+-- a shape's rectangle in the plane of its layer
 abbrev pub rect_of : RuleValues → Shape → Extent
-rect_of r s = raised (height_of (plane_of r s.layer)) s.rect
+rect_of r s = raised (plane_of r s.layer) s.rect
 
 abbrev pub asks_from : RuleValues → ℕ → List Shape → List Asks
 asks_from r n [] = []

@@ -1,9 +1,10 @@
-//! The layers of wires and cuts, each raised to a height of its own, so that no shape meets one of another layer.
+//! The layers of wires and cuts, each in a plane of its own, so that no shape meets one of another layer.
 
 ghost use Rattle.geom_core.specs.Reach.{IsExtentInReach};
-ghost use Rattle.geom_extract.specs.Planes.{height_of, plane_of, raised, tie_at};
-ghost use Rattle.std.specs.Prelude.{◌≡◌, ◌≤ℤ◌, pos};
+ghost use Rattle.geom_extract.specs.Planes.{number_of, plane_of, raised, tie_at};
+ghost use Rattle.std.specs.Prelude.{◌≡◌, ◌≤◌};
 
+use close_rects::in_plane;
 use geom_core::{LayerName, Rect};
 use tech_rules::Rules;
 
@@ -31,32 +32,25 @@ pub(crate) fn plane_of(rules: &Rules, layer: &LayerName) -> Plane
     }
 }
 
-// How far the rectangles of a layer are raised, so that those of different layers don't meet.
-fn height_of(plane: Plane) -> i64
-    ensures is { result ≡ height_of plane }
-    ensures low { pos 0 ≤ℤ result }
-    ensures high { result ≤ℤ pos 16000000000000000 }
+// The number of a layer's plane.
+fn number_of(plane: Plane) -> u8
+    ensures is { result ≡ number_of plane }
+    ensures few { result ≤ 3 }
 {
     match plane {
         Plane::Horizontal => 0,
-        Plane::Vertical => 4_000_000_000_000_000,
-        Plane::Cut => 8_000_000_000_000_000,
-        Plane::Other => 12_000_000_000_000_000,
+        Plane::Vertical => 1,
+        Plane::Cut => 2,
+        Plane::Other => 3,
     }
 }
 
-// A rectangle at the height of a layer.
+// A rectangle in the plane of a layer.
 pub(crate) fn raised(rect: &Rect, plane: Plane) -> Rect
     requires { IsExtentInReach rect.now }
-    ensures { result ≡ raised (height_of plane) rect.now }
+    ensures { result ≡ raised plane rect.now }
 {
-    let by = height_of(plane);
-    Rect {
-        x0: rect.x0,
-        y0: rect.y0 + by,
-        x1: rect.x1,
-        y1: rect.y1 + by,
-    }
+    in_plane(rect, number_of(plane))
 }
 
 // A rectangle above all layers that meets that of no other shape.

@@ -1,5 +1,5 @@
 use Rattle.std.proofs.Common.{◌≡◌, ◌↔◌, ℕ, List, [], ◌++◌, map, take, lit<, ap, ap₂}
-use Rattle.std.specs.Prelude.{All}
+use Rattle.std.specs.Prelude.{All, IfOk, OnOk, Result, Ok, Err}
 use Rattle.std.specs.List.{zip}
 use Rattle.geom_core.specs.declared.layout.Layout.{Layout}
 use Rattle.geom_core.specs.declared.layout.Shape.{Shape}
@@ -23,6 +23,11 @@ use Rattle.layout_check.proofs.NetLaws.{join-none, none-join}
 use Rattle.layout_check.proofs.SpaceLaws.{spaced-failing}
 use Rattle.std_laws.proofs.Slices.{both-empty, none-taken, empty-five, five-empty}
 use Rattle.std_laws.proofs.Images.{none-mapped}
+
+-- what follows from a value's property, given what holds wherever there is a value
+pub good-if : {A E : Type 0} (result : Result A E) (P : Type 0) (Q R : A → Type 0) → (P → (x : A) → Q x → R x) → OnOk result P → IfOk result Q → IfOk result R
+good-if (Ok x) P Q R follows p q = follows p x q
+good-if (Err e) P Q R follows p q = tt
 
 -- of pairs the first thousand are none just where all are none
 told-none : (f : ℕ × ℕ → Finding) (pairs : List (ℕ × ℕ)) → map f (take 1000 pairs) ≡ [] → pairs ≡ []

@@ -34,7 +34,7 @@ struct Named<'c, 'l, 's, 't> {
 
 // The same with the drawing of each kind.
 #[derive(Clone, Copy)]
-struct Drawn<'n, 'c, 'l, 's, 't> {
+struct DrawnKinds<'n, 'c, 'l, 's, 't> {
     named: &'n Named<'c, 'l, 's, 't>,
     drawings: &'n [Items<Shape>],
     ghost are: { drawings.now ≡ drawings_of named.now.case.now.rules.now named.now.case.now.design.now },
@@ -105,7 +105,7 @@ fn tell_drawings(
     ensures { OnOk result (findings.new.items ≡ findings.old.items ++ map Drawing (misdrawn named.now.case.now.rules.now named.now.case.now.design.now named.now.case.now.layout.now)) }
 {
     let drawings = drawings(alloc, named.case)?;
-    let drawn = Drawn {
+    let drawn = DrawnKinds {
         named,
         drawings: drawings.as_slice(),
     };
@@ -114,7 +114,7 @@ fn tell_drawings(
 }
 
 // The cells with an instance's name that are not copies of its kind.
-fn misdrawn(alloc: Global, drawn: &Drawn) -> Result<Vec<u32>, AllocError>
+fn misdrawn(alloc: Global, drawn: &DrawnKinds) -> Result<Vec<u32>, AllocError>
     ensures { IfOk result (λ v. v.items ≡ misdrawn drawn.now.named.now.case.now.rules.now drawn.now.named.now.case.now.design.now drawn.now.named.now.case.now.layout.now) }
 {
     let cells = drawn.named.case.layout.cells.items();
@@ -126,7 +126,7 @@ fn misdrawn(alloc: Global, drawn: &Drawn) -> Result<Vec<u32>, AllocError>
 }
 
 // Whether a cell has no instance's name, or is a copy of its instance's kind.
-fn is_copy(drawn: &Drawn, cell: &Cell) -> bool
+fn is_copy(drawn: &DrawnKinds, cell: &Cell) -> bool
     requires { IsCellAmong (length drawn.now.named.now.case.now.layout.now.shapes) cell.now }
     ensures { result ≡ is_copy_for drawn.now.named.now.case.now.rules.now drawn.now.named.now.case.now.design.now drawn.now.named.now.case.now.layout.now (find (λ (i : Inst). bytes_eq i.name cell.now.name) drawn.now.named.now.case.now.design.now.instances) cell.now }
 {

@@ -1,16 +1,17 @@
 //! All that is wrong with a layout, kind by kind; open and short nets are sought only where the cells are right.
 
+ghost use Rattle.close_rects.specs.Items.{HasInside};
 ghost use Rattle.design_model.specs.Good.{Good};
 ghost use Rattle.design_model.specs.Room.{HasRoom};
 ghost use Rattle.layout_check.specs.Findings.{cell_findings, Findings};
 ghost use Rattle.layout_check.specs.Measured.{IsMeasured};
-ghost use Rattle.std.specs.Prelude.{◌≡◌, ◌≢◌, ◌↔◌, [], IfOk};
+ghost use Rattle.std.specs.Prelude.{◌≡◌, ◌≢◌, ◌↔◌, [], All, IfOk, OnOk};
 
 use crate::case::Case;
 use crate::cells::cell_findings;
 use crate::finding::Finding;
 use crate::nets::tell_nets;
-use crate::shapes::{read_sides, tell_bare, tell_close, tell_narrow, tell_rows};
+use crate::shapes::{tell_bare, tell_close, tell_narrow, tell_rows};
 use design_model::Design;
 use geom_core::Layout;
 use geom_extract::classes;
@@ -33,7 +34,6 @@ pub fn check(
     ensures good { IfOk result (λ v. (v.items ≡ []) ↔ Good rules.now design.now layout.now) }
 {
     let _ = &design.height;
-    read_sides(layout.shapes.items());
     let case = Case {
         layout,
         design,
@@ -55,7 +55,8 @@ fn without_nets(
 ) -> Result<Vec<Finding>, AllocError>
     requires cells { findings.items ≡ cell_findings case.now.rules.now case.now.design.now case.now.layout.now }
     requires some { cell_findings case.now.rules.now case.now.design.now case.now.layout.now ≢ [] }
-    ensures { IfOk result (λ v. Findings case.now.rules.now case.now.design.now case.now.layout.now v.items) }
+    ensures findings { IfOk result (λ v. Findings case.now.rules.now case.now.design.now case.now.layout.now v.items) }
+    ensures inside { OnOk result (All (λ s. HasInside s.rect) case.now.layout.now.shapes) }
 {
     tell_rows(alloc, &mut findings, case)?;
     tell_narrow(alloc, &mut findings, case)?;
@@ -66,7 +67,8 @@ fn without_nets(
 // What is wrong with a layout whose cells are those of the design.
 fn with_nets(alloc: Global, case: &Case) -> Result<Vec<Finding>, AllocError>
     requires { cell_findings case.now.rules.now case.now.design.now case.now.layout.now ≡ [] }
-    ensures { IfOk result (λ v. Findings case.now.rules.now case.now.design.now case.now.layout.now v.items) }
+    ensures findings { IfOk result (λ v. Findings case.now.rules.now case.now.design.now case.now.layout.now v.items) }
+    ensures inside { OnOk result (All (λ s. HasInside s.rect) case.now.layout.now.shapes) }
 {
     let design = case.design;
     let _ = &design.height;

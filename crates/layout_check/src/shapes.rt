@@ -7,7 +7,6 @@ ghost use Rattle.std.specs.Prelude.{◌≡◌, ◌++◌, length, All, OnOk};
 use crate::case::Case;
 use crate::finding::Finding;
 use crate::telling::{OfNumber, OfPair, put_numbers, put_pairs};
-use geom_core::{Rect, Shape};
 use rule_check::{bare_cuts, close_pairs, narrow, out_of_row, overlaps};
 use std::alloc::{AllocError, Global};
 
@@ -26,13 +25,14 @@ pub(crate) fn tell_rows(
     put_pairs(findings, OfPair::OutOfRow, uneven.list.as_slice())
 }
 
-/// Tells which wires and cuts are too narrow. The one error is want of memory.
+/// Tells which wires and cuts are too narrow; all shapes are read, and each has an inside. The one error is want of memory.
 pub(crate) fn tell_narrow(
     alloc: Global,
     findings: &mut Vec<Finding>,
     case: &Case,
 ) -> Result<(), AllocError>
-    ensures { OnOk result (findings.new.items ≡ findings.old.items ++ narrow_findings case.now.rules.now case.now.layout.now) }
+    ensures narrow { OnOk result (findings.new.items ≡ findings.old.items ++ narrow_findings case.now.rules.now case.now.layout.now) }
+    ensures inside { OnOk result (All (λ s. HasInside s.rect) case.now.layout.now.shapes) }
 {
     let numbers = narrow(alloc, &case.shapes(), case.rules)?;
     put_numbers(findings, OfNumber::Narrow, numbers.as_slice())
@@ -62,19 +62,4 @@ pub(crate) fn tell_bare(
 {
     let numbers = bare_cuts(alloc, &case.shapes(), case.rules)?;
     put_numbers(findings, OfNumber::BareCut, numbers.as_slice())
-}
-
-/// Reads a side of each shape, which tells a proof that each has an inside, as every `Rect` has.
-pub(crate) fn read_sides(shapes: &[Shape])
-    ensures { All (λ s. HasInside s.rect) shapes.now }
-{
-    for k in 0..shapes.len() {
-        read_side(&shapes[k].rect);
-    }
-}
-
-fn read_side(rect: &Rect)
-    ensures { HasInside rect.now }
-{
-    let _ = &rect.x0;
 }

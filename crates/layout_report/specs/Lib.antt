@@ -1,5 +1,3 @@
--- lines of words
-pub mod Lines
 -- what is told of a layout that was made
 pub mod SummaryText
 -- the random words of a seed, and the design that is made from it

@@ -2,12 +2,17 @@
 use Rattle.std.specs.Prelude.{ℕ, zero, suc, ◌+◌, ◌*◌, ◌/◌, ◌%◌, ◌==◌, List, [], ◌∷◌, ◌++◌, codes, if◌then◌else◌}
 use Rattle.std.specs.Fmt.{decimal}
 use Rattle.tech_rules.specs.Rules.{RuleValues}
-use Rattle.layout_report.specs.Lines.{ended}
 use Rattle.layout_report.specs.Words.{word}
+
+-- what stands after a word of a statement: a blank where more words follow, else its end
+abbrev pub word_end : List (List ℕ) → List ℕ
+word_end [] = codes ";\n"
+word_end (word ∷ words) = codes " "
 
 -- a statement of YAL on a line of its own
 abbrev pub statement : List (List ℕ) → List ℕ
-statement words = ended (codes ";\n") words
+statement [] = []
+statement (word ∷ words) = word ++ word_end words ++ statement words
 
 -- the middle of a column, and the least height of cells, in units
 unfoldable pub middle : RuleValues → ℕ → ℕ

@@ -3,13 +3,14 @@ use Rattle.std.specs.Prelude.{ℕ, ◌+◌, List, [], ◌∷◌, ◌++◌, codes
 use Rattle.std.specs.Fmt.{decimal}
 use Rattle.greedy_router.specs.declared.sweep.By.{By}
 use Rattle.greedy_router.specs.declared.sweep.By.TheVariants.{Greedy, Plain, Edge}
-use Rattle.layout_report.specs.Lines.{line}
+use Rattle.shelf_io.specs.Lines.{line}
 use Rattle.layout_report.specs.declared.summary.ChannelLine.{ChannelLine}
 use Rattle.layout_report.specs.declared.summary.Summary.{Summary}
 
--- a line of a word and a number
-unfoldable pub counted : List ℕ → ℕ → List ℕ
-counted word n = line (word ∷ decimal n ∷ [])
+-- lines of words, one after another
+abbrev pub lines_text : List (List (List ℕ)) → List ℕ
+lines_text [] = []
+lines_text (words ∷ more) = line words ++ lines_text more
 
 -- the router of a channel
 abbrev pub by_word : By → List ℕ
@@ -27,23 +28,14 @@ abbrev pub channels_text : ℕ → List ChannelLine → List ℕ
 channels_text n [] = []
 channels_text n (c ∷ channels) = channel_text n c ++ channels_text (n + 1) channels
 
--- the lines before those of the channels
-unfoldable pub parts_text : Summary → List ℕ
-parts_text s = counted (codes "cells") s.cells ++ counted (codes "nets") s.nets
+-- the words of the lines before those of the channels, and behind them
+unfoldable pub count_words : Summary → List (List (List ℕ))
+count_words s =
+    (codes "cells" ∷ decimal s.cells ∷ []) ∷ (codes "nets" ∷ decimal s.nets ∷ []) ∷ (codes "rows" ∷ decimal s.rows ∷ []) ∷ (codes "feeds" ∷ decimal s.feeds ∷ []) ∷ []
 
-unfoldable pub rows_text : Summary → List ℕ
-rows_text s = counted (codes "rows") s.rows ++ counted (codes "feeds") s.feeds
-
-unfoldable pub counts_text : Summary → List ℕ
-counts_text s = parts_text s ++ rows_text s
-
--- the lines behind them
-unfoldable pub size_text : Summary → List ℕ
-size_text s = line (codes "size" ∷ decimal s.width ∷ decimal s.height ∷ [])
-
-unfoldable pub end_text : Summary → List ℕ
-end_text s = size_text s ++ counted (codes "cost") s.cost
+unfoldable pub end_words : Summary → List (List (List ℕ))
+end_words s = (codes "size" ∷ decimal s.width ∷ decimal s.height ∷ []) ∷ (codes "cost" ∷ decimal s.cost ∷ []) ∷ []
 
 -- the lines of a summary
 unfoldable pub summary_text : Summary → List ℕ
-summary_text s = counts_text s ++ (channels_text 0 s.channels ++ end_text s)
+summary_text s = lines_text (count_words s) ++ (channels_text 0 s.channels ++ lines_text (end_words s))

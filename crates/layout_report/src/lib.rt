@@ -1,7 +1,6 @@
 //! What is told of a layout that was made, and designs that are made from a number.
 #![tactic(auto)]
 
-mod line;
 mod made;
 mod printing;
 mod summary;

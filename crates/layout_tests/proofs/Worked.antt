@@ -36,7 +36,7 @@ abbrev cell : ℕ → Bool → Item
 cell instance mirror = Cell (record { instance = instance; mirror = mirror })
 
 abbrev fed : Fed
-fed = record { rows = (cell 0 false ∷ (Feed 2 ∷ (cell 1 true ∷ []))) ∷ []; width = 5; nets = 0 ∷ (1 ∷ []) }
+fed = record { rows = (cell 0 false ∷ (Feed 2 ∷ (cell 1 true ∷ []))) ∷ []; heights = 40 ∷ []; width = 5; nets = 0 ∷ (1 ∷ []) }
 
 -- a channel without tracks below the row, and one of two tracks and six columns with one via above it
 abbrev lower : Wiring
@@ -56,6 +56,7 @@ square layer x0 y0 x1 y1 =
 worked-stack : stack_of sample buffers fed (lower ∷ (upper ∷ [])) ≡ record {
   channel_base = 0 ∷ (48 ∷ []);
   row_base = 8 ∷ [];
+  heights = 40 ∷ [];
   cells = (placed (cell 0 false) 0 false ∷ (placed (Feed 2) 3200 false ∷ (placed (cell 1 true) 8000 true ∷ []))) ∷ [];
   shapes = [] ∷ ((square (codes "NM") 2000 10800 2800 11600 ∷ (square (codes "NP") 2000 10800 2800 11600 ∷ (square (codes "NC") 2200 11000 2600 11400 ∷ []))) ∷ []);
   width = 4800;

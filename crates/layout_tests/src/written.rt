@@ -35,7 +35,7 @@ fn text_drawn(alloc: Global, routed: &RoutedDesign) -> Result<Option<Vec<u8>>, A
     requires symbols { routed.now.symbols.now ≡ symbol_drawings routed.now.rules.now routed.now.design.now routed.now.fed.now }
 {
     let mut shelf = MemShelf::new(alloc)?;
-    match write_layout(alloc, &mut shelf, "out", routed) {
+    match write_layout(&mut shelf, "out", routed) {
         Ok(()) => text_on(alloc, &shelf),
         Err(_) => Ok(None),
     }

@@ -4,7 +4,7 @@ use Rattle.std.specs.Int.{int_min}
 use Rattle.std.specs.List.{AllByRecursion}
 use Rattle.std.specs.Ordering.{int_eq}
 use Rattle.std.specs.Prelude.{unsigned_abs, if◌then◌else◌}
-use Rattle.yal_reader.specs.Kept.{IsNear}
+use Rattle.yal_reader.specs.Kept.{IsCoordinate}
 use Rattle.netlist_core.specs.Outline.{between, has_turns, outline_of}
 use Rattle.netlist_core.specs.declared.outline.Outline.{Outline}
 use Rattle.std.proofs.lemmas.Option.{same_Some}
@@ -24,7 +24,7 @@ pub record IsSmall (o : Outline) : Type 0 where
   pub high : 0 < o.height
   pub height : o.height ≤ 200000000
 
-near-apart : (x y : ℤ) → IsNear x → IsNear y → unsigned_abs (x -ℤ y) ≤ 200000000
+near-apart : (x y : ℤ) → IsCoordinate x → IsCoordinate y → unsigned_abs (x -ℤ y) ≤ 200000000
 near-apart x y hx hy =
     let a : negsuc 99999999 ≤ℤ x = hx.low in
     let b : x ≤ℤ pos 100000000 = hx.high in
@@ -32,7 +32,7 @@ near-apart x y hx hy =
     let d : y ≤ℤ pos 100000000 = hy.high in
     omega (arith, ints)
 
-small-between : (x y x' y' : ℤ) (o : Outline) → IsNear x → IsNear y → IsNear x' → IsNear y' → between x y x' y' ≡ Some o → IsSmall o
+small-between : (x y x' y' : ℤ) (o : Outline) → IsCoordinate x → IsCoordinate y → IsCoordinate x' → IsCoordinate y' → between x y x' y' ≡ Some o → IsSmall o
 unfolding between
 small-between x y x' y' o hx hy hx' hy' = by (int_eq x x') refl (int_eq y y') refl
   where
@@ -51,7 +51,7 @@ small-between x y x' y' o hx hy hx' hy' = by (int_eq x x') refl (int_eq y y') re
     by false ha false hb h = subst IsSmall (same_Some _ _ h) (made-small ha hb)
 
 -- what an outline that corners have is
-pub outline-small : (corners : List ℤ) (o : Outline) → AllByRecursion IsNear corners → outline_of corners ≡ Some o → IsSmall o
+pub outline-small : (corners : List ℤ) (o : Outline) → AllByRecursion IsCoordinate corners → outline_of corners ≡ Some o → IsSmall o
 outline-small (x0 ∷ y0 ∷ x1 ∷ y1 ∷ x2 ∷ y2 ∷ x3 ∷ y3 ∷ []) o near =
     by (has_turns x0 y0 x1 y1 x2 y2 x3 y3)
   where

@@ -26,12 +26,12 @@ impl<'a> Model for Numbered<'a> {
 impl<'a> Numbered<'a> {
     ghost use Rattle.std.specs.List.{AllByRecursion};
     ghost use Rattle.std.specs.Prelude.{◌≡◌};
-    ghost use Rattle.yal_reader.specs.Kept.{IsNear};
+    ghost use Rattle.yal_reader.specs.Kept.{IsCoordinate};
 
     /// The corners of the module, as the numbers of the text.
     pub(crate) fn corners(&self) -> &'a [i64]
         ensures is { result.now ≡ self.now.1.corners }
-        ensures near { AllByRecursion IsNear result.now }
+        ensures near { AllByRecursion IsCoordinate result.now }
     {
         let module = self.module;
         module.corners.items()

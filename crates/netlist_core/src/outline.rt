@@ -3,7 +3,7 @@
 ghost use Rattle.netlist_core.specs.Outline.{are_pairs, between, has_turns, IsOutlineOf, outline_of};
 ghost use Rattle.std.specs.List.{AllByRecursion};
 ghost use Rattle.std.specs.Prelude.{◌≡◌};
-ghost use Rattle.yal_reader.specs.Kept.{IsNear};
+ghost use Rattle.yal_reader.specs.Kept.{IsCoordinate};
 
 /// The rectangle of a module, in units: its least x and y, and its sides, which are above 0.
 #[derive(Clone, Copy, Debug, PartialEq, Eq)]
@@ -19,14 +19,14 @@ pub(crate) struct Outline {
 struct Corner {
     x: i64,
     y: i64,
-    ghost near_x: { IsNear x },
-    ghost near_y: { IsNear y },
+    ghost near_x: { IsCoordinate x },
+    ghost near_y: { IsCoordinate y },
 }
 
 /// The outline whose four corners these are, as pairs of x and y in order, in either direction and from any corner on; None
 /// where they are no corners of a rectangle with sides along the axes, in order. Takes no memory.
 pub(crate) fn outline_of(corners: &[i64]) -> Option<Outline>
-    requires { AllByRecursion IsNear corners.now }
+    requires { AllByRecursion IsCoordinate corners.now }
     ensures is { result ≡ outline_of corners.now }
     ensures corners { IsOutlineOf corners.now result }
 {

@@ -1,5 +1,5 @@
 use Rattle.std.specs.List.{AllByRecursion, range_with_len}
-use Rattle.std.proofs.Common.{◌≡◌, ◌≤◌, ℕ, ◌+◌, ◌*◌, List, ◌∷◌, map, arith, zero, suc, [], length, fold, max, sym, subst}
+use Rattle.std.proofs.Common.{◌≡◌, ◌≤◌, ℕ, ◌+◌, ◌*◌, List, ◌∷◌, map, arith, zero, suc, [], length, fold, max, sum, sym, subst}
 use Rattle.std.proofs.lemmas.List.Sums.{sum_by-cons}
 use Rattle.std.proofs.lemmas.List.FromFn.{length-range_with_len}
 use Rattle.std.proofs.lemmas.List.{length-map}
@@ -22,7 +22,11 @@ use Rattle.std_laws.proofs.Counts.{filter-short}
 pub height-more : (r : RuleValues) (n : ℕ) (nets : List ℕ) → channels_height r (n ∷ nets) ≡ (2 * n + 1) * r.grid.track + channels_height r nets
 height-more r n nets = sum_by-cons (λ (k : ℕ). k) ((2 * n + 1) * r.grid.track) (map (λ (k : ℕ). (2 * k + 1) * r.grid.track) nets)
 
-pub ruleset bound_laws = (mul-le-mul, height-more)
+-- the sum of heights, one and the others
+pub sum-more : (n : ℕ) (ns : List ℕ) → sum (n ∷ ns) ≡ n + sum ns
+sum-more n ns = sum_by-cons (λ (k : ℕ). k) n ns
+
+pub ruleset bound_laws = (mul-le-mul, height-more, sum-more)
 
 module _ (d : Netlist) (good : IsNetlist d) (rows : List (List Seat)) where
   widest : (from row : ℕ) (rest : List (List Seat)) → from ≤ 3000000000000 → AllByRecursion (IsWithin (length d.instances) 20000) rest
@@ -44,6 +48,7 @@ module _ (d : Netlist) (good : IsNetlist d) (rows : List (List Seat)) where
   rows-bounded placed =
       record {
         rows = omega (arith, fed-long d rows, placed.few);
+        heights = omega (arith, length-map rows (λ (seats : List Seat). d.height), placed.few);
         columns = widest 0 0 rows (omega arith) (rows-within d rows good placed);
         channels = omega (arith, length-map (range_with_len 0 (length rows + 1)) (λ (c : ℕ). length (nets_in d rows c)), length-range_with_len 0 (length rows + 1), placed.few);
         nets = few-from 0 (length rows + 1);

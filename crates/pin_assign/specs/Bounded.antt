@@ -8,9 +8,10 @@ use Rattle.feed_cells.specs.Fed.{Fed}
 abbrev pub AreFewNets : List ℕ → Type 0
 AreFewNets nets = AllByRecursion (λ (n : ℕ). n ≤ MOST_PINS) nets
 
--- at most 514 rows of at most 3,000,000,000,000 columns, and at most 515 channels of at most 200,000 nets each
+-- at most 514 rows of at most 3,000,000,000,000 columns, each with one height, and at most 515 channels of at most 200,000 nets each
 pub record AreBounded (fed : Fed) : Type 0 where
   pub rows : length fed.rows ≤ MOST_PLACED_ROWS
+  pub heights : length fed.heights ≤ MOST_PLACED_ROWS
   pub columns : fed.width ≤ 3000000000000
   pub channels : length fed.nets ≤ 515
   pub nets : AreFewNets fed.nets

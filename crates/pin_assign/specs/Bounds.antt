@@ -22,6 +22,6 @@ channels_width fed = fed.width + most_extra (most_nets fed.nets)
 unfoldable pub bound_of : RuleValues → Netlist → Fed → Bound
 bound_of r d fed = record {
   width = channels_width fed * r.grid.column * r.grid.centi;
-  height = (length fed.rows * d.height + channels_height r fed.nets) * r.grid.centi;
+  height = (sum fed.heights + channels_height r fed.nets) * r.grid.centi;
   grid = (length fed.rows + 1) * channels_width fed;
 }

@@ -3,12 +3,12 @@
 ghost use Rattle.feed_cells.specs.Fed.{IsFed};
 ghost use Rattle.pin_assign.specs.Bounded.{AreBounded, AreFewNets};
 ghost use Rattle.pin_assign.specs.Bounds.{bound_of, channels_height, most_nets};
-ghost use Rattle.std.specs.Prelude.{◌≡◌, ◌≤◌, length};
+ghost use Rattle.std.specs.Prelude.{◌≡◌, ◌≤◌, ◌^◌, length, sum};
 
 use crate::bound::Bound;
 use design_model::Design;
 use feed_cells::FedRows;
-use limits::MOST_PINS;
+use limits::{MOST_PINS, MOST_PLACED_ROWS};
 use tech_rules::Rules;
 
 /// The size that a layout of these rows is within, whatever its routing: a channel of n nets has at most 2n tracks, and n columns more than the widest
@@ -34,12 +34,28 @@ fn bound_within(design: &Design, fed: &FedRows, rules: &Rules) -> Bound
     let nets = fed.nets.items();
     let columns = fed.width + u64::from(most_nets(nets));
     let centi = u64::from(rules.grid.centi);
-    let cells = rows * u64::from(design.height);
+    let cells = rows_height(fed.heights.items());
     Bound {
         width: columns * u64::from(rules.grid.column) * centi,
         height: (cells + channels_height(nets, rules)) * centi,
         grid: (rows + 1) * columns,
     }
+}
+
+// The height in units of all rows together.
+#[tactic(auto, using(crate::proofs::FedBounds::bound_laws))]
+fn rows_height(heights: &[u32]) -> u64
+    requires { length heights.now ≤ MOST_PLACED_ROWS }
+    ensures is { result ≡ sum heights.now }
+    ensures low { result ≤ 2 ^ 42 }
+{
+    let mut sum = 0;
+    let mut rest = heights;
+    while let Some((height, above)) = rest.split_first() {
+        sum += u64::from(*height);
+        rest = above;
+    }
+    sum
 }
 
 // The most nets that stand in one channel.

@@ -88,11 +88,13 @@ fn rows_text(alloc: Global, rows: &[Items<Item>]) -> Result<String, AllocError> 
     Ok(text)
 }
 
-/// Calls, how many rows they go into, the items of the rows with their feeds, their width in columns, and how many nets stand in each channel.
+/// Calls, how many rows they go into, the items of the rows with their feeds, their heights in units, their width in columns, and how many nets stand in each
+/// channel.
 struct Fed {
     calls: &'static str,
     rows: u32,
     items: &'static str,
+    heights: &'static [u32],
     width: u64,
     nets: &'static [u32],
 }
@@ -103,6 +105,7 @@ const FED: [Fed; 3] = [
         calls: "u1 BUF n; u2 INV p; u3 INV q; u4 INV n;",
         rows: 4,
         items: "0 | f1 1 | f1 2 | 3 | ",
+        heights: &[40, 40, 40, 40],
         width: 2,
         nets: &[0, 1, 1, 1, 0],
     },
@@ -111,6 +114,7 @@ const FED: [Fed; 3] = [
         calls: "u1 BUF n; u2 THR n; u3 INV q; u4 INV n;",
         rows: 4,
         items: "0 | 1 | f1 2 | 3 | ",
+        heights: &[40, 40, 40, 40],
         width: 2,
         nets: &[0, 1, 1, 1, 0],
     },
@@ -119,15 +123,22 @@ const FED: [Fed; 3] = [
         calls: "u1 BUF a; u2 BUF b; u3 INV c; u4 INV d; u5 INV b; u6 INV a;",
         rows: 3,
         items: "0 1 | f1 f2 2 3 | 4 5 | ",
+        heights: &[40, 40, 40],
         width: 4,
         nets: &[0, 2, 2, 0],
     },
 ];
 
-/// Whether rows have the items, the width and the nets of a case.
+/// Whether rows have the items, the heights, the width and the nets of a case.
 fn are_fed(alloc: Global, fed: &FedRows, case: &Fed) -> Result<bool, AllocError> {
     let told = rows_text(alloc, fed.rows.items())?;
-    Ok(told.as_str() == case.items && fed.width == case.width && fed.nets.items() == case.nets)
+    let high = fed.heights.items() == case.heights;
+    Ok(
+        told.as_str() == case.items
+            && high
+            && fed.width == case.width
+            && fed.nets.items() == case.nets,
+    )
 }
 
 /// Whether a design has the rows with feeds of a case.

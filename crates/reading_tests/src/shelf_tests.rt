@@ -2,8 +2,8 @@
 //! and what a real file gives.
 
 use shelf_io::{
-    Failed, HostShelf, HostSink, LoadFault, MemShelf, MemSink, NeverShelf, NeverSink, Shelf, Sink,
-    load, put_all,
+    Buffer, Failed, FileSink, HostShelf, HostSink, LineWord, LoadFault, MemShelf, MemSink,
+    NeverShelf, NeverSink, Shelf, Sink, load, put_line,
 };
 use std::alloc::{AllocError, Global};
 use std::path::PathBuf;
@@ -92,6 +92,14 @@ fn load_gives_a_file_or_says_why_not(rt: HostRuntime) -> Result<(), Fail> {
     Ok(())
 }
 
+/// Puts all of some bytes at the end of a file, through a buffer.
+fn put_all<S: Shelf>(shelf: &mut S, name: &str, bytes: &[u8]) -> Result<(), Failed> {
+    let mut file = FileSink::new(shelf, name);
+    let mut buffer = Buffer::new();
+    buffer.append(&mut file, bytes)?;
+    buffer.flush(&mut file)
+}
+
 /// Whether `begin` and then `put_all` leave so many bytes of a text under "out", and fail where these are not all.
 fn is_put(shelf: &mut MemShelf, text: &[u8], put: usize) -> bool {
     if shelf.begin("out").is_err() {
@@ -141,6 +149,23 @@ fn put_all_puts_a_front_where_a_put_is_marked(rt: HostRuntime) -> Result<(), Fai
     for (mark, put) in [(1, 0), (2, 4096), (3, 5000)] {
         assert!(rt; is_long_put(rt.alloc(), mark, put)?, "at {mark}");
     }
+    Ok(())
+}
+
+/// A line is put in one piece: where a sink fails at its second put, it holds the first of two lines, with its words and numbers.
+#[test]
+fn a_line_is_one_piece(rt: HostRuntime) -> Result<(), Fail> {
+    let mut sink = MemSink::new(rt.alloc())?;
+    sink.fail_at(1)?;
+    let words = [
+        LineWord::Text(b"channel"),
+        LineWord::Number(0),
+        LineWord::Text(b"tracks"),
+        LineWord::Number(18446744073709551615),
+    ];
+    assert!(rt; put_line(&mut sink, &words) == Ok(()));
+    assert!(rt; put_line(&mut sink, &words) == Err(Failed));
+    assert!(rt; sink.bytes() == b"channel 0 tracks 18446744073709551615\n".as_slice());
     Ok(())
 }
 

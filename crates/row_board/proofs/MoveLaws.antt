@@ -5,7 +5,7 @@ use Rattle.std.proofs.lemmas.Option.{same_Some, slice_get-get_or, slice_get_with
 use Rattle.std.specs.List.{slice_get}
 use Rattle.std.specs.Prelude.{nat_eq}
 use Rattle.design_model.specs.Netlist.{IsNetlist, Netlist}
-use Rattle.row_board.specs.Moving.{IsAt, column_behind, left_of, reach_end, row_length, row_there}
+use Rattle.row_board.specs.Moving.{IsAt, column_behind, left_of, moved_end, row_length, row_there}
 use Rattle.row_model.specs.Rows.{ArePlaced, AreRows}
 use Rattle.row_board.specs.Standings.{AreEntered, HasEntered, IsEntered, KeepsOthers, standing_at, standing_in, standing_of}
 use Rattle.row_model.specs.Widths.{columns_of, row_width}
@@ -112,12 +112,12 @@ cell-told d rows standings instance st good placed entered within is =
     })
 
 -- the end of a reach is behind its seat and in its row
-pub end-ordered : (even same : Bool) (place other count : ℕ) → place < count → place < reach_end even same place other count
+pub end-ordered : (even same : Bool) (place other count : ℕ) → place < count → place < moved_end even same place other count
 end-ordered true same place other count within = omega arith
 end-ordered false true place other count within = omega arith
 end-ordered false false place other count within = within
 
-pub end-within : (even same : Bool) (place other count : ℕ) → place < count → (same ≡ true → other < count) → reach_end even same place other count ≤ count
+pub end-within : (even same : Bool) (place other count : ℕ) → place < count → (same ≡ true → other < count) → moved_end even same place other count ≤ count
 end-within true same place other count within both = omega arith
 end-within false true place other count within both = let less = both refl in omega arith
 end-within false false place other count within both = omega arith

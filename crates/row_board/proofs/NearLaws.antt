@@ -9,7 +9,7 @@ use Rattle.std.specs.Prelude.{nat_eq}
 use Rattle.design_model.specs.Netlist.{IsNetlist, Netlist}
 use Rattle.row_model.specs.Changes.{swapped}
 use Rattle.row_board.specs.Cost.{difference}
-use Rattle.row_board.specs.Moving.{ArePut, IsAt, reach_end, row_length, row_there}
+use Rattle.row_board.specs.Moving.{ArePut, IsAt, moved_end, row_length, row_there}
 use Rattle.row_model.specs.Rows.{ArePlaced, AreRows}
 use Rattle.row_board.specs.Standings.{AreEntered, in_place_of, put_in, standing_at, standing_in, standing_of, traded}
 use Rattle.row_model.specs.Stands.{stand_of}
@@ -61,9 +61,9 @@ pub record IsTrial (d : Netlist) (rows : List (List Seat)) (standings : List Spo
   pub in_a : a < length d.instances
   pub in_b : b < length d.instances
   pub apart : a ≢ b
-  pub to : end_a ≡ reach_end false (nat_eq (standing_of standings a).row (standing_of standings b).row) (standing_of standings a).place (standing_of standings b).place
+  pub to : end_a ≡ moved_end false (nat_eq (standing_of standings a).row (standing_of standings b).row) (standing_of standings a).place (standing_of standings b).place
       (row_length (slice_get rows (standing_of standings a).row))
-  pub to' : end_b ≡ reach_end false (nat_eq (standing_of standings b).row (standing_of standings a).row) (standing_of standings b).place (standing_of standings a).place
+  pub to' : end_b ≡ moved_end false (nat_eq (standing_of standings b).row (standing_of standings a).row) (standing_of standings b).place (standing_of standings a).place
       (row_length (slice_get rows (standing_of standings b).row))
 
 -- an instance stands in rows as a table tells, but for some columns
@@ -98,8 +98,8 @@ record Setting (d : Netlist) (rows new : List (List Seat)) (standings trial : Li
   cell_b : IsCell rows b other
   puts : ArePut one.row one.place (record { instance = b; mirror = other.mirror }) other.row other.place (record { instance = a; mirror = one.mirror }) rows new
   distinct : AreRows new
-  to : end_a ≡ reach_end false (nat_eq one.row other.row) one.place other.place (row_length (slice_get rows one.row))
-  to' : end_b ≡ reach_end false (nat_eq other.row one.row) other.place one.place (row_length (slice_get rows other.row))
+  to : end_a ≡ moved_end false (nat_eq one.row other.row) one.place other.place (row_length (slice_get rows one.row))
+  to' : end_b ≡ moved_end false (nat_eq other.row one.row) other.place one.place (row_length (slice_get rows other.row))
   low_a : one.place < end_a
   low_b : other.place < end_b
   told_a : slice_get trial a ≡ Some (in_place_of other one)

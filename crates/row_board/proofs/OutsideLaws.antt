@@ -5,7 +5,7 @@ use Rattle.std.specs.List.{slice_get}
 use Rattle.std.specs.Option.{option_map}
 use Rattle.std.specs.Prelude.{max, nat_eq, nat_lt}
 use Rattle.design_model.specs.Netlist.{Netlist}
-use Rattle.row_board.specs.Moving.{ArePut, IsAt, reach_end, row_length, row_there}
+use Rattle.row_board.specs.Moving.{ArePut, IsAt, moved_end, row_length, row_there}
 use Rattle.row_board.specs.Standings.{AreEntered, IsEntered, put_in, standing_at}
 use Rattle.row_model.specs.Widths.{columns_of, row_width}
 use Rattle.row_model.specs.declared.rows.Seat.{Seat}
@@ -13,7 +13,7 @@ use Rattle.row_board.specs.Spot.{Spot}
 use Rattle.row_board.proofs.PutLaws.{get-put-other, is_before, width-put}
 
 -- behind a swapped seat and its reach, where the other is not before, the two are of one width
-even-behind : (even : Bool) (ca cb r k ra pa rb pb count end : ℕ) → (even ≡ true → ca ≡ cb) → end ≡ reach_end even (nat_eq ra rb) pa pb count
+even-behind : (even : Bool) (ca cb r k ra pa rb pb count end : ℕ) → (even ≡ true → ca ≡ cb) → end ≡ moved_end even (nat_eq ra rb) pa pb count
     → ((r ≡ ra) × (pa ≤ k) × (k < end) → ⊥) → (r ≡ ra → k < count) → is_before ra pa r k ≡ true → is_before rb pb r k ≡ false → ca ≡ cb
 even-behind true ca cb r k ra pa rb pb count end even is off within before other = even refl
 even-behind false ca cb r k ra pa rb pb count end even is off within before other = by (nat_eq r ra) refl (nat_lt pa k) refl before (nat_eq ra rb) refl is
@@ -49,7 +49,7 @@ even-behind false ca cb r k ra pa rb pb count end even is off within before othe
 pub outside : (d : Netlist) (rows new : List (List Seat)) (standings : List Spot) (ra pa rb pb : ℕ) (a b : Seat) (even : Bool) (end_a end_b : ℕ)
     → AreEntered d rows standings → IsAt rows ra pa a → IsAt rows rb pb b → a.instance ≢ b.instance → ArePut ra pa b rb pb a rows new
     → (even ≡ true → columns_of d a.instance ≡ columns_of d b.instance)
-    → end_a ≡ reach_end even (nat_eq ra rb) pa pb (row_length (slice_get rows ra)) → end_b ≡ reach_end even (nat_eq rb ra) pb pa (row_length (slice_get rows rb))
+    → end_a ≡ moved_end even (nat_eq ra rb) pa pb (row_length (slice_get rows ra)) → end_b ≡ moved_end even (nat_eq rb ra) pb pa (row_length (slice_get rows rb))
     → pa < end_a → pb < end_b
     → (r k : ℕ) → ((r ≡ ra) × (pa ≤ k) × (k < end_a) → ⊥) → ((r ≡ rb) × (pb ≤ k) × (k < end_b) → ⊥) → IsEntered d new standings r k
 outside d rows new standings ra pa rb pb a b even end_a end_b entered at_a at_b apart puts alike is_a is_b low_a low_b r k off_a off_b = λ seats2 s in_row2 at2. by seats2 s in_row2 at2 (slice_get rows r) refl

@@ -4,10 +4,10 @@ use Rattle.std.specs.List.{slice_get}
 use Rattle.std.specs.Option.{option_map}
 use Rattle.std.specs.Prelude.{nat_eq, nat_le, not}
 use Rattle.design_model.specs.Netlist.{IsNetlist, Netlist}
-use Rattle.row_board.specs.Moving.{ArePut, AreUnmoved, IsIn, IsReach, in_order, reach_end, row_length}
+use Rattle.row_board.specs.Moving.{ArePut, AreUnmoved, IsIn, IsReach, in_order, moved_end, row_length}
 use Rattle.row_board.specs.Spot.{Spot}
 use Rattle.row_board.specs.Standings.{AreEntered, IsEntered, put_in, standing_of}
-use Rattle.row_board.specs.declared.moving.Reach.{Reach}
+use Rattle.row_board.specs.declared.moving.MovedSeats.{MovedSeats}
 use Rattle.row_model.specs.Changes.{mirrored, swapped}
 use Rattle.row_model.specs.Rows.{ArePlaced}
 use Rattle.row_model.specs.Widths.{columns_of}
@@ -21,7 +21,7 @@ use Rattle.row_board.proofs.TurnLaws.{outside-one, put-turns, turn-length}
 use Rattle.std_laws.proofs.Tests.{inside-decided}
 
 -- the reaches of two cells that exchanged their places
-pub record AreReaches (d : Netlist) (rows new : List (List Seat)) (standings : List Spot) (a b : ℕ) (even : Bool) (first second : Reach) : Type 0 where
+pub record AreReaches (d : Netlist) (rows new : List (List Seat)) (standings : List Spot) (a b : ℕ) (even : Bool) (first second : MovedSeats) : Type 0 where
   pub good : IsNetlist d
   pub placed : ArePlaced d rows
   pub entered : AreEntered d rows standings
@@ -35,10 +35,10 @@ pub record AreReaches (d : Netlist) (rows new : List (List Seat)) (standings : L
   pub alike : even ≡ true → columns_of d a ≡ columns_of d b
   pub row : first.row ≡ one.row
   pub from : first.from ≡ one.place
-  pub to : first.to ≡ reach_end even (nat_eq one.row other.row) one.place other.place (row_length (slice_get rows one.row))
+  pub to : first.to ≡ moved_end even (nat_eq one.row other.row) one.place other.place (row_length (slice_get rows one.row))
   pub row' : second.row ≡ other.row
   pub from' : second.from ≡ other.place
-  pub to' : second.to ≡ reach_end even (nat_eq other.row one.row) other.place one.place (row_length (slice_get rows other.row))
+  pub to' : second.to ≡ moved_end even (nat_eq other.row one.row) other.place one.place (row_length (slice_get rows other.row))
   pub swap : new ≡ swapped a b rows
   pub puts : ArePut one.row one.place (record { instance = b; mirror = other.mirror }) other.row other.place (record { instance = a; mirror = one.mirror }) rows new
 
@@ -50,8 +50,8 @@ long-put rows new ra pa rb pb a b puts r = ap row_length (puts.each r) ∙ by (s
     by None = refl
     by (Some l) = put-length rb pb a r (put_in ra pa b r l) ∙ put-length ra pa b r l
 
-is-reach : (even : Bool) (rows new : List (List Seat)) (reach : Reach) (ra pa rb pb : ℕ) → length new ≡ length rows → row_length (slice_get new reach.row) ≡ row_length (slice_get rows reach.row)
-    → reach.row ≡ ra → reach.from ≡ pa → reach.to ≡ reach_end even (nat_eq ra rb) pa pb (row_length (slice_get rows ra))
+is-reach : (even : Bool) (rows new : List (List Seat)) (reach : MovedSeats) (ra pa rb pb : ℕ) → length new ≡ length rows → row_length (slice_get new reach.row) ≡ row_length (slice_get rows reach.row)
+    → reach.row ≡ ra → reach.from ≡ pa → reach.to ≡ moved_end even (nat_eq ra rb) pa pb (row_length (slice_get rows ra))
     → ra < length rows → pa < row_length (slice_get rows ra) → pb < row_length (slice_get rows rb) → IsReach new reach
 is-reach even rows new reach ra pa rb pb count long row from to low in_a in_b =
     let ordered = end-ordered even (nat_eq ra rb) pa pb (row_length (slice_get rows ra)) in_a in
@@ -68,12 +68,12 @@ is-reach even rows new reach ra pa rb pb count long row from to low in_a in_b =
         let same : ra ≡ rb = grind (arith, nat_tests) in
         omega (arith, in_b, ap (λ (n : ℕ). row_length (slice_get rows n)) same)
 
-pub record Unmoved (d : Netlist) (new : List (List Seat)) (standings : List Spot) (first second : Reach) : Type 0 where
+pub record Unmoved (d : Netlist) (new : List (List Seat)) (standings : List Spot) (first second : MovedSeats) : Type 0 where
   pub is_first : IsReach new first
   pub is_second : IsReach new second
   pub each : (row place : ℕ) → (IsIn first row place → ⊥) → (IsIn second row place → ⊥) → IsEntered d new standings row place
 
-pub unmoved : (d : Netlist) (rows new : List (List Seat)) (standings : List Spot) (a b : ℕ) (even : Bool) (first second : Reach) → AreReaches d rows new standings a b even first second
+pub unmoved : (d : Netlist) (rows new : List (List Seat)) (standings : List Spot) (a b : ℕ) (even : Bool) (first second : MovedSeats) → AreReaches d rows new standings a b even first second
     → Unmoved d new standings first second
 unmoved d rows new standings a b even first second h =
     let cell_a = cell-told d rows standings a h.one h.good h.placed h.entered h.in_a h.is_one in
@@ -91,11 +91,11 @@ unmoved d rows new standings a b even first second h =
           (λ x. off_a (x.0 ∙ sym h.row, omega (arith, x.1, h.from), x.2)) (λ x. off_b (x.0 ∙ sym h.row', omega (arith, x.1, h.from'), x.2));
     }
 
-pub unmoved-ordered : (d : Netlist) (new : List (List Seat)) (standings : List Spot) (first second : Reach) → Unmoved d new standings first second
+pub unmoved-ordered : (d : Netlist) (new : List (List Seat)) (standings : List Spot) (first second : MovedSeats) → Unmoved d new standings first second
     → AreUnmoved d new standings (in_order first second).0 (in_order first second).1
 unmoved-ordered d new standings first second h = by (nat_le first.from second.from) refl
   where
-    by : (b : Bool) → nat_le first.from second.from ≡ b → AreUnmoved d new standings (cond {A = Reach × Reach} b (first, second) (second, first)).0 (cond {A = Reach × Reach} b (first, second) (second, first)).1
+    by : (b : Bool) → nat_le first.from second.from ≡ b → AreUnmoved d new standings (cond {A = MovedSeats × MovedSeats} b (first, second) (second, first)).0 (cond {A = MovedSeats × MovedSeats} b (first, second) (second, first)).1
     by true test = record { is_first = h.is_first; is_second = h.is_second; ordered = grind (arith, nat_tests); each = h.each }
     by false test = record { is_first = h.is_second; is_second = h.is_first; ordered = less first.from second.from test; each = λ r k off off_too. h.each r k off_too off }
       where
@@ -103,7 +103,7 @@ unmoved-ordered d new standings first second h = by (nat_le first.from second.fr
         less m n test = grind (arith, nat_tests)
 
 -- two reaches entered one after the other
-pub all-entered : (d : Netlist) (rows : List (List Seat)) (old now new : List Spot) (first second : Reach) → AreUnmoved d rows old first second
+pub all-entered : (d : Netlist) (rows : List (List Seat)) (old now new : List Spot) (first second : MovedSeats) → AreUnmoved d rows old first second
     → ((k : ℕ) → first.from ≤ k → k < first.to → IsEntered d rows now first.row k) → ((r k : ℕ) → IsEntered d rows old r k → IsEntered d rows now r k)
     → ((k : ℕ) → second.from ≤ k → k < second.to → IsEntered d rows new second.row k) → ((r k : ℕ) → IsEntered d rows now r k → IsEntered d rows new r k)
     → AreEntered d rows new
@@ -117,7 +117,7 @@ all-entered d rows old now new first second unmoved one kept two kept_too = reco
     by r k (inr off) (inr off_too) = kept_too r k (kept r k (unmoved.each r k off off_too))
 
 -- what stands before the second of two reaches is entered once the first is
-pub before-second : (d : Netlist) (rows : List (List Seat)) (old now : List Spot) (first second : Reach) → AreUnmoved d rows old first second
+pub before-second : (d : Netlist) (rows : List (List Seat)) (old now : List Spot) (first second : MovedSeats) → AreUnmoved d rows old first second
     → ((k : ℕ) → first.from ≤ k → k < first.to → IsEntered d rows now first.row k) → ((r k : ℕ) → IsEntered d rows old r k → IsEntered d rows now r k)
     → (k : ℕ) → k + 1 ≡ second.from → IsEntered d rows now second.row k
 before-second d rows old now first second unmoved one kept k is = by (inside-decided first.row first.from first.to second.row k)
@@ -148,7 +148,7 @@ turned-facts d rows new old a st good placed entered in_a is put =
       outside = outside-one d rows new old st.row st.place (record { instance = a; mirror = st.mirror }) entered cell.at put;
     }
 
-pub turned-unmoved : (d : Netlist) (new : List (List Seat)) (old : List Spot) (is_mirrored : List (List Seat)) (st : Spot) (reach : Reach) → Turned d new old is_mirrored st
+pub turned-unmoved : (d : Netlist) (new : List (List Seat)) (old : List Spot) (is_mirrored : List (List Seat)) (st : Spot) (reach : MovedSeats) → Turned d new old is_mirrored st
     → reach.row ≡ st.row → reach.from ≡ st.place → reach.to ≡ st.place + 1 → AreUnmoved d new old reach reach
 turned-unmoved d new old is_mirrored st reach facts row from to = record {
   is_first = is;

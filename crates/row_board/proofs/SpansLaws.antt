@@ -6,7 +6,7 @@ use Rattle.row_board.specs.NetCosts.{Tabled}
 use Rattle.row_board.specs.RowLengths.{Lengths}
 use Rattle.row_board.specs.Spot.{Spot}
 use Rattle.row_board.specs.Standings.{IsEntered}
-use Rattle.row_board.specs.declared.moving.Reach.{Reach}
+use Rattle.row_board.specs.declared.moving.MovedSeats.{MovedSeats}
 use Rattle.row_model.specs.Rows.{ArePlaced}
 use Rattle.row_board.proofs.ReachLaws.{all-entered}
 use Rattle.row_board.specs.SpansView.{AreSpans}
@@ -27,7 +27,7 @@ spans-kept old are rows written same costs rest lengths board =
     }
 
 -- two reaches are entered one after the other, and the table is right again
-pub both-entered : (d : Netlist) (rows : List (List Seat)) (old : List Spot) (once new : Tabled) (first second : Reach) → ArePlaced d rows → length old ≡ length d.instances
+pub both-entered : (d : Netlist) (rows : List (List Seat)) (old : List Spot) (once new : Tabled) (first second : MovedSeats) → ArePlaced d rows → length old ≡ length d.instances
     → AreUnmoved d rows old first second → once.design ≡ d
     → length once.standings ≡ length old → ((k : ℕ) → first.from ≤ k → k < first.to → IsEntered d rows once.standings first.row k)
     → ((r k : ℕ) → IsEntered d rows old r k → IsEntered d rows once.standings r k)

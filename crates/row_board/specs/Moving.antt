@@ -4,7 +4,7 @@ use Rattle.std.specs.Prelude.{max}
 use Rattle.design_model.specs.Netlist.{Netlist}
 use Rattle.std.specs.Option.{option_map}
 use Rattle.row_board.specs.Standings.{put_in, standing_of, IsEntered}
-use Rattle.row_board.specs.declared.moving.Reach.{Reach}
+use Rattle.row_board.specs.declared.moving.MovedSeats.{MovedSeats}
 use Rattle.row_model.specs.Widths.{columns_of}
 use Rattle.row_model.specs.declared.rows.Seat.{Seat}
 use Rattle.row_board.specs.Spot.{Spot}
@@ -17,8 +17,8 @@ pub record IsAt (rows : List (List Seat)) (row place : ℕ) (seat : Seat) : Type
 
 -- up to which place the seats of a row change where two seats exchange places: one of them stands in the row at `place` and the other at `other` of the same row
 -- or of another one. Cells of one width move no others
-abbrev pub reach_end : Bool → Bool → ℕ → ℕ → ℕ → ℕ
-reach_end even same place other count = if even then place + 1 else if same then max place other + 1 else count
+abbrev pub moved_end : Bool → Bool → ℕ → ℕ → ℕ → ℕ
+moved_end even same place other count = if even then place + 1 else if same then max place other + 1 else count
 
 -- the seats of a row, if there is this row
 abbrev pub row_there : Option (List Seat) → List Seat
@@ -29,11 +29,11 @@ abbrev pub row_length : Option (List Seat) → ℕ
 row_length row = length (row_there row)
 
 -- a place is in a reach
-abbrev pub IsIn : Reach → ℕ → ℕ → Type 0
+abbrev pub IsIn : MovedSeats → ℕ → ℕ → Type 0
 IsIn reach row place = (row ≡ reach.row) × (reach.from ≤ place) × (place < reach.to)
 
 -- a reach is of seats of a row
-pub record IsReach (rows : List (List Seat)) (reach : Reach) : Type 0 where
+pub record IsReach (rows : List (List Seat)) (reach : MovedSeats) : Type 0 where
   pub row : reach.row < length rows
   pub ordered : reach.from ≤ reach.to
   pub within : reach.to ≤ row_length (slice_get rows reach.row)
@@ -48,11 +48,11 @@ abbrev pub left_of : Netlist → List Spot → List Seat → ℕ → ℕ
 left_of d standings seats place = if place == 0 then 0 else column_behind d standings (slice_get seats (place - 1))
 
 -- two reaches, the one that begins at the lower place first
-abbrev pub in_order : Reach → Reach → Reach × Reach
+abbrev pub in_order : MovedSeats → MovedSeats → MovedSeats × MovedSeats
 in_order one other = if nat_le one.from other.from then (one, other) else (other, one)
 
 -- each seat that is in none of two reaches, the first of which begins no later than the second, is where a table tells
-pub record AreUnmoved (d : Netlist) (rows : List (List Seat)) (standings : List Spot) (first second : Reach) : Type 0 where
+pub record AreUnmoved (d : Netlist) (rows : List (List Seat)) (standings : List Spot) (first second : MovedSeats) : Type 0 where
   pub is_first : IsReach rows first
   pub is_second : IsReach rows second
   pub ordered : first.from ≤ second.from

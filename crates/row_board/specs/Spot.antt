@@ -10,6 +10,6 @@ pub record Spot : Type 0 where
   pub left : ℕ
 
 -- in one of 514 rows of at most 20,000 cells, each of at most 100,000,000 columns
-pub record IsNear (s : Spot) : Type 0 where
+pub record IsSpot (s : Spot) : Type 0 where
   pub row : s.row < MOST_PLACED_ROWS
   pub left : s.left ≤ 2000000000000

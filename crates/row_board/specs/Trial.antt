@@ -3,7 +3,7 @@ use Rattle.std.specs.Prelude.{ℕ, ◌<◌, ◌^◌, ◌+◌, ◌-◌, ◌*◌, 
 use Rattle.std.specs.List.{AllByRecursion}
 use Rattle.design_model.specs.Netlist.{Netlist}
 use Rattle.row_board.specs.Cost.{difference}
-use Rattle.row_board.specs.Moving.{reach_end, row_length, row_there}
+use Rattle.row_board.specs.Moving.{moved_end, row_length, row_there}
 use Rattle.row_board.specs.NetPins.{nets_of}
 use Rattle.row_board.specs.Spot.{Spot}
 use Rattle.row_board.specs.Standings.{standing_of}
@@ -30,7 +30,7 @@ pub record ArePlacedSeats (d : Netlist) (seats : List Seat) : Type 0 where
 
 -- up to which place of its row a swap with another instance of another width shifts seats
 abbrev pub shift_end : List (List Seat) → Spot → Spot → ℕ
-shift_end rows one other = reach_end false (one.row == other.row) one.place other.place (row_length (slice_get rows one.row))
+shift_end rows one other = moved_end false (one.row == other.row) one.place other.place (row_length (slice_get rows one.row))
 
 -- the number of pins from where an instance stands up to there
 abbrev pub shifted_pins : Netlist → List (List Seat) → Spot → Spot → ℕ

@@ -1,7 +1,7 @@
 //! Exchanges seats and turns them over, and enters the seats that moved into the table of instances.
 
 ghost use Rattle.row_board.specs.Board.{AreSeated};
-ghost use Rattle.row_board.specs.Moving.{AreExchanged, AreUnmoved, IsReach, in_order, left_of, reach_end, row_length};
+ghost use Rattle.row_board.specs.Moving.{AreExchanged, AreUnmoved, IsReach, in_order, left_of, moved_end, row_length};
 ghost use Rattle.row_board.specs.NetCosts.{Tabled};
 ghost use Rattle.row_board.specs.Standings.{IsEntered};
 ghost use Rattle.row_model.specs.Changes.{mirrored, swapped};
@@ -17,7 +17,7 @@ use row_model::{Seat, columns_of};
 
 /// The seats of a row from a place up to another, which a change moves.
 #[derive(Clone, Copy)]
-pub(crate) struct Reach {
+pub(crate) struct MovedSeats {
     pub(crate) row: u16,
     pub(crate) from: usize,
     pub(crate) to: usize,
@@ -25,10 +25,15 @@ pub(crate) struct Reach {
 
 /// Which seats of its row move where the instance that stands there exchanges its place with another. Cells of one width, which are
 /// `even`, move no others.
-pub(crate) fn reach_of(rows: &[Items<Seat>], one: Standing, other: Standing, even: bool) -> Reach
+pub(crate) fn moved_seats(
+    rows: &[Items<Seat>],
+    one: Standing,
+    other: Standing,
+    even: bool,
+) -> MovedSeats
     ensures row { result.row ≡ one.row }
     ensures from { result.from ≡ one.place }
-    ensures to { result.to ≡ reach_end even (one.row == other.row) one.place other.place (row_length (slice_get rows.now one.row)) }
+    ensures to { result.to ≡ moved_end even (one.row == other.row) one.place other.place (row_length (slice_get rows.now one.row)) }
 {
     let to = if even {
         one.place as usize + 1
@@ -37,7 +42,7 @@ pub(crate) fn reach_of(rows: &[Items<Seat>], one: Standing, other: Standing, eve
     } else {
         row_at(rows, one.row).len()
     };
-    Reach {
+    MovedSeats {
         row: one.row,
         from: one.place as usize,
         to,
@@ -59,7 +64,7 @@ fn left_of(costs: &NetCosts, seats: &[Seat], place: usize) -> u64
 }
 
 /// Enters where the instances of the seats stand that a change moved. The seat before them is entered.
-pub(crate) fn enter_reach(costs: &mut NetCosts, rows: &[Items<Seat>], reach: Reach)
+pub(crate) fn enter_reach(costs: &mut NetCosts, rows: &[Items<Seat>], reach: MovedSeats)
     requires placed { ArePlaced costs.old.design rows.now }
     requires count { length costs.old.standings ≡ length costs.old.design.instances }
     requires reach { IsReach rows.now reach }
@@ -86,7 +91,7 @@ pub(crate) fn enter_reach(costs: &mut NetCosts, rows: &[Items<Seat>], reach: Rea
 }
 
 // Two reaches, the one that begins at the lower place first.
-fn in_order(one: Reach, other: Reach) -> (Reach, Reach)
+fn in_order(one: MovedSeats, other: MovedSeats) -> (MovedSeats, MovedSeats)
     ensures { result ≡ in_order one other }
 {
     if one.from <= other.from {
@@ -102,7 +107,7 @@ pub(crate) fn exchange_seats(
     costs: &NetCosts,
     a: u32,
     b: u32,
-) -> (Reach, Reach)
+) -> (MovedSeats, MovedSeats)
     requires seated { AreSeated costs.now.design rows.old costs.now.standings }
     requires apart { a ≢ b }
     requires a { a < length costs.now.design.instances }
@@ -116,15 +121,15 @@ pub(crate) fn exchange_seats(
     let one = costs.standing(a);
     let other = costs.standing(b);
     let even = columns_of(design, a) == columns_of(design, b);
-    let reach = reach_of(rows, one, other, even);
-    let other_reach = reach_of(rows, other, one, even);
+    let reach = moved_seats(rows, one, other, even);
+    let other_reach = moved_seats(rows, other, one, even);
     put(rows, one, other.seat(b));
     put(rows, other, one.seat(a));
     in_order(reach, other_reach)
 }
 
 /// An instance is turned over, and a table still tells how it stood before: which seat changed.
-pub(crate) fn turn_seat(rows: &mut [Items<Seat>], costs: &NetCosts, a: u32) -> Reach
+pub(crate) fn turn_seat(rows: &mut [Items<Seat>], costs: &NetCosts, a: u32) -> MovedSeats
     requires seated { AreSeated costs.now.design rows.old costs.now.standings }
     requires a { a < length costs.now.design.instances }
     ensures mirrored { rows.new ≡ mirrored a rows.old }
@@ -137,5 +142,5 @@ pub(crate) fn turn_seat(rows: &mut [Items<Seat>], costs: &NetCosts, a: u32) -> R
     let seat = one.seat(a);
     let mirror = !seat.mirror;
     put(rows, one, Seat { mirror, ..seat });
-    reach_of(rows, one, one, true)
+    moved_seats(rows, one, one, true)
 }

@@ -6,7 +6,7 @@ ghost use Rattle.row_board.specs.Standings.{standing_of, traded};
 ghost use Rattle.row_board.specs.Trial.{seats_between, shifted_pins, slack};
 ghost use Rattle.std.specs.Prelude.{◌≡◌, ◌<◌, ◌+◌, ◌*◌, ◌^◌, sum};
 
-use crate::moving::reach_of;
+use crate::moving::moved_seats;
 use crate::net_costs::NetCosts;
 use crate::row_lengths::{RowLengths, difference};
 use crate::seated::Seated;
@@ -56,7 +56,7 @@ fn shifted_pins(seated: &Seated, a: u32, b: u32) -> u64
     let _design = costs.design();
     let one = costs.standing(a);
     let other = costs.standing(b);
-    let reach = reach_of(rows, one, other, false);
+    let reach = moved_seats(rows, one, other, false);
     let seats = between(row_at(rows, reach.row), reach.from, reach.to);
     let stretch = Stretch { costs, seats };
     stretch.pin_count()

@@ -7,5 +7,5 @@ abbrev pub stand_in : Inside → Stand
 stand_in a = record { row = a.row; left = a.left; mirror = a.mirror }
 
 -- in a row of at most 20,000 cells, each of at most 100,000,000 columns
-abbrev pub IsNear : Inside → Type 0
-IsNear a = a.left ≤ 2000000000000
+abbrev pub IsStandIn : Inside → Type 0
+IsStandIn a = a.left ≤ 2000000000000

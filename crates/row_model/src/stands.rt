@@ -27,11 +27,11 @@ impl Model for Stand {
 
     ghost Value = { Stood };
 
-    ghost use Rattle.row_model.specs.StandView.{stand_in, IsNear};
+    ghost use Rattle.row_model.specs.StandView.{stand_in, IsStandIn};
 
     ghost view = { stand_in };
 
-    ghost invariant = { IsNear };
+    ghost invariant = { IsStandIn };
 
     ghost inverse = { λ s. record { row = s.row; left = s.left; mirror = s.mirror } };
 }

@@ -4,7 +4,7 @@ pub mod FailingLaws
 pub mod Holding
 -- pairs that fail, by members that crowd
 pub mod Crowding
--- layers that are raised far apart
+-- wires and cuts, each layer in a plane of its own
 pub mod Layers
 -- numbers of rows, by their heights
 pub mod RowNumbers

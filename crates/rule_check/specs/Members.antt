@@ -1,10 +1,11 @@
 -- shapes and outlines as members that keep their distance
-use Rattle.std.specs.Prelude.{ℕ, ℤ, pos, ◌+◌, ◌+ℤ◌, List, [], ◌∷◌, Option, Some, None, if◌then◌else◌}
+use Rattle.std.specs.Prelude.{ℕ, ℤ, pos, ◌+◌, List, [], ◌∷◌, Option, Some, None, if◌then◌else◌}
 use Rattle.std.specs.List.{cons_option}
 use Rattle.std.specs.Option.{option_map}
 use Rattle.std.specs.Str.{bytes_eq}
 use Rattle.geom_core.specs.Extent.{Extent}
 use Rattle.geom_core.specs.declared.layout.Shape.{Shape}
+use Rattle.close_rects.specs.Planes.{in_plane}
 use Rattle.close_rects.specs.declared.member.Member.{Member}
 use Rattle.tech_rules.specs.Lengths.{length_in}
 use Rattle.tech_rules.specs.Rules.{RuleValues}
@@ -23,23 +24,20 @@ layer_of r name =
     if bytes_eq name r.horizontal.layer then Some Horizontal
     else (if bytes_eq name r.vertical.layer then Some Vertical else (if bytes_eq name r.cut.layer then Some Cut else None))
 
--- how far the rectangles of a layer are raised, so that those of different layers lie far apart
-abbrev pub height_of : Layer → ℤ
-height_of Horizontal = pos 0
-height_of Vertical = pos 4000000000000000
-height_of Cut = pos 8000000000000000
+-- the plane in which the rectangles of a layer are compared
+abbrev pub plane_of : Layer → ℕ
+plane_of Horizontal = 0
+plane_of Vertical = 1
+plane_of Cut = 2
 
 abbrev pub space_of : RuleValues → Layer → ℤ
 space_of r Horizontal = length_in r r.horizontal.space
 space_of r Vertical = length_in r r.vertical.space
 space_of r Cut = length_in r r.cut.space
 
-abbrev pub raised : ℤ → Extent → Extent
-raised by e = record { x0 = e.x0; y0 = e.y0 +ℤ by; x1 = e.x1; y1 = e.y1 +ℤ by }
-
 -- a shape of a class on a layer
 abbrev pub member_on : RuleValues → Layer → ℕ → ℕ × Shape → Member
-member_on r layer n a = record { number = n; class = a.0; rect = raised (height_of layer) a.1.rect; reach = space_of r layer }
+member_on r layer n a = record { number = n; class = a.0; rect = in_plane (plane_of layer) a.1.rect; reach = space_of r layer }
 
 abbrev pub wire_member : RuleValues → ℕ → ℕ × Shape → Option Member
 wire_member r n a = option_map (λ layer. member_on r layer n a) (layer_of r a.1.layer)

@@ -1,5 +1,6 @@
 //! Lengths in half centimicrons, rectangles compared with them, and rectangles grown by them.
 
+ghost use Rattle.close_rects.specs.Items.{HasInside};
 ghost use Rattle.geom_core.specs.Reach.{IsExtentInReach, IsInReach};
 ghost use Rattle.geom_core.specs.Rectangles.{grown};
 ghost use Rattle.rule_check.specs.Narrow.{has_sides, is_on, is_square};
@@ -36,7 +37,8 @@ pub(crate) fn has_sides(side: i64, rect: &Rect) -> bool
 }
 
 pub(crate) fn is_square(side: i64, rect: &Rect) -> bool
-    ensures { result ≡ is_square side rect.now }
+    ensures is { result ≡ is_square side rect.now }
+    ensures inside { HasInside rect.now }
 {
     let across = fills(rect.x0, side, rect.x1);
     let up = fills(rect.y0, side, rect.y1);

@@ -1,5 +1,6 @@
 //! Wires below their layer's width, cuts of another size than the rule's, and cuts that are not enclosed.
 
+ghost use Rattle.close_rects.specs.Items.{HasInside};
 ghost use Rattle.rule_check.specs.Failing.{failing};
 ghost use Rattle.rule_check.specs.Narrow.{has_sides, is_bare, is_narrow, is_on};
 ghost use Rattle.tech_rules.specs.Lengths.{length_in};
@@ -14,7 +15,8 @@ use tech_rules::Rules;
 /// The numbers of the shapes that are too narrow, in order: of wires with a side below their layer's width, and of cuts that are no
 /// squares of the cut's size. The one error is want of memory.
 pub fn narrow(alloc: Global, judged: &ShapesInReach, rules: &Rules) -> Result<Vec<u32>, AllocError>
-    ensures { IfOk result (λ v. v.items ≡ failing (is_narrow rules.now) judged.now) }
+    ensures narrow { IfOk result (λ v. v.items ≡ failing (is_narrow rules.now) judged.now) }
+    ensures inside { OnOk result (All (λ s. HasInside s.rect) judged.now) }
 {
     let shapes = judged.shapes();
     let mut numbers = Vec::new(alloc);
@@ -56,7 +58,8 @@ fn push_if(numbers: &mut Vec<u32>, number: u32, fails: bool) -> Result<(), Alloc
 }
 
 fn is_narrow(rules: &Rules, shape: &Shape) -> bool
-    ensures { result ≡ is_narrow rules.now shape.now }
+    ensures is { result ≡ is_narrow rules.now shape.now }
+    ensures inside { HasInside shape.now.rect }
 {
     let horizontal = is_thin(
         rules,
@@ -65,8 +68,8 @@ fn is_narrow(rules: &Rules, shape: &Shape) -> bool
         shape,
     );
     let vertical = is_thin(rules, &rules.vertical.layer, rules.vertical.width, shape);
-    let size = length_in(rules, rules.cut.size);
-    let cut = is_on(&rules.cut.layer, shape) && !is_square(size, &shape.rect);
+    let square = is_square(length_in(rules, rules.cut.size), &shape.rect);
+    let cut = is_on(&rules.cut.layer, shape) && !square;
     horizontal || vertical || cut
 }
 

@@ -1,14 +1,14 @@
-//! Wires and cuts with the space that each keeps, the layers raised to lie far apart.
+//! Wires and cuts with the space that each keeps, each layer in a plane of its own.
 
-ghost use Rattle.geom_core.specs.Reach.{IsExtentInReach, IsShapeInReach};
-ghost use Rattle.rule_check.specs.Members.{height_of, layer_of, members_from, raised, space_of, wire_member};
+ghost use Rattle.geom_core.specs.Reach.{IsShapeInReach};
+ghost use Rattle.rule_check.specs.Members.{layer_of, members_from, plane_of, space_of, wire_member};
 ghost use Rattle.std.specs.List.{zip};
-ghost use Rattle.std.specs.Prelude.{◌≡◌, ◌<◌, ◌^◌, ◌≤ℤ◌, pos, length, All, IfOk};
+ghost use Rattle.std.specs.Prelude.{◌≡◌, ◌≤◌, ◌≤ℤ◌, pos, length, All, IfOk};
 
 use crate::measures::length_in;
 use crate::pairs::push_made;
-use close_rects::Member;
-use geom_core::{LayerName, Rect, Shape, ShapesInReach};
+use close_rects::{Member, in_plane};
+use geom_core::{LayerName, Shape, ShapesInReach};
 use std::alloc::{AllocError, Global};
 use tech_rules::Rules;
 
@@ -47,7 +47,7 @@ fn wire_member(rules: &Rules, shape: &Shape, class: u32, number: u32) -> Option<
     Some(Member {
         number,
         class,
-        rect: raised(&shape.rect, height_of(layer)),
+        rect: in_plane(&shape.rect, plane_of(layer)),
         reach: space_of(rules, layer),
     })
 }
@@ -67,16 +67,15 @@ fn layer_of(rules: &Rules, name: &LayerName) -> Option<Layer>
     }
 }
 
-// How far the rectangles of a layer are raised, so that those of different layers lie far apart.
-fn height_of(layer: Layer) -> i64
-    ensures is { result ≡ height_of layer }
-    ensures low { pos 0 ≤ℤ result }
-    ensures high { result ≤ℤ pos 8000000000000000 }
+// The plane in which the rectangles of a layer are compared.
+fn plane_of(layer: Layer) -> u8
+    ensures is { result ≡ plane_of layer }
+    ensures few { result ≤ 2 }
 {
     match layer {
         Layer::Horizontal => 0,
-        Layer::Vertical => 4_000_000_000_000_000,
-        Layer::Cut => 8_000_000_000_000_000,
+        Layer::Vertical => 1,
+        Layer::Cut => 2,
     }
 }
 
@@ -89,19 +88,5 @@ fn space_of(rules: &Rules, layer: Layer) -> i64
         Layer::Horizontal => length_in(rules, rules.horizontal.space),
         Layer::Vertical => length_in(rules, rules.vertical.space),
         Layer::Cut => length_in(rules, rules.cut.space),
-    }
-}
-
-fn raised(rect: &Rect, by: i64) -> Rect
-    requires reach { IsExtentInReach rect.now }
-    requires low { pos 0 ≤ℤ by }
-    requires high { by ≤ℤ pos 8000000000000000 }
-    ensures { result ≡ raised by rect.now }
-{
-    Rect {
-        x0: rect.x0,
-        y0: rect.y0 + by,
-        x1: rect.x1,
-        y1: rect.y1 + by,
     }
 }

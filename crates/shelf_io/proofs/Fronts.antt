@@ -1,4 +1,4 @@
-use Rattle.std.proofs.Common.{◌≡◌, ◌≤◌, ◌<◌, ◌+◌, ◌-◌, ◌++◌, inl, inr, ℕ, List, length, take, drop, min, arith}
+use Rattle.std.proofs.Common.{◌≡◌, ◌≤◌, ◌<◌, ◌-◌, ◌++◌, inl, inr, ℕ, List, length, take, drop, min, arith}
 use Rattle.std.proofs.lemmas.Bool.{cases_lt}
 use Rattle.shelf_io.specs.Told.{Gives}
 use Rattle.std_laws.proofs.Slices.{rest_from, rest_past}

@@ -4,8 +4,8 @@ use Rattle.shelf_io.specs.declared.plan.Plan.{Plan}
 use Rattle.shelf_io.specs.declared.mem_sink.MemSink.{MemSink}
 
 -- all that was put to the sink
-abbrev pub text_of : MemSink → List ℕ
-text_of sink = sink.text.items
+abbrev pub bytes_put : MemSink → List ℕ
+bytes_put sink = sink.text.items
 
 -- how many puts have failed
 abbrev pub failed_puts : MemSink → ℕ

@@ -9,5 +9,5 @@ abbrev pub is_marked : Plan → Bool
 is_marked plan = list_any (λ mark. mark == plan.calls) plan.marks.items
 
 -- the plan after one more call
-abbrev pub counted : Plan → Plan
-counted plan = record plan { calls = raised plan.calls }
+abbrev pub called : Plan → Plan
+called plan = record plan { calls = raised plan.calls }

@@ -126,6 +126,10 @@ impl<'r, P: Print> Sink for HostSink<'r, P> {
 
     ghost faults = { λ sink. sink.failures };
 
+    ghost same_place = { λ old new. Unit {0} };
+
+    ghost else_same = { λ old new calm. Unit {0} };
+
     fn put(&mut self, piece: &[u8]) -> Result<usize, Failed> {
         match write_out(self.output, piece) {
             Some(n) => Ok(n),
@@ -135,6 +139,14 @@ impl<'r, P: Print> Sink for HostSink<'r, P> {
             }
         }
     }
+
+    ghost place_here = { λ x. tt };
+
+    ghost place_then = { λ x y z one two. tt };
+
+    ghost same_here = { λ x. tt };
+
+    ghost same_then = { λ x y z calm one two. tt };
 }
 
 /// Writes once; `None` where the system reports an error, or takes nothing of a piece that is not

@@ -4,7 +4,7 @@ ghost use Rattle.std.specs.Prelude.{◌≡◌, ◌≢◌, ◌<◌, ◌≤◌, �
 ghost use Rattle.std.specs.Option.{option_copied};
 ghost use Rattle.shelf_io.specs.Count.{Rose, raised};
 ghost use Rattle.shelf_io.specs.Told.{Gives, Refines, Emptied, appended};
-ghost use Rattle.shelf_io.specs.Plan.{is_marked, counted};
+ghost use Rattle.shelf_io.specs.Plan.{is_marked, called};
 ghost use Rattle.shelf_io.specs.MemShelf.{held, failed_takes, failed_writes, plan_of, SameFaults, taken};
 
 use crate::files::{Files, append, copy_from, empty, replace};
@@ -67,7 +67,7 @@ impl MemShelf {
         }
     }
 
-    /// Marks a call to fail. The calls of the trait are counted from 0, all kinds together; several
+    /// Marks a call to fail. The calls of the trait are called from 0, all kinds together; several
     /// may be marked. Where there is no memory for the mark all stays as it was.
     pub fn fail_at(&mut self, call: u64) -> Result<(), AllocError>
         ensures marked { OnOk result ((plan_of self.new).marks.items
@@ -134,7 +134,7 @@ impl Shelf for MemShelf {
         ensures raised { OnErr result (failed_takes self.new ≡ raised (failed_takes self.old)) }
         ensures answer { result ≡ taken (is_marked (plan_of self.old)) (held self.old name.now) at
             (length into.old) }
-        ensures counted { plan_of self.new ≡ counted (plan_of self.old) }
+        ensures called { plan_of self.new ≡ called (plan_of self.old) }
     {
         let marked = self.plan.fails();
         match self.files.get(name) {
@@ -159,7 +159,7 @@ impl Shelf for MemShelf {
         ensures marked { IsTrue (is_marked (plan_of self.old)) → IsErr result }
         ensures lacking { OnErr result (is_marked (plan_of self.old) ≡ false
             → held self.old name.now ≡ None) }
-        ensures counted { plan_of self.new ≡ counted (plan_of self.old) }
+        ensures called { plan_of self.new ≡ called (plan_of self.old) }
     {
         if self.plan.fails() {
             self.writes = raise(self.writes);
@@ -190,7 +190,7 @@ impl Shelf for MemShelf {
         ensures lacking { held self.old name.now ≡ None → IsErr result }
         ensures empty { length piece.now ≡ 0 → is_marked (plan_of self.old) ≡ false
             → OnErr result (held self.old name.now ≡ None) }
-        ensures counted { plan_of self.new ≡ counted (plan_of self.old) }
+        ensures called { plan_of self.new ≡ called (plan_of self.old) }
     {
         if self.plan.fails() {
             self.writes = raise(self.writes);

@@ -3,8 +3,8 @@
 ghost use Rattle.std.specs.Prelude.{◌≡◌, ◌<◌, ◌≤◌, ◌++◌, ◌∷◌, ◌-◌, ◌^◌, List, ℕ, [], length, take, min, Some, IsErr, IsOk, false, IfOk, OnOk, OnErr, IsTrue};
 ghost use Rattle.shelf_io.specs.Count.{Rose, raised};
 ghost use Rattle.shelf_io.specs.Told.{Refines, appended};
-ghost use Rattle.shelf_io.specs.Plan.{is_marked, counted};
-ghost use Rattle.shelf_io.specs.MemSink.{text_of, failed_puts, plan_of};
+ghost use Rattle.shelf_io.specs.Plan.{is_marked, called};
+ghost use Rattle.shelf_io.specs.MemSink.{bytes_put, failed_puts, plan_of};
 
 use crate::plan::{Plan, raise};
 use crate::traits::{Failed, Sink};
@@ -22,7 +22,7 @@ pub struct MemSink {
 impl MemSink {
     /// Nothing was put, no call is marked, and a put takes any piece whole.
     pub fn new(alloc: Global) -> Result<MemSink, AllocError>
-        ensures text { IfOk result (λ sink. text_of sink ≡ []) }
+        ensures text { IfOk result (λ sink. bytes_put sink ≡ []) }
         ensures failures { IfOk result (λ sink. failed_puts sink ≡ 0) }
         ensures marks { IfOk result (λ sink. (plan_of sink).marks.items ≡ []) }
         ensures calls { IfOk result (λ sink. (plan_of sink).calls ≡ 0) }
@@ -35,7 +35,7 @@ impl MemSink {
         })
     }
 
-    /// Marks a put to fail. The puts are counted from 0; several may be marked. Where there is no
+    /// Marks a put to fail. The puts are called from 0; several may be marked. Where there is no
     /// memory for the mark all stays as it was.
     pub fn fail_at(&mut self, call: u64) -> Result<(), AllocError>
         ensures marked { OnOk result ((plan_of self.new).marks.items
@@ -44,7 +44,7 @@ impl MemSink {
             ≡ (plan_of self.old).marks.items) }
         ensures calls { (plan_of self.new).calls ≡ (plan_of self.old).calls }
         ensures most { (plan_of self.new).most ≡ (plan_of self.old).most }
-        ensures text { text_of self.new ≡ text_of self.old }
+        ensures text { bytes_put self.new ≡ bytes_put self.old }
         ensures failures { failed_puts self.new ≡ failed_puts self.old }
     {
         self.plan.mark(call)
@@ -56,7 +56,7 @@ impl MemSink {
         ensures most { (plan_of self.new).most ≡ n }
         ensures marks { (plan_of self.new).marks ≡ (plan_of self.old).marks }
         ensures calls { (plan_of self.new).calls ≡ (plan_of self.old).calls }
-        ensures text { text_of self.new ≡ text_of self.old }
+        ensures text { bytes_put self.new ≡ bytes_put self.old }
         ensures failures { failed_puts self.new ≡ failed_puts self.old }
     {
         self.plan.set_most(n);
@@ -64,29 +64,33 @@ impl MemSink {
 
     /// All that was put.
     pub fn bytes(&self) -> &[u8]
-        ensures { result.now ≡ text_of self.now }
+        ensures { result.now ≡ bytes_put self.now }
     {
         self.text.as_slice()
     }
 }
 
 impl Sink for MemSink {
-    ghost written = { λ sink. Some (text_of sink) };
+    ghost written = { λ sink. Some (bytes_put sink) };
 
     ghost faults = { failed_puts };
+
+    ghost same_place = { λ old new. Unit {0} };
+
+    ghost else_same = { λ old new calm. Unit {0} };
 
     fn put(&mut self, piece: &[u8]) -> Result<usize, Failed>
         ensures takes { IfOk result (λ n. n ≡ min (length piece.now) (plan_of self.old).most) }
         ensures some { IfOk result (λ n. 0 < length piece.now → 0 < n) }
-        ensures appended { IfOk result (λ n. text_of self.new
-            ≡ text_of self.old ++ take n piece.now) }
-        ensures failed { OnErr result (text_of self.new ≡ text_of self.old) }
+        ensures appended { IfOk result (λ n. bytes_put self.new
+            ≡ bytes_put self.old ++ take n piece.now) }
+        ensures failed { OnErr result (bytes_put self.new ≡ bytes_put self.old) }
         ensures quiet { OnOk result (failed_puts self.new ≡ failed_puts self.old) }
         ensures later { failed_puts self.old ≤ failed_puts self.new }
         ensures raised { OnErr result (failed_puts self.new ≡ raised (failed_puts self.old)) }
         ensures marked { IsTrue (is_marked (plan_of self.old)) → IsErr result }
         ensures empty { length piece.now ≡ 0 → is_marked (plan_of self.old) ≡ false → IsOk result }
-        ensures counted { plan_of self.new ≡ counted (plan_of self.old) }
+        ensures called { plan_of self.new ≡ called (plan_of self.old) }
     {
         let front = self.plan.front(piece);
         let n = front.len();
@@ -105,4 +109,12 @@ impl Sink for MemSink {
             }
         }
     }
+
+    ghost place_here = { λ x. tt };
+
+    ghost place_then = { λ x y z one two. tt };
+
+    ghost same_here = { λ x. tt };
+
+    ghost same_then = { λ x y z calm one two. tt };
 }

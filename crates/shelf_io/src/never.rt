@@ -100,9 +100,21 @@ impl Sink for NeverSink {
 
     ghost faults = { λ sink. 0 };
 
+    ghost same_place = { λ old new. Unit {0} };
+
+    ghost else_same = { λ old new calm. Unit {0} };
+
     fn put(&mut self, piece: &[u8]) -> Result<usize, Failed>
         ensures answer { result ≡ Ok (length piece.now) }
     {
         Ok(piece.len())
     }
+
+    ghost place_here = { λ x. tt };
+
+    ghost place_then = { λ x y z one two. tt };
+
+    ghost same_here = { λ x. tt };
+
+    ghost same_then = { λ x y z calm one two. tt };
 }

@@ -15,7 +15,7 @@ pub(crate) struct Plan {
 }
 
 impl Plan {
-    ghost use Rattle.shelf_io.specs.Plan.{is_marked, counted};
+    ghost use Rattle.shelf_io.specs.Plan.{is_marked, called};
 
     /// No call fails, and a put takes any piece whole.
     pub(crate) fn new(alloc: Global) -> Plan
@@ -30,7 +30,7 @@ impl Plan {
         }
     }
 
-    /// Marks a call by its number, counted from 0.
+    /// Marks a call by its number, called from 0.
     pub(crate) fn mark(&mut self, call: u64) -> Result<(), AllocError>
         ensures marked { OnOk result (self.new.marks.items ≡ self.old.marks.items ++ call ∷ []) }
         ensures refused { OnErr result (self.new.marks.items ≡ self.old.marks.items) }
@@ -54,7 +54,7 @@ impl Plan {
     /// Counts a call, and says whether it is marked.
     pub(crate) fn fails(&mut self) -> bool
         ensures marked { result ≡ is_marked self.old }
-        ensures counted { self.new ≡ counted self.old }
+        ensures called { self.new ≡ called self.old }
     {
         let marked = self.marks.contains(&self.calls);
         self.calls = self.calls.saturating_add(1);

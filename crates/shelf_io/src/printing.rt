@@ -1,8 +1,6 @@
 //! Puts the whole of some bytes to a sink.
 
-ghost use Rattle.std.specs.Prelude.{◌≡◌, ◌≤◌, OnOk, OnErr};
-ghost use Rattle.shelf_io.specs.Count.{Rose};
-ghost use Rattle.shelf_io.specs.Told.{Refines, EndsWithin, appended};
+ghost use Rattle.shelf_io.specs.Wrote.{Puts};
 
 use crate::traits::{Failed, Sink};
 
@@ -10,11 +8,7 @@ use crate::traits::{Failed, Sink};
 ///
 /// After Failed, which comes only where the sink's count rose, a front of `bytes` was put.
 pub fn put_whole<K: Sink>(out: &mut K, bytes: &[u8]) -> Result<(), Failed>
-    ensures whole { OnOk result (Refines (K.written out.new) (appended (K.written out.old) bytes.now)) }
-    ensures front { OnErr result (EndsWithin (K.written out.old) bytes.now (K.written out.new)) }
-    ensures quiet { OnOk result (K.faults out.new ≡ K.faults out.old) }
-    ensures cause { OnErr result (Rose (K.faults out.old) (K.faults out.new)) }
-    ensures later { K.faults out.old ≤ K.faults out.new }
+    ensures { Puts result bytes.now (K.written out.old) (K.written out.new) (K.faults out.old) (K.faults out.new) (K.same_place out.old out.new) (K.else_same out.old out.new) }
 {
     let mut done = 0;
     while done < bytes.len() {

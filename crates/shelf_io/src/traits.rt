@@ -1,7 +1,7 @@
 //! What a shelf of named files and a sink of lines promise to whoever reads and writes through
 //! them.
 
-ghost use Rattle.std.specs.Prelude.{◌≡◌, ◌≢◌, ◌<◌, ◌≤◌, List, ℕ, length, take, Option, Some, [], IfOk, OnOk, OnErr};
+ghost use Rattle.std.specs.Prelude.{◌≡◌, ◌≢◌, ◌<◌, ◌≤◌, List, ℕ, length, take, Option, Some, [], IfOk, OnOk, OnErr, Bool, true, is_ok};
 ghost use Rattle.shelf_io.specs.Count.{Rose};
 ghost use Rattle.shelf_io.specs.Told.{Gives, Refines, Emptied, appended};
 
@@ -78,13 +78,20 @@ pub trait Shelf {
 /// A place where lines are written one after the other, as standard output.
 ///
 /// A sink tells what was written, or leaves it untold. It counts its faults; a call that answers
-/// `Ok` does not change the count, and the count never falls.
+/// `Ok` does not change the count, and the count never falls. Whatever else a sink has, as a shelf
+/// with other files, a put leaves as it was (`else_same`).
 pub trait Sink {
     /// All that was written, where the sink tells it.
     ghost written: { Self → Option (List ℕ) };
 
     /// How many times writing has failed.
     ghost faults: { Self → ℕ };
+
+    /// The second is the same place as the first, as a file of the same shelf.
+    ghost same_place: { Self → Self → Type 0 };
+
+    /// Nothing else of the second differs from the first, counts included where the test holds.
+    ghost else_same: { Self → Self → Bool → Type 0 };
 
     /// Writes a front of the piece and gives its length, which is 0 only for an empty piece. After
     /// Failed, which comes only where the count rose, nothing was written.
@@ -96,5 +103,19 @@ pub trait Sink {
         ensures failed { OnErr result (Refines (written self.new) (written self.old)) }
         ensures quiet { OnOk result (faults self.new ≡ faults self.old) }
         ensures cause { OnErr result (Rose (faults self.old) (faults self.new)) }
-        ensures later { faults self.old ≤ faults self.new };
+        ensures later { faults self.old ≤ faults self.new }
+        ensures place { same_place self.old self.new }
+        ensures same { else_same self.old self.new (is_ok result) };
+
+    /// Each is its own place, and that of one at the same place is the same.
+    ghost place_here: { (x : Self) → same_place x x };
+
+    ghost place_then: { (x y z : Self) → same_place x y → same_place y z → same_place x z };
+
+    /// It does not differ from itself.
+    ghost same_here: { (x : Self) → else_same x x true };
+
+    /// What does not differ from one that does not differ does not.
+    ghost same_then: { (x y z : Self) (calm : Bool) → else_same x y true → else_same y z calm
+        → else_same x z calm };
 }

@@ -49,8 +49,8 @@ unfoldable pub number_of : Members → Key → ℕ → ℕ → Result ℕ RulesF
 number_of document key low high = or_missing key (number_within low high) (data_of document key)
 
 -- the text at a key
-unfoldable pub text_of : Members → Key → (List ℕ → Bool) → Result (List ℕ) RulesFault
-text_of document key test = or_missing key (text_where test) (data_of document key)
+unfoldable pub string_of : Members → Key → (List ℕ → Bool) → Result (List ℕ) RulesFault
+string_of document key test = or_missing key (text_where test) (data_of document key)
 
 -- how start rows are filled, by a text
 abbrev pub start_named : List ℕ → Option StartBy

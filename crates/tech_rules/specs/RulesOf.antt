@@ -1,8 +1,8 @@
 -- the rules that the bytes of a file give, or the first key at fault, or the first of the twelve rules that fails
-use Rattle.std.specs.Prelude.{◌≡◌, ◌⊎◌, ℕ, ◌+◌, ◌%◌, List, Bool, not, ◌&&◌, ◌==◌, nat_le, if◌then◌else◌, Option, Some, None, Result, Ok, Err}
+use Rattle.std.specs.Prelude.{ℕ, ◌+◌, ◌%◌, List, Bool, not, ◌&&◌, ◌==◌, nat_le, if◌then◌else◌, Option, Some, None, Result, Ok, Err}
 use Rattle.std.specs.Str.{bytes_eq}
 use Rattle.toml.specs.Data.{Members}
-use Rattle.tech_rules.specs.Document.{document_of, number_of, text_of}
+use Rattle.tech_rules.specs.Document.{document_of, number_of, string_of}
 use Rattle.tech_rules.specs.Rules.{RuleValues, pad, is_yal_word}
 use Rattle.tech_rules.specs.Sections.{and_then, annealing_in, cut_in, grid_in, outline_in, wires_in}
 use Rattle.tech_rules.specs.declared.fault.RulesFault.{RulesFault}
@@ -13,7 +13,7 @@ use Rattle.tech_rules.specs.declared.key.Key.TheVariants.{Version, Yal, Horizont
 abbrev pub values_in : Members → Result RuleValues RulesFault
 values_in document =
     and_then (number_of document Version 1 1) (λ version.
-    and_then (text_of document Yal is_yal_word) (λ yal.
+    and_then (string_of document Yal is_yal_word) (λ yal.
     and_then (grid_in document) (λ grid.
     and_then (wires_in document HorizontalLayer HorizontalWidth HorizontalSpace) (λ horizontal.
     and_then (wires_in document VerticalLayer VerticalWidth VerticalSpace) (λ vertical.
@@ -70,6 +70,7 @@ rules_in (Some document) = and_then (values_in document) (λ r. unless_broken (b
 unfoldable pub rules_of : List ℕ → Result RuleValues RulesFault
 rules_of bytes = rules_in (document_of bytes)
 
--- the answer is this, or memory ran out
-abbrev pub Says : Result RuleValues RulesFault → Result RuleValues RulesFault → Type 0
-Says answer said = (answer ≡ said) ⊎ (answer ≡ Err Memory)
+-- what a fault tells, and nothing for want of memory
+abbrev pub told_of : RulesFault → Option RulesFault
+told_of Memory = None
+told_of fault = Some fault

@@ -3,7 +3,7 @@ use Rattle.std.specs.Prelude.{Result, Ok, Err}
 use Rattle.geom_core.specs.LayerText.{is_layer_text}
 use Rattle.limits.specs.declared.TheConstants.{MOST_LENGTH, MOST_MOVES, MOST_STAGES, MOST_TEMPERATURE, MOST_WEIGHT}
 use Rattle.toml.specs.Data.{Members}
-use Rattle.tech_rules.specs.Document.{number_of, start_of, text_of}
+use Rattle.tech_rules.specs.Document.{number_of, start_of, string_of}
 use Rattle.tech_rules.specs.declared.fault.RulesFault.{RulesFault}
 use Rattle.tech_rules.specs.declared.key.Key.{Key}
 use Rattle.tech_rules.specs.declared.key.Key.TheVariants.{GridColumn, GridTrack, GridCenti, GridPin, CutLayer, CutSize, CutEnclose, CutSpace, OutlineLayer, AnnealTemperature, AnnealStages, AnnealMoves, AnnealRowCost, AnnealLengthCost}
@@ -30,21 +30,21 @@ grid_in document =
 -- by the keys of a layer, of a width and of a space
 unfoldable pub wires_in : Members → Key → Key → Key → Result Wires RulesFault
 wires_in document named wide apart =
-    and_then (text_of document named is_layer_text) (λ layer.
+    and_then (string_of document named is_layer_text) (λ layer.
     and_then (number_of document wide 1 MOST_LENGTH) (λ width.
     and_then (number_of document apart 1 MOST_LENGTH) (λ space.
     Ok (record { layer = layer; width = width; space = space }))))
 
 unfoldable pub cut_in : Members → Result Cut RulesFault
 cut_in document =
-    and_then (text_of document CutLayer is_layer_text) (λ layer.
+    and_then (string_of document CutLayer is_layer_text) (λ layer.
     and_then (number_of document CutSize 1 MOST_LENGTH) (λ size.
     and_then (number_of document CutEnclose 0 MOST_LENGTH) (λ enclose.
     and_then (number_of document CutSpace 1 MOST_LENGTH) (λ space.
     Ok (record { layer = layer; size = size; enclose = enclose; space = space })))))
 
 unfoldable pub outline_in : Members → Result Outline RulesFault
-outline_in document = and_then (text_of document OutlineLayer is_layer_text) (λ layer. Ok (record { layer = layer }))
+outline_in document = and_then (string_of document OutlineLayer is_layer_text) (λ layer. Ok (record { layer = layer }))
 
 unfoldable pub annealing_in : Members → Result Annealing RulesFault
 annealing_in document =

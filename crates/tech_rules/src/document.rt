@@ -4,7 +4,7 @@ ghost use Rattle.std.specs.List.{list_all};
 ghost use Rattle.std.specs.Option.{option_copied, option_map};
 ghost use Rattle.std.specs.Prelude.{◌≡◌, true, IfOk, IfSome};
 ghost use Rattle.std.specs.Result.{result_map_both};
-ghost use Rattle.tech_rules.specs.Document.{data_of, document_of, number_of, number_within, start_in, start_named, start_of, text_of, text_where};
+ghost use Rattle.tech_rules.specs.Document.{data_of, document_of, number_of, number_within, start_in, start_named, start_of, string_of, text_where};
 ghost use Rattle.tech_rules.specs.Rules.{is_yal_code, is_yal_word};
 ghost use Rattle.tech_rules.specs.Ranges.{IsWithin};
 ghost use Rattle.toml.specs.Data.{get_member};
@@ -50,9 +50,9 @@ pub(crate) fn number(table: &Table, key: Key, low: u32, high: u32) -> Result<u32
 }
 
 /// The layer at a key, if its text is a layer's name. Takes no memory.
-#[tactic(auto, unfolding(crate::specs::Document::text_of))]
+#[tactic(auto, unfolding(crate::specs::Document::string_of))]
 pub(crate) fn layer(table: &Table, key: Key) -> Result<LayerName, RulesFault>
-    ensures value { result ≡ text_of (table_view table.now) key is_layer_text }
+    ensures value { result ≡ string_of (table_view table.now) key is_layer_text }
     ensures valid { IfOk result (λ l. is_layer_text l ≡ true) }
 {
     match value_at(table, key) {
@@ -65,9 +65,9 @@ pub(crate) fn layer(table: &Table, key: Key) -> Result<LayerName, RulesFault>
 }
 
 /// The word at a key, if it is a text of 1 to 32 ASCII letters, digits or `_`. Takes no memory.
-#[tactic(auto, unfolding(crate::specs::Document::text_of))]
+#[tactic(auto, unfolding(crate::specs::Document::string_of))]
 pub(crate) fn word<'t>(table: &'t Table, key: Key) -> Result<&'t [u8], RulesFault>
-    ensures value { result_map_both (λ w. w.now) (λ f. f) result ≡ text_of (table_view table.now) key is_yal_word }
+    ensures value { result_map_both (λ w. w.now) (λ f. f) result ≡ string_of (table_view table.now) key is_yal_word }
     ensures valid { IfOk result (λ w. is_yal_word w.now ≡ true) }
 {
     match value_at(table, key) {

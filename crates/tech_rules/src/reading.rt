@@ -1,5 +1,7 @@
 //! Reading a rules file.
-ghost use Rattle.tech_rules.specs.RulesOf.{rules_of, Says};
+
+ghost use Rattle.read_base.specs.Answers.{AnswersAs};
+ghost use Rattle.tech_rules.specs.RulesOf.{rules_of, told_of};
 
 use crate::document::table_of;
 use crate::stated::values_in;
@@ -12,7 +14,7 @@ use std::alloc::Global;
 /// that fails. Memory can come at any time. Keys that are unknown are passed over.
 #[tactic(auto, unfolding(crate::specs::RulesOf::rules_of))]
 pub fn read_rules(alloc: Global, bytes: &[u8]) -> Result<Rules, RulesFault>
-    ensures { Says result (rules_of bytes.now) }
+    ensures { AnswersAs (λ rules. rules) told_of result (rules_of bytes.now) }
 {
     let Some(table) = table_of(alloc, bytes)? else {
         return Err(RulesFault::Toml);

@@ -7,7 +7,7 @@ use Rattle.yal_reader.proofs.FuelLaws.{module_names-push}
 use Rattle.yal_reader.proofs.KeptLists.{IsCalls, IsLine, IsLines, kept-io_list, kept-network, no-calls}
 use Rattle.yal_reader.proofs.KeptWords.{Keeps, Named, ascii-plain, either, err, kept-end, kept-keyword, kept-kind, kept-numbers, kept-past, kept-statement, kept-stop, kept-word, next, ok, tokens-named, uncommented-kept, weaker}
 use Rattle.geom_core.specs.Names.{IsName}
-use Rattle.yal_reader.specs.Kept.{HasAtMost, HasSpots, HasSpotWhereDue, IsKept, IsKeptLine, IsKeptModule, IsNear, IsShort, is_standard, module_names}
+use Rattle.yal_reader.specs.Kept.{HasAtMost, HasSpots, HasSpotWhereDue, IsKept, IsKeptLine, IsKeptModule, IsCoordinate, IsShort, is_standard, module_names}
 use Rattle.yal_reader.specs.Lists.{io_list, is_among, network, unless_taken}
 use Rattle.yal_reader.specs.Sections.{calls_after, corners_after, dimensions, items_of, lines_after, no_parts, passed_after, passed_until, passes_words, section_after, sections}
 use Rattle.yal_reader.specs.Text.{ascii, uncommented}
@@ -19,17 +19,17 @@ use Rattle.yal_reader.specs.declared.file.Line.{Line}
 use Rattle.yal_reader.specs.declared.file.Module.{Module}
 use Rattle.yal_reader.specs.declared.file.YalFile.{YalFile}
 use Rattle.yal_reader.specs.declared.parts.Parts.{Parts}
-use Rattle.yal_reader.specs.declared.stuck.Stuck.{Stuck}
+use Rattle.yal_reader.specs.Flaws.{Flaw}
 use Rattle.std_laws.proofs.Every.{every-push}
 
 -- what the sections of a module gave so far
 pub record IsParts (most : ℕ) (kind : Kind) (parts : Parts) : Type 0 where
-  pub corners : AllByRecursion IsNear (items_of parts.corners)
+  pub corners : AllByRecursion IsCoordinate (items_of parts.corners)
   pub lines : IsLines most kind (items_of parts.lines)
   pub calls : IsCalls most (items_of parts.calls)
 
 -- corners are near
-kept-dimensions : (kind : Kind) (ts : List Token) → Named ts → Keeps (λ x. AllByRecursion IsNear x.0 × Named x.1) (dimensions kind ts)
+kept-dimensions : (kind : Kind) (ts : List Token) → Named ts → Keeps (λ x. AllByRecursion IsCoordinate x.0 × Named x.1) (dimensions kind ts)
 unfolding dimensions
 kept-dimensions kind ts h = either (is_standard kind) _ _ (λ _. kept-numbers ts h) (λ _. next (past_words ts) _ (kept-past ts h) (λ rest k. ok ([], rest) (tt, k)))
 
@@ -221,11 +221,11 @@ kept-file_of bytes =
     ok (record { modules = found }) (file-kept (length bytes) found j.0 (omega (arith, k.1, j.1))))))
 
 -- what a reading gives has what the reading keeps
-kept-value : (P : YalFile → Type 0) (r : Result YalFile Stuck) (file : YalFile) → Keeps P r → r ≡ Ok file → P file
+kept-value : (P : YalFile → Type 0) (r : Result YalFile Flaw) (file : YalFile) → Keeps P r → r ≡ Ok file → P file
 kept-value P (Ok f) file h is = let e : f ≡ file = cc in subst P e h.holds
 kept-value P (Err e) file h is = absurd (apart is)
   where
-    apart : ◌≡◌ {A = Result YalFile Stuck} (Err e) (Ok file) → ⊥
+    apart : ◌≡◌ {A = Result YalFile Flaw} (Err e) (Ok file) → ⊥
     apart is = cc
 
 -- what a text reads as keeps what every file has

@@ -15,11 +15,11 @@ use Rattle.yal_reader.specs.declared.file.Call.{Call}
 use Rattle.yal_reader.specs.declared.file.Flow.{Flow}
 use Rattle.yal_reader.specs.declared.file.Kind.{Kind}
 use Rattle.yal_reader.specs.declared.file.Line.{Line}
-use Rattle.yal_reader.specs.declared.stuck.Stuck.{Stuck}
+use Rattle.yal_reader.specs.Flaws.{Flaw}
 use Rattle.std_laws.proofs.Every.{every-push}
 
 -- what a list of statements gives has P, if each item keeps it, and no more items than the fuel allows
-pub kept-items : {A : Type 0} (P : List A → Type 0) (keyword : List ℕ) (item : List A → Spelled → List Token → Result (A × List Token) Stuck)
+pub kept-items : {A : Type 0} (P : List A → Type 0) (keyword : List ℕ) (item : List A → Spelled → List Token → Result (A × List Token) Flaw)
     → ((before : List A) (w : Spelled) (ts : List Token) → P before → IsName w.text → Named ts → Keeps (λ x. P (before ++ x.0 ∷ []) × Named x.1) (item before w ts))
     → (n : ℕ) (before : List A) (ts : List Token) → P before → Named ts → Keeps (λ x. P x.0 × (length x.0 ≤ length before + n) × Named x.1) (items_until keyword item n before ts)
 unfolding items_until

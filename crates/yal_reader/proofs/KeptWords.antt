@@ -1,25 +1,26 @@
 use Rattle.yal_reader.specs.declared.fault.YalKind.TheVariants as faults
-use Rattle.std.proofs.Common.{◌≡◌, ℕ, zero, suc, ◌+◌, ◌-◌, ◌*◌, ◌≤◌, pos, neg_ℤ, Bool, true, false, cond, List, [], ◌∷◌, length, refl, Option, None, Some, IfSome, Result, Ok, Err, IfOk, inl, inr, arith, nat_lt, nat_le, ◌==◌, ◌&&◌}
+use Rattle.std.proofs.Common.{◌≡◌, ℕ, zero, suc, ◌≤◌, pos, neg_ℤ, Bool, true, false, cond, List, [], ◌∷◌, length, refl, Option, None, Some, IfSome, Result, Ok, Err, IfOk, inl, inr, arith, nat_lt, nat_le, ◌==◌, ◌&&◌}
 use Rattle.std.proofs.lemmas.Bool.{and_from, and_parts, cases_Bool}
-use borrow.Author.Tests.{le-leb, leb-true}
+use borrow.Author.Tests.{le-leb}
 use Rattle.std.proofs.lemmas.Bool.Decides.{nat_tests}
 use Rattle.std.proofs.lemmas.Int.{ints}
-use Rattle.std.specs.Char.{is_ascii_digit}
 use Rattle.std.specs.List.{AllByRecursion}
 use Rattle.yal_reader.proofs.Lexing.{word_byte-from}
 use Rattle.geom_core.specs.Names.{IsName, is_name_byte}
-use Rattle.yal_reader.specs.Kept.{IsNear}
-use Rattle.yal_reader.specs.Numbers.{a_number, digits_after, magnitude, number, numbers}
-use Rattle.yal_reader.specs.Reading.{◌>>=◌}
+use Rattle.yal_reader.specs.Kept.{IsCoordinate}
+use Rattle.yal_reader.specs.Numbers.{a_number, magnitude, number, numbers}
+use Rattle.read_base.specs.Steps.{◌>>=◌}
 use Rattle.yal_reader.specs.Text.{ascii, onto, uncommented}
 use Rattle.yal_reader.specs.Tokens.{Spelled, Token, goes_on, is_blank, is_word_byte, onto_word, semicolon, token_onto, tokens, word}
 use Rattle.yal_reader.specs.Words.{a_flow, a_kind, a_word, after_stop, an_end, flow_of, is_word, kind_of, or_bad, past_words, statement, the_word, words}
 use Rattle.yal_reader.specs.declared.fault.YalKind.{YalKind}
-use Rattle.yal_reader.specs.declared.stuck.Stuck.{Stuck}
-use Rattle.std_laws.proofs.Options.{some_if, some_mapped, some_unless, some_anything}
+use Rattle.yal_reader.specs.Flaws.{Flaw}
+use Rattle.read_base.proofs.DigitsLaws.{within-most}
+use Rattle.read_base.specs.Digits.{number_within}
+use Rattle.std_laws.proofs.Options.{some_mapped, some_unless, some_anything}
 
 -- what a step gives, if it gives anything, has P
-pub record Keeps {A : Type 0} (P : A → Type 0) (r : Result A Stuck) : Type 0 where
+pub record Keeps {A : Type 0} (P : A → Type 0) (r : Result A Flaw) : Type 0 where
   pub holds : IfOk r P
 
 -- a value with P
@@ -27,16 +28,16 @@ pub ok : {A : Type 0} {P : A → Type 0} (x : A) → P x → Keeps P (Ok x)
 ok x h = record { holds = h }
 
 -- a fault
-pub err : {A : Type 0} {P : A → Type 0} (e : Stuck) → Keeps P (Err e)
+pub err : {A : Type 0} {P : A → Type 0} (e : Flaw) → Keeps P (Err e)
 err e = record { holds = tt }
 
 -- one step after another
-pub next : {A B : Type 0} {P : A → Type 0} {Q : B → Type 0} (r : Result A Stuck) (f : A → Result B Stuck) → Keeps P r → ((x : A) → P x → Keeps Q (f x)) → Keeps Q (r >>= f)
+pub next : {A B : Type 0} {P : A → Type 0} {Q : B → Type 0} (r : Result A Flaw) (f : A → Result B Flaw) → Keeps P r → ((x : A) → P x → Keeps Q (f x)) → Keeps Q (r >>= f)
 next (Ok x) f h onward = onward x h.holds
 next (Err e) f h onward = record { holds = tt }
 
 -- a choice of two
-pub either : {A : Type 0} {P : A → Type 0} (b : Bool) (r s : Result A Stuck) → (b ≡ true → Keeps P r) → (b ≡ false → Keeps P s) → Keeps P (cond b r s)
+pub either : {A : Type 0} {P : A → Type 0} (b : Bool) (r s : Result A Flaw) → (b ≡ true → Keeps P r) → (b ≡ false → Keeps P s) → Keeps P (cond b r s)
 either true r s yes_r no_s = yes_r refl
 either false r s yes_r no_s = no_s refl
 
@@ -46,7 +47,7 @@ some_or kind w None h = record { holds = tt }
 some_or kind w (Some y) h = record { holds = h }
 
 -- a weaker fact
-pub weaker : {A : Type 0} {P Q : A → Type 0} (r : Result A Stuck) → Keeps P r → ((x : A) → P x → Q x) → Keeps Q r
+pub weaker : {A : Type 0} {P Q : A → Type 0} (r : Result A Flaw) → Keeps P r → ((x : A) → P x → Q x) → Keeps Q r
 weaker (Ok x) h f = record { holds = f x h.holds }
 weaker (Err e) h f = record { holds = tt }
 
@@ -110,7 +111,7 @@ ascii-plain [] = record { holds = tt }
 ascii-plain (c ∷ cs) = either (nat_lt c 128) (ascii cs) _ (λ is. weaker (ascii cs) (ascii-plain cs) (λ x h. (is, h))) (λ _. err _)
 
 -- a text without comments is as long, and as plain
-pub onto-kept : (c : ℕ) (cs : List ℕ) (text : Result (List ℕ) Stuck) → nat_lt c 128 ≡ true → Keeps (λ t. IsPlain t × (length t ≡ length cs)) text
+pub onto-kept : (c : ℕ) (cs : List ℕ) (text : Result (List ℕ) Flaw) → nat_lt c 128 ≡ true → Keeps (λ t. IsPlain t × (length t ≡ length cs)) text
     → Keeps (λ t. IsPlain t × (length t ≡ suc (length cs))) (onto c text)
 onto-kept c cs (Ok t) is h = record { holds = ((is, h.holds.0), omega (arith, h.holds.1)) }
 onto-kept c cs (Err e) is h = record { holds = tt }
@@ -184,45 +185,40 @@ unfolding a_flow
 kept-flow ts h = next (a_word ts) _ (kept-word ts h) (λ first k. next (or_bad faults.Word first.0 (flow_of first.0.text)) _ (some_or {P = λ _. Unit {0}} faults.Word first.0 (flow_of first.0.text) (some_anything (flow_of first.0.text))) (λ flow _. ok (flow, first.1) k.1))
 
 -- digits make at most 100,000,000
-digits-near : (n : ℕ) (cs : List ℕ) → IfSome (digits_after n cs) (λ m. m ≤ 100000000)
-digits-near n [] = some_if (λ m. m ≤ 100000000) (nat_le n 100000000) (Some n) (λ le. leb-true n 100000000 le)
-digits-near n (c ∷ cs) = some_if (λ m. m ≤ 100000000) (is_ascii_digit c) (digits_after (10 * n + (c - 48)) cs) (λ _. digits-near (10 * n + (c - 48)) cs)
-
--- one or more digits do
 magnitude-near : (digits : List ℕ) → IfSome (magnitude digits) (λ m. m ≤ 100000000)
-magnitude-near digits = some_unless (λ m. m ≤ 100000000) (length digits == 0) (digits_after 0 digits) (digits-near 0 digits)
+magnitude-near digits = some_unless (λ m. m ≤ 100000000) (length digits == 0) (number_within 100000000 digits) (within-most 100000000 digits)
 
 -- a number from 0 on
-near-above : (n : ℕ) → n ≤ 100000000 → IsNear (pos n)
+near-above : (n : ℕ) → n ≤ 100000000 → IsCoordinate (pos n)
 near-above n le = record { low = omega (arith, ints, le); high = omega (arith, ints, le) }
 
 -- a number from 0 down
-near-below : (n : ℕ) → n ≤ 100000000 → IsNear (neg_ℤ (pos n))
+near-below : (n : ℕ) → n ≤ 100000000 → IsCoordinate (neg_ℤ (pos n))
 near-below zero le = record { low = omega (arith, ints); high = omega (arith, ints) }
 near-below (suc n) le = record { low = omega (arith, ints, le); high = omega (arith, ints, le) }
 
 -- a number has a magnitude of at most 100,000,000
-pub number-near : (text : List ℕ) → IfSome (number text) IsNear
+pub number-near : (text : List ℕ) → IfSome (number text) IsCoordinate
 unfolding number
 number-near [] = tt
 number-near (c ∷ cs) = elim (cases_Bool (c == 45)) [
-  | inl is ↦ rw is (some_mapped (λ m. m ≤ 100000000) IsNear (λ n. neg_ℤ (pos n)) (magnitude cs) near-below (magnitude-near cs))
-  | inr is ↦ rw is (some_mapped (λ m. m ≤ 100000000) IsNear (λ n. pos n) (magnitude (c ∷ cs)) near-above (magnitude-near (c ∷ cs)))
+  | inl is ↦ rw is (some_mapped (λ m. m ≤ 100000000) IsCoordinate (λ n. neg_ℤ (pos n)) (magnitude cs) near-below (magnitude-near cs))
+  | inr is ↦ rw is (some_mapped (λ m. m ≤ 100000000) IsCoordinate (λ n. pos n) (magnitude (c ∷ cs)) near-above (magnitude-near (c ∷ cs)))
 ]
 
 -- a number that was read is near
-pub kept-number : (ts : List Token) → Named ts → Keeps (λ x. IsNear x.0 × Named x.1) (a_number ts)
+pub kept-number : (ts : List Token) → Named ts → Keeps (λ x. IsCoordinate x.0 × Named x.1) (a_number ts)
 unfolding a_number
 kept-number ts h = next (a_word ts) _ (kept-word ts h) (λ first k.
-    next (or_bad faults.Number first.0 (number first.0.text)) _ (some_or {P = IsNear} faults.Number first.0 (number first.0.text) (number-near first.0.text)) (λ n near.
+    next (or_bad faults.Number first.0 (number first.0.text)) _ (some_or {P = IsCoordinate} faults.Number first.0 (number first.0.text) (number-near first.0.text)) (λ n near.
     ok (n, first.1) (near, k.1)))
 
 -- a run of numbers is near
-pub kept-numbers : (ts : List Token) → Named ts → Keeps (λ x. AllByRecursion IsNear x.0 × Named x.1) (numbers ts)
+pub kept-numbers : (ts : List Token) → Named ts → Keeps (λ x. AllByRecursion IsCoordinate x.0 × Named x.1) (numbers ts)
 unfolding numbers
 kept-numbers [] h = err _
 kept-numbers (semicolon left ∷ ts) h = ok ([], ts) (tt, record { each = h.each.1 })
 kept-numbers (word w ∷ ts) h =
-    next (or_bad faults.Number w (number w.text)) _ (some_or {P = IsNear} faults.Number w (number w.text) (number-near w.text)) (λ n near.
+    next (or_bad faults.Number w (number w.text)) _ (some_or {P = IsCoordinate} faults.Number w (number w.text) (number-near w.text)) (λ n near.
     next (numbers ts) _ (kept-numbers ts (record { each = h.each.1 })) (λ others k.
     ok (n ∷ others.0, others.1) ((near, k.0), k.1)))

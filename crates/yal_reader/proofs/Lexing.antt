@@ -5,7 +5,7 @@ use Rattle.std.proofs.lemmas.Bool.{cases_Bool, and_parts, not-true}
 use Rattle.std.proofs.Math.Bool.{true≢false}
 use Rattle.yal_reader.specs.Seen.{begins_blank}
 use Rattle.yal_reader.specs.Tokens.{Spelled, Token, word, semicolon, spelled, is_blank, is_word_byte, goes_on, tokens}
-use Rattle.yal_reader.specs.Words.{a_word, an_end, is_empty, stuck_of}
+use Rattle.yal_reader.specs.Words.{a_word, an_end, is_empty, flaw_here}
 use Rattle.std_laws.proofs.Searches.{prefix-on, prefix-off}
 
 -- a blank makes no token
@@ -81,14 +81,14 @@ unfolding tokens
 tokens-none = refl
 
 -- where the text goes on, what stands first is at fault
-pub stuck-some : (bs : List ℕ) → begins_blank bs ≡ false → length bs ≢ 0 → stuck_of (tokens bs) ≡ record { kind = faults.Word; left = length bs }
-stuck-some [] h some = absurd (some refl)
-stuck-some (c ∷ cs) h some = elim (first-of c cs h) [ ends q e ↦ rw e refl | begins q is ↦ rw (tokens-word (c ∷ cs) is) refl ]
+pub flaw-some : (bs : List ℕ) → begins_blank bs ≡ false → length bs ≢ 0 → flaw_here (tokens bs) ≡ record { kind = faults.Word; left = length bs }
+flaw-some [] h some = absurd (some refl)
+flaw-some (c ∷ cs) h some = elim (first-of c cs h) [ ends q e ↦ rw e refl | begins q is ↦ rw (tokens-word (c ∷ cs) is) refl ]
 
 -- where the text ends, its end is at fault
-pub stuck-none : (bs : List ℕ) → length bs ≡ 0 → stuck_of (tokens bs) ≡ record { kind = faults.Ends; left = 0 }
-stuck-none [] h = rw tokens-none refl
-stuck-none (c ∷ cs) h = absurd (omega (arith, h))
+pub flaw-none : (bs : List ℕ) → length bs ≡ 0 → flaw_here (tokens bs) ≡ record { kind = faults.Ends; left = 0 }
+flaw-none [] h = rw tokens-none refl
+flaw-none (c ∷ cs) h = absurd (omega (arith, h))
 
 -- the word that comes next
 pub word-found : (bs : List ℕ) → prefix_len is_word_byte bs ≢ 0
@@ -96,7 +96,7 @@ pub word-found : (bs : List ℕ) → prefix_len is_word_byte bs ≢ 0
 word-found bs some = elim (cases_Bool (goes_on bs)) [ inl on ↦ rw (tokens-word bs on) refl | inr off ↦ absurd (some (goes_on-none bs off)) ]
 
 -- no word comes next
-pub word-none : (bs : List ℕ) → begins_blank bs ≡ false → prefix_len is_word_byte bs ≡ 0 → a_word (tokens bs) ≡ Err (stuck_of (tokens bs))
+pub word-none : (bs : List ℕ) → begins_blank bs ≡ false → prefix_len is_word_byte bs ≡ 0 → a_word (tokens bs) ≡ Err (flaw_here (tokens bs))
 word-none [] h none = rw tokens-none refl
 word-none (c ∷ cs) h none = elim (first-of c cs h) [ ends q e ↦ rw e refl | begins q is ↦ absurd (omega (arith, none, prefix-on is_word_byte c cs is)) ]
 
@@ -106,12 +106,12 @@ end-found [] some is = absurd (some refl)
 end-found (c ∷ cs) some is = rw (is, tokens-semicolon cs) refl
 
 -- no semicolon comes next
-pub end-none : (bs : List ℕ) → begins_blank bs ≡ false → slice_index bs 0 ≢ 59 → an_end (tokens bs) ≡ Err (stuck_of (tokens bs))
+pub end-none : (bs : List ℕ) → begins_blank bs ≡ false → slice_index bs 0 ≢ 59 → an_end (tokens bs) ≡ Err (flaw_here (tokens bs))
 end-none [] h differs = rw tokens-none refl
 end-none (c ∷ cs) h differs = elim (first-of c cs h) [ ends q e ↦ absurd (differs (eqb-true c 59 q)) | begins q is ↦ rw (tokens-word (c ∷ cs) is) refl ]
 
 -- nothing comes next
-pub end-empty : (bs : List ℕ) → length bs ≡ 0 → an_end (tokens bs) ≡ Err (stuck_of (tokens bs))
+pub end-empty : (bs : List ℕ) → length bs ≡ 0 → an_end (tokens bs) ≡ Err (flaw_here (tokens bs))
 end-empty [] h = rw tokens-none refl
 end-empty (c ∷ cs) h = absurd (omega (arith, h))
 

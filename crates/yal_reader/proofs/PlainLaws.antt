@@ -1,10 +1,10 @@
 use Rattle.std.proofs.Common.{◌≡◌, ℕ, true, false, List, [], ◌∷◌, ◌++◌, length, drop, refl, sym, ap, ◌∙◌, append_assoc, append-nil, None, Some, Result, Ok, Err, arith}
 use Rattle.std.proofs.Math.Bool.{true≢false}
 use Rattle.yal_reader.specs.Text.{begins_with, onto, open_comment, uncommented, with_text}
-use Rattle.yal_reader.specs.Reading.{Fails}
-use Rattle.yal_reader.specs.declared.stuck.Stop.{Stop}
-use Rattle.yal_reader.specs.declared.stuck.Stop.TheVariants.{At, Memory}
-use Rattle.yal_reader.specs.declared.stuck.Stuck.{Stuck}
+use Rattle.read_base.specs.Answers.{Fails, flaw_of}
+use Rattle.yal_reader.specs.Flaws.{Stop}
+use Rattle.read_base.specs.declared.stop.Stop.TheVariants.{At, Memory}
+use Rattle.yal_reader.specs.Flaws.{Flaw}
 
 -- the end of a comment, and a byte before it
 pub comment-ends : (left : ℕ) (bs : List ℕ) → begins_with 42 47 bs ≡ true → uncommented (Some left) bs ≡ onto 32 (onto 32 (uncommented None (drop 2 bs)))
@@ -43,7 +43,7 @@ unfolding uncommented
 comment-none left = refl
 
 -- a byte moves from the text's front to the end of what stands before it
-pub with_text-onto : (front : List ℕ) (c : ℕ) (text : Result (List ℕ) Stuck) → with_text front (onto c text) ≡ with_text (front ++ c ∷ []) text
+pub with_text-onto : (front : List ℕ) (c : ℕ) (text : Result (List ℕ) Flaw) → with_text front (onto c text) ≡ with_text (front ++ c ∷ []) text
 with_text-onto front c (Ok cs) = ap (λ xs. Ok xs) (sym (append_assoc front (c ∷ []) cs))
 with_text-onto front c (Err e) = refl
 
@@ -52,7 +52,7 @@ pub with_text-end : (front : List ℕ) → with_text front (uncommented None [])
 with_text-end front = rw text-none (ap (λ xs. Ok xs) (append-nil front))
 
 -- a fault is that of the rest
-pub with_text-fails : (front : List ℕ) (text : Result (List ℕ) Stuck) (e : Stuck) → with_text front text ≡ Err e → text ≡ Err e
+pub with_text-fails : (front : List ℕ) (text : Result (List ℕ) Flaw) (e : Flaw) → with_text front text ≡ Err e → text ≡ Err e
 with_text-fails front (Ok cs) e is = cc
 with_text-fails front (Err f) e is = is
 
@@ -90,7 +90,7 @@ plain-ends front [] e = with_text-end front
 plain-ends front (c ∷ cs) e = absurd (omega (arith, e))
 
 -- a fault in the comment that begins here is the whole text's
-pub comment-ends_text : (front bs : List ℕ) (total : Result (List ℕ) Stuck) (stop : Stop) → begins_with 47 42 bs ≡ true → with_text front (uncommented None bs) ≡ total
-    → Fails stop (uncommented (Some (length bs)) (drop 2 bs)) → Fails stop total
+pub comment-ends_text : (front bs : List ℕ) (total : Result (List ℕ) Flaw) (stop : Stop) → begins_with 47 42 bs ≡ true → with_text front (uncommented None bs) ≡ total
+    → Fails flaw_of stop (uncommented (Some (length bs)) (drop 2 bs)) → Fails flaw_of stop total
 comment-ends_text front bs total Memory is so_far bad = tt
 comment-ends_text front bs total (At e) is so_far bad = sym so_far ∙ (comment-opened front bs is ∙ rw bad refl)

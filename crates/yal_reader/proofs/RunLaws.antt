@@ -1,40 +1,37 @@
-use Rattle.std.proofs.Common.{◌≡◌, ℕ, ◌+◌, ◌*◌, ◌-◌, ◌<◌, ℤ, true, false, List, [], ◌∷◌, ◌++◌, refl, sym, ap, ◌∙◌, append_assoc, append-nil, Option, None, Some, Result, Ok, Err, if◌then◌else◌, arith, inl, inr, nat_le}
-use Rattle.std.specs.Char.{is_ascii_digit}
-use Rattle.std.proofs.lemmas.Bool.{cases_Bool}
-use Rattle.std.proofs.lemmas.Bool.Decides.{nat_tests}
-use Rattle.yal_reader.specs.Numbers.{digits_after, number, numbers}
-use Rattle.yal_reader.specs.Reading.{◌>>=◌}
+use Rattle.std.proofs.Common.{◌≡◌, ℕ, ℤ, true, false, List, [], ◌∷◌, ◌++◌, refl, sym, ap, ◌∙◌, append_assoc, append-nil, None, Some, Result, Ok, Err, if◌then◌else◌}
+use Rattle.yal_reader.specs.Numbers.{number, numbers}
+use Rattle.read_base.specs.Steps.{◌>>=◌}
 use Rattle.yal_reader.specs.Tokens.{Spelled, Token, word, semicolon}
 use Rattle.yal_reader.specs.Words.{a_word, after_stop, an_end, bad, is_word, past_words, statement, words}
 use Rattle.yal_reader.specs.declared.fault.YalKind.TheVariants as faults
-use Rattle.yal_reader.specs.declared.stuck.Stuck.{Stuck}
+use Rattle.yal_reader.specs.Flaws.{Flaw}
 
 -- a run with these items in front
-abbrev pub with_front : {A : Type 0} → List A → Result (List A × List Token) Stuck → Result (List A × List Token) Stuck
+abbrev pub with_front : {A : Type 0} → List A → Result (List A × List Token) Flaw → Result (List A × List Token) Flaw
 with_front front (Ok x) = Ok (front ++ x.0, x.1)
 with_front front (Err e) = Err e
 
 -- a run of one more item
-abbrev pub more : {A : Type 0} → A → Result (List A × List Token) Stuck → Result (List A × List Token) Stuck
+abbrev pub more : {A : Type 0} → A → Result (List A × List Token) Flaw → Result (List A × List Token) Flaw
 more x run = run >>= λ others. Ok (x ∷ others.0, others.1)
 
 -- the value of an answer, or this one
-value_or : {A : Type 0} → A → Result A Stuck → A
+value_or : {A : Type 0} → A → Result A Flaw → A
 value_or d (Ok x) = x
 value_or d (Err e) = d
 
 -- equal answers have equal parts
-pub ok_pair : {A B : Type 0} (a c : A) (b d : B) → ◌≡◌ {A = Result (A × B) Stuck} (Ok (a, b)) (Ok (c, d)) → (a ≡ c) × (b ≡ d)
+pub ok_pair : {A B : Type 0} (a c : A) (b d : B) → ◌≡◌ {A = Result (A × B) Flaw} (Ok (a, b)) (Ok (c, d)) → (a ≡ c) × (b ≡ d)
 unfolding value_or
-ok_pair {A} {B} a c b d h = (ap (λ (r : Result (A × B) Stuck). (value_or (a, b) r).0) h, ap (λ (r : Result (A × B) Stuck). (value_or (a, b) r).1) h)
+ok_pair {A} {B} a c b d h = (ap (λ (r : Result (A × B) Flaw). (value_or (a, b) r).0) h, ap (λ (r : Result (A × B) Flaw). (value_or (a, b) r).1) h)
 
 -- an item moves from a run's front to the end of what was found before
-pub with_front-more : {A : Type 0} (front : List A) (x : A) (run : Result (List A × List Token) Stuck) → with_front front (more x run) ≡ with_front (front ++ x ∷ []) run
+pub with_front-more : {A : Type 0} (front : List A) (x : A) (run : Result (List A × List Token) Flaw) → with_front front (more x run) ≡ with_front (front ++ x ∷ []) run
 with_front-more {A} front x (Ok others) = ap (λ (xs : List A). Ok (xs, others.1)) (sym (append_assoc front (x ∷ []) others.0))
 with_front-more front x (Err e) = refl
 
 -- where no word stands, a run ends with its semicolon
-pub words-end : (ts : List Token) (e : Stuck) → a_word ts ≡ Err e → words ts ≡ (an_end ts >>= λ rest. Ok ([], rest))
+pub words-end : (ts : List Token) (e : Flaw) → a_word ts ≡ Err e → words ts ≡ (an_end ts >>= λ rest. Ok ([], rest))
 unfolding words
 words-end [] e h = refl
 words-end (semicolon left ∷ ts) e h = refl
@@ -48,7 +45,7 @@ words-on (semicolon left ∷ ts) rest w h = cc
 words-on (word v ∷ ts) rest w h = let p = ok_pair v w ts rest h in rw (p.0, p.1) refl
 
 -- the same of numbers
-pub numbers-end : (ts : List Token) (e : Stuck) → a_word ts ≡ Err e → numbers ts ≡ (an_end ts >>= λ rest. Ok ([], rest))
+pub numbers-end : (ts : List Token) (e : Flaw) → a_word ts ≡ Err e → numbers ts ≡ (an_end ts >>= λ rest. Ok ([], rest))
 unfolding numbers
 numbers-end [] e h = refl
 numbers-end (semicolon left ∷ ts) e h = refl
@@ -69,12 +66,12 @@ numbers-fails (semicolon left ∷ ts) rest w h is = cc
 numbers-fails (word v ∷ ts) rest w h is = let p = ok_pair v w ts rest h in rw (p.0, is) refl
 
 -- the end of a run, behind what was found before
-pub front-ends : {A : Type 0} (front : List A) (run total : Result (List A × List Token) Stuck) (end : Result (List Token) Stuck) (rest : List Token)
+pub front-ends : {A : Type 0} (front : List A) (run total : Result (List A × List Token) Flaw) (end : Result (List Token) Flaw) (rest : List Token)
     → run ≡ (end >>= λ after. Ok ([], after)) → end ≡ Ok rest → with_front front run ≡ total → total ≡ Ok (front, rest)
 front-ends {A} front run total end rest is found so_far = sym so_far ∙ rw (is, found) (ap (λ (xs : List A). Ok (xs, rest)) (append-nil front))
 
 -- a run without its semicolon
-pub front-fails : {A : Type 0} (front : List A) (run total : Result (List A × List Token) Stuck) (end : Result (List Token) Stuck) (e : Stuck)
+pub front-fails : {A : Type 0} (front : List A) (run total : Result (List A × List Token) Flaw) (end : Result (List Token) Flaw) (e : Flaw)
     → run ≡ (end >>= λ after. Ok ([], after)) → end ≡ Err e → with_front front run ≡ total → total ≡ Err e
 front-fails front run total end e is found so_far = sym so_far ∙ rw (is, found) refl
 
@@ -93,38 +90,29 @@ stop-step keyword [] = refl
 stop-step keyword (semicolon left ∷ ts) = stop-step keyword ts
 stop-step keyword (word w ∷ ts) = rw (stop-inside keyword ts) refl
 
--- further digits make a number only greater
-pub digits-great : (n : ℕ) (cs : List ℕ) → 100000000 < n → digits_after n cs ≡ None
-digits-great n [] lt = let b : nat_le n 100000000 ≡ false = grind (arith, nat_tests) in rw b refl
-digits-great n (c ∷ cs) lt = elim (cases_Bool (is_ascii_digit c)) [ inl is ↦ rw is (digits-great (10 * n + (c - 48)) cs (omega (arith, lt))) | inr is ↦ rw is refl ]
-
--- digits that make too much give no number
-pub digits-over : (n : ℕ) (bs : List ℕ) (c : ℕ) (cs : List ℕ) (total : Option ℕ) → bs ≡ c ∷ cs → is_ascii_digit c ≡ true → 100000000 < 10 * n + (c - 48) → digits_after n bs ≡ total → None ≡ total
-digits-over n bs c cs total e is lt so_far = sym (rw (e, is) (digits-great (10 * n + (c - 48)) cs lt)) ∙ so_far
-
 -- a run with one more item found
-pub front-on : {A : Type 0} (front : List A) (x : A) (run rest total : Result (List A × List Token) Stuck) → run ≡ more x rest → with_front front run ≡ total → with_front (front ++ x ∷ []) rest ≡ total
+pub front-on : {A : Type 0} (front : List A) (x : A) (run rest total : Result (List A × List Token) Flaw) → run ≡ more x rest → with_front front run ≡ total → with_front (front ++ x ∷ []) rest ≡ total
 front-on front x run rest total is so_far = sym (with_front-more front x rest) ∙ (rw (← is) so_far)
 
 -- a run that fails
-pub front-stuck : {A : Type 0} (front : List A) (run total : Result (List A × List Token) Stuck) (e : Stuck) → run ≡ Err e → with_front front run ≡ total → total ≡ Err e
-front-stuck front run total e is so_far = sym so_far ∙ rw is refl
+pub front-flawed : {A : Type 0} (front : List A) (run total : Result (List A × List Token) Flaw) (e : Flaw) → run ≡ Err e → with_front front run ≡ total → total ≡ Err e
+front-flawed front run total e is so_far = sym so_far ∙ rw is refl
 
 -- the four ways of one step toward a section's end
-pub stop-err : (keyword : List ℕ) (ts : List Token) (total : Result (List Token) Stuck) (e : Stuck) → a_word (statement ts) ≡ Err e → after_stop keyword true ts ≡ total → total ≡ Err e
+pub stop-err : (keyword : List ℕ) (ts : List Token) (total : Result (List Token) Flaw) (e : Flaw) → a_word (statement ts) ≡ Err e → after_stop keyword true ts ≡ total → total ≡ Err e
 stop-err keyword ts total e h so_far = sym so_far ∙ (stop-step keyword ts ∙ rw h refl)
 
 -- the keyword
-pub stop-here : (keyword : List ℕ) (ts mid : List Token) (w : Spelled) (total : Result (List Token) Stuck)
+pub stop-here : (keyword : List ℕ) (ts mid : List Token) (w : Spelled) (total : Result (List Token) Flaw)
     → a_word (statement ts) ≡ Ok (w, mid) → is_word keyword w ≡ true → after_stop keyword true ts ≡ total → total ≡ Ok mid
 stop-here keyword ts mid w total h is so_far = sym so_far ∙ (stop-step keyword ts ∙ rw (h, is) refl)
 
 -- a statement without an end
-pub stop-fails : (keyword : List ℕ) (ts mid : List Token) (w : Spelled) (total : Result (List Token) Stuck) (e : Stuck)
+pub stop-fails : (keyword : List ℕ) (ts mid : List Token) (w : Spelled) (total : Result (List Token) Flaw) (e : Flaw)
     → a_word (statement ts) ≡ Ok (w, mid) → is_word keyword w ≡ false → past_words mid ≡ Err e → after_stop keyword true ts ≡ total → total ≡ Err e
 stop-fails keyword ts mid w total e h is past so_far = sym so_far ∙ (stop-step keyword ts ∙ rw (h, is, past) refl)
 
 -- another statement
-pub stop-on : (keyword : List ℕ) (ts mid rest : List Token) (w : Spelled) (total : Result (List Token) Stuck)
+pub stop-on : (keyword : List ℕ) (ts mid rest : List Token) (w : Spelled) (total : Result (List Token) Flaw)
     → a_word (statement ts) ≡ Ok (w, mid) → is_word keyword w ≡ false → past_words mid ≡ Ok rest → after_stop keyword true ts ≡ total → after_stop keyword true rest ≡ total
 stop-on keyword ts mid rest w total h is past so_far = sym (stop-step keyword ts ∙ rw (h, is, past) refl) ∙ so_far

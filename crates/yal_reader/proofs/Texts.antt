@@ -1,6 +1,7 @@
 -- Whole texts, each with what it reads as.
 use Rattle.std.specs.Prelude.{◌≡◌, ℕ, List, [], ◌∷◌, ◌++◌, take, pos, Ok, Err, Some, codes}
 use Rattle.std.proofs.Common.{refl}
+use Rattle.read_base.specs.Digits.{number_within}
 use Rattle.yal_reader.specs.Lists.{a_spot, call_after, calls_of, io_list, items_until, line_after, lines_of, network, spot_after}
 use Rattle.yal_reader.specs.Numbers.{a_number, number, numbers}
 use Rattle.yal_reader.specs.Sections.{calls_after, corners_after, dimensions, lines_after, passed_after, passed_until, section_after, sections}
@@ -41,20 +42,20 @@ pub reads-design : yal_reads design ≡ Ok (record {
       } ∷
       record { name = codes "top"; kind = kinds.Parent; corners = []; lines = []; calls = record { name = codes "u1"; «module» = codes "INV"; signals = codes "n1" ∷ [] } ∷ [] } ∷ [];
 })
-unfolding yal_reads file_of modules a_module heading a_kind sections section_after passed_after passed_until calls_after lines_after corners_after dimensions network calls_of call_after io_list lines_of line_after spot_after a_spot items_until numbers a_number number a_flow after_stop the_word words tokens uncommented
+unfolding yal_reads file_of modules a_module heading a_kind sections section_after passed_after passed_until calls_after lines_after corners_after dimensions network calls_of call_after io_list lines_of line_after spot_after a_spot items_until numbers a_number number number_within a_flow after_stop the_word words tokens uncommented
 reads-design = refl
 
 -- the design, cut after so many bytes, and with an open comment or a byte above 127 in front
 pub reads-cut : Fault (take 5 design) faults.Word 0 × Fault (take 6 design) faults.Ends 6 × Fault (take 102 design ++ codes "b") faults.Word 102 × Fault (take 185 design) faults.Ends 185
     × Fault (codes "/*" ++ design) faults.OpenComment 0 × Fault (200 ∷ design) faults.NotAscii 0
-unfolding yal_reads file_of modules a_module heading a_kind sections section_after passed_after passed_until calls_after lines_after corners_after dimensions network calls_of call_after io_list lines_of line_after spot_after a_spot items_until numbers a_number number a_flow after_stop the_word words tokens uncommented
+unfolding yal_reads file_of modules a_module heading a_kind sections section_after passed_after passed_until calls_after lines_after corners_after dimensions network calls_of call_after io_list lines_of line_after spot_after a_spot items_until numbers a_number number number_within a_flow after_stop the_word words tokens uncommented
 reads-cut = (refl, refl, refl, refl, refl, refl)
 
 -- each name, section and instance a second time, and words that are no numbers
 pub reads-twice : Fault (inverter ++ inverter) faults.Twice 110 × Fault (codes "MODULE a;TYPE PAD;dimensions b;;DIMENSIONS") faults.Twice 32
     × Fault (codes "MODULE a;TYPE PARENT;NETWORK;b c;B c;b") faults.Twice 37 × Fault (codes "MODULE a;TYPE STANDARD;DIMENSIONS 100000001") faults.Number 34
     × Fault (codes "MODULE a;TYPE STANDARD;IOLIST;b I 0 +1") faults.Number 36
-unfolding yal_reads file_of modules a_module heading a_kind sections section_after passed_after passed_until calls_after lines_after corners_after dimensions network calls_of call_after io_list lines_of line_after spot_after a_spot items_until numbers a_number number a_flow after_stop the_word words tokens uncommented
+unfolding yal_reads file_of modules a_module heading a_kind sections section_after passed_after passed_until calls_after lines_after corners_after dimensions network calls_of call_after io_list lines_of line_after spot_after a_spot items_until numbers a_number number number_within a_flow after_stop the_word words tokens uncommented
 reads-twice = (refl, refl, refl, refl, refl)
 
 -- an END word ends its section only at the beginning of a statement; a comment parts words
@@ -63,5 +64,5 @@ pub reads-passed : yal_reads (codes "module Aa;type pad;PLACEMENT ENDPLACEMENT;b
       record { name = codes "Aa"; kind = kinds.Pad; corners = []; lines = []; calls = [] } ∷ [];
 })
     × Fault (codes "MO/**/DULE") faults.Word 0 × Fault (codes "/*/") faults.OpenComment 0
-unfolding yal_reads file_of modules a_module heading a_kind sections section_after passed_after passed_until calls_after lines_after corners_after dimensions network calls_of call_after io_list lines_of line_after spot_after a_spot items_until numbers a_number number a_flow after_stop the_word words tokens uncommented
+unfolding yal_reads file_of modules a_module heading a_kind sections section_after passed_after passed_until calls_after lines_after corners_after dimensions network calls_of call_after io_list lines_of line_after spot_after a_spot items_until numbers a_number number number_within a_flow after_stop the_word words tokens uncommented
 reads-passed = (refl, refl, refl)

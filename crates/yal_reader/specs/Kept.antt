@@ -1,6 +1,6 @@
 -- what a file that was read always has
-use Rattle.std.specs.Prelude.{◌≡◌, ◌≤◌, ◌≤ℤ◌, ℕ, ℤ, pos, negsuc, List, length, map, Bool, true, false, ◌&&◌, not, ◌==◌, nat_le, is_some, IfSome}
-use Rattle.std.specs.List.{AllByRecursion, IsDistinct, list_all}
+use Rattle.std.specs.Prelude.{◌≡◌, ◌≤◌, ◌≤ℤ◌, ℕ, ℤ, pos, negsuc, List, length, map, Bool, true, false, ◌&&◌, not, is_some, IfSome}
+use Rattle.std.specs.List.{AllByRecursion, IsDistinct}
 use Rattle.std.specs.Str.{bytes_eq}
 use Rattle.limits.specs.declared.TheConstants.{MOST_COORDINATE}
 use Rattle.geom_core.specs.Names.{IsName}
@@ -15,7 +15,7 @@ use Rattle.yal_reader.specs.declared.file.Module.{Module}
 use Rattle.yal_reader.specs.declared.file.YalFile.{YalFile}
 
 -- a number of magnitude at most 100,000,000
-pub record IsNear (z : ℤ) : Type 0 where
+pub record IsCoordinate (z : ℤ) : Type 0 where
   pub low : negsuc 99999999 ≤ℤ z
   pub high : z ≤ℤ pos MOST_COORDINATE
 
@@ -37,8 +37,8 @@ abbrev pub has_spot : Kind → Flow → Bool
 has_spot kind flow = is_standard kind && not (is_power flow)
 
 pub record IsKeptSpot (s : Spot) : Type 0 where
-  pub x : IsNear s.x
-  pub y : IsNear s.y
+  pub x : IsCoordinate s.x
+  pub y : IsCoordinate s.y
   pub layer : IsName s.layer
 
 -- a line where a spot is due has one
@@ -61,7 +61,7 @@ module_names modules = map (λ (m : Module). m.name) modules
 -- in a module no two calls have one name
 pub record IsKeptModule (m : Module) : Type 0 where
   pub name : IsName m.name
-  pub corners : AllByRecursion IsNear m.corners
+  pub corners : AllByRecursion IsCoordinate m.corners
   pub lines : AllByRecursion (IsKeptLine m.kind) m.lines
   pub calls : AllByRecursion IsKeptCall m.calls
   pub distinct : IsDistinct bytes_eq (call_names m.calls)

@@ -1,7 +1,7 @@
 -- what a YAL text is read as, from its bytes to its file
 pub mod YalReads
--- the steps of a reading, and how an answer compares with them
-pub mod Reading
+-- what is wrong with a text
+pub mod Flaws
 -- the ASCII test, and comments as blanks
 pub mod Text
 -- words and semicolons with their places

@@ -1,28 +1,28 @@
 -- the ASCII test, and comments as blanks
 use Rattle.std.specs.Prelude.{ℕ, Bool, false, List, [], ◌∷◌, ◌++◌, length, Option, None, Some, Result, Ok, Err, nat_lt, ◌==◌, ◌&&◌, if◌then◌else◌}
-use Rattle.yal_reader.specs.Reading.{◌>>=◌}
+use Rattle.read_base.specs.Steps.{◌>>=◌}
 use Rattle.yal_reader.specs.declared.fault.YalKind.TheVariants as kinds
-use Rattle.yal_reader.specs.declared.stuck.Stuck.{Stuck}
+use Rattle.yal_reader.specs.Flaws.{Flaw}
 
 -- each byte is ASCII
-abbrev pub ascii : List ℕ → Result (Unit {0}) Stuck
+abbrev pub ascii : List ℕ → Result (Unit {0}) Flaw
 ascii [] = Ok tt
 ascii (c ∷ cs) = if nat_lt c 128 then ascii cs else Err (record { kind = kinds.NotAscii; left = length (c ∷ cs) })
 
 -- a text with this byte in front
-abbrev pub onto : ℕ → Result (List ℕ) Stuck → Result (List ℕ) Stuck
+abbrev pub onto : ℕ → Result (List ℕ) Flaw → Result (List ℕ) Flaw
 onto c text = text >>= λ cs. Ok (c ∷ cs)
 
 -- a text with these bytes in front
-abbrev pub with_text : List ℕ → Result (List ℕ) Stuck → Result (List ℕ) Stuck
+abbrev pub with_text : List ℕ → Result (List ℕ) Flaw → Result (List ℕ) Flaw
 with_text front text = text >>= λ cs. Ok (front ++ cs)
 
 -- a comment that has no end, with so many bytes left from its first one on
-abbrev pub open_comment : ℕ → Result (List ℕ) Stuck
+abbrev pub open_comment : ℕ → Result (List ℕ) Flaw
 open_comment left = Err (record { kind = kinds.OpenComment; left = left })
 
 -- the text with each byte of a comment as a blank; the first argument says where a comment begins that is open here
-unfoldable pub uncommented : Option ℕ → List ℕ → Result (List ℕ) Stuck
+unfoldable pub uncommented : Option ℕ → List ℕ → Result (List ℕ) Flaw
 uncommented None [] = Ok []
 uncommented None (c ∷ []) = Ok (c ∷ [])
 uncommented None (c ∷ d ∷ cs) =

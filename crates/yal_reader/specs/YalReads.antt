@@ -1,12 +1,13 @@
 -- what a YAL text is read as, from its bytes to its file
-use Rattle.std.specs.Prelude.{◌≡◌, ℕ, zero, suc, ◌-◌, List, [], ◌∷◌, ◌++◌, length, None, Result, Ok, Err, codes, if◌then◌else◌}
+use Rattle.std.specs.Prelude.{ℕ, zero, suc, List, [], ◌∷◌, ◌++◌, length, Option, None, Some, Result, Ok, Err, codes, if◌then◌else◌}
 use Rattle.yal_reader.specs.Kept.{module_names}
 use Rattle.yal_reader.specs.Lists.{unless_taken}
-use Rattle.yal_reader.specs.Reading.{◌>>=◌}
+use Rattle.read_base.specs.Placed.{placed}
+use Rattle.read_base.specs.Steps.{◌>>=◌}
 use Rattle.yal_reader.specs.Sections.{items_of, no_parts, sections}
 use Rattle.yal_reader.specs.Text.{ascii, uncommented}
 use Rattle.yal_reader.specs.Tokens.{Spelled, Token, tokens}
-use Rattle.yal_reader.specs.Words.{a_kind, a_word, an_end, is_empty, statement, stuck, the_word}
+use Rattle.yal_reader.specs.Words.{a_kind, a_word, an_end, is_empty, statement, fails, the_word}
 use Rattle.yal_reader.specs.declared.fault.YalFault.{YalFault}
 use Rattle.yal_reader.specs.declared.fault.YalFault.TheVariants.{Bad, Memory}
 use Rattle.yal_reader.specs.declared.fault.YalKind.{YalKind}
@@ -14,10 +15,10 @@ use Rattle.yal_reader.specs.declared.file.Kind.{Kind}
 use Rattle.yal_reader.specs.declared.file.Module.{Module}
 use Rattle.yal_reader.specs.declared.file.YalFile.{YalFile}
 use Rattle.yal_reader.specs.declared.parts.Parts.{Parts}
-use Rattle.yal_reader.specs.declared.stuck.Stuck.{Stuck}
+use Rattle.yal_reader.specs.Flaws.{Flaw}
 
 -- a module's name and type; names are those of the modules before
-unfoldable pub heading : List (List ℕ) → List Token → Result ((Spelled × Kind) × List Token) Stuck
+unfoldable pub heading : List (List ℕ) → List Token → Result ((Spelled × Kind) × List Token) Flaw
 heading names ts = do
   opened ← the_word (codes "MODULE") ts
   name ← a_word opened
@@ -33,39 +34,33 @@ module_of name kind parts =
     record { name = name; kind = kind; corners = items_of parts.corners; lines = items_of parts.lines; calls = items_of parts.calls }
 
 -- a module, and what follows it
-unfoldable pub a_module : ℕ → List (List ℕ) → List Token → Result (Module × List Token) Stuck
+unfoldable pub a_module : ℕ → List (List ℕ) → List Token → Result (Module × List Token) Flaw
 a_module n names ts = do
   head ← heading names ts
   parts ← sections n head.0.1 no_parts head.1
   Ok (module_of head.0.0.text head.0.1 parts.0, parts.1)
 
 -- the modules to the end of the text, at most n of them, behind those found before
-unfoldable pub modules : ℕ → List Module → List Token → Result (List Module) Stuck
-modules zero before ts = stuck []
+unfoldable pub modules : ℕ → List Module → List Token → Result (List Module) Flaw
+modules zero before ts = fails []
 modules (suc n) before ts =
     if is_empty (statement ts) then Ok before else do
       one ← a_module (suc n) (module_names before) (statement ts)
       modules n (before ++ one.0 ∷ []) one.1
 
 -- the ASCII test, then the comments, then the grammar
-unfoldable pub file_of : List ℕ → Result YalFile Stuck
+unfoldable pub file_of : List ℕ → Result YalFile Flaw
 file_of bytes = do
   checked ← ascii bytes
   text ← uncommented None bytes
   found ← modules (suc (length text)) [] (tokens text)
   Ok (record { modules = found })
 
--- a fault's place from the front of a text of this size
-abbrev pub placed : ℕ → Result YalFile Stuck → Result YalFile (YalKind × ℕ)
-placed size (Ok file) = Ok file
-placed size (Err stuck) = Err (stuck.kind, size - stuck.left)
-
 -- the file that a text is, or the kind and the place of its first fault
 unfoldable pub yal_reads : List ℕ → Result YalFile (YalKind × ℕ)
 yal_reads bytes = placed (length bytes) (file_of bytes)
 
--- a result is what the text reads as, both ways; want of memory may come at any time
-abbrev pub Reads : Result YalFile YalFault → Result YalFile (YalKind × ℕ) → Type 0
-Reads (Ok file) read = read ≡ Ok file
-Reads (Err (Bad kind place)) read = read ≡ Err (kind, place)
-Reads (Err Memory) read = Unit {0}
+-- what a fault tells, and nothing for want of memory
+abbrev pub told_of : YalFault → Option (YalKind × ℕ)
+told_of (Bad kind place) = Some (kind, place)
+told_of Memory = None

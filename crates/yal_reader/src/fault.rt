@@ -29,3 +29,9 @@ pub enum YalFault {
     #[error("memory ran out")]
     Memory,
 }
+
+/// A flaw of a text that is to be YAL.
+pub(crate) type Flaw = read_base::Flaw<YalKind>;
+
+/// Why reading such a text ended early.
+pub(crate) type Stop = read_base::Stop<YalKind>;

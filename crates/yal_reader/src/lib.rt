@@ -13,7 +13,6 @@ mod numbers;
 mod parts;
 mod plain;
 mod sections;
-mod stuck;
 mod tokens;
 mod word;
 mod words;

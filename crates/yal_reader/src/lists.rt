@@ -4,14 +4,13 @@ ghost use Rattle.list_facts.specs.Texts.{texts};
 ghost use Rattle.std.specs.Prelude.{◌≡◌, ◌<◌, ◌≤◌, ◌++◌, ◌∷◌, [], ℕ, length, IfOk};
 ghost use Rattle.yal_reader.specs.Kept.{has_spot as has_spot_of, is_parent as is_parent_kind};
 ghost use Rattle.yal_reader.specs.Lists.{a_spot, call_after, calls_of, calls_until, io_list, keeps_lines as keeps_lines_of, line_after, lines_of, lines_until, network, spot_after};
-ghost use Rattle.yal_reader.specs.Reading.{Gives};
+ghost use Rattle.read_base.specs.Answers.{Answers};
 ghost use Rattle.yal_reader.specs.Seen.{seen};
 ghost use Rattle.yal_reader.specs.Tokens.{tokens};
 
-use crate::fault::YalKind;
+use crate::fault::{Stop, YalKind};
 use crate::file::{Call, Flow, Kind, Line, Spot};
 use crate::numbers::number_at;
-use crate::stuck::Stop;
 use crate::tokens::{bad, end_at, statement_at, word_at};
 use crate::word::Word;
 use crate::words::{after_stop_at, flow_at, is_word, name_of, past_words_at, words_at};
@@ -58,7 +57,7 @@ fn is_parent(kind: Kind) -> bool
 /// The spot that comes next: x and y, a width that is any word, and the layer's word.
 #[tactic(auto, unfolding(crate::specs::Lists::a_spot))]
 fn spot_at(alloc: Global, bytes: &[u8]) -> Result<(Spot, &[u8]), Stop>
-    ensures gives { Gives (λ x. (x.0, tokens x.1.now)) result (a_spot (tokens bytes.now)) }
+    ensures gives { Answers (λ x. (x.0, tokens x.1.now)) result (a_spot (tokens bytes.now)) }
     ensures shorter { IfOk result (λ x. length x.1.now < length bytes.now) }
 {
     let (x, rest) = number_at(bytes)?;
@@ -77,7 +76,7 @@ fn spot_where_due(
     flow: Flow,
     bytes: &[u8],
 ) -> Result<(Option<Spot>, &[u8]), Stop>
-    ensures gives { Gives (λ x. (x.0, tokens x.1.now)) result (spot_after kind flow (tokens bytes.now)) }
+    ensures gives { Answers (λ x. (x.0, tokens x.1.now)) result (spot_after kind flow (tokens bytes.now)) }
     ensures shorter { IfOk result (λ x. length x.1.now ≤ length bytes.now) }
 {
     if !has_spot(kind, flow) {
@@ -95,7 +94,7 @@ fn line_at<'a>(
     name: Word<'a>,
     bytes: &'a [u8],
 ) -> Result<(Line, &'a [u8]), Stop>
-    ensures gives { Gives (λ x. (x.0, tokens x.1.now)) result (line_after kind (seen name.entry) (tokens bytes.entry.now)) }
+    ensures gives { Answers (λ x. (x.0, tokens x.1.now)) result (line_after kind (seen name.entry) (tokens bytes.entry.now)) }
     ensures shorter { IfOk result (λ x. length x.1.now < length bytes.entry.now) }
 {
     let (flow, rest) = flow_at(bytes)?;
@@ -107,7 +106,7 @@ fn line_at<'a>(
 
 /// The lines up to ENDIOLIST, and the text behind that word.
 fn lines_at(alloc: Global, kind: Kind, bytes: &[u8]) -> Result<(Vec<Line>, &[u8]), Stop>
-    ensures gives { (n : ℕ) → length bytes.now < n → Gives (λ x. (x.0.items, tokens x.1.now)) result (lines_until kind n [] (tokens bytes.now)) }
+    ensures gives { (n : ℕ) → length bytes.now < n → Answers (λ x. (x.0.items, tokens x.1.now)) result (lines_until kind n [] (tokens bytes.now)) }
     ensures shorter { IfOk result (λ x. length x.1.now < length bytes.now) }
 {
     let mut found = Vec::new(alloc);
@@ -126,7 +125,7 @@ fn lines_at(alloc: Global, kind: Kind, bytes: &[u8]) -> Result<(Vec<Line>, &[u8]
 /// The lines of an IOLIST that are kept, and the text behind ENDIOLIST.
 #[tactic(auto, unfolding(crate::specs::Lists::lines_of))]
 fn lines_or_none(alloc: Global, kind: Kind, bytes: &[u8]) -> Result<(Vec<Line>, &[u8]), Stop>
-    ensures gives { (n : ℕ) → length bytes.now < n → Gives (λ x. (x.0.items, tokens x.1.now)) result (lines_of n kind (tokens bytes.now)) }
+    ensures gives { (n : ℕ) → length bytes.now < n → Answers (λ x. (x.0.items, tokens x.1.now)) result (lines_of n kind (tokens bytes.now)) }
     ensures shorter { IfOk result (λ x. length x.1.now < length bytes.now) }
 {
     if keeps_lines(kind) {
@@ -143,7 +142,7 @@ pub(crate) fn io_list_at(
     kind: Kind,
     bytes: &[u8],
 ) -> Result<(Vec<Line>, &[u8]), Stop>
-    ensures gives { (n : ℕ) → length bytes.now < n → Gives (λ x. (x.0.items, tokens x.1.now)) result (io_list n kind (tokens bytes.now)) }
+    ensures gives { (n : ℕ) → length bytes.now < n → Answers (λ x. (x.0.items, tokens x.1.now)) result (io_list n kind (tokens bytes.now)) }
     ensures shorter { IfOk result (λ x. length x.1.now < length bytes.now) }
 {
     let rest = end_at(bytes)?;
@@ -160,7 +159,7 @@ fn call_at<'a>(
     name: Word<'a>,
     bytes: &'a [u8],
 ) -> Result<(Call, &'a [u8]), Stop>
-    ensures gives { Gives (λ x. (x.0, tokens x.1.now)) result (call_after (texts names.old.keys) (seen name.entry) (tokens bytes.entry.now)) }
+    ensures gives { Answers (λ x. (x.0, tokens x.1.now)) result (call_after (texts names.old.keys) (seen name.entry) (tokens bytes.entry.now)) }
     ensures grown { IfOk result (λ x. texts names.new.keys ≡ texts names.old.keys ++ x.0.name ∷ []) }
     ensures shorter { IfOk result (λ x. length x.1.now < length bytes.entry.now) }
 {
@@ -183,7 +182,7 @@ fn call_at<'a>(
 
 /// The calls up to ENDNETWORK, and the text behind that word.
 fn calls_at(alloc: Global, bytes: &[u8]) -> Result<(Vec<Call>, &[u8]), Stop>
-    ensures gives { (n : ℕ) → length bytes.now < n → Gives (λ x. (x.0.items, tokens x.1.now)) result (calls_until n [] (tokens bytes.now)) }
+    ensures gives { (n : ℕ) → length bytes.now < n → Answers (λ x. (x.0.items, tokens x.1.now)) result (calls_until n [] (tokens bytes.now)) }
     ensures shorter { IfOk result (λ x. length x.1.now < length bytes.now) }
 {
     let mut found = Vec::new(alloc);
@@ -203,7 +202,7 @@ fn calls_at(alloc: Global, bytes: &[u8]) -> Result<(Vec<Call>, &[u8]), Stop>
 /// The calls of a NETWORK that are kept, and the text behind ENDNETWORK.
 #[tactic(auto, unfolding(crate::specs::Lists::calls_of))]
 fn calls_or_none(alloc: Global, kind: Kind, bytes: &[u8]) -> Result<(Vec<Call>, &[u8]), Stop>
-    ensures gives { (n : ℕ) → length bytes.now < n → Gives (λ x. (x.0.items, tokens x.1.now)) result (calls_of n kind (tokens bytes.now)) }
+    ensures gives { (n : ℕ) → length bytes.now < n → Answers (λ x. (x.0.items, tokens x.1.now)) result (calls_of n kind (tokens bytes.now)) }
     ensures shorter { IfOk result (λ x. length x.1.now < length bytes.now) }
 {
     if is_parent(kind) {
@@ -220,7 +219,7 @@ pub(crate) fn network_at(
     kind: Kind,
     bytes: &[u8],
 ) -> Result<(Vec<Call>, &[u8]), Stop>
-    ensures gives { (n : ℕ) → length bytes.now < n → Gives (λ x. (x.0.items, tokens x.1.now)) result (network n kind (tokens bytes.now)) }
+    ensures gives { (n : ℕ) → length bytes.now < n → Answers (λ x. (x.0.items, tokens x.1.now)) result (network n kind (tokens bytes.now)) }
     ensures shorter { IfOk result (λ x. length x.1.now < length bytes.now) }
 {
     let rest = end_at(bytes)?;

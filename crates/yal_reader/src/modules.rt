@@ -3,18 +3,17 @@
 ghost use Rattle.list_facts.specs.Texts.{texts};
 ghost use Rattle.std.specs.Prelude.{◌≡◌, ◌<◌, ◌++◌, ◌∷◌, [], ℕ, Option, length, IfOk};
 ghost use Rattle.yal_reader.specs.Kept.{HasAtMost, HasSpots, IsKept};
-ghost use Rattle.yal_reader.specs.Reading.{Gives};
+ghost use Rattle.read_base.specs.Answers.{Answers, AnswersAs};
 ghost use Rattle.yal_reader.specs.Sections.{items_of};
 ghost use Rattle.yal_reader.specs.Seen.{seen};
 ghost use Rattle.yal_reader.specs.Tokens.{tokens};
-ghost use Rattle.yal_reader.specs.YalReads.{Reads, a_module, file_of, heading, module_of, modules, yal_reads};
+ghost use Rattle.yal_reader.specs.YalReads.{a_module, file_of, heading, module_of, modules, told_of, yal_reads};
 
-use crate::fault::{YalFault, YalKind};
+use crate::fault::{Stop, YalFault, YalKind};
 use crate::file::{Kind, Module, YalFile};
 use crate::parts::Parts;
 use crate::plain::{check_ascii, without_comments};
 use crate::sections::sections_at;
-use crate::stuck::Stop;
 use crate::tokens::{bad, end_at, is_at_end, statement_at, word_at};
 use crate::word::Word;
 use crate::words::{keyword_at, kind_at, name_of};
@@ -29,7 +28,7 @@ fn heading_at<'a>(
     names: &mut IndexSet<&'a [u8]>,
     bytes: &'a [u8],
 ) -> Result<((Word<'a>, Kind), &'a [u8]), Stop>
-    ensures gives { Gives (λ x. ((seen x.0.0, x.0.1), tokens x.1.now)) result (heading (texts names.old.keys) (tokens bytes.entry.now)) }
+    ensures gives { Answers (λ x. ((seen x.0.0, x.0.1), tokens x.1.now)) result (heading (texts names.old.keys) (tokens bytes.entry.now)) }
     ensures grown { IfOk result (λ x. texts names.new.keys ≡ texts names.old.keys ++ x.0.0.text.now ∷ []) }
     ensures shorter { IfOk result (λ x. length x.1.now < length bytes.entry.now) }
 {
@@ -80,7 +79,7 @@ fn module_at<'a>(
     names: &mut IndexSet<&'a [u8]>,
     bytes: &'a [u8],
 ) -> Result<(Module, &'a [u8]), Stop>
-    ensures gives { (n : ℕ) → length bytes.entry.now < n → Gives (λ x. (x.0, tokens x.1.now)) result (a_module n (texts names.old.keys) (tokens bytes.entry.now)) }
+    ensures gives { (n : ℕ) → length bytes.entry.now < n → Answers (λ x. (x.0, tokens x.1.now)) result (a_module n (texts names.old.keys) (tokens bytes.entry.now)) }
     ensures grown { IfOk result (λ x. texts names.new.keys ≡ texts names.old.keys ++ x.0.name ∷ []) }
     ensures shorter { IfOk result (λ x. length x.1.now < length bytes.entry.now) }
 {
@@ -92,7 +91,7 @@ fn module_at<'a>(
 
 /// The modules to the end of the text.
 fn modules_at(alloc: Global, bytes: &[u8]) -> Result<Vec<Module>, Stop>
-    ensures { (n : ℕ) → length bytes.now < n → Gives (λ found. found.items) result (modules n [] (tokens bytes.now)) }
+    ensures { (n : ℕ) → length bytes.now < n → Answers (λ found. found.items) result (modules n [] (tokens bytes.now)) }
 {
     let mut found = Vec::new(alloc);
     let mut names = IndexSet::new(alloc);
@@ -111,7 +110,7 @@ fn modules_at(alloc: Global, bytes: &[u8]) -> Result<Vec<Module>, Stop>
 /// The file that a text is, or where it stops being one.
 #[tactic(auto, unfolding(crate::specs::YalReads::file_of))]
 fn file_at(alloc: Global, bytes: &[u8]) -> Result<YalFile, Stop>
-    ensures { Gives (λ file. file) result (file_of bytes.now) }
+    ensures { Answers (λ file. file) result (file_of bytes.now) }
 {
     check_ascii(bytes)?;
     let text = without_comments(alloc, bytes)?;
@@ -125,16 +124,16 @@ fn file_at(alloc: Global, bytes: &[u8]) -> Result<YalFile, Stop>
 /// A file has no more modules than the text has bytes, and no module more lines or calls. Source: MCNC YAL.
 #[tactic(auto, unfolding(crate::specs::YalReads::yal_reads))]
 pub fn read_yal(alloc: Global, bytes: &[u8]) -> Result<YalFile, YalFault>
-    ensures reads { Reads result (yal_reads bytes.now) }
+    ensures reads { AnswersAs (λ file. file) told_of result (yal_reads bytes.now) }
     ensures kept { IfOk result (λ file. IsKept file) }
     ensures spots { IfOk result (λ file. HasSpots file) }
     ensures short { IfOk result (λ file. HasAtMost (length bytes.now) file) }
 {
     match file_at(alloc, bytes) {
         Ok(file) => Ok(file),
-        Err(Stop::At(stuck)) => Err(YalFault::Bad {
-            kind: stuck.kind,
-            at: bytes.len().saturating_sub(stuck.left) as u64,
+        Err(Stop::At(flaw)) => Err(YalFault::Bad {
+            kind: flaw.kind,
+            at: bytes.len().saturating_sub(flaw.left) as u64,
         }),
         Err(Stop::Memory) => Err(YalFault::Memory),
     }

@@ -1,12 +1,11 @@
 //! The ASCII test of a text, and its comments turned into blanks.
 
 ghost use Rattle.std.specs.Prelude.{◌≡◌, ◌≤◌, ◌++◌, ◌∷◌, [], ℕ, Bool, None, Some, Ok, Err, length, IfOk, IfErr, OnOk};
-ghost use Rattle.yal_reader.specs.Reading.{Fails, Finds, Gives};
+ghost use Rattle.read_base.specs.Answers.{Answers, AnswersAs, Fails, flaw_of};
 ghost use Rattle.yal_reader.specs.Text.{ascii, begins_with, uncommented, with_text};
-ghost use Rattle.yal_reader.specs.declared.stuck.Stop.TheVariants as stops;
+ghost use Rattle.read_base.specs.declared.stop.Stop.TheVariants as stops;
 
-use crate::fault::YalKind;
-use crate::stuck::{Stop, Stuck};
+use crate::fault::{Flaw, Stop, YalKind};
 use std::alloc::Global;
 
 /// Whether these two bytes stand first.
@@ -17,13 +16,13 @@ fn begins(first: u8, second: u8, bytes: &[u8]) -> bool
 }
 
 /// Tests that each byte is ASCII; the first that is not is at fault. Takes no memory.
-pub(crate) fn check_ascii(bytes: &[u8]) -> Result<(), Stuck>
-    ensures { Finds (λ x. x) result (ascii bytes.now) }
+pub(crate) fn check_ascii(bytes: &[u8]) -> Result<(), Flaw>
+    ensures { AnswersAs (λ x. x) Some result (ascii bytes.now) }
 {
     let mut rest = bytes;
     while let Some((byte, after)) = rest.split_first() {
         if *byte >= 128 {
-            return Err(Stuck {
+            return Err(Flaw {
                 kind: YalKind::NotAscii,
                 left: rest.len(),
             });
@@ -46,7 +45,7 @@ fn push_blanks(text: &mut Vec<u8>) -> Result<(), Stop>
 /// Puts a blank for each byte up to the end of a comment, which began where `left` bytes were left, and gives the text behind it.
 fn pass_comment<'a>(text: &mut Vec<u8>, left: usize, bytes: &'a [u8]) -> Result<&'a [u8], Stop>
     ensures passes { IfOk result (λ rest. with_text text.old.items (uncommented (Some left) bytes.entry.now) ≡ with_text text.new.items (uncommented None rest.now)) }
-    ensures fails { IfErr result (λ stop. Fails stop (uncommented (Some left) bytes.entry.now)) }
+    ensures fails { IfErr result (λ stop. Fails flaw_of stop (uncommented (Some left) bytes.entry.now)) }
     ensures shorter { IfOk result (λ rest. length rest.now ≤ length bytes.entry.now) }
 {
     let mut rest = bytes;
@@ -58,7 +57,7 @@ fn pass_comment<'a>(text: &mut Vec<u8>, left: usize, bytes: &'a [u8]) -> Result<
         text.push(b' ')?;
         rest = after;
     }
-    Err(Stop::At(Stuck {
+    Err(Stop::At(Flaw {
         kind: YalKind::OpenComment,
         left,
     }))
@@ -66,7 +65,7 @@ fn pass_comment<'a>(text: &mut Vec<u8>, left: usize, bytes: &'a [u8]) -> Result<
 
 /// The text with each byte of its comments as a blank; or the comment that has no end. Places stay as they are.
 pub(crate) fn without_comments(alloc: Global, bytes: &[u8]) -> Result<Vec<u8>, Stop>
-    ensures { Gives (λ text. text.items) result (uncommented None bytes.now) }
+    ensures { Answers (λ text. text.items) result (uncommented None bytes.now) }
 {
     let mut text = Vec::new(alloc);
     let mut rest = bytes;

@@ -2,16 +2,15 @@
 
 ghost use Rattle.std.specs.Prelude.{◌≡◌, ◌<◌, ◌≤◌, ℕ, Bool, None, length, IfOk};
 ghost use Rattle.yal_reader.specs.Kept.{is_standard as is_standard_kind};
-ghost use Rattle.yal_reader.specs.Reading.{Finds, Gives};
+ghost use Rattle.read_base.specs.Answers.{Answers, AnswersAs};
 ghost use Rattle.yal_reader.specs.Sections.{calls_after, corners_after, dimensions, lines_after, no_parts, passed_after, passed_until, passes_words as passes_words_of, section_after, sections};
 ghost use Rattle.yal_reader.specs.Seen.{seen};
 ghost use Rattle.yal_reader.specs.Tokens.{tokens};
 
-use crate::fault::YalKind;
+use crate::fault::{Flaw, Stop, YalKind};
 use crate::file::Kind;
 use crate::lists::{io_list_at, network_at};
 use crate::parts::Parts;
-use crate::stuck::{Stop, Stuck};
 use crate::tokens::{bad, end_at, statement_at, word_at};
 use crate::word::Word;
 use crate::words::{after_stop_at, is_word, numbers_at, past_words_at};
@@ -31,7 +30,7 @@ fn is_standard(kind: Kind) -> bool
 /// DIMENSIONS behind its keyword: its numbers in a STANDARD module, and the text behind it.
 #[tactic(auto, unfolding(crate::specs::Sections::dimensions))]
 fn dimensions_at(alloc: Global, kind: Kind, bytes: &[u8]) -> Result<(Vec<i64>, &[u8]), Stop>
-    ensures gives { Gives (λ x. (x.0.items, tokens x.1.now)) result (dimensions kind (tokens bytes.now)) }
+    ensures gives { Answers (λ x. (x.0.items, tokens x.1.now)) result (dimensions kind (tokens bytes.now)) }
     ensures shorter { IfOk result (λ x. length x.1.now < length bytes.now) }
 {
     if is_standard(kind) {
@@ -50,7 +49,7 @@ fn with_corners<'a>(
     word: Word<'a>,
     bytes: &'a [u8],
 ) -> Result<(Parts, &'a [u8]), Stop>
-    ensures gives { Gives (λ x. (x.0, tokens x.1.now)) result (corners_after kind parts (seen word.entry) (tokens bytes.entry.now)) }
+    ensures gives { Answers (λ x. (x.0, tokens x.1.now)) result (corners_after kind parts (seen word.entry) (tokens bytes.entry.now)) }
     ensures shorter { IfOk result (λ x. length x.1.now < length bytes.entry.now) }
 {
     if parts.corners.is_some() {
@@ -82,7 +81,7 @@ fn with_lines<'a>(
     word: Word<'a>,
     bytes: &'a [u8],
 ) -> Result<(Parts, &'a [u8]), Stop>
-    ensures gives { (n : ℕ) → length bytes.entry.now < n → Gives (λ x. (x.0, tokens x.1.now)) result (lines_after n kind parts (seen word.entry) (tokens bytes.entry.now)) }
+    ensures gives { (n : ℕ) → length bytes.entry.now < n → Answers (λ x. (x.0, tokens x.1.now)) result (lines_after n kind parts (seen word.entry) (tokens bytes.entry.now)) }
     ensures shorter { IfOk result (λ x. length x.1.now < length bytes.entry.now) }
 {
     if parts.lines.is_some() {
@@ -114,7 +113,7 @@ fn with_calls<'a>(
     word: Word<'a>,
     bytes: &'a [u8],
 ) -> Result<(Parts, &'a [u8]), Stop>
-    ensures gives { (n : ℕ) → length bytes.entry.now < n → Gives (λ x. (x.0, tokens x.1.now)) result (calls_after n kind parts (seen word.entry) (tokens bytes.entry.now)) }
+    ensures gives { (n : ℕ) → length bytes.entry.now < n → Answers (λ x. (x.0, tokens x.1.now)) result (calls_after n kind parts (seen word.entry) (tokens bytes.entry.now)) }
     ensures shorter { IfOk result (λ x. length x.1.now < length bytes.entry.now) }
 {
     if parts.calls.is_some() {
@@ -139,8 +138,8 @@ fn with_calls<'a>(
 
 /// The text behind this keyword as the first word of a later statement, and its semicolon. Takes no memory.
 #[tactic(auto, unfolding(crate::specs::Sections::passed_until))]
-fn past_until<'a>(keyword: &[u8], bytes: &'a [u8]) -> Result<&'a [u8], Stuck>
-    ensures gives { Finds (λ rest. tokens rest.now) result (passed_until keyword.now (tokens bytes.entry.now)) }
+fn past_until<'a>(keyword: &[u8], bytes: &'a [u8]) -> Result<&'a [u8], Flaw>
+    ensures gives { AnswersAs (λ rest. tokens rest.now) Some result (passed_until keyword.now (tokens bytes.entry.now)) }
     ensures shorter { IfOk result (λ rest. length rest.now < length bytes.entry.now) }
 {
     let rest = past_words_at(bytes)?;
@@ -163,8 +162,8 @@ fn passes_words(word: &[u8]) -> bool
 
 /// The text behind the section that this word begins and that is passed over. Takes no memory.
 #[tactic(auto, unfolding(crate::specs::Sections::passed_after))]
-fn past_section<'a>(word: Word<'a>, bytes: &'a [u8]) -> Result<&'a [u8], Stuck>
-    ensures gives { Finds (λ rest. tokens rest.now) result (passed_after (seen word.entry) (tokens bytes.entry.now)) }
+fn past_section<'a>(word: Word<'a>, bytes: &'a [u8]) -> Result<&'a [u8], Flaw>
+    ensures gives { AnswersAs (λ rest. tokens rest.now) Some result (passed_after (seen word.entry) (tokens bytes.entry.now)) }
     ensures shorter { IfOk result (λ rest. length rest.now < length bytes.entry.now) }
 {
     if passes_words(word.text) {
@@ -188,7 +187,7 @@ fn section_at<'a>(
     word: Word<'a>,
     bytes: &'a [u8],
 ) -> Result<(Parts, &'a [u8]), Stop>
-    ensures gives { (n : ℕ) → length bytes.entry.now < n → Gives (λ x. (x.0, tokens x.1.now)) result (section_after n kind parts (seen word.entry) (tokens bytes.entry.now)) }
+    ensures gives { (n : ℕ) → length bytes.entry.now < n → Answers (λ x. (x.0, tokens x.1.now)) result (section_after n kind parts (seen word.entry) (tokens bytes.entry.now)) }
     ensures shorter { IfOk result (λ x. length x.1.now < length bytes.entry.now) }
 {
     if is_word(word.text, b"DIMENSIONS") {
@@ -206,7 +205,7 @@ fn section_at<'a>(
 
 /// The parts of a module, and the text behind ENDMODULE and its semicolon.
 pub(crate) fn sections_at(alloc: Global, kind: Kind, bytes: &[u8]) -> Result<(Parts, &[u8]), Stop>
-    ensures gives { (n : ℕ) → length bytes.now < n → Gives (λ x. (x.0, tokens x.1.now)) result (sections n kind no_parts (tokens bytes.now)) }
+    ensures gives { (n : ℕ) → length bytes.now < n → Answers (λ x. (x.0, tokens x.1.now)) result (sections n kind no_parts (tokens bytes.now)) }
     ensures shorter { IfOk result (λ x. length x.1.now < length bytes.now) }
 {
     let mut parts = Parts {

@@ -2,13 +2,12 @@
 
 ghost use Rattle.std.specs.List.{prefix_len};
 ghost use Rattle.std.specs.Prelude.{◌≡◌, ◌<◌, ◌≤◌, false, length, IfOk};
-ghost use Rattle.yal_reader.specs.Reading.{Finds};
+ghost use Rattle.read_base.specs.Answers.{AnswersAs};
 ghost use Rattle.yal_reader.specs.Seen.{begins_blank, seen};
 ghost use Rattle.yal_reader.specs.Tokens.{is_blank as is_blank_byte, is_word_byte as is_in_word, tokens};
-ghost use Rattle.yal_reader.specs.Words.{a_word, an_end, is_empty, statement, stuck_of};
+ghost use Rattle.yal_reader.specs.Words.{a_word, an_end, is_empty, statement, flaw_here};
 
-use crate::fault::YalKind;
-use crate::stuck::Stuck;
+use crate::fault::{Flaw, YalKind};
 use crate::word::Word;
 
 /// Whether a byte parts words.
@@ -49,41 +48,41 @@ fn skip_blanks(bytes: &[u8]) -> &[u8]
 }
 
 /// That this word is at fault.
-pub(crate) fn bad(kind: YalKind, word: Word<'_>) -> Stuck
+pub(crate) fn bad(kind: YalKind, word: Word<'_>) -> Flaw
     ensures { result ≡ record { kind = kind; left = word.entry.left } }
 {
-    Stuck {
+    Flaw {
         kind,
         left: word.left,
     }
 }
 
 /// That no reading goes on here.
-fn stuck_at(bytes: &[u8]) -> Stuck
+fn flaw_at(bytes: &[u8]) -> Flaw
     requires { begins_blank bytes.now ≡ false }
-    ensures { result ≡ stuck_of (tokens bytes.now) }
+    ensures { result ≡ flaw_here (tokens bytes.now) }
 {
     if bytes.is_empty() {
-        return Stuck {
+        return Flaw {
             kind: YalKind::Ends,
             left: 0,
         };
     }
-    Stuck {
+    Flaw {
         kind: YalKind::Word,
         left: bytes.len(),
     }
 }
 
 /// The word that comes next, and the text behind it; or that none does. Takes no memory.
-pub(crate) fn word_at(bytes: &[u8]) -> Result<(Word<'_>, &[u8]), Stuck>
-    ensures gives { Finds (λ x. (seen x.0, tokens x.1.now)) result (a_word (tokens bytes.now)) }
+pub(crate) fn word_at(bytes: &[u8]) -> Result<(Word<'_>, &[u8]), Flaw>
+    ensures gives { AnswersAs (λ x. (seen x.0, tokens x.1.now)) Some result (a_word (tokens bytes.now)) }
     ensures shorter { IfOk result (λ x. length x.1.now < length bytes.now) }
 {
     let rest = skip_blanks(bytes);
     let len = word_len(rest);
     if len == 0 {
-        return Err(stuck_at(rest));
+        return Err(flaw_at(rest));
     }
     let (text, after) = rest.split_at(len);
     Ok((
@@ -96,16 +95,16 @@ pub(crate) fn word_at(bytes: &[u8]) -> Result<(Word<'_>, &[u8]), Stuck>
 }
 
 /// The text behind the semicolon that comes next; or that none does. Takes no memory.
-pub(crate) fn end_at(bytes: &[u8]) -> Result<&[u8], Stuck>
-    ensures gives { Finds (λ rest. tokens rest.now) result (an_end (tokens bytes.now)) }
+pub(crate) fn end_at(bytes: &[u8]) -> Result<&[u8], Flaw>
+    ensures gives { AnswersAs (λ rest. tokens rest.now) Some result (an_end (tokens bytes.now)) }
     ensures shorter { IfOk result (λ rest. length rest.now < length bytes.now) }
 {
     let rest = skip_blanks(bytes);
     if rest.is_empty() {
-        return Err(stuck_at(rest));
+        return Err(flaw_at(rest));
     }
     if rest[0] != b';' {
-        return Err(stuck_at(rest));
+        return Err(flaw_at(rest));
     }
     Ok(rest.split_at(1).1)
 }

@@ -2,15 +2,14 @@
 
 ghost use Rattle.std.specs.Prelude.{◌≡◌, ◌<◌, true, length, IfOk};
 ghost use Rattle.yal_reader.specs.Numbers.{numbers};
-ghost use Rattle.yal_reader.specs.Reading.{Finds, Gives};
+ghost use Rattle.read_base.specs.Answers.{Answers, AnswersAs};
 ghost use Rattle.yal_reader.specs.Seen.{seen};
 ghost use Rattle.yal_reader.specs.Tokens.{tokens};
 ghost use Rattle.yal_reader.specs.Words.{a_flow, a_kind, after_stop, flow_of, kind_of, past_words, spells, the_word, words};
 
-use crate::fault::YalKind;
+use crate::fault::{Flaw, Stop, YalKind};
 use crate::file::{Flow, Kind};
 use crate::numbers::number_of;
-use crate::stuck::{Stop, Stuck};
 use crate::tokens::{bad, end_at, statement_at, word_at};
 use crate::word::Word;
 use geom_core::Name;
@@ -32,8 +31,8 @@ pub(crate) fn name_of(alloc: Global, word: Word<'_>) -> Result<Name, AllocError>
 
 /// The text behind this keyword, which stands here. Takes no memory.
 #[tactic(auto, unfolding(crate::specs::Words::the_word))]
-pub(crate) fn keyword_at<'a>(keyword: &[u8], bytes: &'a [u8]) -> Result<&'a [u8], Stuck>
-    ensures gives { Finds (λ rest. tokens rest.now) result (the_word keyword.now (tokens bytes.entry.now)) }
+pub(crate) fn keyword_at<'a>(keyword: &[u8], bytes: &'a [u8]) -> Result<&'a [u8], Flaw>
+    ensures gives { AnswersAs (λ rest. tokens rest.now) Some result (the_word keyword.now (tokens bytes.entry.now)) }
     ensures shorter { IfOk result (λ rest. length rest.now < length bytes.entry.now) }
 {
     let (word, rest) = word_at(bytes)?;
@@ -64,8 +63,8 @@ fn kind_named(text: &[u8]) -> Option<Kind>
 
 /// The type of modules that comes next, and the text behind it. Takes no memory.
 #[tactic(auto, unfolding(crate::specs::Words::a_kind))]
-pub(crate) fn kind_at(bytes: &[u8]) -> Result<(Kind, &[u8]), Stuck>
-    ensures gives { Finds (λ x. (x.0, tokens x.1.now)) result (a_kind (tokens bytes.now)) }
+pub(crate) fn kind_at(bytes: &[u8]) -> Result<(Kind, &[u8]), Flaw>
+    ensures gives { AnswersAs (λ x. (x.0, tokens x.1.now)) Some result (a_kind (tokens bytes.now)) }
     ensures shorter { IfOk result (λ x. length x.1.now < length bytes.now) }
 {
     let (word, rest) = word_at(bytes)?;
@@ -111,8 +110,8 @@ fn flow_named(text: &[u8]) -> Option<Flow>
 
 /// The flow that comes next, and the text behind it. Takes no memory.
 #[tactic(auto, unfolding(crate::specs::Words::a_flow))]
-pub(crate) fn flow_at(bytes: &[u8]) -> Result<(Flow, &[u8]), Stuck>
-    ensures gives { Finds (λ x. (x.0, tokens x.1.now)) result (a_flow (tokens bytes.now)) }
+pub(crate) fn flow_at(bytes: &[u8]) -> Result<(Flow, &[u8]), Flaw>
+    ensures gives { AnswersAs (λ x. (x.0, tokens x.1.now)) Some result (a_flow (tokens bytes.now)) }
     ensures shorter { IfOk result (λ x. length x.1.now < length bytes.now) }
 {
     let (word, rest) = word_at(bytes)?;
@@ -124,7 +123,7 @@ pub(crate) fn flow_at(bytes: &[u8]) -> Result<(Flow, &[u8]), Stuck>
 
 /// The words up to the next semicolon, and the text behind it.
 pub(crate) fn words_at(alloc: Global, bytes: &[u8]) -> Result<(Vec<Name>, &[u8]), Stop>
-    ensures gives { Gives (λ x. (x.0.items, tokens x.1.now)) result (words (tokens bytes.now)) }
+    ensures gives { Answers (λ x. (x.0.items, tokens x.1.now)) result (words (tokens bytes.now)) }
     ensures shorter { IfOk result (λ x. length x.1.now < length bytes.now) }
 {
     let mut found = Vec::new(alloc);
@@ -139,7 +138,7 @@ pub(crate) fn words_at(alloc: Global, bytes: &[u8]) -> Result<(Vec<Name>, &[u8])
 
 /// The numbers up to the next semicolon, and the text behind it.
 pub(crate) fn numbers_at(alloc: Global, bytes: &[u8]) -> Result<(Vec<i64>, &[u8]), Stop>
-    ensures gives { Gives (λ x. (x.0.items, tokens x.1.now)) result (numbers (tokens bytes.now)) }
+    ensures gives { Answers (λ x. (x.0.items, tokens x.1.now)) result (numbers (tokens bytes.now)) }
     ensures shorter { IfOk result (λ x. length x.1.now < length bytes.now) }
 {
     let mut found = Vec::new(alloc);
@@ -156,8 +155,8 @@ pub(crate) fn numbers_at(alloc: Global, bytes: &[u8]) -> Result<(Vec<i64>, &[u8]
 }
 
 /// The text behind the next semicolon; the words before it are passed over. Takes no memory.
-pub(crate) fn past_words_at(bytes: &[u8]) -> Result<&[u8], Stuck>
-    ensures gives { Finds (λ rest. tokens rest.now) result (past_words (tokens bytes.now)) }
+pub(crate) fn past_words_at(bytes: &[u8]) -> Result<&[u8], Flaw>
+    ensures gives { AnswersAs (λ rest. tokens rest.now) Some result (past_words (tokens bytes.now)) }
     ensures shorter { IfOk result (λ rest. length rest.now < length bytes.now) }
 {
     let mut rest = bytes;
@@ -168,8 +167,8 @@ pub(crate) fn past_words_at(bytes: &[u8]) -> Result<&[u8], Stuck>
 }
 
 /// The text behind this keyword as the first word of a statement, where a statement starts here. Takes no memory.
-pub(crate) fn after_stop_at<'a>(keyword: &[u8], bytes: &'a [u8]) -> Result<&'a [u8], Stuck>
-    ensures gives { Finds (λ rest. tokens rest.now) result (after_stop keyword.now true (tokens bytes.entry.now)) }
+pub(crate) fn after_stop_at<'a>(keyword: &[u8], bytes: &'a [u8]) -> Result<&'a [u8], Flaw>
+    ensures gives { AnswersAs (λ rest. tokens rest.now) Some result (after_stop keyword.now true (tokens bytes.entry.now)) }
     ensures shorter { IfOk result (λ rest. length rest.now < length bytes.entry.now) }
 {
     let mut rest = bytes;

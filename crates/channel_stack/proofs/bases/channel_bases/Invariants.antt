@@ -4,8 +4,8 @@ use Rattle.channel_stack.proofs.bases.channel_bases.Given as goal
 
 abbrev pub invariant-loop-wiring : goal.invariant-loop-wiring
 invariant-loop-wiring l = record {
-  so_far : l.bases.items ++ channel_bases l.rules l.height l.base l.rest ≡ channel_bases l.rules l.height 0 l.wirings;
-  small : 0 < length l.rest → stack_top l.rules l.height l.base l.rest < 2 ^ 32;
+  so_far : l.bases.items ++ channel_bases l.rules l.rows l.base l.rest ≡ channel_bases l.rules l.heights 0 l.wirings;
+  small : stack_top l.rules l.rows l.base l.rest < 2 ^ 32;
 }
 
 abbrev pub decreases-loop-wiring : goal.decreases-loop-wiring

@@ -2,11 +2,11 @@ use Rattle.std.proofs.Common.{◌≡◌, ◌<◌, ◌^◌, ◌++◌, length}
 use Rattle.channel_stack.specs.Stack.{row_bases, stack_top}
 use Rattle.channel_stack.proofs.bases.row_bases.Given as goal
 
-abbrev pub invariant-loop-wiring : goal.invariant-loop-wiring
-invariant-loop-wiring l = record {
-  so_far : l.bases.items ++ row_bases l.rules l.height l.base l.rest ≡ row_bases l.rules l.height 0 l.wirings;
-  small : 0 < length l.rest → stack_top l.rules l.height l.base l.rest < 2 ^ 32;
+abbrev pub invariant-loop-height : goal.invariant-loop-height
+invariant-loop-height l = record {
+  so_far : l.bases.items ++ row_bases l.rules l.rows l.base l.rest ≡ row_bases l.rules l.heights 0 l.wirings;
+  small : stack_top l.rules l.rows l.base l.rest < 2 ^ 32;
 }
 
-abbrev pub decreases-loop-wiring : goal.decreases-loop-wiring
-decreases-loop-wiring l = length l.rest
+abbrev pub decreases-loop-height : goal.decreases-loop-height
+decreases-loop-height l = length l.rows

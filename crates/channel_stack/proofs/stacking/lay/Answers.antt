@@ -1,9 +1,9 @@
-use Rattle.std.proofs.Common.{rules as all_rules, ◌≡◌, ◌<◌, ◌≤◌, ◌^◌, ◌*◌, List, arith, subst, sym, ap}
+use Rattle.std.proofs.Common.{rules as all_rules, ◌≡◌, ◌<◌, ◌≤◌, ◌^◌, ◌*◌, List, arith, subst, sym}
 use Rattle.std.proofs.Math.Nat.{mul-le-mul}
 use Rattle.std.specs.List.{AllByRecursion}
 use Rattle.feed_cells.specs.Fed.{items_width}
 use Rattle.feed_cells.specs.declared.fed.Item.{Item}
-use Rattle.design_model.specs.Netlist.{Netlist, IsNetlist}
+use Rattle.design_model.specs.Netlist.{IsNetlist}
 use Rattle.tech_rules.specs.Rules.{ValidRules}
 use Rattle.channel_stack.specs.Stack.{stack_of, stack_top}
 use Rattle.channel_stack.proofs.GoodStack.{stack-good}
@@ -13,27 +13,27 @@ use Rattle.channel_stack.proofs.stacking.lay.Goals as goal
 pub channel_bases-requires : goal.channel_bases-requires
 channel_bases-requires c =
     let valid : ValidRules c.args.rules.now = subst ValidRules c.rules.view_is c.rules.invariant in
-    let same : c.args.design.now.height ≡ c.design.inside.height = ap (λ (d : Netlist). d.height) (sym c.design.view_is) in
-    top-fits c.args.rules.now c.args.design.now c.args.fed.now c.args.wirings.now c.design.inside.height valid c.requires.fed c.requires.routed same
+    let same : c.args.fed.now.heights ≡ c.items-heights.result.now = search all_rules in
+    top-fits c.args.rules.now c.args.design.now c.args.fed.now c.args.wirings.now c.items-heights.result.now valid c.requires.fed c.requires.routed same
 
 pub row_bases-requires : goal.row_bases-requires
 row_bases-requires c =
     let valid : ValidRules c.args.rules.now = subst ValidRules c.rules.view_is c.rules.invariant in
-    let same : c.args.design.now.height ≡ c.design.inside.height = ap (λ (d : Netlist). d.height) (sym c.design.view_is) in
-    top-fits c.args.rules.now c.args.design.now c.args.fed.now c.args.wirings.now c.design.inside.height valid c.requires.fed c.requires.routed same
+    let same : c.args.fed.now.heights ≡ c.items-heights.result.now = search all_rules in
+    top-fits c.args.rules.now c.args.design.now c.args.fed.now c.args.wirings.now c.items-heights.result.now valid c.requires.fed c.requires.routed same
 
 pub stack_top-requires : goal.stack_top-requires
 stack_top-requires c =
     let valid : ValidRules c.args.rules.now = subst ValidRules c.rules.view_is c.rules.invariant in
-    let same : c.args.design.now.height ≡ c.design.inside.height = ap (λ (d : Netlist). d.height) (sym c.design.view_is) in
-    top-fits c.args.rules.now c.args.design.now c.args.fed.now c.args.wirings.now c.design.inside.height valid c.requires.fed c.requires.routed same
+    let same : c.args.fed.now.heights ≡ c.items-heights.result.now = search all_rules in
+    top-fits c.args.rules.now c.args.design.now c.args.fed.now c.args.wirings.now c.items-heights.result.now valid c.requires.fed c.requires.routed same
 
 pub overflow_mul-result-3 : goal.overflow_mul-result-3
 overflow_mul-result-3 c =
     let valid : ValidRules c.args.rules.now = subst ValidRules c.rules.view_is c.rules.invariant in
-    let same : c.args.design.now.height ≡ c.design.inside.height = ap (λ (d : Netlist). d.height) (sym c.design.view_is) in
-    let fits : stack_top c.args.rules.now c.design.inside.height 0 c.args.wirings.now < 2 ^ 32 =
-    top-fits c.args.rules.now c.args.design.now c.args.fed.now c.args.wirings.now c.design.inside.height valid c.requires.fed c.requires.routed same in
+    let same : c.args.fed.now.heights ≡ c.items-heights.result.now = search all_rules in
+    let fits : stack_top c.args.rules.now c.items-heights.result.now 0 c.args.wirings.now < 2 ^ 32 =
+    top-fits c.args.rules.now c.args.design.now c.args.fed.now c.args.wirings.now c.items-heights.result.now valid c.requires.fed c.requires.routed same in
     let low : c.stack_top.result ≤ 2 ^ 32 = omega arith in
     let fine : c.from-centi.result ≤ 1000 = omega (arith, c.rules.invariant.ranges.grid.centi) in
     let product : c.stack_top.result * c.from-centi.result ≤ 2 ^ 32 * 1000 = mul-le-mul low fine in

@@ -8,7 +8,7 @@ use Rattle.cif_reader.proofs.expanding.expand.Goals as goal
 pub returns-in-Err-clause-expands : goal.returns-in-Err-clause-expands
 returns-in-Err-clause-expands c =
     rw c.fault_at.ensures (refused-at c.args.commands.now c.loop-command.standing c.loop-command.at c.loop-command.rest.now c.in-Some.after.now c.in-Some.command.now
-    c.in-Err.refusal _ c.loop-command.invariant c.in-Some.ensures.cases.0 c.in-Err.ensures)
+    c.in-Err.refusal c.loop-command.invariant c.in-Some.ensures.cases.0 c.in-Err.ensures)
 
 pub loop-command-preserved : goal.loop-command-preserved
 loop-command-preserved c =

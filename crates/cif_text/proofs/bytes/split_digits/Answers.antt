@@ -3,13 +3,9 @@ use Rattle.std.proofs.Common.{sym}
 use Rattle.std.proofs.lemmas.List.Sums.{prefix_len-le-length}
 use Rattle.std.specs.Char.{is_ascii_digit}
 use Rattle.cif_text.proofs.ScanLemmas.{span-parts}
-use Rattle.std_laws.proofs.Searches.{prefix-passes}
 
 pub split_at-requires : goal.split_at-requires
 split_at-requires c = rw c.digits_len.ensures (prefix_len-le-length is_ascii_digit c.args.bytes.now)
 
 pub returns : goal.returns
 returns c = rw (c.split_at.ensures.front, c.split_at.ensures.back, c.digits_len.ensures) (sym (span-parts is_ascii_digit c.args.bytes.now))
-
-pub invariant_of-result : goal.invariant_of-result
-invariant_of-result c = record { are_digits = rw (c.split_at.ensures.front, c.digits_len.ensures) (prefix-passes is_ascii_digit c.args.bytes.now) }

@@ -1,32 +1,26 @@
 use Rattle.cif_writer.proofs.printing.put_name.Goals as goal
 use Rattle.std.proofs.Common.{◌++◌, ◌∷◌, []}
-use Rattle.std.proofs.lemmas.Result.{on_err_weaker, on_ok_weaker}
-use Rattle.cif_writer.proofs.AppendsLaws.{appends-both, front-behind, front-first}
-use Rattle.std_laws.proofs.Options.{on-err}
+use Rattle.shelf_io.proofs.WroteLaws.{writes-none}
+use Rattle.shelf_io.proofs.WritesLaws.{writes-both, writes-stopped}
+use Rattle.cif_writer.proofs.Lines.{name-text}
 
-pub returns-in_err-append-clause-front : goal.returns-in_err-append-clause-front
-returns-in_err-append-clause-front g c =
-    on-err c.from_residual.result _
-    (front-first c.args.digits.now (c.args.name.now ++ 59 ∷ 10 ∷ []) c.args.buffer.now _ _ c.in_err-append.ensures.front)
+pub returns-in_default : goal.returns-in_default
+returns-in_default g c = rw c.in_default.is (writes-none _ c.args.buffer.now _ _ (g.met.K.Sink.place_here c.args.out.now) (g.met.K.Sink.same_here c.args.out.now))
 
-pub returns-in_err-append-2-clause-front : goal.returns-in_err-append-2-clause-front
-returns-in_err-append-2-clause-front g c =
-    on-err c.from_residual-in_err-append-2.result _
-    (front-behind c.args.digits.now (c.args.name.now ++ 59 ∷ 10 ∷ []) c.args.buffer.now c.append.new.self _ _ _ c.in_ok-append.ensures.appends
-    (front-first c.args.name.now (59 ∷ 10 ∷ []) c.append.new.self _ _ (rw c.items.ensures at c.in_err-append-2.ensures.front)))
+pub returns-in_err-append : goal.returns-in_err-append
+returns-in_err-append g c =
+    rw (c.in-Some.is, name-text c.args.kind c.digits_of.result.now c.in-Some.name.now (c.digits_of.ensures _))
+    (writes-stopped c.from_residual.result (c.in-Some.name.now ++ 59 ∷ 10 ∷ []) c.from_residual.ensures.0 c.in_err-append.ensures)
 
-pub returns-clause-appends : goal.returns-clause-appends
-returns-clause-appends g c =
-    on_ok_weaker c.append-3.result
-    (λ third.
-    appends-both _ _ _ _ _ _ _ _ c.in_ok-append.ensures.appends
-    (appends-both _ _ _ _ _ _ _ _ (rw c.items.ensures at c.in_ok-append-2.ensures.appends) third))
-    c.append-3.ensures.appends
+pub returns-in_err-append-2 : goal.returns-in_err-append-2
+returns-in_err-append-2 g c =
+    let result = c.from_residual-in_err-append-2.result in
+    rw (c.in-Some.is, name-text c.args.kind c.digits_of.result.now c.in-Some.name.now (c.digits_of.ensures _))
+    (writes-both result (g.met.K.Sink.place_then _ _ _) (g.met.K.Sink.same_then _ _ _) c.in_ok-append.ensures
+    (writes-stopped result (59 ∷ 10 ∷ []) c.from_residual-in_err-append-2.ensures.0 (rw c.items.ensures at c.in_err-append-2.ensures)))
 
-pub returns-clause-front : goal.returns-clause-front
-returns-clause-front g c =
-    on_err_weaker c.append-3.result
-    (λ ends.
-    front-behind c.args.digits.now (c.args.name.now ++ 59 ∷ 10 ∷ []) c.args.buffer.now c.append.new.self _ _ _ c.in_ok-append.ensures.appends
-    (front-behind c.args.name.now (59 ∷ 10 ∷ []) c.append.new.self c.append-2.new.self _ _ _ (rw c.items.ensures at c.in_ok-append-2.ensures.appends) ends))
-    c.append-3.ensures.front
+pub returns : goal.returns
+returns g c =
+    rw (c.in-Some.is, name-text c.args.kind c.digits_of.result.now c.in-Some.name.now (c.digits_of.ensures _))
+    (writes-both c.append-3.result (g.met.K.Sink.place_then _ _ _) (g.met.K.Sink.same_then _ _ _) c.in_ok-append.ensures
+    (writes-both c.append-3.result (g.met.K.Sink.place_then _ _ _) (g.met.K.Sink.same_then _ _ _) (rw c.items.ensures at c.in_ok-append-2.ensures) c.append-3.ensures))

@@ -1,13 +1,13 @@
-use Rattle.std.proofs.Common.{◌∙◌, Ok, Err, ap, is_ok}
-use Rattle.design_model.specs.Netlist.{Netlist}
+use Rattle.std.proofs.Common.{◌≡◌, Err, Ok, ap, inl, inr, is_ok, arith}
 use Rattle.tech_rules.specs.Rules.{RuleValues}
-use Rattle.command_ends.specs.Refusing.{◌>>=◌}
-use Rattle.command_words.specs.Seen.{source_seen}
-use Rattle.command_inputs.specs.Stated.{design_text, inputs_told, inputs_under, rules_verdict}
-use Rattle.command_inputs.specs.declared.stages.Inputs.{Inputs}
 use Rattle.command_ends.proofs.FindsLaws.{handed-on, of-file, stops, told-goes-on, told-stops}
-use Rattle.command_inputs.proofs.LimitLaws.{states-rules}
-use Rattle.command_inputs.proofs.OriginLaws.{source-text}
+use Rattle.command_words.specs.Seen.{source_seen}
+use Rattle.command_inputs.specs.Origin.{AreRead}
+use Rattle.command_inputs.specs.Stated.{inputs_told, inputs_under, rules_verdict}
+use Rattle.command_inputs.specs.declared.outcome.ReadDesign.{ReadDesign}
+use Rattle.command_inputs.specs.declared.stages.Inputs.{Inputs}
+use Rattle.command_inputs.proofs.OriginLaws.{read-told}
+use Rattle.command_inputs.proofs.ReadingLaws.{loads-after, read-also, read-handed}
 use Rattle.command_inputs.proofs.stages.load_inputs.Goals as goal
 
 pub returns-in_err-rules-clause-told : goal.returns-in_err-rules-clause-told
@@ -17,40 +17,30 @@ returns-in_err-rules-clause-told g c = λ said is.
     (told-stops (λ (r : RuleValues). r) (λ (i : Inputs). i) c.in_err-rules.field-0.0 _ _ said
     (of-file (λ (r : RuleValues). r) (Err c.in_err-rules.field-0.0) rules_verdict _ c.in_err-rules.ensures.told) is)
 
-pub returns-in_err-design-clause-told : goal.returns-in_err-design-clause-told
+pub returns-in_err-read-clause-told : goal.returns-in_err-read-clause-told
 unfolding inputs_told inputs_under
-returns-in_err-design-clause-told g c = λ said is.
-    handed-on _ c.from_residual-in_err-design.result _ _ c.from_residual-in_err-design.ensures.1
-    (told-goes-on (λ (i : Inputs). i) (Err c.in_err-design.field-0.0) _ c.in_ok-rules.rules _ said
+returns-in_err-read-clause-told g c = λ said is.
+    let stop = c.in_err-read.field-0.0 in
+    handed-on _ c.from_residual-in_err-read.result _ _ c.from_residual-in_err-read.ensures.1
+    (told-goes-on (λ (i : Inputs). i) (Err stop) _ c.in_ok-rules.rules _ said
     (of-file (λ (r : RuleValues). r) (Ok c.in_ok-rules.rules) rules_verdict _ c.in_ok-rules.ensures.told)
-    (of-file (λ (i : Inputs). i) (Err c.in_err-design.field-0.0) (inputs_under c.in_ok-rules.rules) _
-    (λ bytes told. stops (λ (d : Netlist). d) (λ (i : Inputs). i) c.in_err-design.field-0.0 _ _
-    (c.in_err-design.ensures.told bytes (ap (λ holds. design_text (source_seen c.args.source.now) holds c.in_ok-rules.rules) c.in_ok-rules.ensures.files ∙ told)))) is)
+    (of-file (λ (i : Inputs). i) (Err stop) (inputs_under c.in_ok-rules.rules) _
+    (λ bytes told. stops (λ (d : ReadDesign). d) (λ (i : Inputs). i) stop _ _ ((loads-after c.in_ok-rules.ensures.read c.in_err-read.ensures.loads).told bytes told))) is)
 
-pub returns-clause-told : goal.returns-clause-told
-unfolding inputs_told inputs_under
-returns-clause-told g c = λ said is.
-    let made : Inputs = record { rules = c.in_ok-rules.rules; design = c.in_ok-design.design } in
-    told-goes-on (λ (i : Inputs). i) (Ok made) _ c.in_ok-rules.rules _ said
-    (of-file (λ (r : RuleValues). r) (Ok c.in_ok-rules.rules) rules_verdict _ c.in_ok-rules.ensures.told)
-    (of-file (λ (i : Inputs). i) (Ok made) (inputs_under c.in_ok-rules.rules) _
-    (λ bytes told. ap (λ read. read >>= (λ d. let j : Inputs = record { rules = c.in_ok-rules.rules; design = d } in Ok j))
-    (c.in_ok-design.ensures.told bytes (ap (λ holds. design_text (source_seen c.args.source.now) holds c.in_ok-rules.rules) c.in_ok-rules.ensures.files ∙ told)))) is
+pub returns-in_err-read-clause-read : goal.returns-in_err-read-clause-read
+returns-in_err-read-clause-read g c =
+    read-handed c.from_residual-in_err-read.result c.in_err-read.field-0.0 c.from_residual-in_err-read.ensures.1
+    (read-also (λ eight fails. inr (fails, λ bytes told. ap is_ok (c.in_ok-rules.ensures.told bytes told)))
+    (loads-after c.in_ok-rules.ensures.read c.in_err-read.ensures.loads).read)
 
-pub returns-clause-are : goal.returns-clause-are
-returns-clause-are g c = λ stated bytes states told.
-    let rules = states-rules stated c.in_ok-rules.rules (c.in_ok-rules.ensures.told stated states) in
+pub returns : goal.returns
+returns g c =
+    let made : Inputs = record { rules = c.in_ok-rules.rules; file = c.in_ok-read.read.file; design = c.in_ok-read.read.design } in
+    let loads = loads-after c.in_ok-rules.ensures.read c.in_ok-read.ensures.loads in
+    let are : AreRead c.args.rules.now (source_seen c.args.source.now) (g.S.Shelf.holds c.args.shelf.now) made =
+    record { stated = c.in_ok-rules.ensures.told; designed = loads.told; is = c.in_ok-read.ensures.is } in
     record {
-      states = rules;
-      is = c.in_ok-design.ensures.is bytes
-          (ap (λ holds. design_text (source_seen c.args.source.now) holds c.in_ok-rules.rules) c.in_ok-rules.ensures.files
-          ∙ source-text (source_seen c.args.source.now) (g.S.Shelf.holds c.args.shelf.now) stated bytes c.in_ok-rules.rules rules told);
+      told = λ said is. read-told _ _ _ made said are is;
+      are = are;
+      read = read-also (λ (eight : 0 ≡ 8) fails. absurd (omega (arith, eight))) loads.read;
     }
-
-pub returns-clause-passed : goal.returns-clause-passed
-returns-clause-passed g c = record {
-  stated = λ bytes told. c.in_ok-rules.ensures.told bytes told;
-  designed = λ bytes told.
-      ap is_ok
-      (c.in_ok-design.ensures.told bytes (ap (λ holds. design_text (source_seen c.args.source.now) holds c.in_ok-rules.rules) c.in_ok-rules.ensures.files ∙ told));
-}

@@ -1,30 +1,60 @@
-use Rattle.std.proofs.Common.{ℕ, ap, refl, subst, sym, ◌∙◌}
-use Rattle.tech_rules.specs.Rules.{ValidRules}
-use Rattle.command_jobs.specs.Summarized.{summary_of}
-use Rattle.command_jobs.specs.Text.{rows_with_feeds}
+use Rattle.std.proofs.Common.{◌≡◌, None, Ok, Option, List, ap, refl, sym, ◌∙◌, arith}
+use Rattle.std.proofs.lemmas.Grind.{common_steps}
+use Rattle.command_ends.specs.Refusing.{unless}
+use Rattle.command_ends.specs.declared.refusal.Refusal.{Refusal}
+use Rattle.feed_cells.specs.Fed.{Fed, fed_rows}
+use Rattle.pin_assign.specs.Bounds.{bound_of}
 use Rattle.pin_assign.specs.Tables.{tables_of}
+use Rattle.row_model.specs.declared.rows.Seat.{Seat}
+use Rattle.command_jobs.specs.Job.{Job}
+use Rattle.command_jobs.specs.Limits.{moves_refusal, size_refusal, within_limits}
+use Rattle.command_jobs.specs.PreparedView.{RoutedJob}
+use Rattle.command_jobs.specs.Rows.{job_of, rows_of}
+use Rattle.command_jobs.specs.Text.{channels_of, rows_with_feeds}
 use Rattle.command_jobs.proofs.RoutedLaws.{told-routed}
+use Rattle.command_jobs.proofs.SizeLaws.{unless-passed}
 use Rattle.command_jobs.proofs.prepared.lay_out.Goals as goal
 
-pub invariant_of-result : goal.invariant_of-result
-invariant_of-result g c = record {
-  valid = subst ValidRules c.rules.view_is c.rules.invariant;
-  high = c.requires.high;
-  fed = c.in_ok-ready.ensures.fed;
-  fed_is = c.in_ok-ready.ensures.is
-      ∙ ap (λ (n : ℕ). rows_with_feeds (record { rules = c.args.rules; design = c.args.design; rows = n; seed = c.args.wanted.seed })) (sym c.rows_for-rows.ensures.is);
-  routed = c.in_ok-ready.ensures.routed;
-  laid = c.in_ok-ready.ensures.laid;
-  good = c.in_ok-ready.ensures.good;
-  told = c.in_ok-ready.ensures.told
-      ∙ ap (λ (n : ℕ). summary_of (record { rules = c.args.rules; design = c.args.design; rows = n; seed = c.args.wanted.seed }) c.in_ok-ready.ready.kept) (sym c.rows_for-rows.ensures.is);
-  symbols = c.in_ok-ready.ensures.symbols;
+-- the rows of a job with feeds
+fed-rows : (job : Job) (seats : List (List Seat)) (fed : Fed) → seats ≡ rows_of job → fed ≡ fed_rows job.drawn seats → fed ≡ rows_with_feeds job
+unfolding rows_with_feeds
+fed-rows job seats fed are is = is ∙ ap (fed_rows job.drawn) are
+
+-- a job whose changes are not refused is within the limits unless its layout is refused
+layout-left : (job : Job) (seats made : List (List Seat)) (fed : Fed) → seats ≡ rows_of job → fed ≡ fed_rows job.drawn seats
+    → unless (moves_refusal job.rules job.placed) (Ok (rows_of job)) ≡ Ok made → within_limits job ≡ unless (size_refusal (bound_of job.rules job.drawn fed)) (Ok job)
+unfolding within_limits
+layout-left job seats made fed are is annealed =
+    let moves : moves_refusal job.rules job.placed ≡ None = unless-passed _ _ _ annealed in
+    let feeds : fed ≡ rows_with_feeds job = fed-rows job seats fed are is in
+    rw (moves, feeds) refl
+
+pub ready-requires-clause-rows : goal.ready-requires-clause-rows
+ready-requires-clause-rows g c = record {
+  is = fed-rows (job_of c.args.rules c.args.design c.args.wanted) _ c.in_ok-fed.fed c.in_ok-rows.ensures.are c.in_ok-fed.ensures.is;
+  feeds = c.in_ok-fed.ensures.fed;
+  narrow = c.in_ok-routed.ensures.narrow;
+  wired = c.in_ok-routed.ensures.wired;
+  routed = c.in_ok-routed.ensures.routed;
 }
+
+pub returns-in_err-routed-clause-made : goal.returns-in_err-routed-clause-made
+returns-in_err-routed-clause-made g c =
+    let job : Job = job_of c.args.rules c.args.design c.args.wanted in
+    rw (layout-left job _ _ c.in_ok-fed.fed c.in_ok-rows.ensures.are c.in_ok-fed.ensures.is c.in_ok-rows.ensures.made) (grind (arith, common_steps))
+
+pub returns-clause-made : goal.returns-clause-made
+returns-clause-made g c =
+    let job : Job = job_of c.args.rules c.args.design c.args.wanted in
+    let passed : within_limits job ≡ Ok job =
+    layout-left job _ _ c.in_ok-fed.fed c.in_ok-rows.ensures.are c.in_ok-fed.ensures.is c.in_ok-rows.ensures.made
+    ∙ ap (λ (o : Option Refusal). unless o (Ok job)) (unless-passed _ _ _ c.in_ok-routed.ensures.made) in
+    let same : c.in_ok-made.made.job ≡ job = ap (λ (p : RoutedJob). p.job) c.in_ok-made.ensures in
+    cc
 
 pub returns-clause-kept : goal.returns-clause-kept
 returns-clause-kept g c =
-    told-routed _ _ _ _ _ _ _
-    (ap (tables_of c.args.design)
-    (c.in_ok-ready.ensures.is
-    ∙ ap (λ (n : ℕ). rows_with_feeds (record { rules = c.args.rules; design = c.args.design; rows = n; seed = c.args.wanted.seed })) (sym c.rows_for-rows.ensures.is)))
-    refl c.in_ok-ready.ensures.kept
+    let job : Job = job_of c.args.rules c.args.design c.args.wanted in
+    let is = fed-rows job _ c.in_ok-fed.fed c.in_ok-rows.ensures.are c.in_ok-fed.ensures.is in
+    told-routed _ _ _ _ _ _ _ (ap (tables_of c.args.design) is ∙ ap (λ (p : RoutedJob). channels_of p.job) (sym c.in_ok-made.ensures))
+    (ap (λ (p : RoutedJob). p.kept) c.in_ok-made.ensures) c.in_ok-routed.ensures.kept

@@ -1,56 +1,100 @@
-use Rattle.std.proofs.Common.{◌≡◌, ◌∙◌, ℕ, List, Ok, Err, ap, ap₂, inr, subst, sym, arith}
-use Rattle.shelf_io.specs.Count.{Rose}
-use Rattle.geom_core.specs.declared.layout.Layout.{Layout}
-use Rattle.commands.specs.Accepted.{to_judge}
-use Rattle.command_ends.specs.Refusing.{◌>>=◌}
-use Rattle.commands.specs.Verdict.{command_verdict, judgement_verdict}
-use Rattle.command_inputs.specs.LayoutFile.{layout_verdict}
-use Rattle.commands.specs.declared.judging.Judged.{Judged}
+use Rattle.std.proofs.Common.{Err, [], inl, inr, refl, arith, ◌≡◌, ◌∙◌, ℕ, List, Some, None, Result, Ok, sym, ap, subst}
+use Rattle.command_ends.proofs.FindsLaws.{told-stops, of-file, stops, told-goes-on}
+use Rattle.command_ends.specs.declared.refusal.Refusal.TheVariants.{Memory}
+use Rattle.command_ends.specs.declared.stop.Stop.TheVariants.{Refused}
+use Rattle.command_inputs.proofs.OriginLaws.{read-passed, inputs-from, read-told}
+use Rattle.command_inputs.proofs.ReadingLaws.{loads-after, read-also, read-refused}
 use Rattle.command_inputs.specs.declared.stages.Inputs.{Inputs}
-use Rattle.command_ends.proofs.StopLaws.{handed-status}
-use Rattle.command_ends.proofs.FindsLaws.{handed-on, of-file, stops, told-goes-on, told-stops}
+use Rattle.command_words.specs.Command.{CheckNames, check, from_file}
+use Rattle.command_words.specs.Seen.{check_seen}
+use Rattle.commands.specs.Accepted.{Accepted, to_judge}
+use Rattle.commands.specs.Verdict.{command_verdict, judgement_verdict}
+use Rattle.commands.proofs.CarriedLaws.{stopped-early, unchanged}
+use Rattle.geom_core.specs.declared.layout.Layout.{Layout}
+use Rattle.layout_check.specs.declared.finding.Finding.{Finding}
+use Rattle.command_ends.specs.Answers.{Finds}
+use Rattle.command_ends.specs.Refusing.{◌>>=◌}
+use Rattle.command_ends.specs.declared.refusal.Refusal.{Refusal}
+use Rattle.command_ends.specs.declared.stop.Stop.{Stop}
+use Rattle.command_inputs.proofs.LayoutLaws.{layout-reads}
+use Rattle.command_inputs.specs.LayoutFile.{layout_verdict}
+use Rattle.command_inputs.specs.Origin.{AreRead}
+use Rattle.command_inputs.specs.Reading.{Files, Loads}
+use Rattle.commands.specs.Carried.{Carried}
+use Rattle.commands.specs.Done.{AreFound, judged}
+use Rattle.commands.specs.Ends.{Ends}
+use Rattle.commands.proofs.HeadlineLaws.{good-of, headline-of}
 use Rattle.commands.proofs.judging.judge.Goals as goal
 
-pub returns-in_err-inputs-clause-told : goal.returns-in_err-inputs-clause-told
+-- what is found of a layout for a command to check, where the rules and the design are read
+layout-found : (names : CheckNames) (inputs : Inputs) (result : Result Layout Stop) {Fails : (List ℕ → ℕ) → (List ℕ → ℕ) → Type 0} (old new : Files) (said : Result Accepted Refusal)
+    → AreRead names.rules (from_file names.design) old.holds inputs → Loads (λ (l : Layout). l) layout_verdict (λ told. told names.cif) Fails result old new
+    → command_verdict (check names) old.holds ≡ Some said → Finds (to_judge inputs) result said
+unfolding command_verdict judgement_verdict
+layout-found names inputs result old new said read loads is =
+    told-goes-on (to_judge inputs) result _ inputs _ said (λ s at. read-told names.rules (from_file names.design) old.holds inputs s read at)
+    (of-file (to_judge inputs) result (judgement_verdict inputs) _ (λ bytes told. by result (layout_verdict bytes) (loads.told bytes told))) is
+  where
+    by : (result : Result Layout Stop) (found : Result Layout Refusal) → Finds (λ (l : Layout). l) result found
+        → Finds (to_judge inputs) result (found >>= (λ l. Ok (to_judge inputs l)))
+    by (Ok layout) found is = ap (λ (read : Result Layout Refusal). read >>= (λ (l : Layout). Ok (to_judge inputs l))) is
+    by (Err stop) found is = stops (λ (l : Layout). l) (to_judge inputs) stop found (λ (l : Layout). Ok (to_judge inputs l)) is
+
+-- what was done where it was judged
+judged-for : (names : CheckNames) (inputs : Inputs) (layout : Layout) (findings : List Finding) {Fails : (List ℕ → ℕ) → (List ℕ → ℕ) → Type 0} (old new : Files)
+    → AreRead names.rules (from_file names.design) old.holds inputs → Loads (λ (l : Layout). l) layout_verdict (λ told. told names.cif) Fails (Ok layout) old new
+    → AreFound inputs layout findings → Carried (Some (check names)) (Ok (judged inputs layout findings)) [] old new
+judged-for names inputs layout findings old new read loads found = record {
+  said = λ said says. record {
+    ends = subst (λ (s : Result Accepted Refusal). Ends [] (Ok (judged inputs layout findings)) s) (sym (layout-found names inputs (Ok layout) old new said read loads says))
+        (record { same_inputs = refl; same_layout = refl; found = found });
+    written = λ name is zero. absurd cc;
+    front = λ name is nine. absurd cc;
+  };
+  usage = λ two. absurd (omega (arith, two));
+  no_command = λ none. absurd cc;
+  changes = unchanged None (Ok (judged inputs layout findings)) [] old new (λ begun. begun) (λ some zero. some refl) loads.read.unwritten refl
+      loads.read.files loads.read.writes loads.read.quiet;
+  cause = λ command same eight. absurd (omega (arith, eight));
+  headline = λ other stated bytes held same states source zero told. absurd cc;
+  judges = λ other stated bytes text same states design cif.
+      let here : names ≡ other = cc in
+      let from = inputs-from names.rules (from_file names.design) old.holds inputs stated bytes read (ap (λ (m : CheckNames). old.holds m.rules) here ∙ states)
+      (ap (λ (m : CheckNames). old.holds m.design) here ∙ design) in
+      let reads = layout-reads text layout (loads.told text (ap (λ (m : CheckNames). old.holds m.cif) here ∙ cif)) in (
+        λ none. headline-of stated bytes text inputs from (record { layout = layout; reads = reads; good = found.good.0 none }),
+        λ headline. found.good.1 (good-of stated bytes text inputs from layout reads headline),
+      );
+}
+
+pub returns-in_err-inputs : goal.returns-in_err-inputs
 unfolding command_verdict
-returns-in_err-inputs-clause-told g c = λ said is.
-    handed-on _ c.from_residual.result _ _ c.from_residual.ensures.1
-    (told-stops (λ (i : Inputs). i) (λ (j : Judged). to_judge j.inputs j.layout) c.in_err-inputs.field-0.0 _ _ said c.in_err-inputs.ensures.told is)
+returns-in_err-inputs g c =
+    stopped-early (λ (a : Accepted). a) _ c.in_err-inputs.field-0.0 c.from_residual.result [] _ _ c.from_residual.ensures.1
+    (λ said says. told-stops (λ (i : Inputs). i) (λ (a : Accepted). a) c.in_err-inputs.field-0.0 _ _ said c.in_err-inputs.ensures.told says)
+    (read-also (λ eight fails. inl fails) c.in_err-inputs.ensures.read) refl
 
-pub returns-in_err-layout-clause-told : goal.returns-in_err-layout-clause-told
-unfolding command_verdict judgement_verdict
-returns-in_err-layout-clause-told g c = λ said is.
+pub returns-in_err-layout : goal.returns-in_err-layout
+returns-in_err-layout g c =
+    let names : CheckNames = check_seen c.args.names.now in
     let inputs : Inputs = c.in_ok-inputs.inputs in
-    handed-on _ c.from_residual-in_err-layout.result _ _ c.from_residual-in_err-layout.ensures.1
-    (told-goes-on (λ (j : Judged). to_judge j.inputs j.layout) (Err c.in_err-layout.field-0.0) _ inputs _ said c.in_ok-inputs.ensures.told
-    (of-file (λ (j : Judged). to_judge j.inputs j.layout) (Err c.in_err-layout.field-0.0) (judgement_verdict inputs) _
-    (λ bytes told. stops (λ (l : Layout). l) (λ (j : Judged). to_judge j.inputs j.layout) c.in_err-layout.field-0.0 (layout_verdict bytes) _
-    (c.in_err-layout.ensures.told bytes (ap (λ holds. holds c.args.names.now.cif.now) c.in_ok-inputs.ensures.files ∙ told)))) is)
+    let stop = c.in_err-layout.field-0.0 in
+    let loads = loads-after c.in_ok-inputs.ensures.read c.in_err-layout.ensures.loads in
+    stopped-early (to_judge inputs) (check names) stop c.from_residual-in_err-layout.result [] _ _ c.from_residual-in_err-layout.ensures.1
+    (λ said says. layout-found names inputs (Err stop) _ _ said c.in_ok-inputs.ensures.are loads says)
+    (read-also (λ eight rose. inr (rose, (inputs.rules, read-passed names.rules (from_file names.design) _ inputs c.in_ok-inputs.ensures.are))) loads.read) refl
 
-pub returns-in-Ok-clause-told : goal.returns-in-Ok-clause-told
-unfolding command_verdict judgement_verdict
-returns-in-Ok-clause-told g c = λ said is.
-    let inputs : Inputs = c.in_ok-inputs.inputs in
-    told-goes-on (λ (j : Judged). to_judge j.inputs j.layout) (Ok c.in-Ok.judged) _ inputs _ said c.in_ok-inputs.ensures.told
-    (of-file (λ (j : Judged). to_judge j.inputs j.layout) (Ok c.in-Ok.judged) (judgement_verdict inputs) _
-    (λ bytes told.
-    ap (λ read. read >>= (λ (l : Layout). Ok (to_judge inputs l)))
-    (c.in_ok-layout.ensures.told bytes (ap (λ holds. holds c.args.names.now.cif.now) c.in_ok-inputs.ensures.files ∙ told))
-    ∙ ap₂ (λ (i : Inputs) (l : Layout). Ok (to_judge i l)) (sym c.in-Ok.ensures.inputs) (sym c.in-Ok.ensures.layout))) is
+pub returns-in-Ok : goal.returns-in-Ok
+returns-in-Ok g c =
+    let names : CheckNames = check_seen c.args.names.now in
+    rw (c.in-Ok.ensures.inputs, c.in-Ok.ensures.layout)
+    (judged-for names c.in_ok-inputs.inputs c.in_ok-layout.layout c.in-Ok.judged.findings.items _ _ c.in_ok-inputs.ensures.are
+    (loads-after c.in_ok-inputs.ensures.read c.in_ok-layout.ensures.loads)
+    (rw (c.in-Ok.ensures.inputs, c.in-Ok.ensures.layout) at c.in-Ok.ensures.found))
 
-pub returns-in-Ok-clause-inputs : goal.returns-in-Ok-clause-inputs
-returns-in-Ok-clause-inputs g c = λ stated bytes states told.
-    rw c.in-Ok.ensures.inputs (c.in_ok-inputs.ensures.are stated bytes states told)
-
-pub returns-in-Ok-clause-reads : goal.returns-in-Ok-clause-reads
-returns-in-Ok-clause-reads g c = λ text told.
-    rw c.in-Ok.ensures.layout (c.in_ok-layout.ensures.reads text (ap (λ holds. holds c.args.names.now.cif.now) c.in_ok-inputs.ensures.files ∙ told))
-
-pub returns-in_err-layout-clause-cause : goal.returns-in_err-layout-clause-cause
-returns-in_err-layout-clause-cause g c = λ eight.
-    let quiet = c.in_ok-inputs.ensures.quiet (λ (same : 0 ≡ 8). absurd (omega (arith, same))) in
-    let rose = c.in_err-layout.ensures.cause (sym (handed-status c.from_residual-in_err-layout.result _ c.from_residual-in_err-layout.ensures.1) ∙ eight) in
-    inr (
-      subst (λ (f : List ℕ → ℕ). Rose (f c.args.names.now.cif.now) (g.S.Shelf.read_faults c.load_layout.new.shelf c.args.names.now.cif.now)) quiet rose,
-      (c.in_ok-inputs.inputs.rules, c.in_ok-inputs.ensures.passed),
-    )
+pub returns-in-Err : goal.returns-in-Err
+returns-in-Err g c =
+    let names : CheckNames = check_seen c.args.names.now in
+    stopped-early (λ (a : Accepted). a) (check names) (Refused Memory) (Err (Refused Memory)) [] _ _ refl (λ said says. tt)
+    (read-refused Memory (λ two. absurd (omega (arith, two)))
+    (loads-after c.in_ok-inputs.ensures.read c.in_ok-layout.ensures.loads).read) refl

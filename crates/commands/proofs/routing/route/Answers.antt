@@ -1,101 +1,131 @@
-use Rattle.std.proofs.Common.{◌≡◌, ◌≢◌, ◌∙◌, ℕ, List, Option, Some, Result, ap, sym, subst, refl, arith}
-use Rattle.std.proofs.lemmas.Option.{same_Some}
-use Rattle.shelf_io.specs.Count.{Rose}
+use Rattle.std.proofs.Common.{◌∙◌, Ok, Err, refl, subst, sym, ◌≡◌, ◌<◌, ℕ, List, length, get_or, Option, Some, Bool, Result, slice_get, ap, arith}
+use Rattle.command_ends.proofs.FindsLaws.{found-refusal, stops, told-stops, told-next}
+use Rattle.command_ends.specs.Answers.{Finds}
+use Rattle.command_ends.specs.declared.stop.Stop.TheVariants.{Refused}
+use Rattle.command_inputs.proofs.ReadingLaws.{read-refused, read-same}
+use Rattle.command_inputs.specs.declared.stages.Inputs.{Inputs}
+use Rattle.command_jobs.specs.Job.{Job}
+use Rattle.command_jobs.specs.PreparedView.{RoutedJob}
+use Rattle.command_words.specs.Command.{Names, route}
+use Rattle.command_words.specs.Seen.{seen}
+use Rattle.commands.specs.Accepted.{Accepted, to_lay_out}
+use Rattle.commands.specs.Verdict.{command_verdict, job_verdict}
+use Rattle.commands.proofs.CarriedLaws.{stopped-early}
+use Rattle.std.proofs.lemmas.Option.{same_Some, slice_get-get_or}
 use Rattle.choose_core.specs.declared.candidate.Candidate.{Candidate}
 use Rattle.choose_core.specs.declared.plan.Plan.{Plan}
+use Rattle.greedy_router.specs.Answers.{AreRouted}
 use Rattle.greedy_router.specs.declared.sweep.Routed.{Routed}
-use Rattle.command_ends.proofs.FindsLaws.{told-stops}
+use Rattle.command_ends.specs.Refusing.{◌>>=◌}
 use Rattle.command_ends.specs.declared.refusal.Refusal.{Refusal}
-use Rattle.command_inputs.specs.Origin.{IsSourceText}
-use Rattle.command_inputs.specs.declared.stages.Inputs.{Inputs}
-use Rattle.command_words.specs.Command.{Command, Names, route, writes_of}
-use Rattle.command_words.specs.Seen.{seen}
-use Rattle.commands.specs.Accepted.{Accepted}
-use Rattle.commands.specs.Causes.{ReadFails}
-use Rattle.commands.specs.Done.{routed_end}
-use Rattle.commands.specs.Ends.{Ends}
-use Rattle.commands.specs.Outcome.{AreKept, Holds, HoldsFront}
-use Rattle.commands.specs.Verdict.{command_verdict, job_verdict}
-use Rattle.commands.proofs.EarlyLaws.{stopped-early}
-use Rattle.commands.proofs.Endings.{routed-begun, routed-done, routed-not, routed-status, stopped}
-use Rattle.commands.proofs.RunLaws.{chosen-so, if-said, job-said, said-routed}
+use Rattle.command_ends.specs.declared.stop.Stop.{Stop}
+use Rattle.command_inputs.proofs.OriginLaws.{inputs-from, read-told}
+use Rattle.command_inputs.specs.Origin.{AreRead, IsSourceText}
+use Rattle.command_inputs.specs.Reading.{Files, OnlyRead}
+use Rattle.command_inputs.specs.Stated.{inputs_told}
+use Rattle.command_jobs.specs.Limits.{within_limits}
+use Rattle.command_jobs.specs.Rows.{job_of}
+use Rattle.command_jobs.specs.Text.{channels_of, job_text}
+use Rattle.command_jobs.specs.Written.{IsGoodText}
+use Rattle.command_words.specs.declared.command.Wanted.{Wanted}
+use Rattle.commands.specs.Carried.{Carried}
+use Rattle.commands.specs.Changes.{IsAsSaid, IsWritten}
+use Rattle.commands.specs.Done.{Done}
+use Rattle.commands.specs.Outcome.{IsRoutedSo}
+use Rattle.commands.proofs.HeadlineLaws.{headline-of}
 use Rattle.commands.proofs.routing.route.Goals as goal
 
--- of the command to route with these names
-of-route : (names : Names) (P : Command → Type 0) → P (route names) → (command : Command) → Some (route names) ≡ Some command → P command
-of-route names P holds command is = subst P (same_Some (route names) command is) holds
+-- what is said of a command to route, where the rules and the design are read
+job-said : (names : Names) (told : List ℕ → Option (List ℕ)) (inputs : Inputs) (said : Result Accepted Refusal) → AreRead names.rules names.design told inputs
+    → command_verdict (route names) told ≡ Some said → said ≡ job_verdict names.wanted inputs
+unfolding command_verdict
+job-said names told inputs said read is =
+    sym (same_Some (job_verdict names.wanted inputs) said
+    (told-next (inputs_told names.rules names.design told) inputs (λ (i : Inputs). Some (job_verdict names.wanted i)) said
+    (λ s at. read-told names.rules names.design told inputs s read at) is))
 
-kept-by : {C : Type 0} {styles : List C} {plan : C → Plan} {may : C → List Candidate → ℕ → Type 0} (names : Names) (command : Command) (told : List ℕ → Option (List ℕ))
-    (said : Result Accepted Refusal) (kept : List Routed) → Some (route names) ≡ Some command → command_verdict command told ≡ Some said
-    → (command_verdict (route names) told ≡ Some said → AreKept styles plan may (route names) said kept) → AreKept styles plan may command said kept
-kept-by {styles = styles} {plan = plan} {may = may} names command told said kept is says routed =
-    of-route names (λ (k : Command). command_verdict k told ≡ Some said → AreKept styles plan may k said kept) routed command is says
+-- and where the job passes the limits
+job-accepted : (wanted : Wanted) (inputs : Inputs) (job : Job) → within_limits (job_of inputs.rules inputs.design wanted) ≡ Ok job
+    → job_verdict wanted inputs ≡ Ok (to_lay_out job)
+unfolding job_verdict
+job-accepted wanted inputs job made = ap (λ (l : Result Job Refusal). l >>= (λ (j : Job). Ok (to_lay_out j))) made
 
-pub returns-in-Ok : goal.returns-in-Ok
-returns-in-Ok g c =
-    let names : Names = seen c.args.names.now in
-    let told = g.S.Shelf.holds c.args.shelf.now in
-    let after = g.S.Shelf.holds c.lay_and_write.new.shelf in
-    let r = c.lay_and_write.result in
-    let kept = c.lay_and_write.new.kept.items in
-    let e = c.lay_and_write.ensures in
-    let said_is = λ (said : Result Accepted Refusal) (says : command_verdict (route names) told ≡ Some said). job-said names told c.in-Ok.inputs said c.in-Ok.ensures.told says in
-    let back = routed-status r in
+-- what was done where its text was written, or could not be
+written-for : (names : Names) (inputs : Inputs) (p : RoutedJob) (e : Result Done Stop) (kept : List Routed) {First : (List ℕ → ℕ) → (List ℕ → ℕ) → Type 0} (old mid new : Files)
+    → AreRead names.rules names.design old.holds inputs → p.job ≡ job_of inputs.rules inputs.design names.wanted
+    → within_limits (job_of inputs.rules inputs.design names.wanted) ≡ Ok p.job → OnlyRead 0 First old mid → IsWritten p.job p.kept names.out e kept mid new
+    → Carried (Some (route names)) e kept old new
+written-for names inputs p e kept old mid new read is made first after =
+    let written = subst (λ (m : Files). IsWritten p.job p.kept names.out e kept m new) (read-same old mid first) after in
     record {
-      ends = if-said _ _ (λ s says. subst (Ends kept (routed_end r)) (sym (said_is s says)) e.ends);
-      usage = λ two. absurd (e.command (sym back ∙ two));
-      no_command = λ none. let never : ⊥ = cc in absurd never;
-      is_done_by = of-route names (λ command. _) (routed-done r names);
-      kept_so = λ command said is says begun.
-          kept-by names command told said kept is says
-          (λ here. record {
-            by_style =
-                chosen-so c.args.styles.now _ _ _ c.args.names.now.style c.index-styles-names.result _ said kept c.requires.style c.index-styles-names.is
-                (said-routed _ _ _ said _ kept (said_is said here) (e.kept (routed-begun r begun)));
-          });
-      none = λ not_begun. let n = routed-not r not_begun in e.none n.0 n.1;
-      written = λ command said file is says writes zero.
-          of-route names (λ (k : Command). command_verdict k told ≡ Some said → writes_of k ≡ Some file → Holds said kept (after file))
-          (λ here out. subst (λ (f : List ℕ). Holds said kept (after f)) (same_Some names.out file out)
-          (subst (λ s. Holds s kept (after names.out)) (sym (said_is said here)) (e.written (sym back ∙ zero))))
-          command is says writes;
-      front = λ command said file is says writes nine.
-          of-route names (λ (k : Command). command_verdict k told ≡ Some said → writes_of k ≡ Some file → HoldsFront said kept (told file) (after file))
-          (λ here out. subst (λ (f : List ℕ). HoldsFront said kept (told f) (after f)) (same_Some names.out file out)
-          (subst (λ s. HoldsFront s kept (told names.out) (after names.out)) (sym (said_is said here))
-          (subst (λ (h : List ℕ → Option (List ℕ)). HoldsFront (job_verdict names.wanted c.in-Ok.inputs) kept (h names.out) (after names.out)) c.in-Ok.ensures.files
-          (e.front (sym back ∙ nine)))))
-          command is says writes;
-      headline = λ other stated bytes held is states source zero holds.
-          let same : names ≡ other = cc in
-          e.headline stated bytes held
-          (c.in-Ok.ensures.are stated bytes (ap (λ (m : Names). told m.rules) same ∙ states) (subst (λ (m : Names). IsSourceText m.design told stated bytes) (sym same) source)) (sym back ∙ zero) (ap (λ (m : Names). after m.out) same ∙ holds);
-      judges = λ other stated bytes text is states design cif. let never : ⊥ = cc in absurd never;
-      read_cause = λ command is eight. absurd (e.unread (sym back ∙ eight));
-      write_cause = λ nine.
-          of-route names (λ (k : Command). (file : List ℕ) × (writes_of k ≡ Some file) × Rose (g.S.Shelf.write_faults c.args.shelf.now file) (g.S.Shelf.write_faults c.lay_and_write.new.shelf file)) (
-            names.out,
-            refl,
-            subst (λ (f : List ℕ → ℕ). Rose (f names.out) (g.S.Shelf.write_faults c.lay_and_write.new.shelf names.out)) c.in-Ok.ensures.writes (e.cause (sym back ∙ nine)),
-          );
-      same_reads = λ other. e.reads ∙ c.in-Ok.ensures.quiet (λ (eight : 0 ≡ 8). absurd (omega (arith, eight)));
-      same_writes = λ other. e.writes (λ nine. other (back ∙ nine)) ∙ c.in-Ok.ensures.writes;
-      untouched = λ not_begun. let n = routed-not r not_begun in e.untouched n.0 n.1 ∙ c.in-Ok.ensures.files;
-      others = λ command other is differs.
-          of-route names (λ (k : Command). writes_of k ≢ Some other → after other ≡ told other)
-          (λ apart. e.others other (λ same. apart (ap (λ (f : List ℕ). Some f) (sym same))) ∙ ap (λ (h : List ℕ → Option (List ℕ)). h other) c.in-Ok.ensures.files)
-          command is differs;
+      said = λ said says.
+          subst (λ (s : Result Accepted Refusal). IsAsSaid s (Some names.out) e kept old new)
+          (sym (job-said names old.holds inputs said read says ∙ job-accepted names.wanted inputs p.job made)) written.said;
+      usage = λ two. absurd (omega (arith, written.listed, two));
+      no_command = λ none. absurd cc;
+      changes = written.changes;
+      cause = λ command same eight. absurd (omega (arith, written.listed, eight));
+      headline = λ other stated bytes held same states source zero told.
+          let here : names ≡ other = cc in
+          let text : job_text p.job kept ≡ held =
+          same_Some (job_text p.job kept) held (written.said.written names.out refl zero held (ap (λ (m : Names). new.holds m.out) here ∙ told)) in
+          let routed : kept ≡ p.kept = written.routed_so in
+          headline-of stated bytes held inputs
+          (inputs-from names.rules names.design old.holds inputs stated bytes read (ap (λ (m : Names). old.holds m.rules) here ∙ states)
+          (subst (λ (m : Names). IsSourceText m.design old.holds stated bytes) (sym here) source))
+          (subst (λ (j : Job). IsGoodText j.rules j.drawn held) is
+          (subst (IsGoodText p.job.rules p.job.drawn) (ap (job_text p.job) (sym routed) ∙ text) written.good));
+      judges = λ other stated bytes text same states design cif. absurd cc;
     }
 
-pub returns-in-Err : goal.returns-in-Err
+-- routed so by the style that stands at its place
+chosen-so : {C : Type 0} (styles : List C) (edge : Bool) (plan : C → Plan) (may : C → List Candidate → ℕ → Type 0) (place : ℕ) (chosen d : C) (said : Result Accepted Refusal) (kept : List Routed)
+    → place < length styles → chosen ≡ get_or styles place d → IsRoutedSo edge (plan chosen) (may chosen) said kept → (at_place : ℕ) (style : C) → Some place ≡ Some at_place
+    → slice_get styles at_place ≡ Some style → IsRoutedSo edge (plan style) (may style) said kept
+chosen-so styles edge plan may place chosen d said kept within is routed at_place style placed at =
+    let here : slice_get styles place ≡ Some style = ap (slice_get styles) (same_Some place at_place placed) ∙ at in
+    let same : get_or styles place d ≡ style = same_Some (get_or styles place d) style (sym (slice_get-get_or styles place d within) ∙ here) in
+    subst (λ s. IsRoutedSo edge (plan s) (may s) said kept) (is ∙ same) routed
+
+-- of a job that is accepted, whose routed channels are kept
+routed-so : (edge : Bool) (plan : Plan) (may : List Candidate → ℕ → Type 0) (said : Result Accepted Refusal) (job : Job) (kept items : List Routed) → said ≡ Ok (to_lay_out job) → items ≡ kept
+    → AreRouted edge plan may (channels_of job) kept → IsRoutedSo edge plan may said items
+routed-so edge plan may said job kept items accepted same routed =
+    subst (λ (s : Result Accepted Refusal). IsRoutedSo edge plan may s items) (sym accepted)
+    (subst (λ (k : List Routed). AreRouted edge plan may (channels_of job) k) (sym same) routed)
+
+pub returns-in_err-inputs-clause-carried : goal.returns-in_err-inputs-clause-carried
 unfolding command_verdict
-returns-in-Err g c =
+returns-in_err-inputs-clause-carried g c =
+    stopped-early (λ (a : Accepted). a) _ c.in_err-inputs.field-0.0 c.from_residual.result _ _ _ c.from_residual.ensures.1
+    (λ said says. told-stops (λ (i : Inputs). i) (λ (a : Accepted). a) c.in_err-inputs.field-0.0 _ _ said c.in_err-inputs.ensures.told says)
+    c.in_err-inputs.ensures.read c.requires.none
+
+pub returns-in-Err-clause-carried : goal.returns-in-Err-clause-carried
+unfolding job_verdict
+returns-in-Err-clause-carried g c =
     let names : Names = seen c.args.names.now in
-    let told = g.S.Shelf.holds c.args.shelf.now in
-    stopped-early c.args.styles.now _ _ (Some (route names)) c.in-Err.stop c.args.kept.now.items told _ _ _ _ _
-    (λ s says.
-    stopped (λ (a : Accepted). a) c.args.kept.now.items c.in-Err.stop s (told-stops (λ (i : Inputs). i) (λ (a : Accepted). a) c.in-Err.stop _ _ s c.in-Err.ensures.told says))
-    (λ two. absurd (c.in-Err.ensures.command two)) (λ none. let never : ⊥ = cc in absurd never) c.in-Err.ensures.unwritten c.requires.none
-    (λ command is eight.
-    of-route names (λ (k : Command). ReadFails k told (g.S.Shelf.read_faults c.args.shelf.now) (g.S.Shelf.read_faults c.load_inputs.new.shelf)) (c.in-Err.ensures.cause eight) command is)
-    c.in-Err.ensures.quiet c.in-Err.ensures.writes c.in-Err.ensures.files
+    stopped-early (λ (p : RoutedJob). to_lay_out p.job) (route names) (Refused c.in-Err.refusal) (Err (Refused c.in-Err.refusal)) _ _ _ refl
+    (λ said says.
+    subst (Finds {X = RoutedJob} (λ p. to_lay_out p.job) (Err (Refused c.in-Err.refusal)))
+    (sym (job-said names _ c.in_ok-inputs.inputs said c.in_ok-inputs.ensures.are says))
+    (stops (λ (p : RoutedJob). p.job) (λ (p : RoutedJob). to_lay_out p.job) (Refused c.in-Err.refusal) _ (λ (job : Job). Ok (to_lay_out job))
+    (found-refusal (λ (p : RoutedJob). p.job) c.in-Err.refusal _ c.in-Err.ensures.made)))
+    (read-refused c.in-Err.refusal c.in-Err.ensures.command c.in_ok-inputs.ensures.read) c.requires.none
+
+pub returns-in-Ok-clause-carried : goal.returns-in-Ok-clause-carried
+returns-in-Ok-clause-carried g c =
+    let names : Names = seen c.args.names.now in
+    written-for names c.in_ok-inputs.inputs c.in-Ok.prepared _ _ _ _ _ c.in_ok-inputs.ensures.are c.in-Ok.ensures.is c.in-Ok.ensures.made c.in_ok-inputs.ensures.read
+    c.write_prepared.ensures
+
+pub returns-in-Ok-clause-kept : goal.returns-in-Ok-clause-kept
+returns-in-Ok-clause-kept g c = λ said says begun.
+    let names : Names = seen c.args.names.now in
+    record {
+      by_style =
+          chosen-so c.args.styles.now _ _ _ names.style c.index-styles-names.result _ said _ c.requires.style c.index-styles-names.is
+          (routed-so _ _ _ said c.in-Ok.prepared.job c.in-Ok.prepared.kept _
+          (job-said names _ c.in_ok-inputs.inputs said c.in_ok-inputs.ensures.are says ∙ job-accepted names.wanted c.in_ok-inputs.inputs _ c.in-Ok.ensures.made)
+          c.write_prepared.ensures.routed_so c.in-Ok.ensures.kept);
+    }

@@ -1,83 +1,59 @@
-use Rattle.commands.proofs.CarriedLaws.{carried-complete, carried-ends, carried-fault, carried-files, carried-front, carried-none, carried-reads, carried-unkept, carried-unwritten, carried-usage, carried-whole, carried-write_cause, carried-writes}
-use Rattle.commands.proofs.Tellings.{tells-begun, tells-calm, tells-faulty, tells-good, tells-high, tells-listed, tells-not-begun, tells-zero}
-use Rattle.std.proofs.Common.{arith, ◌∙◌}
+use Rattle.std.proofs.Common.{◌≢◌, inl, inr, ap, arith}
+use Rattle.command_ends.specs.Status.{ending_status}
+use Rattle.commands.specs.Changes.{HasBegun}
+use Rattle.commands.specs.Done.{end_seen}
+use Rattle.commands.proofs.CarriedLaws.{changes-of, said-of}
+use Rattle.commands.proofs.Endings.{command-still, fails-there, file-still, if-said, rose-still, sink-fails, whole-front}
+use Rattle.commands.proofs.Tellings.{IsTold, nine-begun, tells-begun, tells-calm, tells-fault, tells-judged, tells-listed, tells-number, tells-rose, tells-said}
 use Rattle.commands.proofs.top.run.Goals as goal
 
-pub returns-clause-listed : goal.returns-clause-listed
-returns-clause-listed g c = tells-listed _ _ _ _ _ _ c.report-status.ensures
-
-pub returns-clause-usage : goal.returns-clause-usage
-returns-clause-usage g c = carried-usage _ _ _ _ _ c.carry_out-ending.ensures c.report-status.ensures
-
-pub returns-clause-no_command : goal.returns-clause-no_command
-returns-clause-no_command g c = carried-none _ _ _ _ _ c.carry_out-ending.ensures c.report-status.ensures
-
-pub returns-clause-ends : goal.returns-clause-ends
-returns-clause-ends g c = carried-ends _ _ _ _ _ c.carry_out-ending.ensures c.report-status.ensures
-
-pub returns-clause-kept : goal.returns-clause-kept
-returns-clause-kept g c = λ command said file comes writes few.
-    let k = c.carry_out-ending.ensures in
-    k.kept_so command said comes.asked comes.says (tells-begun _ _ _ _ _ _ command file c.report-status.ensures (k.is_done_by command comes.asked) writes few)
-
-pub returns-clause-none : goal.returns-clause-none
-returns-clause-none g c = λ not_zero not_nine. c.carry_out-ending.ensures.none (tells-not-begun _ _ _ _ _ _ c.report-status.ensures not_zero not_nine)
-
-pub returns-clause-unkept : goal.returns-clause-unkept
-returns-clause-unkept g c = carried-unkept c.carry_out-ending.ensures
-
-pub returns-clause-written : goal.returns-clause-written
-returns-clause-written g c = λ command said file comes writes zero.
-    c.carry_out-ending.ensures.written command said file comes.asked comes.says writes (tells-zero _ _ _ _ _ _ c.report-status.ensures zero)
-
-pub returns-clause-headline : goal.returns-clause-headline
-returns-clause-headline g c = λ names stated bytes held asked states source zero told.
-    c.carry_out-ending.ensures.headline names stated bytes held asked states source (tells-zero _ _ _ _ _ _ c.report-status.ensures zero) told
-
-pub returns-clause-good : goal.returns-clause-good
-returns-clause-good g c = λ names stated bytes text asked states design cif zero.
-    tells-good _ _ _ _ _ _ _ c.report-status.ensures (c.carry_out-ending.ensures.judges names stated bytes text asked states design cif) zero
-
-pub returns-clause-faulty : goal.returns-clause-faulty
-returns-clause-faulty g c = λ names stated bytes text asked states design cif one.
-    tells-faulty _ _ _ _ _ _ _ c.report-status.ensures (c.carry_out-ending.ensures.judges names stated bytes text asked states design cif) one
-
-pub returns-clause-front : goal.returns-clause-front
-returns-clause-front g c = λ command said file comes. carried-front _ _ _ _ _ c.carry_out-ending.ensures c.report-status.ensures command said file comes.asked comes.says
-
-pub returns-clause-whole : goal.returns-clause-whole
-returns-clause-whole g c = λ command said file comes. carried-whole _ _ _ _ _ c.carry_out-ending.ensures c.report-status.ensures command said file comes.asked comes.says
-
-pub returns-clause-read_cause : goal.returns-clause-read_cause
-returns-clause-read_cause g c = λ command asked eight.
-    c.carry_out-ending.ensures.read_cause command asked (tells-high _ _ _ _ _ _ c.report-status.ensures (omega (arith, eight)) (λ nine. absurd (omega (arith, eight, nine))) ∙ eight)
-
-pub returns-clause-write_cause : goal.returns-clause-write_cause
-returns-clause-write_cause g c = carried-write_cause _ _ _ _ _ c.carry_out-ending.ensures c.report-status.ensures
-
-pub returns-clause-fault : goal.returns-clause-fault
-returns-clause-fault g c = carried-fault _ _ _ _ _ c.carry_out-ending.ensures c.report-status.ensures
-
-pub returns-clause-reads : goal.returns-clause-reads
-returns-clause-reads g c = carried-reads _ _ _ _ _ c.carry_out-ending.ensures c.report-status.ensures
-
-pub returns-clause-writes : goal.returns-clause-writes
-returns-clause-writes g c = carried-writes _ _ _ _ _ c.carry_out-ending.ensures c.report-status.ensures
-
-pub returns-clause-untouched : goal.returns-clause-untouched
-returns-clause-untouched g c = λ not_zero not_nine. c.carry_out-ending.ensures.untouched (tells-not-begun _ _ _ _ _ _ c.report-status.ensures not_zero not_nine)
-
-pub returns-clause-others : goal.returns-clause-others
-returns-clause-others g c = c.carry_out-ending.ensures.others
-
-pub returns-clause-files : goal.returns-clause-files
-returns-clause-files g c = carried-files c.carry_out-ending.ensures
-
-pub returns-clause-unwritten : goal.returns-clause-unwritten
-returns-clause-unwritten g c = carried-unwritten c.carry_out-ending.ensures
-
-pub returns-clause-complete : goal.returns-clause-complete
-returns-clause-complete g c = λ command said comes. carried-complete _ _ _ _ _ c.carry_out-ending.ensures c.report-status.ensures command said comes.asked comes.says
-
-pub returns-clause-calm : goal.returns-clause-calm
-returns-clause-calm g c = tells-calm _ _ _ _ _ _ c.report-status.ensures
+pub returns : goal.returns
+returns g c =
+    let e = end_seen c.carry_out-ending.result in
+    let k = c.carry_out-ending.ensures.carried in
+    let t = c.report-status.ensures in
+    let n = c.report-status.result in
+    let told : IsTold n (ending_status e) = tells-number n _ _ _ _ e t in
+    let not_begun : n ≢ 0 → n ≢ 9 → HasBegun e → ⊥ =
+    λ not_zero not_nine begun. elim (tells-begun n _ _ _ _ e t begun) [ inl zero ↦ not_zero zero | inr nine ↦ not_nine nine ] in
+    record {
+      listed = tells-listed n _ _ _ _ e t;
+      usage = λ two. k.usage (omega (arith, told, two));
+      no_command = λ none. elim (k.no_command none) [ inl two ↦ inl (omega (arith, told, two)) | inr ten ↦ inr (omega (arith, told, ten)) ];
+      ends = record { ending = e; is = if-said _ _ (λ said says. (k.said said says).ends); tells = t };
+      kept = λ command said file comes writes few.
+          c.carry_out-ending.ensures.kept command said comes.asked comes.says (elim told [
+            | inl stop ↦ nine-begun e (omega (arith, stop, few))
+            | inr done ↦ (changes-of k comes.asked).done (λ none. cc) done.0
+          ]);
+      none = λ not_zero not_nine. k.changes.none (not_begun not_zero not_nine);
+      unkept = λ command is none. k.changes.none (λ begun. (changes-of k is).begun begun none);
+      written = λ command said file comes writes zero. (said-of k comes).written file writes (omega (arith, told, zero));
+      headline = λ names stated bytes held is states source zero. k.headline names stated bytes held is states source (omega (arith, told, zero));
+      good = λ names stated bytes text is states design cif. (tells-judged n _ _ _ _ e _ t (k.judges names stated bytes text is states design cif)).0;
+      faulty = λ names stated bytes text is states design cif. (tells-judged n _ _ _ _ e _ t (k.judges names stated bytes text is states design cif)).1;
+      front = λ command said file comes writes nine. elim told [
+        | inl stop ↦ (said-of k comes).front file writes (omega (arith, stop, nine))
+        | inr done ↦ whole-front said _ _ _ ((said-of k comes).written file writes done.0)
+      ];
+      whole = λ command said file comes writes nine still. elim told [
+        | inl stop ↦ absurd (rose-still _ _ ((changes-of k comes.asked).cause (omega (arith, stop, nine)) file writes) still)
+        | inr done ↦ (said-of k comes).written file writes done.0
+      ];
+      read_cause = λ command is eight. k.cause command is (omega (arith, told, eight));
+      write_cause = λ command is nine. elim told [
+        | inl stop ↦ fails-there _ _ _ _ _ ((changes-of k is).begun (nine-begun e (omega (arith, stop, nine)))) ((changes-of k is).cause (omega (arith, stop, nine)))
+        | inr done ↦ sink-fails _ _ _ _ _ (tells-rose n _ _ _ _ e t nine done.0)
+      ];
+      fault = λ command file is writes. tells-fault n _ _ _ _ e _ _ t (λ other. ap (λ count. count file) (k.changes.same_writes other));
+      reads = λ other. k.changes.same_reads (λ eight. other (omega (arith, told, eight)));
+      writes = λ other. k.changes.same_writes (λ nine. other (omega (arith, told, nine)));
+      untouched = λ not_zero not_nine. k.changes.untouched (not_begun not_zero not_nine);
+      others = λ command other is. (changes-of k is).others other;
+      files = λ command is none. k.changes.untouched (λ begun. (changes-of k is).begun begun none);
+      unwritten = λ command is none. k.changes.same_writes (λ nine. (changes-of k is).begun (nine-begun e nine) none);
+      complete = λ command said comes quiet.
+          tells-said n _ _ _ _ e _ said t (said-of k comes).ends quiet.sink (λ eight. command-still command _ _ _ quiet.reads (k.cause command comes.asked eight))
+          (λ nine. file-still _ _ _ quiet.writes ((changes-of k comes.asked).begun (nine-begun e nine)) ((changes-of k comes.asked).cause nine));
+      calm = λ few. tells-calm n _ _ _ _ e t (omega (arith, few));
+    }

@@ -1,16 +1,24 @@
 use Rattle.layout_report.proofs.printing.print_summary.Goals as goal
-use Rattle.std.proofs.Common.{refl}
-use Rattle.std.proofs.lemmas.Result.{on_err_weaker}
-use Rattle.shelf_io.proofs.Appends.{first-front, second-front}
-use Rattle.layout_report.specs.SummaryText.{summary_text}
-use Rattle.std_laws.proofs.Options.{on-err}
+use Rattle.std.proofs.Common.{◌++◌}
+use Rattle.layout_report.specs.SummaryText.{channels_text, count_words, end_words, lines_text, summary_text}
+use Rattle.shelf_io.proofs.WroteLaws.{puts-cut, puts-then}
 
-pub returns-in_err-print_counts-clause-front : goal.returns-in_err-print_counts-clause-front
-unfolding summary_text
-returns-in_err-print_counts-clause-front g c =
-    on-err c.from_residual.result _ (first-front _ _ _ _ _ refl c.in_err-print_counts.ensures.front)
+pub returns-in_err-print_lines : goal.returns-in_err-print_lines
+unfolding summary_text count_words
+returns-in_err-print_lines g c =
+    let s = c.args.summary.now in
+    puts-cut c.from_residual.result (channels_text 0 s.channels ++ lines_text (end_words s)) c.from_residual.ensures.0 c.in_err-print_lines.ensures
 
-pub returns-clause-front : goal.returns-clause-front
-unfolding summary_text
-returns-clause-front g c =
-    on_err_weaker c.print_rest.result (second-front _ _ _ _ _ _ refl c.in_ok-print_counts.ensures.whole) c.print_rest.ensures.front
+pub returns-in_err-print_channels : goal.returns-in_err-print_channels
+unfolding summary_text count_words
+returns-in_err-print_channels g c =
+    let result = c.from_residual-in_err-print_channels.result in
+    puts-then result (g.met.K.Sink.place_then _ _ _) (g.met.K.Sink.same_then _ _ _) c.in_ok-print_lines.ensures
+    (puts-cut result (lines_text (end_words c.args.summary.now)) c.from_residual-in_err-print_channels.ensures.0 c.in_err-print_channels.ensures)
+
+pub returns : goal.returns
+unfolding summary_text count_words end_words
+returns g c =
+    let result = c.print_lines-2.result in
+    puts-then result (g.met.K.Sink.place_then _ _ _) (g.met.K.Sink.same_then _ _ _) c.in_ok-print_lines.ensures
+    (puts-then result (g.met.K.Sink.place_then _ _ _) (g.met.K.Sink.same_then _ _ _) c.in_ok-print_channels.ensures c.print_lines-2.ensures)

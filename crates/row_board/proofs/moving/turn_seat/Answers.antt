@@ -17,6 +17,6 @@ returns c =
     record {
       mirrored = facts.mirrored;
       placed = facts.placed;
-      unmoved = turned-unmoved c.args.costs.now.design c.put.new.rows c.args.costs.now.standings (mirrored c.args.a c.args.rows.now) c.standing-one.result c.reach_of.result facts c.reach_of.ensures.row
-          c.reach_of.ensures.from c.reach_of.ensures.to;
+      unmoved = turned-unmoved c.args.costs.now.design c.put.new.rows c.args.costs.now.standings (mirrored c.args.a c.args.rows.now) c.standing-one.result c.moved_seats.result facts c.moved_seats.ensures.row
+          c.moved_seats.ensures.from c.moved_seats.ensures.to;
     }

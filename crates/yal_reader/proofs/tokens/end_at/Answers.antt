@@ -6,11 +6,11 @@ use Rattle.yal_reader.proofs.tokens.end_at.Goals as goal
 pub returns-then-is_empty-clause-gives : goal.returns-then-is_empty-clause-gives
 returns-then-is_empty-clause-gives c =
     let rest = c.skip_blanks-rest.result.now in
-    rw (← c.skip_blanks-rest.ensures.same, c.stuck_at.ensures) (end-empty rest (eqb-true (length rest) 0 (sym c.is_empty.ensures ∙ c.if-is_empty.true)))
+    rw (← c.skip_blanks-rest.ensures.same, c.flaw_at.ensures) (end-empty rest (eqb-true (length rest) 0 (sym c.is_empty.ensures ∙ c.if-is_empty.true)))
 
 pub returns-then-rest-ne59-clause-gives : goal.returns-then-rest-ne59-clause-gives
 returns-then-rest-ne59-clause-gives c =
-    rw (← c.skip_blanks-rest.ensures.same, c.stuck_at-then-rest-ne59.ensures) (end-none c.skip_blanks-rest.result.now c.skip_blanks-rest.ensures.bare c.if-rest-ne59.true)
+    rw (← c.skip_blanks-rest.ensures.same, c.flaw_at-then-rest-ne59.ensures) (end-none c.skip_blanks-rest.result.now c.skip_blanks-rest.ensures.bare c.if-rest-ne59.true)
 
 pub returns-clause-gives : goal.returns-clause-gives
 returns-clause-gives c =

@@ -6,7 +6,7 @@ use Rattle.yal_reader.proofs.tokens.word_at.Goals as goal
 
 pub returns-then-len-eq0-clause-gives : goal.returns-then-len-eq0-clause-gives
 returns-then-len-eq0-clause-gives c =
-    rw (← c.skip_blanks-rest.ensures.same, c.stuck_at.ensures)
+    rw (← c.skip_blanks-rest.ensures.same, c.flaw_at.ensures)
     (word-none c.skip_blanks-rest.result.now c.skip_blanks-rest.ensures.bare (sym c.word_len-len.ensures ∙ c.if-len-eq0.true))
 
 pub split_at-requires : goal.split_at-requires

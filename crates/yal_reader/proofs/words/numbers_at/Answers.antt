@@ -1,11 +1,11 @@
 use Rattle.std.proofs.Common.{SFits, arith, rules, sym, to_z-of_z, w64, ◌∙◌}
 use Rattle.std.proofs.lemmas.Result.{err_from_is_err_and}
-use Rattle.yal_reader.proofs.RunLaws.{front-ends, front-fails, front-on, front-stuck, numbers-end, numbers-fails, numbers-on}
+use Rattle.yal_reader.proofs.RunLaws.{front-ends, front-fails, front-on, front-flawed, numbers-end, numbers-fails, numbers-on}
 use Rattle.yal_reader.proofs.words.numbers_at.Goals as goal
 
 pub returns-in_default-number_of-clause-gives : goal.returns-in_default-number_of-clause-gives
 returns-in_default-number_of-clause-gives c =
-    rw c.bad.ensures (front-stuck c.loop-word.found.items _ _ _ (numbers-fails _ _ _ c.in-Ok.ensures.gives (sym c.number_of.ensures ∙ c.in_default-number_of.is)) c.loop-word.invariant.0)
+    rw c.bad.ensures (front-flawed c.loop-word.found.items _ _ _ (numbers-fails _ _ _ c.in-Ok.ensures.gives (sym c.number_of.ensures ∙ c.in_default-number_of.is)) c.loop-word.invariant.0)
 
 pub loop-word-preserved : goal.loop-word-preserved
 loop-word-preserved c = (

@@ -2,10 +2,8 @@ use Rattle.cif_reader.proofs.level.Pen.given.Goals as goal
 use Rattle.std.proofs.Common.{rules, ◌≡◌, refl, ap, sym, subst, ◌∙◌, ◌≤◌, ℕ, Ok}
 use Rattle.cif_text.specs.Scales.{scaled_extent, scaled_turning, box_around}
 use Rattle.cif_text.specs.Symbols.{moved_shapes}
-use Rattle.cif_reader.specs.declared.calls.Call.{Call}
 use Rattle.cif_reader.specs.Limits.{most_shapes}
-use Rattle.cif_reader.specs.Standing.{level_seen, shapes_made}
-use Rattle.cif_reader.specs.Table.{symbol_at}
+use Rattle.cif_reader.specs.Standing.{level_seen}
 use Rattle.cif_reader.proofs.LevelLaws.{box-gives, call-gives, none-gives, copied-given, none-given}
 use Rattle.cif_reader.proofs.RefusalLemmas.{err-next}
 use Rattle.std_laws.proofs.Integers.{read_back}
@@ -44,7 +42,7 @@ pub returns-in-Err-called-clause-gives : goal.returns-in-Err-called-clause-gives
 returns-in-Err-called-clause-gives c = λ shapes count few.
     let k = c.in-Call in
     let turn : c.scaled_turn-turn.result ≡ scaled_turning c.args.self.now.scale.a c.args.self.now.scale.b k.flip k.quarters k.dx k.dy = search (rules, read_back) in
-    err-next (λ (call : Call). (symbol_at c.args.table.now.symbols call.symbol.place, call.turn)) shapes_made c.in-Err-called.refusal _ (λ call. Ok (moved_shapes call.1 call.0.shapes)) _
+    err-next c.in-Err-called.refusal _ (λ call. Ok (moved_shapes call.1 call.0.shapes)) _
     (call-gives c.args.table.now.symbols (level_seen c.args.self.now shapes) c.args.command.command.now k.n k.flip k.quarters k.dx k.dy c.scaled_turn-turn.result
     c.args.before k.is turn count) c.in-Err-called.ensures.gives
 

@@ -1,0 +1,2 @@
+-- more digits, and numbers above the greatest
+pub mod DigitsLaws

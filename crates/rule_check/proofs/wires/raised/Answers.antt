@@ -1,9 +1,0 @@
-use Rattle.std.proofs.Common.{arith}
-use Rattle.std.proofs.lemmas.Int.{to_z-of_z, ints}
-use Rattle.rule_check.proofs.wires.raised.Goals as goal
-
-pub invariant_of-result : goal.invariant_of-result
-invariant_of-result c = grind (arith, ints, to_z-of_z)
-
-pub returns : goal.returns
-returns c = grind (arith, ints, to_z-of_z)
