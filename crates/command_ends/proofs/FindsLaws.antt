@@ -10,17 +10,8 @@ use Rattle.command_ends.specs.declared.stop.Stop.TheVariants.{Refused, ReadFault
 -- what stopped a part stops the whole that refuses what the part does
 pub stops-so : {X Z A B : Type 0} (view : X → A) (seen : Z → B) (stop : Stop) (part : Result A Refusal) (whole : Result B Refusal)
     → ((refusal : Refusal) → part ≡ Err refusal → whole ≡ Err refusal) → Finds view (Err stop) part → Finds seen (Err stop) whole
-stops-so view seen (Refused refusals.Usage) part whole refuses found = refuses _ found
-stops-so view seen (Refused refusals.Toml) part whole refuses found = refuses _ found
-stops-so view seen (Refused (refusals.Missing key)) part whole refuses found = refuses _ found
-stops-so view seen (Refused (refusals.Range key)) part whole refuses found = refuses _ found
-stops-so view seen (Refused (refusals.Tight rule)) part whole refuses found = refuses _ found
-stops-so view seen (Refused (refusals.Yal kind at)) part whole refuses found = refuses _ found
-stops-so view seen (Refused (refusals.Design fault name)) part whole refuses found = refuses _ found
-stops-so view seen (Refused (refusals.Cif kind at)) part whole refuses found = refuses _ found
-stops-so view seen (Refused (refusals.Meaning kind at)) part whole refuses found = refuses _ found
-stops-so view seen (Refused (refusals.Limit what n)) part whole refuses found = refuses _ found
 stops-so view seen (Refused refusals.Memory) part whole refuses found = tt
+stops-so view seen (Refused refusal) part whole refuses found = refuses refusal found
 stops-so view seen ReadFault part whole refuses found = tt
 stops-so view seen WriteFault part whole refuses found = found
 
@@ -32,17 +23,8 @@ stops view seen stop first next found = stops-so view seen stop first (first >>=
 -- a refusal that is answered is found
 pub found-refusal : {X A : Type 0} (view : X → A) (refusal : Refusal) (said : Result A Refusal)
     → Answers view (Err refusal) said → Finds view (Err (Refused refusal)) said
-found-refusal view refusals.Usage said answer = answer
-found-refusal view refusals.Toml said answer = answer
-found-refusal view (refusals.Missing key) said answer = answer
-found-refusal view (refusals.Range key) said answer = answer
-found-refusal view (refusals.Tight rule) said answer = answer
-found-refusal view (refusals.Yal kind at) said answer = answer
-found-refusal view (refusals.Design fault name) said answer = answer
-found-refusal view (refusals.Cif kind at) said answer = answer
-found-refusal view (refusals.Meaning kind at) said answer = answer
-found-refusal view (refusals.Limit what n) said answer = answer
 found-refusal view refusals.Memory said answer = tt
+found-refusal view refusal said answer = answer
 
 -- the same of an error that is handed on
 pub handed-on : {X A : Type 0} (view : X → A) (result : Result X Stop) (stop : Stop) (said : Result A Refusal)
