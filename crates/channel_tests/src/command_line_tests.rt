@@ -3,13 +3,13 @@
 ghost use Rattle.cif_text.specs.Printing.{HasLine};
 ghost use Rattle.std.specs.Prelude.{◌≤◌};
 
-use cif_text::{Command, print_command};
+use cif_text::{CifCommand, print_command};
 use geom_core::LayerName;
 
-fn boxed(length: i64, width: i64, cx: i64, cy: i64, upright: bool) -> Command
+fn boxed(length: i64, width: i64, cx: i64, cy: i64, upright: bool) -> CifCommand
     ensures { HasLine result }
 {
-    Command::Box {
+    CifCommand::Box {
         length,
         width,
         cx,
@@ -18,11 +18,11 @@ fn boxed(length: i64, width: i64, cx: i64, cy: i64, upright: bool) -> Command
     }
 }
 
-fn call(n: u64, flip: bool, quarters: u8, dx: i64, dy: i64) -> Command
+fn call(n: u64, flip: bool, quarters: u8, dx: i64, dy: i64) -> CifCommand
     requires { quarters ≤ 3 }
     ensures { HasLine result }
 {
-    Command::Call {
+    CifCommand::Call {
         n,
         flip,
         quarters,
@@ -31,7 +31,7 @@ fn call(n: u64, flip: bool, quarters: u8, dx: i64, dy: i64) -> Command
     }
 }
 
-fn is_printed(command: &Command, wanted: &[u8]) -> bool
+fn is_printed(command: &CifCommand, wanted: &[u8]) -> bool
     requires { HasLine command.now }
 {
     let mut line = [0; 160];
@@ -41,15 +41,15 @@ fn is_printed(command: &Command, wanted: &[u8]) -> bool
 
 fn is_layer(name: &[u8], wanted: &[u8]) -> bool {
     match LayerName::new(name) {
-        Some(layer) => is_printed(&Command::Layer(layer), wanted),
+        Some(layer) => is_printed(&CifCommand::Layer(layer), wanted),
         None => false,
     }
 }
 
 // Whether the lines of the text of one inverter are printed, all but those of the two names.
 fn is_inverter_printed() -> bool {
-    is_printed(&Command::Comment, b"(cellroute 1);\n")
-        && is_printed(&Command::Start { n: 1, a: 1, b: 1 }, b"DS 1 1 1;\n")
+    is_printed(&CifCommand::Comment, b"(cellroute 1);\n")
+        && is_printed(&CifCommand::Start { n: 1, a: 1, b: 1 }, b"DS 1 1 1;\n")
         && is_layer(b"XP", b"L XP;\n")
         && is_printed(
             &boxed(800, 4000, 400, 2000, false),
@@ -57,9 +57,9 @@ fn is_inverter_printed() -> bool {
         )
         && is_layer(b"NP", b"L NP;\n")
         && is_printed(&boxed(300, 400, 400, 200, false), b"B 300 400 400 200;\n")
-        && is_printed(&Command::Finish, b"DF;\n")
+        && is_printed(&CifCommand::Finish, b"DF;\n")
         && is_printed(&call(1, false, 0, 0, 800), b"C 1 T 0 800;\n")
-        && is_printed(&Command::End, b"E\n")
+        && is_printed(&CifCommand::End, b"E\n")
 }
 
 // Whether signs, directions and turns are printed, and the longest line: a call with the least offsets that a number of the type can be.

@@ -1,8 +1,8 @@
 use Rattle.std.proofs.Common.{◌≡◌, refl, ap, sym, subst, ℕ, suc, ℤ, ◌+◌, List, [], ◌∷◌, length, Option, Some, None, Result, Ok, Err}
 use Rattle.std.specs.Prelude.{if◌then◌else◌, unwrap_or, Bool, true, false, nat_lt}
 use Rattle.geom_core.specs.declared.layout.Layout.{Layout}
-use Rattle.cif_text.specs.declared.command.Command.{Command}
-use Rattle.cif_text.specs.declared.command.Command.TheVariants as commands
+use Rattle.cif_text.specs.declared.command.CifCommand.{CifCommand}
+use Rattle.cif_text.specs.declared.command.CifCommand.TheVariants as commands
 use Rattle.read_base.specs.Steps.{◌>>=◌}
 use Rattle.cif_text.specs.Symbols.{Symbol, Level, State}
 use Rattle.cif_text.specs.Meaning.{Unmeant, undefined, twice, inexact, no_layer, no_symbol_name, at_command, step, run, layout_of, meaning}
@@ -32,7 +32,7 @@ far-limit : (far : Option ℤ) (many : Option ExpandKind) → IsLimit many → I
 far-limit (Some v) many h = tt
 far-limit None many h = h
 
-passed-limit : (symbols : List Symbol) (l : Level) (c : Command) → IsLimit (limit_passed symbols l c)
+passed-limit : (symbols : List Symbol) (l : Level) (c : CifCommand) → IsLimit (limit_passed symbols l c)
 passed-limit symbols l c =
     far-limit (first_far (numbers_of symbols l c)) (more_than_most (length l.shapes) (shapes_given symbols c))
     (many-limit (nat_lt most_shapes (length l.shapes + shapes_given symbols c)))
@@ -49,13 +49,13 @@ limit-agrees view i None kind meant h more = more
 abbrev state_of : Progress → State
 state_of p = p.state
 
-pub progress-state : (p : Progress) (c : Command) (t : State) (depth : ℕ) → (progress_to p c t depth).state ≡ t
+pub progress-state : (p : Progress) (c : CifCommand) (t : State) (depth : ℕ) → (progress_to p c t depth).state ≡ t
 progress-state p (commands.Start n a b) t depth = refl
 progress-state p commands.Finish t depth = refl
 progress-state p c t depth = refl
 
 -- a command that is not too deep
-deep-agrees : (i : ℕ) (p : Progress) (c : Command) (t : State) → Agrees state_of (refused_at i (depth_by p.state.symbols p.depths c >>= λ d. Ok (progress_to p c t d))) (Ok t)
+deep-agrees : (i : ℕ) (p : Progress) (c : CifCommand) (t : State) → Agrees state_of (refused_at i (depth_by p.state.symbols p.depths c >>= λ d. Ok (progress_to p c t d))) (Ok t)
 deep-agrees i p c t = by (nat_lt deepest (depth_given p.state.symbols p.depths c))
   where
     by : (b : Bool) → Agrees state_of (refused_at i ((if b then Err kinds.TooDeep else Ok (depth_given p.state.symbols p.depths c)) >>= λ d. Ok (progress_to p c t d))) (Ok t)
@@ -63,7 +63,7 @@ deep-agrees i p c t = by (nat_lt deepest (depth_given p.state.symbols p.depths c
     by false = ap Ok (sym (progress-state p c t (depth_given p.state.symbols p.depths c)))
 
 -- one command
-within-agrees : (i : ℕ) (p : Progress) (c : Command) (limit : Option ExpandKind) (meant : Result State Unmeant) → IsLimit limit
+within-agrees : (i : ℕ) (p : Progress) (c : CifCommand) (limit : Option ExpandKind) (meant : Result State Unmeant) → IsLimit limit
     → Agrees state_of (refused_at i (within limit meant >>= λ t. depth_by p.state.symbols p.depths c >>= λ d. Ok (progress_to p c t d))) (at_command i meant)
 within-agrees i p c limit (Err (undefined n)) h = refl
 within-agrees i p c limit (Err (twice n)) h = refl
@@ -93,7 +93,7 @@ next-agrees view seen (Err (kinds.TooFar v, i)) meant f g h more = tt
 next-agrees view seen (Err (kinds.TooMany, i)) meant f g h more = tt
 next-agrees view seen (Err (kinds.TooDeep, i)) meant f g h more = tt
 
-progress-agrees : (i : ℕ) (p : Progress) (cs : List Command) → Agrees state_of (progress i p cs) (run i p.state cs)
+progress-agrees : (i : ℕ) (p : Progress) (cs : List CifCommand) → Agrees state_of (progress i p cs) (run i p.state cs)
 unfolding progress run advance
 progress-agrees i p [] = refl
 progress-agrees i p (c ∷ cs) =
@@ -102,12 +102,12 @@ progress-agrees i p (c ∷ cs) =
     (passed-limit p.state.symbols (present_level p.state p.state.inside) c)) (λ q. progress-agrees (suc i) q cs)
 
 -- what commands give is what they mean, where no limit is passed
-pub expansion-agrees : (cs : List Command) → Agrees (λ (l : Layout). l) (expansion cs) (meaning cs)
+pub expansion-agrees : (cs : List CifCommand) → Agrees (λ (l : Layout). l) (expansion cs) (meaning cs)
 unfolding expansion meaning
 expansion-agrees cs =
     next-agrees state_of (λ (l : Layout). l) (progress 0 at_first cs) (run 0 at_first.state cs) (λ p. Ok (layout_of p.state.main)) (λ s. Ok (layout_of s.main))
     (progress-agrees 0 at_first cs) (λ p. refl)
 
 -- a layout that they give is what they mean
-pub expansion-means : (cs : List Command) (l : Layout) → expansion cs ≡ Ok l → meaning cs ≡ Ok l
+pub expansion-means : (cs : List CifCommand) (l : Layout) → expansion cs ≡ Ok l → meaning cs ≡ Ok l
 expansion-means cs l is = subst (λ e. Agrees (λ (m : Layout). m) e (meaning cs)) is (expansion-agrees cs)

@@ -1,8 +1,8 @@
-use Rattle.cif_text.specs.declared.command.Command.TheVariants as commands
+use Rattle.cif_text.specs.declared.command.CifCommand.TheVariants as commands
 use Rattle.cif_reader.specs.declared.fault.ExpandKind.TheVariants as kinds
 use Rattle.std.proofs.Common.{◌≡◌, refl, ap, ◌∙◌, ℕ, ◌≤◌, List, [], ◌++◌, length, length-append, true, false, Option, Some, None, Result, Ok, Err, arith}
 use Rattle.std.specs.Prelude.{max, IsOkAnd}
-use Rattle.cif_text.specs.declared.command.Command.{Command}
+use Rattle.cif_text.specs.declared.command.CifCommand.{CifCommand}
 use Rattle.geom_core.specs.declared.layout.Cell.{Cell}
 use Rattle.geom_core.specs.declared.layout.Shape.{Shape}
 use Rattle.cif_text.specs.Meaning.{name_behind, layer_behind, waiting_behind, cells_by, with_main, with_inside}
@@ -55,7 +55,7 @@ few-inside symbols d h =
     let few : d.kept.count ≤ most_shapes = h.few in omega arith
 
 -- a command inside the definition that is open
-pub inside-behind : (old : Standing) (d e : Open) (drawing : Command) (result : Result (Unit {0}) ExpandStop) → IsStanding old → old.definition ≡ Some d
+pub inside-behind : (old : Standing) (d e : Open) (drawing : CifCommand) (result : Result (Unit {0}) ExpandStop) → IsStanding old → old.definition ≡ Some d
     → is_drawing drawing ≡ true
     → Takes result (definition_given old.table.symbols old.table.depths (definition_seen old.table.symbols d) drawing)
     (IsInsideBehind old.table.symbols d e)
@@ -76,7 +76,7 @@ inside-behind old d e drawing result is there draws taken =
     }) taken)
 
 -- a command of the main level
-pub outside-behind : (old : Standing) (main : MainKept) (drawing : Command) (result : Result (Unit {0}) ExpandStop) → IsStanding old → old.definition ≡ None
+pub outside-behind : (old : Standing) (main : MainKept) (drawing : CifCommand) (result : Result (Unit {0}) ExpandStop) → IsStanding old → old.definition ≡ None
     → is_drawing drawing ≡ true
     → Takes result (main_given old.table.symbols old.table.depths (main_seen old.main) drawing) (IsOutsideBehind old.main main)
     → Takes result (advance (seen old) drawing) (IsBehind (record old { main = main }) false)
@@ -143,7 +143,7 @@ finish-behind old new d is there h =
     })
 
 -- the definition that is open, behind what a command gives it
-pub inside-given : (t : Tabled) (old : Open) (kept : Kept) (name : Option (List ℕ)) (pen : Pen) (c : Command) (shapes : List Shape) (depth : ℕ) → IsOpen t.symbols old
+pub inside-given : (t : Tabled) (old : Open) (kept : Kept) (name : Option (List ℕ)) (pen : Pen) (c : CifCommand) (shapes : List Shape) (depth : ℕ) → IsOpen t.symbols old
     → given t.symbols (definition_seen t.symbols old).level c ≡ Ok shapes → depth_by t.symbols t.depths c ≡ Ok depth → Grows t.symbols old.kept kept shapes depth
     → name ≡ name_behind kept.name c → pen ≡ record old.pen { layer = layer_behind old.pen.layer c }
     → IsOkAnd (definition_given t.symbols t.depths (definition_seen t.symbols old) c)
@@ -157,7 +157,7 @@ inside-given t old kept name pen c shapes depth is shapes_are depth_is grows nam
     })
 
 -- the main level, behind what a command gives it
-pub outside-given : (t : Tabled) (old new : MainKept) (c : Command) (shapes : List Shape) (cells : List Cell) (depth : ℕ)
+pub outside-given : (t : Tabled) (old new : MainKept) (c : CifCommand) (shapes : List Shape) (cells : List Cell) (depth : ℕ)
     → given t.symbols (main_seen old).level c ≡ Ok shapes → named (cells_by t.symbols (main_seen old).level old.waiting c) ≡ Ok cells
     → depth_by t.symbols t.depths c ≡ Ok depth → new.shapes.items ≡ old.shapes.items ++ shapes → new.cells.items ≡ old.cells.items ++ cells
     → new.pen ≡ record old.pen { layer = layer_behind old.pen.layer c } → new.waiting ≡ waiting_behind old.waiting c → new.depth ≡ max old.depth depth

@@ -1,8 +1,8 @@
-use Rattle.cif_text.specs.declared.command.Command.TheVariants as commands
+use Rattle.cif_text.specs.declared.command.CifCommand.TheVariants as commands
 use Rattle.cif_reader.specs.declared.refusal.ExpandStop.TheVariants as refusals
 use Rattle.std.proofs.Common.{◌≡◌, refl, ap, sym, ◌∙◌, subst, ℕ, suc, ◌+◌, List, [], ◌∷◌, length, Bool, true, false, Ok, arith}
 use Rattle.std.specs.Prelude.{is_some, not}
-use Rattle.cif_text.specs.declared.command.Command.{Command}
+use Rattle.cif_text.specs.declared.command.CifCommand.{CifCommand}
 use Rattle.cif_text.specs.CifReads.{is_open_behind}
 use Rattle.cif_text.specs.Sound.{AreSound, IsInPlace}
 use Rattle.cif_reader.specs.declared.refusal.ExpandStop.{ExpandStop}
@@ -15,19 +15,19 @@ use Rattle.cif_reader.specs.Refusals.{Takes, kind_of}
 use Rattle.std_laws.proofs.Options.{ok-and}
 
 -- sound commands, or none behind the end
-abbrev pub AreLeft : Bool → List Command → Type 0
+abbrev pub AreLeft : Bool → List CifCommand → Type 0
 AreLeft inside [] = Unit {0}
 AreLeft inside (c ∷ cs) = AreSound inside (c ∷ cs)
 
-pub record IsNext (inside : Bool) (c : Command) (cs : List Command) : Type 0 where
+pub record IsNext (inside : Bool) (c : CifCommand) (cs : List CifCommand) : Type 0 where
   pub place : IsInPlace inside c
   pub left : AreLeft (is_open_behind inside c) cs
 
-left-of : (inside : Bool) (cs : List Command) → AreSound inside cs → AreLeft inside cs
+left-of : (inside : Bool) (cs : List CifCommand) → AreSound inside cs → AreLeft inside cs
 left-of inside [] h = absurd h
 left-of inside (c ∷ cs) h = h
 
-pub next-of : (inside : Bool) (c : Command) (cs : List Command) → AreLeft inside (c ∷ cs) → IsNext inside c cs
+pub next-of : (inside : Bool) (c : CifCommand) (cs : List CifCommand) → AreLeft inside (c ∷ cs) → IsNext inside c cs
 next-of inside commands.End cs h = record { place = record { sound = tt; stands = refl; last = λ is. h.0 }; left = rw h.1 tt }
 next-of inside commands.Finish cs h =
     record { place = record { sound = tt; stands = h.0; last = λ is. cc }; left = left-of false cs h.1 }
@@ -42,17 +42,17 @@ next-of inside commands.Comment cs h = record { place = record { sound = h.0; st
 next-of inside (commands.User kind text) cs h = record { place = record { sound = h.0; stands = refl; last = λ is. cc }; left = left-of inside cs h.1 }
 
 -- so many commands are done, and the others are left
-pub record IsUpTo (all : List Command) (s : Standing) (at : ℕ) (rest : List Command) : Type 0 where
+pub record IsUpTo (all : List CifCommand) (s : Standing) (at : ℕ) (rest : List CifCommand) : Type 0 where
   pub is : IsStanding s
   pub left : AreLeft (is_some s.definition) rest
   pub done : progress 0 at_first all ≡ progress at (seen s) rest
   pub count : at + length rest ≡ length all
 
-pub next-left : (all : List Command) (s : Standing) (at : ℕ) (rest cs : List Command) (c : Command) → IsUpTo all s at rest → rest ≡ c ∷ cs
+pub next-left : (all : List CifCommand) (s : Standing) (at : ℕ) (rest cs : List CifCommand) (c : CifCommand) → IsUpTo all s at rest → rest ≡ c ∷ cs
     → IsNext (is_some s.definition) c cs
 next-left all s at rest cs c h is = next-of (is_some s.definition) c cs (subst (AreLeft (is_some s.definition)) is h.left)
 
-pub up-to-next : (all : List Command) (s t : Standing) (at : ℕ) (rest cs : List Command) (c : Command) → IsUpTo all s at rest → rest ≡ c ∷ cs
+pub up-to-next : (all : List CifCommand) (s t : Standing) (at : ℕ) (rest cs : List CifCommand) (c : CifCommand) → IsUpTo all s at rest → rest ≡ c ∷ cs
     → Takes {X = Unit {0}} (Ok tt) (advance (seen s) c) (IsBehind t (is_open_behind (is_some s.definition) c)) → IsUpTo all t (at + 1) cs
 unfolding progress
 up-to-next all s t at rest cs c h is taken =
@@ -69,14 +69,14 @@ up-to-next all s t at rest cs c h is taken =
     }
 
 -- a command that is refused
-pub refused-at : (all : List Command) (s : Standing) (at : ℕ) (rest cs : List Command) (c : Command) (refusal : ExpandStop) → IsUpTo all s at rest
+pub refused-at : (all : List CifCommand) (s : Standing) (at : ℕ) (rest cs : List CifCommand) (c : CifCommand) (refusal : ExpandStop) → IsUpTo all s at rest
     → rest ≡ c ∷ cs → Fails kind_of refusal (advance (seen s) c) → Fails told_of (fault_of refusal at) (expansion all)
 unfolding progress expansion
 refused-at all s at rest cs c refusals.Memory h is taken = tt
 refused-at all s at rest cs c (refusals.Because kind) h is taken = rw (h.done, is, taken) refl
 
 -- the end
-pub expanded : (all : List Command) (s : Standing) (at : ℕ) (rest : List Command) → IsUpTo all s at rest → length rest ≡ 0
+pub expanded : (all : List CifCommand) (s : Standing) (at : ℕ) (rest : List CifCommand) → IsUpTo all s at rest → length rest ≡ 0
     → expansion all ≡ Ok (record { cells = s.main.cells.items; shapes = s.main.shapes.items })
 unfolding progress expansion seen
 expanded all s at [] h none = rw h.done refl

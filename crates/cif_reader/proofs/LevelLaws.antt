@@ -5,8 +5,8 @@ use Rattle.geom_core.specs.declared.layout.Shape.{Shape}
 use Rattle.geom_core.specs.declared.layout.Cell.{Cell}
 use Rattle.geom_core.specs.Extent.{Extent}
 use Rattle.geom_core.specs.Turning.{Turning}
-use Rattle.cif_text.specs.declared.command.Command.{Command}
-use Rattle.cif_text.specs.declared.command.Command.TheVariants as commands
+use Rattle.cif_text.specs.declared.command.CifCommand.{CifCommand}
+use Rattle.cif_text.specs.declared.command.CifCommand.TheVariants as commands
 use Rattle.read_base.specs.Steps.{◌>>=◌}
 use Rattle.cif_text.specs.Scales.{box_around, scaled_extent, scaled_turning}
 use Rattle.cif_text.specs.Symbols.{Symbol, Level, Definition, State, symbol_of, moved_shapes}
@@ -24,13 +24,13 @@ use Rattle.cif_reader.specs.Expansion.{Progress, unless_refused, within, depth_b
 use Rattle.cif_reader.specs.Levels.{is_drawing, boxed, call_of, far_call, given, named, definition_given, main_given}
 
 -- a level that has not too many shapes gets no more
-none-passed : (symbols : List Symbol) (l : Level) (c : Command) → numbers_of symbols l c ≡ [] → shapes_given symbols c ≡ 0 → length l.shapes ≤ most_shapes
+none-passed : (symbols : List Symbol) (l : Level) (c : CifCommand) → numbers_of symbols l c ≡ [] → shapes_given symbols c ≡ 0 → length l.shapes ≤ most_shapes
     → limit_passed symbols l c ≡ None
 none-passed symbols l c no_numbers no_shapes few =
     let no_more : nat_lt most_shapes (length l.shapes + 0) ≡ false = grind (arith, nat_tests) in
     rw (no_numbers, no_shapes, no_more) refl
 
-pub given-none : (symbols : List Symbol) (l : Level) (c : Command) → numbers_of symbols l c ≡ [] → shapes_given symbols c ≡ 0 → drawn_by symbols l c ≡ Ok []
+pub given-none : (symbols : List Symbol) (l : Level) (c : CifCommand) → numbers_of symbols l c ≡ [] → shapes_given symbols c ≡ 0 → drawn_by symbols l c ≡ Ok []
     → length l.shapes ≤ most_shapes → given symbols l c ≡ Ok []
 unfolding given
 given-none symbols l c no_numbers no_shapes none few = rw (none-passed symbols l c no_numbers no_shapes few, none) refl
@@ -77,19 +77,19 @@ unfolding given
 call-given symbols l n flip quarters dx dy = call-by n (symbol_of n symbols) (scaled_turning l.a l.b flip quarters dx dy) (length l.shapes)
 
 -- the same of a command that is one of these, as a program tells it
-pub box-gives : (symbols : List Symbol) (l : Level) (c : Command) (long wide cx cy : ℤ) (upright : Bool) (sides : Option Extent) (before : ℕ) (r : Result Shape ExpandKind)
+pub box-gives : (symbols : List Symbol) (l : Level) (c : CifCommand) (long wide cx cy : ℤ) (upright : Bool) (sides : Option Extent) (before : ℕ) (r : Result Shape ExpandKind)
     → c ≡ commands.Box long wide cx cy upright → sides ≡ scaled_extent l.a l.b (box_around long wide cx cy upright) → length l.shapes ≡ before
     → r ≡ boxed l.layer before sides → given symbols l c ≡ (r >>= λ shape. Ok (shape ∷ []))
 box-gives symbols l c long wide cx cy upright sides before r is sides_are count r_is =
     rw (is, r_is, sides_are, sym count) (box-given symbols l long wide cx cy upright)
 
-pub call-gives : (symbols : List Symbol) (l : Level) (c : Command) (n : ℕ) (flip : Bool) (quarters : ℕ) (dx dy : ℤ) (turn : Option Turning) (before : ℕ)
+pub call-gives : (symbols : List Symbol) (l : Level) (c : CifCommand) (n : ℕ) (flip : Bool) (quarters : ℕ) (dx dy : ℤ) (turn : Option Turning) (before : ℕ)
     → c ≡ commands.Call n flip quarters dx dy → turn ≡ scaled_turning l.a l.b flip quarters dx dy → length l.shapes ≡ before
     → given symbols l c ≡ (call_of n before (symbol_of n symbols) turn >>= λ call. Ok (moved_shapes call.1 call.0.shapes))
 call-gives symbols l c n flip quarters dx dy turn before is turn_is count =
     rw (is, turn_is, sym count) (call-given symbols l n flip quarters dx dy)
 
-pub none-gives : (symbols : List Symbol) (l : Level) (c : Command) → ((long wide cx cy : ℤ) (upright : Bool) → c ≡ commands.Box long wide cx cy upright → ⊥)
+pub none-gives : (symbols : List Symbol) (l : Level) (c : CifCommand) → ((long wide cx cy : ℤ) (upright : Bool) → c ≡ commands.Box long wide cx cy upright → ⊥)
     → ((n : ℕ) (flip : Bool) (quarters : ℕ) (dx dy : ℤ) → c ≡ commands.Call n flip quarters dx dy → ⊥) → length l.shapes ≤ most_shapes → given symbols l c ≡ Ok []
 none-gives symbols l (commands.Box long wide cx cy upright) no_box no_call few = absurd (no_box long wide cx cy upright refl)
 none-gives symbols l (commands.Call n flip quarters dx dy) no_box no_call few = absurd (no_call n flip quarters dx dy refl)
@@ -107,7 +107,7 @@ call-turn n before (Some symbol) (Some turn) call is =
     by (Some kind) is = cc
     by None is = let whole : (symbol, turn) ≡ call = cc is in ap (λ (c : Symbol × Turning). Some c.1) whole
 
-pub copied-given : (t : Tabled) (l : Level) (c : Command) (n : ℕ) (flip : Bool) (quarters : ℕ) (dx dy : ℤ) (turn : Option Turning) (before : ℕ) (call : CalledSymbol)
+pub copied-given : (t : Tabled) (l : Level) (c : CifCommand) (n : ℕ) (flip : Bool) (quarters : ℕ) (dx dy : ℤ) (turn : Option Turning) (before : ℕ) (call : CalledSymbol)
     → c ≡ commands.Call n flip quarters dx dy → turn ≡ scaled_turning l.a l.b flip quarters dx dy
     → call_of n before (symbol_of n t.symbols) turn ≡ Ok (symbol_at t.symbols call.symbol.place, call.turn)
     → call.symbol.table.now ≡ t → IsPlaceOf n t call.symbol.place → IsNearTurn call.turn → IsGiven t l c (givens.Copied call)
@@ -120,7 +120,7 @@ copied-given t l c n flip quarters dx dy turn before call is turn_is given same 
       sound = (same, near);
     })
 
-pub none-given : (t : Tabled) (l : Level) (c : Command) → ((long wide cx cy : ℤ) (upright : Bool) → c ≡ commands.Box long wide cx cy upright → ⊥)
+pub none-given : (t : Tabled) (l : Level) (c : CifCommand) → ((long wide cx cy : ℤ) (upright : Bool) → c ≡ commands.Box long wide cx cy upright → ⊥)
     → ((n : ℕ) (flip : Bool) (quarters : ℕ) (dx dy : ℤ) → c ≡ commands.Call n flip quarters dx dy → ⊥) → IsGiven t l c givens.Nothing
 none-given t l (commands.Box long wide cx cy upright) no_box no_call = absurd (no_box long wide cx cy upright refl)
 none-given t l (commands.Call n flip quarters dx dy) no_box no_call = absurd (no_call n flip quarters dx dy refl)
@@ -154,7 +154,7 @@ abbrev pub progress_at : State → List ℕ → ℕ → Progress
 progress_at s depths depth = record { state = s; depths = depths; depth = depth }
 
 -- a command inside a definition
-pub advance-inside : (s : State) (depths : List ℕ) (depth : ℕ) (d : Definition) (c : Command) → is_drawing c ≡ true
+pub advance-inside : (s : State) (depths : List ℕ) (depth : ℕ) (d : Definition) (c : CifCommand) → is_drawing c ≡ true
     → advance (progress_at (with_inside s d) depths depth) c
     ≡ (definition_given s.symbols depths d c >>= λ r. Ok (progress_at (with_inside s r.0) depths (max depth r.1)))
 unfolding advance step given
@@ -168,7 +168,7 @@ abbrev pub outside : State → State
 outside s = record s { inside = None }
 
 -- a command of the main level
-pub advance-outside : (s : State) (depths : List ℕ) (depth : ℕ) (c : Command) → is_drawing c ≡ true
+pub advance-outside : (s : State) (depths : List ℕ) (depth : ℕ) (c : CifCommand) → is_drawing c ≡ true
     → advance (progress_at (outside s) depths depth) c
     ≡ (main_given s.symbols depths s.main c >>= λ r. Ok (progress_at (outside (with_main s r.0)) depths (max depth r.1)))
 unfolding advance step given

@@ -1,7 +1,7 @@
 use Rattle.std.specs.Prelude.{◌≡◌, refl, ℕ, suc, zero, pos, negsuc, List, [], ◌∷◌, ◌++◌, codes, false, Option, Some, None, Result, Ok, Err}
 use Rattle.geom_core.specs.declared.layout.Layout.{Layout}
-use Rattle.cif_text.specs.declared.command.Command.{Command}
-use Rattle.cif_text.specs.declared.command.Command.TheVariants as commands
+use Rattle.cif_text.specs.declared.command.CifCommand.{CifCommand}
+use Rattle.cif_text.specs.declared.command.CifCommand.TheVariants as commands
 use Rattle.cif_text.specs.declared.fault.CifKind.{CifKind}
 use Rattle.read_base.specs.Digits.{number_within}
 use Rattle.cif_text.specs.Numbers.{natural, positive, number}
@@ -18,7 +18,7 @@ use Rattle.cif_reader.specs.Expansion.{advance, progress, expansion}
 abbrev pub gives : List ℕ → Option (Result Layout (ExpandKind × ℕ))
 gives text = given_of (cif_reads text)
   where
-    given_of : Result (List Command) (CifKind × ℕ) → Option (Result Layout (ExpandKind × ℕ))
+    given_of : Result (List CifCommand) (CifKind × ℕ) → Option (Result Layout (ExpandKind × ℕ))
     given_of (Ok found) = Some (expansion found)
     given_of (Err fault) = None
 
@@ -64,13 +64,13 @@ unfolding cif_reads commands_at after_comment box_end box_form layer_form start_
 call_of_no_name = refl
 
 -- definitions from this number on, each of which calls the one before it
-abbrev nested : ℕ → ℕ → List Command
+abbrev nested : ℕ → ℕ → List CifCommand
 nested first zero = []
 nested first (suc k) =
     commands.Start (suc first) 1 1 ∷ commands.Call first false 0 (pos 0) (pos 0) ∷ commands.Finish ∷ nested (suc first) k
 
 -- 64 definitions are read, but the last of them cannot be called
-abbrev deep_commands : ℕ → List Command → List Command
+abbrev deep_commands : ℕ → List CifCommand → List CifCommand
 deep_commands k main = commands.Start 1 1 1 ∷ commands.Finish ∷ (nested 1 k ++ (main ++ (commands.End ∷ [])))
 
 depth_of_64 : expansion (deep_commands 63 (commands.Call 63 false 0 (pos 0) (pos 0) ∷ [])) ≡ Ok (record { cells = []; shapes = [] })

@@ -1,4 +1,4 @@
-use Rattle.cif_text.specs.declared.command.Command.TheVariants as commands
+use Rattle.cif_text.specs.declared.command.CifCommand.TheVariants as commands
 use Rattle.cif_reader.specs.Levels as levels
 use Rattle.std.proofs.Common.{◌≡◌, refl, ap, sym, subst, ◌∙◌, ℕ, suc, ◌+◌, ◌≤◌, ℤ, List, [], ◌∷◌, ◌++◌, length, length-append, Bool, true, false, Option, Some, None, Result, Ok, Err, arith}
 use Rattle.std.proofs.lemmas.Bool.Decides.{nat_tests}
@@ -11,7 +11,7 @@ use Rattle.geom_core.specs.declared.layout.Layout.{Layout}
 use Rattle.geom_core.specs.Extent.{Extent}
 use Rattle.geom_core.specs.Moving.{moved_shape}
 use Rattle.geom_core.specs.Turning.{Turning}
-use Rattle.cif_text.specs.declared.command.Command.{Command}
+use Rattle.cif_text.specs.declared.command.CifCommand.{CifCommand}
 use Rattle.read_base.specs.Steps.{◌>>=◌}
 use Rattle.cif_text.specs.Scales.{scaled, doubled, box_around, scaled_extent, turning_of, scaled_turning}
 use Rattle.cif_text.specs.Sound.{IsSound, AreSound}
@@ -87,13 +87,13 @@ fit-none : (before : ℕ) (shapes : List Shape) → before + 0 ≤ most_shapes �
 fit-none before shapes few none = subst (Fit before) none (record { near = tt; few = few })
 
 -- what a command draws that passes no limit
-pub drawn-fit : (symbols : List Symbol) (l : Level) (c : Command) (shapes : List Shape) → limit_passed symbols l c ≡ None → drawn_by symbols l c ≡ Ok shapes
+pub drawn-fit : (symbols : List Symbol) (l : Level) (c : CifCommand) (shapes : List Shape) → limit_passed symbols l c ≡ None → drawn_by symbols l c ≡ Ok shapes
     → Fit (length l.shapes) shapes
 drawn-fit symbols l c shapes none is =
     let parts = far-none (first_far (numbers_of symbols l c)) (more_than_most (length l.shapes) (shapes_given symbols c)) none in
     by c parts.0 (few-given (length l.shapes) (shapes_given symbols c) parts.1) is
   where
-    by : (c : Command) → first_far (numbers_of symbols l c) ≡ None → length l.shapes + shapes_given symbols c ≤ most_shapes → drawn_by symbols l c ≡ Ok shapes
+    by : (c : CifCommand) → first_far (numbers_of symbols l c) ≡ None → length l.shapes + shapes_given symbols c ≤ most_shapes → drawn_by symbols l c ≡ Ok shapes
         → Fit (length l.shapes) shapes
     by (commands.Box long wide cx cy upright) far few is =
         fit-box (scaled_extent l.a l.b (box_around long wide cx cy upright)) l.layer (length l.shapes) shapes far few is
@@ -106,7 +106,7 @@ within-ok limit (Err fault) a is = cc
 within-ok (Some kind) (Ok x) a is = cc
 within-ok None (Ok x) a is = (refl, cc)
 
-pub given-fit : (symbols : List Symbol) (l : Level) (c : Command) (shapes : List Shape) → levels.given symbols l c ≡ Ok shapes → Fit (length l.shapes) shapes
+pub given-fit : (symbols : List Symbol) (l : Level) (c : CifCommand) (shapes : List Shape) → levels.given symbols l c ≡ Ok shapes → Fit (length l.shapes) shapes
 unfolding levels.given
 given-fit symbols l c shapes is =
     let parts = within-ok (limit_passed symbols l c) (drawn_by symbols l c) shapes is in
@@ -136,7 +136,7 @@ record AreCells (shapes : ℕ) (cells : List Cell) : Type 0 where
   one : length cells ≤ 1
 
 -- a command of the main level
-drawn-within : (most : ℕ) (m : Main) (c : Command) (shapes : List Shape) (cells : List Cell) → MainWithin most m → Fit (length m.level.shapes) shapes
+drawn-within : (most : ℕ) (m : Main) (c : CifCommand) (shapes : List Shape) (cells : List Cell) → MainWithin most m → Fit (length m.level.shapes) shapes
     → AreCells (length m.level.shapes + length shapes) cells → MainWithin (suc most) (main_with m c shapes cells)
 drawn-within most m c shapes cells h fit are =
     let whole : length (m.level.shapes ++ shapes) ≡ length m.level.shapes + length shapes = length-append m.level.shapes shapes in
@@ -181,7 +181,7 @@ call-cells n (Some name) (Some symbol) (Some turn) quarters first shapes cells f
     one-cell name symbol.name turn first (length symbol.shapes) (first + length shapes) cells (rw (kept turn refl) few) across.0 up.0 (omega arith) is
 call-cells n waiting there turning quarters first shapes cells few kept none drawn is = none-cells (first + length shapes) cells is
 
-cells-within : (symbols : List Symbol) (l : Level) (waiting : Option (List ℕ)) (c : Command) (shapes : List Shape) (cells : List Cell) → IsSound c
+cells-within : (symbols : List Symbol) (l : Level) (waiting : Option (List ℕ)) (c : CifCommand) (shapes : List Shape) (cells : List Cell) → IsSound c
     → first_far (numbers_of symbols l c) ≡ None → drawn_by symbols l c ≡ Ok shapes → cells_by symbols l waiting c ≡ Some cells
     → AreCells (length l.shapes + length shapes) cells
 cells-within symbols l waiting (commands.Call n flip quarters dx dy) shapes cells sound none drawn is =
@@ -193,7 +193,7 @@ found-ok : {A : Type 0} (fault : Unmeant) (o : Option A) (x : A) → found fault
 found-ok fault None x is = cc
 found-ok fault (Some y) x is = cc
 
-main-within : (most : ℕ) (symbols : List Symbol) (m n : Main) (c : Command) → MainWithin most m → IsSound c → limit_passed symbols m.level c ≡ None
+main-within : (most : ℕ) (symbols : List Symbol) (m n : Main) (c : CifCommand) → MainWithin most m → IsSound c → limit_passed symbols m.level c ≡ None
     → main_behind symbols m c ≡ Ok n → MainWithin (suc most) n
 main-within most symbols m n c h sound none is =
     let shapes = given (drawn_by symbols m.level c) _ n is in
@@ -211,12 +211,12 @@ start-within most s t n a b None h is =
     let whole : record s { main = record s.main { waiting = None }; inside = Some (opened n a b) } ≡ t = cc is in
     subst (λ (u : State). MainWithin (suc most) u.main) whole (still-within most s.main (record s.main { waiting = None }) h refl refl)
 
-step-within : (most : ℕ) (s t : State) (c : Command) → MainWithin most s.main → IsSound c → limit_passed s.symbols (present_level s s.inside) c ≡ None
+step-within : (most : ℕ) (s t : State) (c : CifCommand) → MainWithin most s.main → IsSound c → limit_passed s.symbols (present_level s s.inside) c ≡ None
     → step s c ≡ Ok t → MainWithin (suc most) t.main
 unfolding step
 step-within most s t c h sound none is = by c s.inside sound none is
   where
-    by : (c : Command) (o : Option Definition) → IsSound c → limit_passed s.symbols (present_level s o) c ≡ None → step_in s o c ≡ Ok t → MainWithin (suc most) t.main
+    by : (c : CifCommand) (o : Option Definition) → IsSound c → limit_passed s.symbols (present_level s o) c ≡ None → step_in s o c ≡ Ok t → MainWithin (suc most) t.main
     by (commands.Start n a b) None sound none is = start-within most s t n a b (symbol_of n s.symbols) h is
     by c None sound none is =
         let main = given (main_behind s.symbols s.main c) (λ m. Ok (with_main s m)) t is in
@@ -235,7 +235,7 @@ refused-ok : {A : Type 0} (i : ℕ) (r : Result A ExpandKind) (a : A) → refuse
 refused-ok i (Ok b) a is = cc
 refused-ok i (Err kind) a is = cc
 
-advance-within : (most : ℕ) (p q : Progress) (c : Command) → MainWithin most p.state.main → IsSound c → advance p c ≡ Ok q → MainWithin (suc most) q.state.main
+advance-within : (most : ℕ) (p q : Progress) (c : CifCommand) → MainWithin most p.state.main → IsSound c → advance p c ≡ Ok q → MainWithin (suc most) q.state.main
 unfolding advance
 advance-within most p q c h sound is =
     let limit : Option ExpandKind = limit_passed p.state.symbols (present_level p.state p.state.inside) c in
@@ -246,7 +246,7 @@ advance-within most p q c h sound is =
     let same : meant.0 ≡ q.state = sym (progress-state p c meant.0 depth.0) ∙ ap (λ (x : Progress). x.state) whole in
     subst (λ (u : State). MainWithin (suc most) u.main) same (step-within most p.state meant.0 c h sound parts.0 parts.1)
 
-progress-within : (cs : List Command) (i most : ℕ) (p q : Progress) → MainWithin most p.state.main → AllByRecursion IsSound cs → progress i p cs ≡ Ok q
+progress-within : (cs : List CifCommand) (i most : ℕ) (p q : Progress) → MainWithin most p.state.main → AllByRecursion IsSound cs → progress i p cs ≡ Ok q
     → MainWithin (length cs + most) q.state.main
 unfolding progress
 progress-within [] i most p q h sound is =
@@ -260,7 +260,7 @@ progress-within (c ∷ cs) i most p q h sound is =
     let count : length cs + suc most ≡ length (c ∷ cs) + most = omega arith in
     subst (λ (n : ℕ). MainWithin n q.state.main) count all
 
-sound-each : (inside : Bool) (cs : List Command) → AreSound inside cs → AllByRecursion IsSound cs
+sound-each : (inside : Bool) (cs : List CifCommand) → AreSound inside cs → AllByRecursion IsSound cs
 sound-each inside [] h = absurd h
 sound-each inside (commands.End ∷ cs) h = rw h.1 (tt, tt)
 sound-each inside (commands.Finish ∷ cs) h = (tt, sound-each false cs h.1)
@@ -272,7 +272,7 @@ sound-each inside (commands.Comment ∷ cs) h = (h.0, sound-each inside cs h.1)
 sound-each inside (commands.User kind text ∷ cs) h = (h.0, sound-each inside cs h.1)
 
 -- a layout that sound commands give is within the limits, and has no more cells than there are commands
-pub expansion-within : (cs : List Command) (l : Layout) → AreSound false cs → expansion cs ≡ Ok l → IsLayoutWithin (length cs) l
+pub expansion-within : (cs : List CifCommand) (l : Layout) → AreSound false cs → expansion cs ≡ Ok l → IsLayoutWithin (length cs) l
 unfolding expansion
 expansion-within cs l sound is =
     let whole = given (progress 0 at_first cs) (λ p. Ok (layout_of p.state.main)) l is in

@@ -4,8 +4,8 @@ use Rattle.geom_core.specs.declared.layout.Shape.{Shape}
 use Rattle.geom_core.specs.declared.layout.Cell.{Cell}
 use Rattle.geom_core.specs.Extent.{Extent}
 use Rattle.geom_core.specs.Turning.{Turning}
-use Rattle.cif_text.specs.declared.command.Command.{Command}
-use Rattle.cif_text.specs.declared.command.Command.TheVariants as commands
+use Rattle.cif_text.specs.declared.command.CifCommand.{CifCommand}
+use Rattle.cif_text.specs.declared.command.CifCommand.TheVariants as commands
 use Rattle.read_base.specs.Steps.{◌>>=◌}
 use Rattle.cif_text.specs.Symbols.{Symbol, Level, Definition, Main, moved_shapes}
 use Rattle.cif_text.specs.Meaning.{drawn_by, definition_with, cells_by, main_with}
@@ -15,7 +15,7 @@ use Rattle.cif_reader.specs.Limits.{deepest, first_far, sides_of, coordinates_of
 use Rattle.cif_reader.specs.Expansion.{unless_refused, within, depth_by}
 
 -- what is neither the start nor the end of a definition
-abbrev pub is_drawing : Command → Bool
+abbrev pub is_drawing : CifCommand → Bool
 is_drawing (commands.Start n a b) = false
 is_drawing commands.Finish = false
 is_drawing _ = true
@@ -48,7 +48,7 @@ abbrev pub depth_above : ℕ → Result ℕ ExpandKind
 depth_above depth = if nat_lt deepest (suc depth) then Err kinds.TooDeep else Ok (suc depth)
 
 -- the shapes that a command gives a level, or why it is refused
-unfoldable pub given : List Symbol → Level → Command → Result (List Shape) ExpandKind
+unfoldable pub given : List Symbol → Level → CifCommand → Result (List Shape) ExpandKind
 given symbols l c = within (limit_passed symbols l c) (drawn_by symbols l c)
 
 abbrev pub named : Option (List Cell) → Result (List Cell) ExpandKind
@@ -56,14 +56,14 @@ named (Some cells) = Ok cells
 named None = Err kinds.NoSymbolName
 
 -- a command inside a definition: what the definition is behind it, and the depth that the command gives it
-abbrev pub definition_given : List Symbol → List ℕ → Definition → Command → Result (Definition × ℕ) ExpandKind
+abbrev pub definition_given : List Symbol → List ℕ → Definition → CifCommand → Result (Definition × ℕ) ExpandKind
 definition_given symbols depths d c = do
   shapes ← given symbols d.level c
   depth ← depth_by symbols depths c
   Ok (definition_with d c shapes, depth)
 
 -- a command of the main level: what the level is behind it, and the depth that the command gives it
-abbrev pub main_given : List Symbol → List ℕ → Main → Command → Result (Main × ℕ) ExpandKind
+abbrev pub main_given : List Symbol → List ℕ → Main → CifCommand → Result (Main × ℕ) ExpandKind
 main_given symbols depths m c = do
   shapes ← given symbols m.level c
   cells ← named (cells_by symbols m.level m.waiting c)

@@ -4,8 +4,8 @@ use Rattle.limits.specs.declared.TheConstants.{DEEPEST, FARTHEST, MOST_SHAPES}
 use Rattle.geom_core.specs.declared.layout.Shape.{Shape}
 use Rattle.geom_core.specs.Extent.{Extent}
 use Rattle.geom_core.specs.Turning.{Turning}
-use Rattle.cif_text.specs.declared.command.Command.{Command}
-use Rattle.cif_text.specs.declared.command.Command.TheVariants as commands
+use Rattle.cif_text.specs.declared.command.CifCommand.{CifCommand}
+use Rattle.cif_text.specs.declared.command.CifCommand.TheVariants as commands
 use Rattle.cif_text.specs.Scales.{box_around, scaled_extent, scaled_turning}
 use Rattle.cif_text.specs.Symbols.{Symbol, Level, symbol_of, moved_shapes}
 use Rattle.cif_reader.specs.declared.fault.ExpandKind.{ExpandKind}
@@ -43,7 +43,7 @@ call_numbers (Some symbol) (Some turn) = turn.dx ∷ turn.dy ∷ coordinates_of 
 call_numbers _ _ = []
 
 -- the numbers that a command gives its level: the coordinates of a box, or the offset of a call and then those of its shapes
-abbrev pub numbers_of : List Symbol → Level → Command → List ℤ
+abbrev pub numbers_of : List Symbol → Level → CifCommand → List ℤ
 numbers_of symbols l (commands.Box long wide cx cy upright) = box_numbers (scaled_extent l.a l.b (box_around long wide cx cy upright))
 numbers_of symbols l (commands.Call n flip quarters dx dy) = call_numbers (symbol_of n symbols) (scaled_turning l.a l.b flip quarters dx dy)
 numbers_of symbols l _ = []
@@ -53,7 +53,7 @@ called_shapes None = 0
 called_shapes (Some symbol) = length symbol.shapes
 
 -- how many shapes a command gives its level
-abbrev pub shapes_given : List Symbol → Command → ℕ
+abbrev pub shapes_given : List Symbol → CifCommand → ℕ
 shapes_given symbols (commands.Box long wide cx cy upright) = 1
 shapes_given symbols (commands.Call n flip quarters dx dy) = called_shapes (symbol_of n symbols)
 shapes_given symbols _ = 0
@@ -67,7 +67,7 @@ far_or_many (Some z) many = Some (kinds.TooFar z)
 far_or_many None many = many
 
 -- the limit that a command passes by what it gives its level
-abbrev pub limit_passed : List Symbol → Level → Command → Option ExpandKind
+abbrev pub limit_passed : List Symbol → Level → CifCommand → Option ExpandKind
 limit_passed symbols l c = far_or_many (first_far (numbers_of symbols l c)) (more_than_most (length l.shapes) (shapes_given symbols c))
 
 -- the depth of a symbol: 1 without calls, else one more than that of the deepest that it calls. The depths stand in the order of the symbols
@@ -76,6 +76,6 @@ depth_of n (s ∷ ss) (d ∷ ds) = if s.number == n then d else depth_of n ss ds
 depth_of n _ _ = 0
 
 -- the depth that a command gives its level
-abbrev pub depth_given : List Symbol → List ℕ → Command → ℕ
+abbrev pub depth_given : List Symbol → List ℕ → CifCommand → ℕ
 depth_given symbols depths (commands.Call n flip quarters dx dy) = suc (depth_of n symbols depths)
 depth_given symbols depths _ = 1

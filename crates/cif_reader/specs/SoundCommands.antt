@@ -1,11 +1,11 @@
 -- sound commands
 use Rattle.std.proofs.Props.{props}
-use Rattle.cif_text.specs.declared.command.Command.{Command}
-use Rattle.cif_text.specs.declared.command.Command.TheVariants as commands
+use Rattle.cif_text.specs.declared.command.CifCommand.{CifCommand}
+use Rattle.cif_text.specs.declared.command.CifCommand.TheVariants as commands
 use Rattle.cif_text.specs.Sound.{IsSound}
 
 -- that a command is sound has one proof at most
-pub is_sound-prop : (c : Command) → IsProp (IsSound c)
+pub is_sound-prop : (c : CifCommand) → IsProp (IsSound c)
 is_sound-prop (commands.Box long wide cx cy upright) = hlevel props
 is_sound-prop (commands.Start n a b) = hlevel props
 is_sound-prop (commands.Call n flip quarters dx dy) = hlevel props

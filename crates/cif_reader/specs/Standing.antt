@@ -2,7 +2,7 @@
 use Rattle.std.specs.Prelude.{◌≡◌, ◌≤◌, ℕ, max, List, [], ◌∷◌, length, Option, Some, Result, Ok}
 use Rattle.geom_core.specs.declared.layout.Shape.{Shape}
 use Rattle.geom_core.specs.declared.layout.Cell.{Cell}
-use Rattle.cif_text.specs.declared.command.Command.{Command}
+use Rattle.cif_text.specs.declared.command.CifCommand.{CifCommand}
 use Rattle.cif_text.specs.Meaning.{cells_of, cells_by}
 use Rattle.cif_text.specs.Symbols.{Symbol, Level, Definition, Main, moved_shapes}
 use Rattle.cif_reader.specs.declared.calls.CalledSymbol.{CalledSymbol}
@@ -47,7 +47,7 @@ IsSoundIn t (givens.Own shape) = IsProper shape.rect
 IsSoundIn t (givens.Copied call) = (call.symbol.table.now ≡ t) × IsNearTurn call.turn
 
 -- this is what a command gives a level, where these symbols can be called
-pub record IsGiven (t : Tabled) (l : Level) (c : Command) (given : Given) : Type 0 where
+pub record IsGiven (t : Tabled) (l : Level) (c : CifCommand) (given : Given) : Type 0 where
   pub depth : depth_made given ≡ depth_by t.symbols t.depths c
   pub cells : (waiting : Option (List ℕ)) → cells_made waiting (length l.shapes) given ≡ cells_by t.symbols l waiting c
   pub sound : IsSoundIn t given

@@ -11,7 +11,7 @@ ghost use Rattle.std.specs.Prelude.{◌≡◌, ◌^◌, ◌<◌, false, length, 
 use crate::fault::ExpandFault;
 use crate::refusal::ExpandStop;
 use crate::standing::{Standing, at_first, step};
-use cif_text::Command;
+use cif_text::CifCommand;
 use geom_core::{Items, Layout};
 use std::alloc::Global;
 
@@ -38,7 +38,7 @@ fn layout_of(standing: Standing) -> Layout
 /// refused, with the number of the first such command and the first reason that applies to it; want of memory may come at any
 /// time. The layout has at most 4,000,000 shapes, of which none lies farther than 4,000,000,000 half centimicrons from 0. Only
 /// what the main level shows is drawn, so nested calls of however many shapes are refused at once.
-pub fn expand(alloc: Global, commands: &[Command]) -> Result<Layout, ExpandFault>
+pub fn expand(alloc: Global, commands: &[CifCommand]) -> Result<Layout, ExpandFault>
     requires sound { AreSound false commands.now }
     requires few { length commands.now < 2 ^ 32 }
     ensures expands { AnswersAs (λ layout. layout) told_of result (expansion commands.now) }

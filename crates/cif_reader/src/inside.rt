@@ -12,7 +12,7 @@ use crate::level::Pen;
 use crate::refusal::ExpandStop;
 use crate::symbol_table::SymbolTable;
 use crate::table::Kept;
-use cif_text::{Command, UserKind};
+use cif_text::{CifCommand, UserKind};
 use geom_core::Name;
 use std::alloc::{AllocError, Global};
 
@@ -27,7 +27,7 @@ pub(crate) struct Open {
 fn rename(alloc: Global, name: &mut Option<Name>, command: DrawingCommand) -> Result<(), AllocError>
     ensures { OnOk result (name.new ≡ name_behind name.old command.entry.command.now) }
 {
-    if let Command::User {
+    if let CifCommand::User {
         kind: UserKind::SymbolName,
         text,
     } = command.command

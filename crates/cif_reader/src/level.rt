@@ -14,7 +14,7 @@ use crate::refusal::ExpandStop;
 use crate::scales::Scale;
 use crate::symbol_table::SymbolTable;
 use crate::unscaled::{UnscaledBox, UnscaledTurn};
-use cif_text::Command;
+use cif_text::CifCommand;
 use geom_core::{LayerName, Shape};
 use std::alloc::Global;
 
@@ -38,7 +38,7 @@ impl Pen {
     pub(crate) fn follow(&mut self, command: DrawingCommand)
         ensures { self.new ≡ record self.old { layer = layer_behind self.old.layer command.entry.command.now } }
     {
-        if let Command::Layer(layer) = command.command {
+        if let CifCommand::Layer(layer) = command.command {
             self.layer = Some(*layer);
         }
     }
@@ -57,7 +57,7 @@ impl Pen {
             → IsGiven table.now (level_seen self.now shapes) command.entry.command.now given) }
     {
         match command.command {
-            Command::Box {
+            CifCommand::Box {
                 length,
                 width,
                 cx,
@@ -77,7 +77,7 @@ impl Pen {
                     Err(kind) => Err(ExpandStop::Because(kind)),
                 }
             }
-            Command::Call {
+            CifCommand::Call {
                 n,
                 flip,
                 quarters,

@@ -13,7 +13,7 @@ use crate::fault::ExpandKind;
 use crate::level::{Given, Pen};
 use crate::refusal::ExpandStop;
 use crate::symbol_table::SymbolTable;
-use cif_text::{Command, UserKind};
+use cif_text::{CifCommand, UserKind};
 use geom_core::{Cell, Name, Shape, Turn};
 use std::alloc::{AllocError, Global};
 
@@ -105,12 +105,12 @@ fn wait(
     ensures { OnOk result (waiting.new ≡ waiting_behind waiting.old command.entry.command.now) }
 {
     match command.command {
-        Command::User { kind, text } => match kind {
+        CifCommand::User { kind, text } => match kind {
             UserKind::InstanceName => *waiting = Some(text.copied(alloc)?),
             UserKind::SymbolName => *waiting = None,
             UserKind::Other => {}
         },
-        Command::Comment | Command::Finish | Command::End => {}
+        CifCommand::Comment | CifCommand::Finish | CifCommand::End => {}
         _ => *waiting = None,
     }
     Ok(())

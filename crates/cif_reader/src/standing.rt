@@ -18,7 +18,7 @@ use crate::refusal::ExpandStop;
 use crate::scales::Scale;
 use crate::symbol_table::SymbolTable;
 use crate::table::Kept;
-use cif_text::Command;
+use cif_text::CifCommand;
 use std::alloc::{AllocError, Global};
 
 /// What stands behind some commands: the main level, the symbols whose definitions have ended, and the definition that is open.
@@ -63,7 +63,7 @@ fn finished(standing: &mut Standing, definition: Open) -> Result<(), AllocError>
 fn step_finish(standing: &mut Standing) -> Result<(), ExpandStop>
     requires is { IsStanding standing.old }
     requires inside { is_some standing.old.definition ≡ true }
-    ensures { Takes result (advance (seen standing.old) Command.Finish) (IsBehind standing.new false) }
+    ensures { Takes result (advance (seen standing.old) CifCommand.Finish) (IsBehind standing.new false) }
 {
     match standing.definition.take() {
         Some(definition) => match finished(standing, definition) {
@@ -98,7 +98,7 @@ fn step_start(
 ) -> Result<(), ExpandStop>
     requires is { IsStanding standing.old }
     requires outside { standing.old.definition ≡ None }
-    ensures { Takes result (advance (seen standing.old) (Command.Start n scale.a scale.b)) (IsBehind standing.new true) }
+    ensures { Takes result (advance (seen standing.old) (CifCommand.Start n scale.a scale.b)) (IsBehind standing.new true) }
 {
     match Found::by_number(&standing.table, n) {
         Some(_) => Err(ExpandStop::Because(ExpandKind::Twice(n))),
@@ -128,7 +128,7 @@ fn step_drawing(
 pub(crate) fn step(
     alloc: Global,
     standing: &mut Standing,
-    command: &Command,
+    command: &CifCommand,
 ) -> Result<(), ExpandStop>
     requires is { IsStanding standing.old }
     requires place { IsInPlace (is_some standing.old.definition) command.now }
@@ -136,8 +136,8 @@ pub(crate) fn step(
         (IsBehind standing.new (is_open_behind (is_some standing.old.definition) command.now)) }
 {
     match command {
-        Command::Start { n, a, b } => step_start(alloc, standing, *n, Scale { a: *a, b: *b }),
-        Command::Finish => step_finish(standing),
+        CifCommand::Start { n, a, b } => step_start(alloc, standing, *n, Scale { a: *a, b: *b }),
+        CifCommand::Finish => step_finish(standing),
         _ => step_drawing(alloc, standing, DrawingCommand { command }),
     }
 }

@@ -20,7 +20,7 @@ fn put_call(alloc: Global, text: &mut String, n: u32) -> Result<(), AllocError> 
 }
 
 /// Such definitions from number 100,000 down, and then a call of each, from number 1 on.
-fn text_of(alloc: Global) -> Result<String, AllocError> {
+fn long_text(alloc: Global) -> Result<String, AllocError> {
     let mut text = String::new(alloc);
     for k in 0..100_000u32 {
         put_definition(alloc, &mut text, 100_000 - k)?;
@@ -43,7 +43,7 @@ fn begins_at(layout: &Layout, number: usize, x0: i64) -> bool {
 // Numbers 2k + 1 and 2k + 2 show three shapes, of which each begins two half centimicrons left of its call's offset.
 #[test]
 fn many_symbols_are_found(rt: HostRuntime) -> Result<(), Fail> {
-    let text = text_of(rt.alloc())?;
+    let text = long_text(rt.alloc())?;
     let Some(Ok(layout)) = expanded(rt.alloc(), text.as_bytes())? else {
         assert!(rt; false);
         return Ok(());

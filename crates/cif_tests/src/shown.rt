@@ -1,6 +1,6 @@
 //! How a text reads, as a text.
 
-use cif_text::{CifFault, Command, UserKind, read_commands};
+use cif_text::{CifCommand, CifFault, UserKind, read_commands};
 use std::alloc::{AllocError, Global};
 
 /// Puts a part, its text and a semicolon at the end of a text.
@@ -20,9 +20,9 @@ fn digits(kind: UserKind) -> &'static str {
 }
 
 /// Puts a command at the end of a text: its letter and its numbers.
-fn put_command(alloc: Global, into: &mut Vec<u8>, command: &Command) -> Result<(), AllocError> {
+fn put_command(alloc: Global, into: &mut Vec<u8>, command: &CifCommand) -> Result<(), AllocError> {
     match command {
-        Command::Box {
+        CifCommand::Box {
             length,
             width,
             cx,
@@ -32,13 +32,13 @@ fn put_command(alloc: Global, into: &mut Vec<u8>, command: &Command) -> Result<(
             let line = format!(in alloc; "{length} {width} {cx} {cy} {upright}")?;
             put(into, b"B ", line.as_bytes())
         }
-        Command::Layer(layer) => put(into, b"L ", layer.text()),
-        Command::Start { n, a, b } => {
+        CifCommand::Layer(layer) => put(into, b"L ", layer.text()),
+        CifCommand::Start { n, a, b } => {
             let line = format!(in alloc; "{n} {a} {b}")?;
             put(into, b"DS ", line.as_bytes())
         }
-        Command::Finish => put(into, b"DF", b""),
-        Command::Call {
+        CifCommand::Finish => put(into, b"DF", b""),
+        CifCommand::Call {
             n,
             flip,
             quarters,
@@ -48,14 +48,14 @@ fn put_command(alloc: Global, into: &mut Vec<u8>, command: &Command) -> Result<(
             let line = format!(in alloc; "{n} {flip} {quarters} {dx} {dy}")?;
             put(into, b"C ", line.as_bytes())
         }
-        Command::Comment => put(into, b"()", b""),
-        Command::User { kind, text } => put(into, digits(*kind).as_bytes(), text.items()),
-        Command::End => into.extend_from_slice(b"E"),
+        CifCommand::Comment => put(into, b"()", b""),
+        CifCommand::User { kind, text } => put(into, digits(*kind).as_bytes(), text.items()),
+        CifCommand::End => into.extend_from_slice(b"E"),
     }
 }
 
 /// Commands, one after another.
-fn shown_commands(alloc: Global, commands: &[Command]) -> Result<Vec<u8>, AllocError> {
+fn shown_commands(alloc: Global, commands: &[CifCommand]) -> Result<Vec<u8>, AllocError> {
     let mut text = Vec::new(alloc);
     for command in commands {
         put_command(alloc, &mut text, command)?;

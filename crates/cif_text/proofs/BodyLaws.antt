@@ -1,8 +1,8 @@
-use Rattle.cif_text.specs.declared.command.Command.TheVariants as commands
+use Rattle.cif_text.specs.declared.command.CifCommand.TheVariants as commands
 use Rattle.std.proofs.Common.{◌≡◌, refl, ap, ◌∙◌, append_assoc, ℕ, List, [], ◌∷◌, ◌++◌, Bool, true, false, Option, Some, None, Result, Ok, Err}
 use Rattle.std.specs.List.{list_all}
 use Rattle.std.specs.Prelude.{◌==◌, ◌&&◌, if◌then◌else◌}
-use Rattle.cif_text.specs.declared.command.Command.{Command}
+use Rattle.cif_text.specs.declared.command.CifCommand.{CifCommand}
 use Rattle.cif_text.specs.InOrder.{in_order}
 use Rattle.read_base.specs.Steps.{◌>>=◌}
 use Rattle.cif_text.specs.Symbols.{Symbol, Main, symbol_of}
@@ -33,7 +33,7 @@ order-more step more each s t (x ∷ xs) all =
     let next = given (step s x) (λ y. in_order step y xs) t all in
     rw (each s next.0 x next.1) (order-more step more each next.0 t xs next.2)
 
-pub closed-push : (xs : List Command) (c : Command) → list_all finishes_none xs ≡ true → finishes_none c ≡ true → list_all finishes_none (xs ++ (c ∷ [])) ≡ true
+pub closed-push : (xs : List CifCommand) (c : CifCommand) → list_all finishes_none xs ≡ true → finishes_none c ≡ true → list_all finishes_none (xs ++ (c ∷ [])) ≡ true
 closed-push [] c all last = rw last refl
 closed-push (x ∷ xs) c all last = by (finishes_none x) all (λ others. closed-push xs c others last)
   where
@@ -56,7 +56,7 @@ found-some : {A : Type 0} (fault : Unmeant) (o : Option A) (y : A) → found fau
 found-some fault (Some y) z h = cc
 found-some fault None z h = cc
 
-pub main-more : (symbols later : List Symbol) (m n : Main) (c : Command) → main_behind symbols m c ≡ Ok n → main_behind (symbols ++ later) m c ≡ Ok n
+pub main-more : (symbols later : List Symbol) (m n : Main) (c : CifCommand) → main_behind symbols m c ≡ Ok n → main_behind (symbols ++ later) m c ≡ Ok n
 main-more symbols later m n (commands.Call k flip quarters dx dy) h =
     let shapes = given (drawn_by symbols m.level (commands.Call k flip quarters dx dy)) _ n h in
     let symbol = given (found (undefined k) (symbol_of k symbols)) _ shapes.0 shapes.1 in
@@ -66,46 +66,46 @@ main-more symbols later m n (commands.Call k flip quarters dx dy) h =
 main-more symbols later m n c h = h
 
 -- whether a definition is open behind commands
-abbrev pub is_open : Bool → List Command → Bool
+abbrev pub is_open : Bool → List CifCommand → Bool
 is_open b [] = b
 is_open b (c ∷ cs) = is_open (is_open_behind b c) cs
 
-pub open-push : (b : Bool) (xs : List Command) (c : Command) → is_open b (xs ++ (c ∷ [])) ≡ is_open_behind (is_open b xs) c
+pub open-push : (b : Bool) (xs : List CifCommand) (c : CifCommand) → is_open b (xs ++ (c ∷ [])) ≡ is_open_behind (is_open b xs) c
 open-push b [] c = refl
 open-push b (x ∷ xs) c = open-push (is_open_behind b x) xs c
 
-pub outside-push : (b : Bool) (xs : List Command) (c : Command) → outside b (xs ++ (c ∷ [])) ≡ outside b xs ++ outside (is_open b xs) (c ∷ [])
+pub outside-push : (b : Bool) (xs : List CifCommand) (c : CifCommand) → outside b (xs ++ (c ∷ [])) ≡ outside b xs ++ outside (is_open b xs) (c ∷ [])
 outside-push true [] c = refl
 outside-push false [] c = refl
 outside-push true (commands.Finish ∷ xs) c = outside-push false xs c
 outside-push true (x ∷ xs) c = outside-push true xs c
-outside-push false (commands.Start n x y ∷ xs) c = ap (λ (cs : List Command). commands.Start n x y ∷ cs) (outside-push true xs c)
-outside-push false (x ∷ xs) c = ap (λ (cs : List Command). x ∷ cs) (outside-push false xs c)
+outside-push false (commands.Start n x y ∷ xs) c = ap (λ (cs : List CifCommand). commands.Start n x y ∷ cs) (outside-push true xs c)
+outside-push false (x ∷ xs) c = ap (λ (cs : List CifCommand). x ∷ cs) (outside-push false xs c)
 
 -- what a command leaves of the main level, inside a definition and outside
-pub none-outside : (c : Command) → outside true (c ∷ []) ≡ []
+pub none-outside : (c : CifCommand) → outside true (c ∷ []) ≡ []
 none-outside commands.Finish = refl
 none-outside c = refl
 
-pub one-outside : (c : Command) → outside false (c ∷ []) ≡ c ∷ []
+pub one-outside : (c : CifCommand) → outside false (c ∷ []) ≡ c ∷ []
 one-outside (commands.Start n x y) = refl
 one-outside c = refl
 
-pub stays-open : (c : Command) → finishes_none c ≡ true → is_open_behind true c ≡ true
+pub stays-open : (c : CifCommand) → finishes_none c ≡ true → is_open_behind true c ≡ true
 stays-open commands.Finish h = cc
 stays-open c h = refl
 
 -- a symbol that is defined stays so
-pub defined-push : (done : List Command) (c : Command) (earlier : List Symbol) (y : Symbol) → IsDefined done earlier y → IsDefined (done ++ (c ∷ [])) earlier y
+pub defined-push : (done : List CifCommand) (c : CifCommand) (earlier : List Symbol) (y : Symbol) → IsDefined done earlier y → IsDefined (done ++ (c ∷ [])) earlier y
 defined-push done c earlier y h = record {
   before = h.before;
   a = h.a;
   b = h.b;
   body = h.body;
   behind = h.behind ++ (c ∷ []);
-  stands = ap (λ (cs : List Command). cs ++ (c ∷ [])) h.stands
+  stands = ap (λ (cs : List CifCommand). cs ++ (c ∷ [])) h.stands
       ∙ append_assoc h.before (commands.Start y.number h.a h.b ∷ (h.body ++ (commands.Finish ∷ h.behind))) (c ∷ [])
-      ∙ ap (λ (cs : List Command). h.before ++ (commands.Start y.number h.a h.b ∷ cs)) (append_assoc h.body (commands.Finish ∷ h.behind) (c ∷ []));
+      ∙ ap (λ (cs : List CifCommand). h.before ++ (commands.Start y.number h.a h.b ∷ cs)) (append_assoc h.body (commands.Finish ∷ h.behind) (c ∷ []));
   closed = h.closed;
   definition = h.definition;
   draws = h.draws;

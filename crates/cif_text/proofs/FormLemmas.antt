@@ -1,5 +1,5 @@
 use Rattle.read_base.specs.Digits.{number_within}
-use Rattle.cif_text.specs.declared.command.Command.TheVariants as commands
+use Rattle.cif_text.specs.declared.command.CifCommand.TheVariants as commands
 use Rattle.cif_text.specs.declared.command.UserKind.TheVariants as users
 use Rattle.std.proofs.Common.{◌≡◌, refl, ap, ◌∙◌, ℕ, zero, suc, ◌≤◌, List, [], ◌∷◌, ◌++◌, length, length-append, Bool, true, false, ℤ, pos, negsuc, arith, decimal}
 use Rattle.std.proofs.lemmas.Bool.{le-leb, leb-true, and_parts}

@@ -2,7 +2,7 @@ use Rattle.std.specs.Prelude.{◌≡◌, refl, ℕ, ℤ, pos, negsuc, List, [], 
 use Rattle.geom_core.specs.declared.layout.Shape.{Shape}
 use Rattle.geom_core.specs.declared.layout.Cell.{Cell}
 use Rattle.geom_core.specs.declared.layout.Layout.{Layout}
-use Rattle.cif_text.specs.declared.command.Command.{Command}
+use Rattle.cif_text.specs.declared.command.CifCommand.{CifCommand}
 use Rattle.cif_text.specs.declared.fault.CifKind.{CifKind}
 use Rattle.cif_text.specs.Written.{WrittenSymbol, MainItem, alone, copy, layout_commands}
 use Rattle.cif_text.proofs.WrittenLayout.{written_layout}
@@ -19,7 +19,7 @@ use Rattle.cif_text.specs.Meaning.{Unmeant, undefined, twice, inexact, no_layer,
 abbrev means : List ℕ → Option (Result Layout (Unmeant × ℕ))
 means text = means_of (cif_reads text)
   where
-    means_of : Result (List Command) (CifKind × ℕ) → Option (Result Layout (Unmeant × ℕ))
+    means_of : Result (List CifCommand) (CifKind × ℕ) → Option (Result Layout (Unmeant × ℕ))
     means_of (Ok found) = Some (meaning found)
     means_of (Err fault) = None
 

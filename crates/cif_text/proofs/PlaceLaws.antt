@@ -3,7 +3,7 @@ use Rattle.std.specs.Char.{is_ascii_digit}
 use Rattle.std.specs.Prelude.{◌==◌, ◌&&◌, codes}
 use Rattle.std.specs.Str.{bytes_eq}
 use Rattle.geom_core.specs.LayerText.{is_layer_code, is_layer_text}
-use Rattle.cif_text.specs.declared.command.Command.{Command}
+use Rattle.cif_text.specs.declared.command.CifCommand.{CifCommand}
 use Rattle.cif_text.specs.declared.command.UserKind.{UserKind}
 use Rattle.cif_text.specs.declared.command.UserKind.TheVariants as users
 use Rattle.cif_text.specs.declared.fault.CifKind.{CifKind}
@@ -123,7 +123,7 @@ onward most read bytes f r few more =
     next-places most (read bytes) f (fewer-leaves _ _ _ few (r.left bytes)) (more-places _ _ _ few (r.place bytes)) more
 
 -- the forms
-finished-places : (most : ℕ) (p : ℕ → Bool) (rest : List ℕ) (found : Command) → Places most (finished p rest found)
+finished-places : (most : ℕ) (p : ℕ → Bool) (rest : List ℕ) (found : CifCommand) → Places most (finished p rest found)
 finished-places most p rest found = either-places most (ends p rest) _ _ (found-places most _) (bad-places most)
 
 box_end-places : (most long wide : ℕ) (cx cy : ℤ) (bytes : List ℕ) → length bytes ≤ most → Places most (box_end long wide cx cy bytes)
@@ -231,7 +231,7 @@ form-places c body =
     (either-places (length body) (c == 67) _ _ (call-places body) (bad-places (length body))))))
 
 -- a program's form
-pub has-place : (left behind most : ℕ) (form : Result (Result Command CifKind) Misfit) → most + 1 + behind ≤ left → Places most form
+pub has-place : (left behind most : ℕ) (form : Result (Result CifCommand CifKind) Misfit) → most + 1 + behind ≤ left → Places most form
     → HasPlaceWithin left behind form
 has-place left behind most (Ok found) le h = tt
 has-place left behind most (Err (TooGreat before)) le h = let few : before ≤ most = h.holds in omega arith

@@ -1,4 +1,4 @@
-use Rattle.cif_text.specs.declared.command.Command.TheVariants as commands
+use Rattle.cif_text.specs.declared.command.CifCommand.TheVariants as commands
 use Rattle.cif_text.specs.declared.command.UserKind.TheVariants as users
 use Rattle.std.proofs.Common.{◌≡◌, refl, ℕ, zero, suc, ◌≤◌, List, [], ◌∷◌, ◌++◌, length, Bool, true, false, ℤ, pos, negsuc, arith, decimal}
 use Rattle.std.proofs.lemmas.Bool.Decides.{nat_tests}
@@ -8,7 +8,7 @@ use Rattle.std.specs.Fmt.{signed_decimal}
 use Rattle.std.specs.List.{AllByRecursion, list_all}
 use Rattle.geom_core.specs.LayerText.{is_layer_code}
 use Rattle.std.specs.Prelude.{codes, nat_le, ◌&&◌}
-use Rattle.cif_text.specs.declared.command.Command.{Command}
+use Rattle.cif_text.specs.declared.command.CifCommand.{CifCommand}
 use Rattle.cif_text.specs.Numbers.{greatest}
 use Rattle.cif_text.specs.Printing.{blanked, bytes_of, upright_parts, flip_parts, quarter_parts}
 use Rattle.cif_text.specs.Printable.{IsCifNumber, IsSize}
@@ -59,7 +59,7 @@ plain-quarter (suc zero) parts h = (refl, (refl, (refl, h)))
 plain-quarter (suc (suc zero)) parts h = (refl, (refl, (refl, h)))
 plain-quarter (suc (suc (suc k))) parts h = (refl, (refl, (refl, h)))
 
-pub bytes-plain : (c : Command) → IsPrintable c → list_all is_plain_byte (bytes_of c).1 ≡ true
+pub bytes-plain : (c : CifCommand) → IsPrintable c → list_all is_plain_byte (bytes_of c).1 ≡ true
 bytes-plain (commands.Box long wide cx cy upright) h =
     plain-blanked (signed_decimal long ∷ signed_decimal wide ∷ signed_decimal cx ∷ signed_decimal cy ∷ upright_parts upright)
     (plain-signed long (size-near long h.0), (plain-signed wide (size-near wide h.1), (plain-signed cx h.2, (plain-signed cy h.3, plain-upright upright))))

@@ -1,8 +1,8 @@
 use Rattle.std.specs.Prelude.{◌≡◌, ℕ, ◌≤◌, List, [], ◌∷◌, length, Bool, true, false, ◌&&◌}
 use Rattle.std.specs.List.{list_all}
 use Rattle.geom_core.specs.LayerText.{is_layer_text}
-use Rattle.cif_text.specs.declared.command.Command.{Command}
-use Rattle.cif_text.specs.declared.command.Command.TheVariants as commands
+use Rattle.cif_text.specs.declared.command.CifCommand.{CifCommand}
+use Rattle.cif_text.specs.declared.command.CifCommand.TheVariants as commands
 use Rattle.cif_text.specs.declared.command.UserKind.TheVariants as users
 use Rattle.cif_text.specs.Bytes.{is_ascii_byte, not_semicolon, trimmed}
 use Rattle.cif_text.specs.Printable.{IsNatural, IsCifNumber, IsPart, IsSize}
@@ -18,7 +18,7 @@ pub record IsNameText (text : List ℕ) : Type 0 where
   pub bare : trimmed text ≡ text
 
 -- a command whose line reads as that command
-abbrev pub IsPrintable : Command → Type 0
+abbrev pub IsPrintable : CifCommand → Type 0
 IsPrintable (commands.Box long wide cx cy upright) = IsSize long × IsSize wide × IsCifNumber cx × IsCifNumber cy
 IsPrintable (commands.Layer text) = is_layer_text text ≡ true
 IsPrintable (commands.Start n a b) = IsNatural n × IsPart a × IsPart b
@@ -30,7 +30,7 @@ IsPrintable _ = Unit {0}
 
 -- printable commands whose definitions each start outside of others and finish, up to the one end command; the first
 -- argument says whether a definition is open
-abbrev pub IsText : Bool → List Command → Type 0
+abbrev pub IsText : Bool → List CifCommand → Type 0
 IsText inside [] = ⊥
 IsText inside (commands.End ∷ cs) = (inside ≡ false) × (cs ≡ [])
 IsText inside (commands.Finish ∷ cs) = (inside ≡ true) × IsText false cs

@@ -1,9 +1,9 @@
-use Rattle.cif_text.specs.declared.command.Command.TheVariants as commands
+use Rattle.cif_text.specs.declared.command.CifCommand.TheVariants as commands
 use Rattle.cif_text.specs.declared.command.UserKind.TheVariants as users
 use Rattle.std.proofs.Common.{◌≡◌, refl, ap, ◌∙◌, append_assoc, ℕ, zero, suc, ◌≤◌, List, [], ◌∷◌, ◌++◌, length, length-append, Bool, true, false, arith}
 use Rattle.std.specs.List.{list_all}
 use Rattle.std.specs.Prelude.{Ok}
-use Rattle.cif_text.specs.declared.command.Command.{Command}
+use Rattle.cif_text.specs.declared.command.CifCommand.{CifCommand}
 use Rattle.cif_text.specs.Bytes.{is_ascii_byte, is_between, not_semicolon, span, skip}
 use Rattle.cif_text.specs.Commands.{after_comment, is_left_out, form_of, may_stand, cut_of, command_at}
 use Rattle.cif_text.specs.CifReads.{is_end, is_open_behind, commands_at, cif_reads}
@@ -22,7 +22,7 @@ plain-ascii : (c : ℕ) → is_plain_byte c ≡ true → is_ascii_byte c ≡ tru
 plain-ascii c plain = (and_parts (is_ascii_byte c) (not_semicolon c) plain).0
 
 -- a printed command is cut at its own semicolon
-cut-is : (inside : Bool) (left first : ℕ) (body r : List ℕ) (c : Command) → list_all is_plain_byte body ≡ true
+cut-is : (inside : Bool) (left first : ℕ) (body r : List ℕ) (c : CifCommand) → list_all is_plain_byte body ≡ true
     → is_left_out first body ≡ false → form_of first body ≡ Ok (Ok c) → may_stand inside c ≡ true
     → cut_of inside left first (span not_semicolon ((body ++ (59 ∷ 10 ∷ [])) ++ r)).0 (span not_semicolon ((body ++ (59 ∷ 10 ∷ [])) ++ r)).1
     ≡ Ok (c, 10 ∷ r)
@@ -33,7 +33,7 @@ cut-is inside left first body r c plain kept form stands =
     ap (λ (found : List ℕ × List ℕ). cut_of inside left first found.0 found.1) cut ∙ rw (kept, form, stands) refl
 
 -- a printed line reads as its command, and leaves its line feed
-line-read : (inside : Bool) (c : Command) (r : List ℕ) → IsPrintable c → may_stand inside c ≡ true → is_end c ≡ false
+line-read : (inside : Bool) (c : CifCommand) (r : List ℕ) → IsPrintable c → may_stand inside c ≡ true → is_end c ≡ false
     → command_at inside (skip is_between (line c ++ r)) ≡ Ok (c, 10 ∷ r)
 unfolding after_comment
 line-read inside (commands.Box long wide cx cy upright) r h stands more =
@@ -60,14 +60,14 @@ newline zero inside bytes = refl
 newline (suc n) inside bytes = refl
 
 -- a command before a text that reads
-step-read : (n : ℕ) (inside : Bool) (c : Command) (cs : List Command) → IsPrintable c → may_stand inside c ≡ true → is_end c ≡ false
+step-read : (n : ℕ) (inside : Bool) (c : CifCommand) (cs : List CifCommand) → IsPrintable c → may_stand inside c ≡ true → is_end c ≡ false
     → commands_at n (is_open_behind inside c) (text_of cs) ≡ Ok cs → commands_at (suc n) inside (line c ++ text_of cs) ≡ Ok (c ∷ cs)
 unfolding commands_at
 step-read n inside c cs h stands more others =
     rw (line-read inside c (text_of cs) h stands more, more, newline n (is_open_behind inside c) (text_of cs), others) refl
 
 -- a printed text reads as its commands, where a definition is open or none
-pub text-read : (cs : List Command) (n : ℕ) (inside : Bool) → length cs ≤ n → IsText inside cs → commands_at n inside (text_of cs) ≡ Ok cs
+pub text-read : (cs : List CifCommand) (n : ℕ) (inside : Bool) → length cs ≤ n → IsText inside cs → commands_at n inside (text_of cs) ≡ Ok cs
 unfolding commands_at
 text-read [] n inside enough h = absurd h
 text-read (c ∷ cs) zero inside enough h = absurd (omega arith)
@@ -87,7 +87,7 @@ text-read (commands.Comment ∷ cs) (suc n) inside enough h =
 text-read (commands.User kind text ∷ cs) (suc n) inside enough h =
     step-read n inside (commands.User kind text) cs h.0 refl refl (text-read cs n inside (omega arith) h.1)
 
-first-ascii : (c : Command) → is_ascii_byte (bytes_of c).0 ≡ true
+first-ascii : (c : CifCommand) → is_ascii_byte (bytes_of c).0 ≡ true
 first-ascii (commands.Box long wide cx cy upright) = refl
 first-ascii (commands.Layer text) = refl
 first-ascii (commands.Start n a b) = refl
@@ -99,11 +99,11 @@ first-ascii (commands.User users.InstanceName text) = refl
 first-ascii (commands.User users.Other text) = refl
 first-ascii commands.End = refl
 
-end-ascii : (c : Command) → list_all is_ascii_byte (end_of c) ≡ true
+end-ascii : (c : CifCommand) → list_all is_ascii_byte (end_of c) ≡ true
 end-ascii commands.End = refl
 end-ascii _ = refl
 
-line-ascii : (c : Command) (r : List ℕ) → IsPrintable c → list_all is_ascii_byte r ≡ true → list_all is_ascii_byte (line c ++ r) ≡ true
+line-ascii : (c : CifCommand) (r : List ℕ) → IsPrintable c → list_all is_ascii_byte r ≡ true → list_all is_ascii_byte (line c ++ r) ≡ true
 line-ascii c r h others =
     let body : list_all is_ascii_byte (bytes_of c).1 ≡ true =
     list_all-weaker is_plain_byte is_ascii_byte plain-ascii (bytes_of c).1 (bytes-plain c h) in
@@ -111,7 +111,7 @@ line-ascii c r h others =
     (list_all-joined is_ascii_byte ((bytes_of c).1 ++ end_of c) r (list_all-joined is_ascii_byte (bytes_of c).1 (end_of c) body (end-ascii c)) others)
 
 -- a printed text is of ASCII
-pub text-ascii : (inside : Bool) (cs : List Command) → IsText inside cs → list_all is_ascii_byte (text_of cs) ≡ true
+pub text-ascii : (inside : Bool) (cs : List CifCommand) → IsText inside cs → list_all is_ascii_byte (text_of cs) ≡ true
 text-ascii inside [] h = absurd h
 text-ascii inside (commands.End ∷ cs) h = rw h.1 refl
 text-ascii inside (commands.Finish ∷ cs) h = line-ascii commands.Finish (text_of cs) tt (text-ascii false cs h.1)
@@ -125,14 +125,14 @@ text-ascii inside (commands.Comment ∷ cs) h = line-ascii commands.Comment (tex
 text-ascii inside (commands.User kind text ∷ cs) h = line-ascii (commands.User kind text) (text_of cs) h.0 (text-ascii inside cs h.1)
 
 -- a text has at least a byte for each command
-length-text : (cs : List Command) → length cs ≤ length (text_of cs)
+length-text : (cs : List CifCommand) → length cs ≤ length (text_of cs)
 length-text [] = omega arith
 length-text (c ∷ cs) =
     let others = length-text cs in
     omega (arith, length-append ((bytes_of c).1 ++ end_of c) (text_of cs))
 
 -- printed commands read as they are
-pub reads-text : (cs : List Command) → IsText false cs → cif_reads (text_of cs) ≡ Ok cs
+pub reads-text : (cs : List CifCommand) → IsText false cs → cif_reads (text_of cs) ≡ Ok cs
 unfolding cif_reads
 reads-text cs h =
     let few = length-text cs in

@@ -1,6 +1,6 @@
 use Rattle.std.specs.Prelude.{◌≡◌, refl, ℕ, pos, negsuc, List, [], ◌∷◌, length, codes, true, false, Ok, Err}
-use Rattle.cif_text.specs.declared.command.Command.{Command}
-use Rattle.cif_text.specs.declared.command.Command.TheVariants as commands
+use Rattle.cif_text.specs.declared.command.CifCommand.{CifCommand}
+use Rattle.cif_text.specs.declared.command.CifCommand.TheVariants as commands
 use Rattle.cif_text.specs.declared.command.UserKind.TheVariants as users
 use Rattle.cif_text.specs.declared.fault.CifKind.TheVariants as kinds
 use Rattle.read_base.specs.Digits.{number_within}
@@ -14,7 +14,7 @@ use Rattle.cif_text.specs.CifReads.{commands_at, cif_reads}
 abbrev pub inverter_text : List ℕ
 inverter_text = codes "(cellroute 1);\nDS 1 1 1;\n9 INV;\nL XP;\nB 800 4000 400 2000;\nL NP;\nB 300 400 400 200;\nDF;\n91 u1;\nC 1 T 0 800;\nE\n"
 
-abbrev pub inverter : List Command
+abbrev pub inverter : List CifCommand
 inverter =
     commands.Comment ∷ commands.Start 1 1 1 ∷ commands.User users.SymbolName (codes "INV")
     ∷ commands.Layer (codes "XP") ∷ commands.Box (pos 800) (pos 4000) (pos 400) (pos 2000) false

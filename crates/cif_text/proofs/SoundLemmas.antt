@@ -1,6 +1,6 @@
-use Rattle.cif_text.specs.declared.command.Command.TheVariants as commands
+use Rattle.cif_text.specs.declared.command.CifCommand.TheVariants as commands
 use Rattle.std.proofs.Common.{◌≡◌, refl, ℕ, ℤ, List, [], ◌∷◌, Bool, true, false, Ok}
-use Rattle.cif_text.specs.declared.command.Command.{Command}
+use Rattle.cif_text.specs.declared.command.CifCommand.{CifCommand}
 use Rattle.cif_text.specs.Bytes.{is_separator, ends}
 use Rattle.cif_text.specs.CifReads.{is_end, is_open_behind}
 use Rattle.cif_text.specs.Forms.{axis_of, box_along, box_end}
@@ -16,7 +16,7 @@ unfolding box_end
 box_end-directed long wide cx cy bytes dx dy more first second last = rw (more, first, second, last) refl
 
 -- a command before others, and an end
-pub sound-on : (inside : Bool) (c : Command) (cs : List Command) → IsInPlace inside c → is_end c ≡ false → AreSound (is_open_behind inside c) cs
+pub sound-on : (inside : Bool) (c : CifCommand) (cs : List CifCommand) → IsInPlace inside c → is_end c ≡ false → AreSound (is_open_behind inside c) cs
     → AreSound inside (c ∷ cs)
 sound-on inside (commands.Box long wide cx cy upright) cs h more others = (h.sound, others)
 sound-on inside (commands.Layer name) cs h more others = (h.sound, others)
@@ -27,7 +27,7 @@ sound-on inside commands.Comment cs h more others = (h.sound, others)
 sound-on inside (commands.User kind text) cs h more others = (h.sound, others)
 sound-on inside commands.End cs h more others = cc
 
-pub sound-end : (inside : Bool) (c : Command) → IsInPlace inside c → is_end c ≡ true → AreSound inside (c ∷ [])
+pub sound-end : (inside : Bool) (c : CifCommand) → IsInPlace inside c → is_end c ≡ true → AreSound inside (c ∷ [])
 sound-end inside (commands.Box long wide cx cy upright) h last = cc
 sound-end inside (commands.Layer name) h last = cc
 sound-end inside (commands.Start n a b) h last = cc

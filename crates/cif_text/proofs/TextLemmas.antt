@@ -2,7 +2,7 @@ use Rattle.std.proofs.Common.{◌≡◌, refl, ap, sym, ◌∙◌, append_assoc,
 use Rattle.std.proofs.lemmas.Bool.Decides.{nat_tests}
 use Rattle.std.specs.List.{list_all}
 use Rattle.std.specs.Prelude.{Option, Some, slice_get, ◌&&◌, ◌==◌, nat_le}
-use Rattle.cif_text.specs.declared.command.Command.{Command}
+use Rattle.cif_text.specs.declared.command.CifCommand.{CifCommand}
 use Rattle.cif_text.specs.Bytes.{is_white, begins, without_tail}
 use Rattle.cif_text.specs.Printing.{line, text_of}
 use Rattle.cif_text.proofs.PrintableTexts.{is_plain_byte, IsNameText}
@@ -14,7 +14,7 @@ use Rattle.std.proofs.lemmas.Bool.{and_parts}
 use Rattle.std_laws.proofs.Searches.{list_all-weaker}
 
 -- the text of commands in two parts
-pub text_of-append : (xs ys : List Command) → text_of (xs ++ ys) ≡ text_of xs ++ text_of ys
+pub text_of-append : (xs ys : List CifCommand) → text_of (xs ++ ys) ≡ text_of xs ++ text_of ys
 text_of-append [] ys = refl
 text_of-append (c ∷ xs) ys = ap (λ (text : List ℕ). line c ++ text) (text_of-append xs ys) ∙ sym (append_assoc (line c) (text_of xs) (text_of ys))
 
@@ -68,8 +68,8 @@ pub items-append : (layer : Option (List ℕ)) (xs ys : List MainItem)
     → items_commands layer (xs ++ ys) ≡ items_commands layer xs ++ items_commands (layer_after layer xs) ys
 items-append layer [] ys = refl
 items-append layer (alone s ∷ xs) ys =
-    ap (λ (cs : List Command). shape_commands layer s ++ cs) (items-append (Some s.layer) xs ys)
+    ap (λ (cs : List CifCommand). shape_commands layer s ++ cs) (items-append (Some s.layer) xs ys)
     ∙ sym (append_assoc (shape_commands layer s) (items_commands (Some s.layer) xs) (items_commands (layer_after (Some s.layer) xs) ys))
 items-append layer (copy name n place ∷ xs) ys =
-    ap (λ (cs : List Command). copy_commands name n place ++ cs) (items-append layer xs ys)
+    ap (λ (cs : List CifCommand). copy_commands name n place ++ cs) (items-append layer xs ys)
     ∙ sym (append_assoc (copy_commands name n place) (items_commands layer xs) (items_commands (layer_after layer xs) ys))

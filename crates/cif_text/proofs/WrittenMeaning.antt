@@ -1,4 +1,4 @@
-use Rattle.cif_text.specs.declared.command.Command.TheVariants as commands
+use Rattle.cif_text.specs.declared.command.CifCommand.TheVariants as commands
 use Rattle.cif_text.specs.declared.command.UserKind.TheVariants as users
 use Rattle.std.proofs.Common.{◌≡◌, refl, ap, sym, subst, ◌∙◌, append_assoc, ℕ, suc, ◌*◌, ◌/◌, ◌%◌, ◌≤◌, List, [], ◌∷◌, ◌++◌, length, length-append, Bool, true, false, ℤ, pos, negsuc, arith}
 use Rattle.std.proofs.lemmas.Bool.Decides.{nat_tests}
@@ -10,7 +10,7 @@ use Rattle.geom_core.specs.declared.layout.Shape.{Shape}
 use Rattle.geom_core.specs.declared.layout.Cell.{Cell}
 use Rattle.geom_core.specs.declared.turn.Place.{Place}
 use Rattle.geom_core.specs.Extent.{Extent}
-use Rattle.cif_text.specs.declared.command.Command.{Command}
+use Rattle.cif_text.specs.declared.command.CifCommand.{CifCommand}
 use Rattle.read_base.specs.Steps.{◌>>=◌}
 use Rattle.cif_text.specs.Scales.{scaled_natural, scaled, scaled_extent, scaled_turning, doubled, around}
 use Rattle.cif_text.specs.Symbols.{Symbol, Level, State, symbol_of}
@@ -22,22 +22,22 @@ use Rattle.cif_text.proofs.WrittenText.{box-drawn, call-whole}
 use Rattle.std_laws.proofs.Bytes.{bytes_one}
 
 -- some commands lead from a state to another, whatever comes before and behind them
-abbrev Leads : State → List Command → State → Type 0
-Leads s cs t = (i : ℕ) (rest : List Command) → (j : ℕ) × (run i s (cs ++ rest) ≡ run j t rest)
+abbrev Leads : State → List CifCommand → State → Type 0
+Leads s cs t = (i : ℕ) (rest : List CifCommand) → (j : ℕ) × (run i s (cs ++ rest) ≡ run j t rest)
 
 leads-none : (s : State) → Leads s [] s
-leads-none s = λ (i : ℕ) (rest : List Command). (i, refl)
+leads-none s = λ (i : ℕ) (rest : List CifCommand). (i, refl)
 
-leads-step : (s t u : State) (c : Command) (cs : List Command) → step s c ≡ Ok t → Leads t cs u → Leads s (c ∷ cs) u
+leads-step : (s t u : State) (c : CifCommand) (cs : List CifCommand) → step s c ≡ Ok t → Leads t cs u → Leads s (c ∷ cs) u
 unfolding run
-leads-step s t u c cs first others = λ (i : ℕ) (rest : List Command).
+leads-step s t u c cs first others = λ (i : ℕ) (rest : List CifCommand).
     let more = others (suc i) rest in (more.0, rw first more.1)
 
-leads-one : (s t : State) (c : Command) → step s c ≡ Ok t → Leads s (c ∷ []) t
+leads-one : (s t : State) (c : CifCommand) → step s c ≡ Ok t → Leads s (c ∷ []) t
 leads-one s t c first = leads-step s t t c [] first (leads-none t)
 
-leads-both : (s t u : State) (xs ys : List Command) → Leads s xs t → Leads t ys u → Leads s (xs ++ ys) u
-leads-both s t u xs ys first second = λ (i : ℕ) (rest : List Command).
+leads-both : (s t u : State) (xs ys : List CifCommand) → Leads s xs t → Leads t ys u → Leads s (xs ++ ys) u
+leads-both s t u xs ys first second = λ (i : ℕ) (rest : List CifCommand).
     let front = first i (ys ++ rest) in
     let back = second front.0 rest in
     (back.0, rw append_assoc (front.1 ∙ back.1))
@@ -134,7 +134,7 @@ symbol-ends s n name shapes layer (sh ∷ ss) h =
     (shape-inside s n name shapes layer sh h.0) (symbol-ends s n name (shapes ++ (sh ∷ [])) (Some sh.layer) ss h.1) in
     subst (λ (found : List Shape). Leads (inside_of s n name shapes layer) (shapes_commands layer (sh ∷ ss) ++ (commands.Finish ∷ [])) (ended s n name found))
     (append_assoc shapes (sh ∷ []) ss)
-    (subst (λ (cs : List Command). Leads (inside_of s n name shapes layer) cs (ended s n name ((shapes ++ (sh ∷ [])) ++ ss)))
+    (subst (λ (cs : List CifCommand). Leads (inside_of s n name shapes layer) cs (ended s n name ((shapes ++ (sh ∷ [])) ++ ss)))
     (sym (append_assoc (shape_commands layer sh) (shapes_commands (Some sh.layer) ss) (commands.Finish ∷ []))) led)
 
 -- the main level before its first item
@@ -234,19 +234,19 @@ copy-leads symbols cells shapes layer (Some name) n place h =
     (call_to n place) (named-call symbols cells shapes layer name n place h))
 
 -- from a state on, some commands give these cells and shapes
-abbrev Means : ℕ → State → List Command → List Cell → List Shape → Type 0
+abbrev Means : ℕ → State → List CifCommand → List Cell → List Shape → Type 0
 Means i s cs cells shapes = (run i s cs >>= λ t. Ok (layout_of t.main)) ≡ Ok (record { cells = cells; shapes = shapes })
 
 -- an item, and then the others
 onward : (symbols : List Symbol) (cells more_cells all_cells : List Cell) (shapes more_shapes all_shapes : List Shape) (layer behind : Option (List ℕ))
-    → (i : ℕ) (xs ys : List Command)
+    → (i : ℕ) (xs ys : List CifCommand)
     → Leads (main symbols cells shapes layer None) xs (main symbols (cells ++ more_cells) (shapes ++ more_shapes) behind None)
     → ((j : ℕ) → Means j (main symbols (cells ++ more_cells) (shapes ++ more_shapes) behind None) (ys ++ (commands.End ∷ []))
     ((cells ++ more_cells) ++ all_cells) ((shapes ++ more_shapes) ++ all_shapes))
     → Means i (main symbols cells shapes layer None) ((xs ++ ys) ++ (commands.End ∷ [])) (cells ++ (more_cells ++ all_cells)) (shapes ++ (more_shapes ++ all_shapes))
 onward symbols cells more_cells all_cells shapes more_shapes all_shapes layer behind i xs ys led others =
     let here = led i (ys ++ (commands.End ∷ [])) in
-    ap (λ (cs : List Command). run i (main symbols cells shapes layer None) cs >>= λ t. Ok (layout_of t.main)) (append_assoc xs ys (commands.End ∷ []))
+    ap (λ (cs : List CifCommand). run i (main symbols cells shapes layer None) cs >>= λ t. Ok (layout_of t.main)) (append_assoc xs ys (commands.End ∷ []))
     ∙ ap (λ (r : Result State (Unmeant × ℕ)). r >>= λ t. Ok (layout_of t.main)) here.1
     ∙ others here.0
     ∙ ap (λ (x : List Cell). Ok (record { cells = x; shapes = (shapes ++ more_shapes) ++ all_shapes })) (append_assoc cells more_cells all_cells)

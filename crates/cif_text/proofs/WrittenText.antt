@@ -1,4 +1,4 @@
-use Rattle.cif_text.specs.declared.command.Command.TheVariants as commands
+use Rattle.cif_text.specs.declared.command.CifCommand.TheVariants as commands
 use Rattle.cif_text.specs.declared.command.UserKind.TheVariants as users
 use Rattle.std.proofs.Common.{◌≡◌, refl, ap, sym, subst, ◌∙◌, append_assoc, ℕ, suc, ◌+◌, ◌*◌, ◌/◌, ◌≤◌, List, [], ◌∷◌, ◌++◌, length, Bool, true, false, ℤ, pos, negsuc, arith}
 use Rattle.std.proofs.lemmas.Int.{ints}
@@ -9,7 +9,7 @@ use Rattle.geom_core.specs.declared.layout.Shape.{Shape}
 use Rattle.geom_core.specs.declared.turn.Place.{Place}
 use Rattle.geom_core.specs.Extent.{Extent}
 use Rattle.geom_core.specs.LayerText.{is_layer_text}
-use Rattle.cif_text.specs.declared.command.Command.{Command}
+use Rattle.cif_text.specs.declared.command.CifCommand.{CifCommand}
 use Rattle.cif_text.specs.Numbers.{greatest}
 use Rattle.cif_text.specs.Printing.{text_of}
 use Rattle.cif_text.specs.Printable.{IsNatural, IsPart}
@@ -52,23 +52,23 @@ call-whole n place whole =
     cc
 
 -- commands that may stand before a text, and leave a definition open or none
-abbrev Before : Bool → List Command → Bool → Type 0
-Before inside cs behind = (rest : List Command) → IsText behind rest → IsText inside (cs ++ rest)
+abbrev Before : Bool → List CifCommand → Bool → Type 0
+Before inside cs behind = (rest : List CifCommand) → IsText behind rest → IsText inside (cs ++ rest)
 
-before-both : (a b c : Bool) (xs ys : List Command) → Before a xs b → Before b ys c → Before a (xs ++ ys) c
-before-both a b c xs ys first second = λ (rest : List Command) (h : IsText c rest). rw append_assoc (first (ys ++ rest) (second rest h))
+before-both : (a b c : Bool) (xs ys : List CifCommand) → Before a xs b → Before b ys c → Before a (xs ++ ys) c
+before-both a b c xs ys first second = λ (rest : List CifCommand) (h : IsText c rest). rw append_assoc (first (ys ++ rest) (second rest h))
 
 -- the commands of the written forms
 box-before : (inside : Bool) (e : Extent) → IsBox e → Before inside (box_of e ∷ []) inside
-box-before inside e box = λ (rest : List Command) (h : IsText inside rest).
-    subst (λ (c : Command). IsText inside (c ∷ rest)) (sym (box-drawn e box)) ((box.long_size, box.wide_size, box.cx_near, box.cy_near), h)
+box-before inside e box = λ (rest : List CifCommand) (h : IsText inside rest).
+    subst (λ (c : CifCommand). IsText inside (c ∷ rest)) (sym (box-drawn e box)) ((box.long_size, box.wide_size, box.cx_near, box.cy_near), h)
 
 change-before : (inside : Bool) (old : Option (List ℕ)) (layer : List ℕ) → is_layer_text layer ≡ true → Before inside (change old layer) inside
-change-before inside None layer valid = λ (rest : List Command) (h : IsText inside rest). (valid, h)
-change-before inside (Some old) layer valid = λ (rest : List Command) (h : IsText inside rest).
+change-before inside None layer valid = λ (rest : List CifCommand) (h : IsText inside rest). (valid, h)
+change-before inside (Some old) layer valid = λ (rest : List CifCommand) (h : IsText inside rest).
     changed (bytes_eq old layer) rest h
   where
-    changed : (b : Bool) (rest : List Command) → IsText inside rest → IsText inside ((if b then [] else commands.Layer layer ∷ []) ++ rest)
+    changed : (b : Bool) (rest : List CifCommand) → IsText inside rest → IsText inside ((if b then [] else commands.Layer layer ∷ []) ++ rest)
     changed true rest h = h
     changed false rest h = (valid, h)
 
@@ -77,43 +77,43 @@ shape-before inside layer s h =
     before-both inside inside inside (change layer s.layer) (box_of s.rect ∷ []) (change-before inside layer s.layer h.layer) (box-before inside s.rect h.box)
 
 shapes-before : (inside : Bool) (layer : Option (List ℕ)) (ss : List Shape) → AllByRecursion IsShape ss → Before inside (shapes_commands layer ss) inside
-shapes-before inside layer [] h = λ (rest : List Command) (text : IsText inside rest). text
+shapes-before inside layer [] h = λ (rest : List CifCommand) (text : IsText inside rest). text
 shapes-before inside layer (s ∷ ss) h =
     before-both inside inside inside (shape_commands layer s) (shapes_commands (Some s.layer) ss) (shape-before inside layer s h.0) (shapes-before inside (Some s.layer) ss h.1)
 
 symbol-name-before : (inside : Bool) (name : Option (List ℕ)) → IfSome name IsNameText → Before inside (name_commands users.SymbolName name) inside
-symbol-name-before inside None h = λ (rest : List Command) (text : IsText inside rest). text
-symbol-name-before inside (Some name) h = λ (rest : List Command) (text : IsText inside rest). (h, text)
+symbol-name-before inside None h = λ (rest : List CifCommand) (text : IsText inside rest). text
+symbol-name-before inside (Some name) h = λ (rest : List CifCommand) (text : IsText inside rest). (h, text)
 
 copy-name-before : (inside : Bool) (name : Option (List ℕ)) → IfSome name IsNameText → Before inside (name_commands users.InstanceName name) inside
-copy-name-before inside None h = λ (rest : List Command) (text : IsText inside rest). text
-copy-name-before inside (Some name) h = λ (rest : List Command) (text : IsText inside rest). (h, text)
+copy-name-before inside None h = λ (rest : List CifCommand) (text : IsText inside rest). text
+copy-name-before inside (Some name) h = λ (rest : List CifCommand) (text : IsText inside rest). (h, text)
 
 symbol-before : (n : ℕ) (d : WrittenSymbol) → n ≤ greatest → IsDrawn d → Before false (symbol_commands n d) false
-symbol-before n d small h = λ (rest : List Command) (text : IsText false rest).
+symbol-before n d small h = λ (rest : List CifCommand) (text : IsText false rest).
     let one : IsPart 1 = record { low = omega arith; high = omega arith } in
     let inner : IsText true ((name_commands users.SymbolName d.name ++ (shapes_commands None d.shapes ++ (commands.Finish ∷ []))) ++ rest) =
     before-both true true false (name_commands users.SymbolName d.name) (shapes_commands None d.shapes ++ (commands.Finish ∷ []))
     (symbol-name-before true d.name h.name)
     (before-both true true false (shapes_commands None d.shapes) (commands.Finish ∷ [])
     (shapes-before true None d.shapes h.shapes)
-    (λ (others : List Command) (more : IsText false others). (refl, more)))
+    (λ (others : List CifCommand) (more : IsText false others). (refl, more)))
     rest text in
     (refl, (record { high = small }, one, one), inner)
 
 symbols-before : (n : ℕ) (ds : List WrittenSymbol) → n + length ds ≤ suc greatest → AllByRecursion IsDrawn ds → Before false (symbols_commands n ds) false
-symbols-before n [] few h = λ (rest : List Command) (text : IsText false rest). text
+symbols-before n [] few h = λ (rest : List CifCommand) (text : IsText false rest). text
 symbols-before n (d ∷ ds) few h =
     before-both false false false (symbol_commands n d) (symbols_commands (suc n) ds)
     (symbol-before n d (omega arith) h.0) (symbols-before (suc n) ds (omega arith) h.1)
 
 call-before : (n : ℕ) (place : Place) → IsNatural n → IsWhole place → Before false (call_to n place ∷ []) false
-call-before n place near whole = λ (rest : List Command) (text : IsText false rest).
-    subst (λ (c : Command). IsText false (c ∷ rest)) (sym (call-whole n place whole)) ((near, omega arith, whole.across_near, whole.up_near), text)
+call-before n place near whole = λ (rest : List CifCommand) (text : IsText false rest).
+    subst (λ (c : CifCommand). IsText false (c ∷ rest)) (sym (call-whole n place whole)) ((near, omega arith, whole.across_near, whole.up_near), text)
 
 items-before : (symbols : List Symbol) (layer : Option (List ℕ)) (is : List MainItem) → AllByRecursion (IsItem symbols) is
     → Before false (items_commands layer is) false
-items-before symbols layer [] h = λ (rest : List Command) (text : IsText false rest). text
+items-before symbols layer [] h = λ (rest : List CifCommand) (text : IsText false rest). text
 items-before symbols layer (alone s ∷ is) h =
     before-both false false false (shape_commands layer s) (items_commands (Some s.layer) is) (shape-before false layer s h.0) (items-before symbols (Some s.layer) is h.1)
 items-before symbols layer (copy name n place ∷ is) h =

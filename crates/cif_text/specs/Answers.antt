@@ -1,7 +1,7 @@
 -- what a program that reads answers
 use Rattle.std.specs.Prelude.{if◌then◌else◌, ◌&&◌, ◌==◌, ◌+◌, ◌≤◌, codes, ℕ, zero, suc, ℤ, pos, negsuc, Bool, true, false, List, [], length, Option, Some, None, Result, Err}
 use Rattle.std.specs.Str.{byte, bytes_eq}
-use Rattle.cif_text.specs.declared.command.Command.{Command}
+use Rattle.cif_text.specs.declared.command.CifCommand.{CifCommand}
 use Rattle.cif_text.specs.declared.fault.CifKind.{CifKind}
 use Rattle.cif_text.specs.declared.fault.CifFault.{CifFault}
 use Rattle.cif_text.specs.declared.fault.CifFault.TheVariants.{Bad, Memory}
@@ -14,7 +14,7 @@ use Rattle.cif_text.specs.declared.command.UserKind.TheVariants as users
 use Rattle.cif_text.specs.Forms.{Axis, along_x, along_y}
 
 -- a number that is too great begins so many bytes before a semicolon that with those behind it they are at most `left`
-abbrev pub HasPlaceWithin : ℕ → ℕ → Result (Result Command CifKind) Misfit → Type 0
+abbrev pub HasPlaceWithin : ℕ → ℕ → Result (Result CifCommand CifKind) Misfit → Type 0
 HasPlaceWithin left behind (Err (TooGreat before)) = before + 1 + behind ≤ left
 HasPlaceWithin left behind _ = Unit {0}
 
@@ -37,7 +37,7 @@ user_kind_of first digits =
     if first == byte "9" && bytes_eq digits (codes "1") then users.InstanceName else users.Other
 
 -- the commands of a text that begins inside a definition or outside
-abbrev pub commands_of : Bool → List ℕ → Result (List Command) Flaw
+abbrev pub commands_of : Bool → List ℕ → Result (List CifCommand) Flaw
 commands_of inside bytes = commands_at (suc (length bytes)) inside bytes
 
 -- what a fault tells, and nothing for want of memory

@@ -2,8 +2,8 @@
 use Rattle.std.specs.Prelude.{if◌then◌else◌, ℕ, zero, suc, ◌+◌, ◌-◌, ◌%◌, ℤ, pos, negsuc, ◌+ℤ◌, neg_ℤ, List, [], ◌∷◌, length, false, not, ◌&&◌, ◌==◌, nat_le, nat_abs, Option, Some, None, Result, Ok, Err}
 use Rattle.std.specs.Str.{byte}
 use Rattle.geom_core.specs.Turning.{Turning}
-use Rattle.cif_text.specs.declared.command.Command.{Command}
-use Rattle.cif_text.specs.declared.command.Command.TheVariants as commands
+use Rattle.cif_text.specs.declared.command.CifCommand.{CifCommand}
+use Rattle.cif_text.specs.declared.command.CifCommand.TheVariants as commands
 use Rattle.cif_text.specs.declared.fault.CifKind.{CifKind}
 use Rattle.cif_text.specs.declared.fault.CifKind.TheVariants as kinds
 use Rattle.cif_text.specs.Bytes.{is_blank, is_separator, skip}
@@ -94,7 +94,7 @@ abbrev pub at_rest : Turning
 at_rest = record { flip = false; quarters = 0; dx = pos 0; dy = pos 0 }
 
 -- the product's own: the whole offset has the magnitude of a number
-abbrev pub call_of : ℕ → Turning → Result Command CifKind
+abbrev pub call_of : ℕ → Turning → Result CifCommand CifKind
 call_of n t =
     if nat_le (nat_abs t.dx) greatest && nat_le (nat_abs t.dy) greatest
     then Ok (commands.Call n t.flip t.quarters t.dx t.dy) else Err kinds.Number

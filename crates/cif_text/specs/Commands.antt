@@ -2,8 +2,8 @@
 use Rattle.std.specs.Prelude.{if◌then◌else◌, ℕ, suc, ◌+◌, ◌-◌, List, [], ◌∷◌, length, Bool, true, not, ◌&&◌, ◌||◌, ◌==◌, Option, Some, None, Result, Ok, Err}
 use Rattle.std.specs.Str.{byte}
 use Rattle.std.specs.Char.{is_ascii_digit}
-use Rattle.cif_text.specs.declared.command.Command.{Command}
-use Rattle.cif_text.specs.declared.command.Command.TheVariants as commands
+use Rattle.cif_text.specs.declared.command.CifCommand.{CifCommand}
+use Rattle.cif_text.specs.declared.command.CifCommand.TheVariants as commands
 use Rattle.cif_text.specs.declared.fault.CifKind.{CifKind}
 use Rattle.cif_text.specs.declared.fault.CifKind.TheVariants as kinds
 use Rattle.cif_text.specs.Flaws.{Flaw}
@@ -14,7 +14,7 @@ use Rattle.cif_text.specs.Calls.{call_form}
 
 -- a command and the bytes behind it
 abbrev pub Reading : Type 0
-Reading = Result (Command × List ℕ) Flaw
+Reading = Result (CifCommand × List ℕ) Flaw
 
 abbrev pub fails : {A : Type 0} → CifKind → ℕ → Result A Flaw
 fails kind left = Err (record { kind = kind; left = left })
@@ -42,7 +42,7 @@ form_of c body =
     if c == byte "C" then call_form body else Err Malformed
 
 -- CIF 2.0: a definition starts outside of definitions and finishes inside one. Which commands may stand here
-abbrev pub may_stand : Bool → Command → Bool
+abbrev pub may_stand : Bool → CifCommand → Bool
 may_stand inside (commands.Start n a b) = not inside
 may_stand inside commands.Finish = inside
 may_stand inside _ = true

@@ -3,8 +3,8 @@ use Rattle.std.specs.Prelude.{if◌then◌else◌, ℕ, zero, suc, ℤ, pos, neg
 use Rattle.std.specs.Str.{byte, bytes_eq}
 use Rattle.std.specs.Char.{is_ascii_digit}
 use Rattle.geom_core.specs.LayerText.{is_layer_code, is_layer_text}
-use Rattle.cif_text.specs.declared.command.Command.{Command}
-use Rattle.cif_text.specs.declared.command.Command.TheVariants as commands
+use Rattle.cif_text.specs.declared.command.CifCommand.{CifCommand}
+use Rattle.cif_text.specs.declared.command.CifCommand.TheVariants as commands
 use Rattle.cif_text.specs.declared.command.UserKind.{UserKind}
 use Rattle.cif_text.specs.declared.command.UserKind.TheVariants as users
 use Rattle.cif_text.specs.declared.fault.CifKind.{CifKind}
@@ -18,10 +18,10 @@ use Rattle.cif_text.specs.Numbers.{natural, number, positive, apart}
 -- what the bytes of a command, from behind its first byte to before its semicolon, read as: none of the command's forms,
 -- or a form, which is a command or has a fault of its own
 abbrev pub Form : Type 0
-Form = Result (Result Command CifKind) Misfit
+Form = Result (Result CifCommand CifKind) Misfit
 
 -- a form that ends here: such bytes may follow, and no others
-abbrev pub finished : (ℕ → Bool) → List ℕ → Command → Form
+abbrev pub finished : (ℕ → Bool) → List ℕ → CifCommand → Form
 finished p rest command = if ends p rest then Ok (Ok command) else Err Malformed
 
 -- the axis that a direction points along, either way
@@ -37,7 +37,7 @@ axis_of (pos zero) (negsuc n) = Some along_y
 axis_of _ _ = None
 
 -- a box whose length lies along this axis; there is none where a direction has no axis
-abbrev pub box_along : ℕ → ℕ → ℤ → ℤ → Option Axis → Result Command CifKind
+abbrev pub box_along : ℕ → ℕ → ℤ → ℤ → Option Axis → Result CifCommand CifKind
 box_along long wide cx cy (Some along_x) = Ok (commands.Box (pos long) (pos wide) cx cy false)
 box_along long wide cx cy (Some along_y) = Ok (commands.Box (pos long) (pos wide) cx cy true)
 box_along long wide cx cy None = Err kinds.Turned

@@ -2,8 +2,8 @@
 use Rattle.std.specs.Prelude.{ℕ, zero, suc, ◌≤◌, List, [], ◌∷◌, ◌++◌, Bool, true, false, codes, decimal}
 use Rattle.std.specs.Fmt.{signed_decimal}
 use Rattle.std.specs.Str.{byte}
-use Rattle.cif_text.specs.declared.command.Command.{Command}
-use Rattle.cif_text.specs.declared.command.Command.TheVariants as commands
+use Rattle.cif_text.specs.declared.command.CifCommand.{CifCommand}
+use Rattle.cif_text.specs.declared.command.CifCommand.TheVariants as commands
 use Rattle.cif_text.specs.declared.command.UserKind.TheVariants as users
 
 -- parts, each behind a blank
@@ -29,7 +29,7 @@ quarter_parts (suc (suc zero)) parts = codes "R" ∷ codes "-1" ∷ codes "0" �
 quarter_parts (suc (suc (suc k))) parts = codes "R" ∷ codes "0" ∷ codes "-1" ∷ parts
 
 -- a command's first byte, and its others before the semicolon
-abbrev pub bytes_of : Command → ℕ × List ℕ
+abbrev pub bytes_of : CifCommand → ℕ × List ℕ
 bytes_of (commands.Box long wide cx cy upright) =
     (byte "B", blanked (signed_decimal long ∷ signed_decimal wide ∷ signed_decimal cx ∷ signed_decimal cy ∷ upright_parts upright))
 bytes_of (commands.Layer text) = (byte "L", blanked (text ∷ []))
@@ -44,21 +44,21 @@ bytes_of (commands.User users.Other text) = (byte "0", blanked (text ∷ []))
 bytes_of commands.End = (byte "E", [])
 
 -- what stands behind a command: a semicolon and a line feed, for the end of the text the line feed alone
-abbrev pub end_of : Command → List ℕ
+abbrev pub end_of : CifCommand → List ℕ
 end_of commands.End = codes "\n"
 end_of _ = codes ";\n"
 
 -- a command's line
-abbrev pub line : Command → List ℕ
+abbrev pub line : CifCommand → List ℕ
 line c = (bytes_of c).0 ∷ (bytes_of c).1 ++ end_of c
 
 -- the text of some commands: their lines, one after another
-abbrev pub text_of : List Command → List ℕ
+abbrev pub text_of : List CifCommand → List ℕ
 text_of [] = []
 text_of (c ∷ cs) = line c ++ text_of cs
 
 -- the commands that are printed alone: no user command, and of the calls those with at most three quarters
-abbrev pub HasLine : Command → Type 0
+abbrev pub HasLine : CifCommand → Type 0
 HasLine (commands.Call n flip quarters dx dy) = quarters ≤ 3
 HasLine (commands.User kind text) = ⊥
 HasLine _ = Unit {0}

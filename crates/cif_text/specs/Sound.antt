@@ -1,7 +1,7 @@
 -- the commands that a text can give
 use Rattle.std.specs.Prelude.{◌≡◌, ◌≤◌, List, [], ◌∷◌, Bool, true, false, Result, Ok}
-use Rattle.cif_text.specs.declared.command.Command.{Command}
-use Rattle.cif_text.specs.declared.command.Command.TheVariants as commands
+use Rattle.cif_text.specs.declared.command.CifCommand.{CifCommand}
+use Rattle.cif_text.specs.declared.command.CifCommand.TheVariants as commands
 use Rattle.cif_text.specs.declared.fault.CifKind.{CifKind}
 use Rattle.cif_text.specs.declared.misfit.Misfit.{Misfit}
 use Rattle.cif_text.specs.CifReads.{is_end}
@@ -9,7 +9,7 @@ use Rattle.cif_text.specs.Commands.{may_stand}
 use Rattle.cif_text.specs.Printable.{IsCifNumber, IsSize, IsNatural, IsPart}
 
 -- a command has the numbers that a text can give it
-abbrev pub IsSound : Command → Type 0
+abbrev pub IsSound : CifCommand → Type 0
 IsSound (commands.Box long wide cx cy upright) = IsSize long × IsSize wide × IsCifNumber cx × IsCifNumber cy
 IsSound (commands.Start n a b) = IsNatural n × IsPart a × IsPart b
 IsSound (commands.Call n flip quarters dx dy) = IsNatural n × (quarters ≤ 3) × IsCifNumber dx × IsCifNumber dy
@@ -17,7 +17,7 @@ IsSound _ = Unit {0}
 
 -- sound commands whose definitions each start outside of others and finish, up to the one end command; the first argument says
 -- whether a definition is open
-abbrev pub AreSound : Bool → List Command → Type 0
+abbrev pub AreSound : Bool → List CifCommand → Type 0
 AreSound inside [] = ⊥
 AreSound inside (commands.End ∷ cs) = (inside ≡ false) × (cs ≡ [])
 AreSound inside (commands.Finish ∷ cs) = (inside ≡ true) × AreSound false cs
@@ -25,16 +25,16 @@ AreSound inside (commands.Start n a b ∷ cs) = (inside ≡ false) × IsSound (c
 AreSound inside (c ∷ cs) = IsSound c × AreSound inside cs
 
 -- a sound command that may stand inside a definition or outside; an end stands outside
-pub record IsInPlace (inside : Bool) (c : Command) : Type 0 where
+pub record IsInPlace (inside : Bool) (c : CifCommand) : Type 0 where
   pub sound : IsSound c
   pub stands : may_stand inside c ≡ true
   pub last : is_end c ≡ true → inside ≡ false
 
 -- the command of a form is sound and no end
-pub record IsFormed (c : Command) : Type 0 where
+pub record IsFormed (c : CifCommand) : Type 0 where
   pub sound : IsSound c
   pub more : is_end c ≡ false
 
-abbrev pub FormIsSound : Result (Result Command CifKind) Misfit → Type 0
+abbrev pub FormIsSound : Result (Result CifCommand CifKind) Misfit → Type 0
 FormIsSound (Ok (Ok c)) = IsFormed c
 FormIsSound _ = Unit {0}

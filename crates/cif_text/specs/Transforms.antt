@@ -3,7 +3,7 @@ use Rattle.std.specs.Prelude.{ℕ, ◌≤◌, nat_abs, List, length, Result, Ok}
 use Rattle.geom_core.specs.Turning.{Turning}
 use Rattle.cif_text.specs.declared.transform.Step.{Step as Move}
 use Rattle.cif_text.specs.declared.transform.Step.TheVariants as moves
-use Rattle.cif_text.specs.declared.command.Command.{Command}
+use Rattle.cif_text.specs.declared.command.CifCommand.{CifCommand}
 use Rattle.cif_text.specs.declared.fault.CifKind.{CifKind}
 use Rattle.cif_text.specs.Calls.{Step, translate, mirror_x, mirror_y, rotate, steps_of, after, after_all, at_rest, call_of}
 use Rattle.read_base.specs.Steps.{◌>>=◌}
@@ -30,5 +30,5 @@ abbrev pub moves_of : List ℕ → Result (Result Turning CifKind) Misfit
 moves_of bytes = steps_of (length bytes) bytes >>= λ steps. Ok (after_all steps at_rest)
 
 -- the call of a symbol under what its steps do together
-abbrev pub call_under : ℕ → Result Turning CifKind → Result Command CifKind
+abbrev pub call_under : ℕ → Result Turning CifKind → Result CifCommand CifKind
 call_under n whole = whole >>= call_of n

@@ -4,8 +4,8 @@ use Rattle.std.specs.Str.{bytes_eq}
 use Rattle.geom_core.specs.declared.layout.Shape.{Shape}
 use Rattle.geom_core.specs.declared.turn.Place.{Place}
 use Rattle.geom_core.specs.Extent.{Extent}
-use Rattle.cif_text.specs.declared.command.Command.{Command}
-use Rattle.cif_text.specs.declared.command.Command.TheVariants as commands
+use Rattle.cif_text.specs.declared.command.CifCommand.{CifCommand}
+use Rattle.cif_text.specs.declared.command.CifCommand.TheVariants as commands
 use Rattle.cif_text.specs.declared.command.UserKind.{UserKind}
 use Rattle.cif_text.specs.declared.command.UserKind.TheVariants as users
 
@@ -20,48 +20,48 @@ pub data MainItem : Type 0 where
   copy : Option (List ℕ) → ℕ → Place → MainItem
 
 -- the box of a rectangle, with its length along x; a rectangle counts in half centimicrons, and a box in centimicrons
-abbrev pub box_of : Extent → Command
+abbrev pub box_of : Extent → CifCommand
 box_of e =
     commands.Box (int_div (e.x1 -ℤ e.x0) (pos 2)) (int_div (e.y1 -ℤ e.y0) (pos 2))
     (int_div (e.x0 +ℤ e.x1) (pos 4)) (int_div (e.y0 +ℤ e.y1) (pos 4)) false
 
 -- the call of a symbol at a place
-abbrev pub call_to : ℕ → Place → Command
+abbrev pub call_to : ℕ → Place → CifCommand
 call_to n place = commands.Call n place.mirror 0 (int_div place.dx (pos 2)) (int_div place.dy (pos 2))
 
 -- the layer's command, where it is not the one that was last written
-abbrev pub change : Option (List ℕ) → List ℕ → List Command
+abbrev pub change : Option (List ℕ) → List ℕ → List CifCommand
 change None layer = commands.Layer layer ∷ []
 change (Some old) layer = if bytes_eq old layer then [] else commands.Layer layer ∷ []
 
-abbrev pub name_commands : UserKind → Option (List ℕ) → List Command
+abbrev pub name_commands : UserKind → Option (List ℕ) → List CifCommand
 name_commands kind None = []
 name_commands kind (Some name) = commands.User kind name ∷ []
 
-abbrev pub shape_commands : Option (List ℕ) → Shape → List Command
+abbrev pub shape_commands : Option (List ℕ) → Shape → List CifCommand
 shape_commands layer s = change layer s.layer ++ (box_of s.rect ∷ [])
 
 -- shapes behind this layer
-abbrev pub shapes_commands : Option (List ℕ) → List Shape → List Command
+abbrev pub shapes_commands : Option (List ℕ) → List Shape → List CifCommand
 shapes_commands layer [] = []
 shapes_commands layer (s ∷ ss) = shape_commands layer s ++ shapes_commands (Some s.layer) ss
 
 -- the definition of a symbol, which begins without a layer
-abbrev pub symbol_commands : ℕ → WrittenSymbol → List Command
+abbrev pub symbol_commands : ℕ → WrittenSymbol → List CifCommand
 symbol_commands n d =
     commands.Start n 1 1 ∷ (name_commands users.SymbolName d.name ++ (shapes_commands None d.shapes ++ (commands.Finish ∷ [])))
 
 -- symbols, of which the first has this number
-abbrev pub symbols_commands : ℕ → List WrittenSymbol → List Command
+abbrev pub symbols_commands : ℕ → List WrittenSymbol → List CifCommand
 symbols_commands n [] = []
 symbols_commands n (d ∷ ds) = symbol_commands n d ++ symbols_commands (suc n) ds
 
 -- a copy, behind its name
-abbrev pub copy_commands : Option (List ℕ) → ℕ → Place → List Command
+abbrev pub copy_commands : Option (List ℕ) → ℕ → Place → List CifCommand
 copy_commands name n place = name_commands users.InstanceName name ++ (call_to n place ∷ [])
 
 -- the main level, behind this layer; copies leave the layer as it is
-abbrev pub items_commands : Option (List ℕ) → List MainItem → List Command
+abbrev pub items_commands : Option (List ℕ) → List MainItem → List CifCommand
 items_commands layer [] = []
 items_commands layer (alone s ∷ is) = shape_commands layer s ++ items_commands (Some s.layer) is
 items_commands layer (copy name n place ∷ is) = copy_commands name n place ++ items_commands layer is
@@ -73,5 +73,5 @@ layer_after layer (alone s ∷ is) = layer_after (Some s.layer) is
 layer_after layer (copy name n place ∷ is) = layer_after layer is
 
 -- the whole text: a comment, the symbols, numbered from 1, the main level and the end
-abbrev pub layout_commands : List WrittenSymbol → List MainItem → List Command
+abbrev pub layout_commands : List WrittenSymbol → List MainItem → List CifCommand
 layout_commands ds is = commands.Comment ∷ (symbols_commands 1 ds ++ (items_commands None is ++ (commands.End ∷ [])))

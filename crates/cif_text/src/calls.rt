@@ -8,7 +8,7 @@ ghost use Rattle.cif_text.specs.Transforms.{IsWithin, call_under, followed, move
 ghost use Rattle.std.specs.Prelude.{◌≡◌, ◌≤◌, ◌+◌, ◌^◌, ℕ, ℤ, IfOk};
 
 use crate::bytes::{after_blanks, after_separators};
-use crate::command::Command;
+use crate::command::CifCommand;
 use crate::fault::CifKind;
 use crate::forms::Form;
 use crate::misfit::Misfit;
@@ -92,7 +92,7 @@ struct SymbolNumber {
 }
 
 /// The call of a symbol, where its whole offset has the magnitude of a number.
-fn call_of(n: SymbolNumber, t: Transform) -> Result<Command, CifKind>
+fn call_of(n: SymbolNumber, t: Transform) -> Result<CifCommand, CifKind>
     ensures is { result ≡ call_of n.value t }
     ensures sound { IfOk result IsFormed }
 {
@@ -101,7 +101,7 @@ fn call_of(n: SymbolNumber, t: Transform) -> Result<Command, CifKind>
     {
         return Err(CifKind::Number);
     }
-    Ok(Command::Call {
+    Ok(CifCommand::Call {
         n: n.value,
         flip: t.flip,
         quarters: t.quarters,
@@ -111,7 +111,7 @@ fn call_of(n: SymbolNumber, t: Transform) -> Result<Command, CifKind>
 }
 
 /// The call of a symbol under what its steps do together.
-fn call_under(n: SymbolNumber, whole: Result<Transform, CifKind>) -> Result<Command, CifKind>
+fn call_under(n: SymbolNumber, whole: Result<Transform, CifKind>) -> Result<CifCommand, CifKind>
     ensures is { result ≡ call_under n.value whole }
     ensures sound { IfOk result IsFormed }
 {

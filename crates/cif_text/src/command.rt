@@ -15,7 +15,7 @@ pub enum UserKind {
 
 /// A command of a CIF text (Mead and Conway's CIF 2.0). Its numbers are those of the text, in centimicrons before any scale.
 #[derive(Debug, Drop)]
-pub enum Command {
+pub enum CifCommand {
     /// A box of a length and a width, each above 0, with its centre at (`cx`, `cy`). The length lies along y where
     /// `upright` is set, else along x.
     Box {

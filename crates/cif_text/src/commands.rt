@@ -5,12 +5,12 @@ ghost use Rattle.cif_text.specs.Answers.{HasPlaceWithin};
 ghost use Rattle.cif_text.specs.Bytes.{not_semicolon, span};
 ghost use Rattle.cif_text.specs.Commands.{after_comment, command_at, comment_of, cut_of, form_of, is_left_out, may_stand, open_behind, reading_of};
 ghost use Rattle.cif_text.specs.Sound.{FormIsSound, IsInPlace};
-ghost use Rattle.cif_text.specs.declared.command.Command.TheVariants as commands;
+ghost use Rattle.cif_text.specs.declared.command.CifCommand.TheVariants as commands;
 ghost use Rattle.std.specs.Prelude.{◌≡◌, ◌≤◌, ◌<◌, ◌+◌, ◌^◌, IfOk, length, option_map};
 
 use crate::bytes::{after_blanks, are_blanks, begins_with, split_body};
 use crate::calls::call_form;
-use crate::command::Command;
+use crate::command::CifCommand;
 use crate::fault::{CifKind, Flaw, Stop};
 use crate::forms::{Form, box_form, definition_form, layer_form, user_form};
 use crate::misfit::Misfit;
@@ -47,7 +47,7 @@ fn after_comment(bytes: &[u8]) -> Option<&[u8]>
 }
 
 /// A comment that begins where so many bytes are left, from what stands behind its first byte. Takes no memory.
-fn comment(left: usize, bytes: &[u8]) -> Result<(Command, &[u8]), Flaw>
+fn comment(left: usize, bytes: &[u8]) -> Result<(CifCommand, &[u8]), Flaw>
     ensures stands { IfOk result (λ x. x.0 ≡ commands.Comment) }
     ensures tells { AnswersAs (λ x. (x.0, x.1.now)) Some result (comment_of left (after_comment 0 bytes.now)) }
 {
@@ -70,7 +70,7 @@ fn comment(left: usize, bytes: &[u8]) -> Result<(Command, &[u8]), Flaw>
             left,
         });
     }
-    Ok((Command::Comment, rest))
+    Ok((CifCommand::Comment, rest))
 }
 
 /// Whether a command is one of those that are not read.
@@ -102,18 +102,18 @@ fn form_at(alloc: Global, first: u8, body: &[u8]) -> Result<Form, AllocError>
 }
 
 /// Whether a command may stand here: a definition starts outside of definitions and finishes inside one.
-fn may_stand(inside: bool, command: &Command) -> bool
+fn may_stand(inside: bool, command: &CifCommand) -> bool
     ensures { result ≡ may_stand inside command.now }
 {
     match command {
-        Command::Start { .. } => !inside,
-        Command::Finish => inside,
+        CifCommand::Start { .. } => !inside,
+        CifCommand::Finish => inside,
         _ => true,
     }
 }
 
 /// What a command reads as from its form: so many bytes are left at the command, and so many behind its semicolon.
-fn from_form(inside: bool, left: usize, rest: &[u8], form: Form) -> Result<Command, Flaw>
+fn from_form(inside: bool, left: usize, rest: &[u8], form: Form) -> Result<CifCommand, Flaw>
     requires place { HasPlaceWithin left (length rest.now) form }
     requires sound { FormIsSound form }
     ensures stands { IfOk result (IsInPlace inside) }
@@ -147,7 +147,7 @@ fn cut_command(
     inside: bool,
     first: u8,
     bytes: &[u8],
-) -> Result<(Command, &[u8]), Stop>
+) -> Result<(CifCommand, &[u8]), Stop>
     ensures stands { IfOk result (λ x. IsInPlace inside x.0) }
     ensures gives { Answers (λ x. (x.0, x.1.now)) result (cut_of inside (length bytes.now + 1) first (span not_semicolon bytes.now).0 (span not_semicolon bytes.now).1) }
 {
@@ -175,7 +175,7 @@ pub(crate) fn command_at(
     alloc: Global,
     inside: bool,
     bytes: &[u8],
-) -> Result<(Command, &[u8]), Stop>
+) -> Result<(CifCommand, &[u8]), Stop>
     ensures stands { IfOk result (λ x. IsInPlace inside x.0) }
     ensures gives { Answers (λ x. (x.0, x.1.now)) result (command_at inside bytes.now) }
 {
@@ -197,5 +197,5 @@ pub(crate) fn command_at(
             left: bytes.len(),
         }));
     }
-    Ok((Command::End, &[]))
+    Ok((CifCommand::End, &[]))
 }

@@ -5,14 +5,14 @@ ghost use Rattle.cif_text.specs.Bytes.{is_blank};
 ghost use Rattle.cif_text.specs.Forms.{axis_of, box_along, box_end, box_form, definition_form, finished, layer_form, naming, start_form, user_form};
 ghost use Rattle.cif_text.specs.Printable.{IsCifNumber, IsPart};
 ghost use Rattle.cif_text.specs.Sound.{FormIsSound, IsFormed};
-ghost use Rattle.cif_text.specs.declared.command.Command.TheVariants as commands;
+ghost use Rattle.cif_text.specs.declared.command.CifCommand.TheVariants as commands;
 ghost use Rattle.std.specs.Prelude.{◌≡◌, IfOk};
 
 use crate::bytes::{
     after_blanks, after_separators, are_blanks, are_separators, split_digits, split_layer,
     without_white,
 };
-use crate::command::{Command, UserKind};
+use crate::command::{CifCommand, UserKind};
 use crate::directions::is_upright;
 use crate::fault::CifKind;
 use crate::misfit::Misfit;
@@ -21,7 +21,7 @@ use geom_core::{LayerName, Name};
 use std::alloc::{AllocError, Global};
 
 /// What the bytes of a command read as: none of its forms, or a form, which is a command or has a fault of its own.
-pub(crate) type Form = Result<Result<Command, CifKind>, Misfit>;
+pub(crate) type Form = Result<Result<CifCommand, CifKind>, Misfit>;
 
 /// The numbers of a box, but for its direction.
 #[derive(Clone, Copy)]
@@ -37,14 +37,14 @@ struct BoxNumbers {
 }
 
 /// A box whose length lies along a direction.
-fn box_along(numbers: BoxNumbers, dx: i64, dy: i64) -> Result<Command, CifKind>
+fn box_along(numbers: BoxNumbers, dx: i64, dy: i64) -> Result<CifCommand, CifKind>
     ensures is { result ≡ box_along numbers.length numbers.width numbers.cx numbers.cy (axis_of dx dy) }
     ensures sound { IfOk result IsFormed }
 {
     let Some(upright) = is_upright(dx, dy) else {
         return Err(CifKind::Turned);
     };
-    Ok(Command::Box {
+    Ok(CifCommand::Box {
         length: numbers.length as i64,
         width: numbers.width as i64,
         cx: numbers.cx,
@@ -102,7 +102,7 @@ pub(crate) fn layer_form(body: &[u8]) -> Form
     if !are_blanks(rest) {
         return Err(Misfit::Malformed);
     }
-    Ok(Ok(Command::Layer(layer)))
+    Ok(Ok(CifCommand::Layer(layer)))
 }
 
 /// The form of a definition's start, behind its letters: the symbol's number, and perhaps a scale.
@@ -113,14 +113,14 @@ fn start_form(body: &[u8]) -> Form
 {
     let (n, rest) = natural_at(after_separators(body))?;
     if are_separators(rest) {
-        return Ok(Ok(Command::Start { n, a: 1, b: 1 }));
+        return Ok(Ok(CifCommand::Start { n, a: 1, b: 1 }));
     }
     let (a, rest) = next_positive(rest)?;
     let (b, rest) = next_positive(rest)?;
     if !are_separators(rest) {
         return Err(Misfit::Malformed);
     }
-    Ok(Ok(Command::Start { n, a, b }))
+    Ok(Ok(CifCommand::Start { n, a, b }))
 }
 
 /// The form of a definition's finish, behind its letters.
@@ -131,7 +131,7 @@ fn finish_form(body: &[u8]) -> Form
     if !are_blanks(body) {
         return Err(Misfit::Malformed);
     }
-    Ok(Ok(Command::Finish))
+    Ok(Ok(CifCommand::Finish))
 }
 
 /// The form of a definition's start or finish.
@@ -151,11 +151,11 @@ pub(crate) fn definition_form(body: &[u8]) -> Form
 }
 
 /// A user command of a text in memory of its own. The one error is want of memory.
-fn user_command(alloc: Global, kind: UserKind, text: &[u8]) -> Result<Command, AllocError>
+fn user_command(alloc: Global, kind: UserKind, text: &[u8]) -> Result<CifCommand, AllocError>
     ensures { IfOk result (λ command. command ≡ commands.User kind text.now) }
 {
     let text = Name::new(text.to_vec(alloc)?);
-    Ok(Command::User { kind, text })
+    Ok(CifCommand::User { kind, text })
 }
 
 /// A user command that names something needs a name. The one error is want of memory.

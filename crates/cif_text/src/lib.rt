@@ -15,7 +15,7 @@ mod print;
 mod reading;
 mod transform;
 
-pub use command::{Command, UserKind};
+pub use command::{CifCommand, UserKind};
 pub use fault::{CifFault, CifKind};
 pub use print::print_command;
 pub use reading::read_commands;

@@ -1,43 +1,43 @@
 //! The line of a command, printed to the front of a buffer of 160 bytes.
 
 ghost use Rattle.cif_text.specs.Printing.{blanked, line, flip_parts, quarter_parts, upright_parts, HasLine};
-ghost use Rattle.cif_text.specs.declared.command.Command.TheVariants as commands;
+ghost use Rattle.cif_text.specs.declared.command.CifCommand.TheVariants as commands;
 ghost use Rattle.std.specs.Fmt.{signed_decimal};
 ghost use Rattle.std.specs.Prelude.{◌≡◌, ◌+◌, ◌≤◌, ◌++◌, ◌∷◌, [], length, take, decimal};
 
-use crate::command::Command;
+use crate::command::CifCommand;
 use geom_core::LayerName;
 use itoa::Buffer;
 
 /// Writes the command's line to the front of `into`, and gives the length of the line. Takes no memory.
 ///
 /// It needs a command that is no user command, and a call with at most three quarters.
-pub fn print_command(command: &Command, into: &mut [u8; 160]) -> usize
+pub fn print_command(command: &CifCommand, into: &mut [u8; 160]) -> usize
     requires { HasLine command.now }
     ensures line { take result into.new ≡ line command.now }
     ensures fits { result ≤ 160 }
 {
     match command {
-        Command::Box {
+        CifCommand::Box {
             length,
             width,
             cx,
             cy,
             upright,
         } => print_box(*length, *width, *cx, *cy, *upright, into),
-        Command::Layer(layer) => print_layer(layer, into),
-        Command::Start { n, a, b } => print_start(*n, *a, *b, into),
-        Command::Finish => put(into, 0, b"DF;\n"),
-        Command::Call {
+        CifCommand::Layer(layer) => print_layer(layer, into),
+        CifCommand::Start { n, a, b } => print_start(*n, *a, *b, into),
+        CifCommand::Finish => put(into, 0, b"DF;\n"),
+        CifCommand::Call {
             n,
             flip,
             quarters,
             dx,
             dy,
         } => print_call(*n, *flip, *quarters, *dx, *dy, into),
-        Command::Comment => put(into, 0, b"(cellroute 1);\n"),
-        Command::User { .. } => unreachable!(),
-        Command::End => put(into, 0, b"E\n"),
+        CifCommand::Comment => put(into, 0, b"(cellroute 1);\n"),
+        CifCommand::User { .. } => unreachable!(),
+        CifCommand::End => put(into, 0, b"E\n"),
     }
 }
 

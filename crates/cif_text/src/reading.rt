@@ -9,33 +9,33 @@ ghost use Rattle.std.specs.List.{list_all, prefix_len};
 ghost use Rattle.std.specs.Prelude.{◌≡◌, ◌≤◌, IfOk, MatchOption, false, length, true};
 
 use crate::bytes::after_between;
-use crate::command::Command;
+use crate::command::CifCommand;
 use crate::commands::command_at;
 use crate::fault::{CifFault, CifKind, Stop};
 use std::alloc::Global;
 
-fn is_end(command: &Command) -> bool
+fn is_end(command: &CifCommand) -> bool
     ensures { result ≡ is_end command.now }
 {
     match command {
-        Command::End => true,
+        CifCommand::End => true,
         _ => false,
     }
 }
 
 /// Whether a definition is open behind a command, where one was open before it or not.
-fn is_open_behind(inside: bool, command: &Command) -> bool
+fn is_open_behind(inside: bool, command: &CifCommand) -> bool
     ensures { result ≡ is_open_behind inside command.now }
 {
     match command {
-        Command::Start { .. } => true,
-        Command::Finish => false,
+        CifCommand::Start { .. } => true,
+        CifCommand::Finish => false,
         _ => inside,
     }
 }
 
 /// The commands of a text, up to its end command.
-fn commands_in(alloc: Global, bytes: &[u8]) -> Result<Vec<Command>, Stop>
+fn commands_in(alloc: Global, bytes: &[u8]) -> Result<Vec<CifCommand>, Stop>
     ensures gives { Answers (λ found. found.items) result (commands_of false bytes.now) }
     ensures sound { IfOk result (λ found. AreSound false found.items) }
     ensures short { IfOk result (λ found. length found.items ≤ length bytes.now) }
@@ -76,7 +76,7 @@ fn first_foreign(bytes: &[u8]) -> Option<usize>
 /// fault, or want of memory. Their numbers are in range, their definitions are not nested, they end with the end command, and there are
 /// no more of them than bytes. The text is read once, from the front to its end command.
 #[tactic(auto, unfolding(crate::specs::CifReads::cif_reads))]
-pub fn read_commands(alloc: Global, bytes: &[u8]) -> Result<Vec<Command>, CifFault>
+pub fn read_commands(alloc: Global, bytes: &[u8]) -> Result<Vec<CifCommand>, CifFault>
     ensures reads { AnswersAs (λ found. found.items) told_of result (cif_reads bytes.now) }
     ensures sound { IfOk result (λ found. AreSound false found.items) }
     ensures short { IfOk result (λ found. length found.items ≤ length bytes.now) }

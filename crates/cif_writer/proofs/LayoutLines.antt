@@ -1,4 +1,4 @@
-use Rattle.cif_text.specs.declared.command.Command.TheVariants as commands
+use Rattle.cif_text.specs.declared.command.CifCommand.TheVariants as commands
 use Rattle.wire_geom.specs.declared.drawn.Drawn as wires
 use Rattle.std.proofs.Common.{◌≡◌, ℕ, suc, ◌+◌, List, [], ◌∷◌, ◌++◌, drop, length, refl, arith, add-one, ap, ap₂, sym, ◌∙◌, Option, Some, None}
 use Rattle.std.proofs.lemmas.List.{append-nil}
@@ -6,7 +6,7 @@ use Rattle.std.specs.List.{slice_get}
 use Rattle.cif_text.proofs.TextLemmas.{text_of-append, items-append}
 use Rattle.cif_text.specs.Printing.{line, text_of}
 use Rattle.cif_text.specs.Written.{MainItem, WrittenSymbol, copy_commands, items_commands, layer_after, layout_commands, shape_commands, symbol_commands, symbols_commands}
-use Rattle.cif_text.specs.declared.command.Command.{Command}
+use Rattle.cif_text.specs.declared.command.CifCommand.{CifCommand}
 use Rattle.cif_writer.specs.LayoutText.{text_behind}
 use Rattle.cif_writer.proofs.Lines.{text-last}
 use Rattle.cif_writer.specs.Symbols.{copies_of, copy_name, copy_number, items_of, kind_name, symbols_with, wires_of}
@@ -27,7 +27,7 @@ row-layer d layer (p ∷ items) = row-layer d layer items
 row-commands : (d : Netlist) (layer : Option (List ℕ)) (items : List PlacedItem) → items_commands layer (copies_of d items) ≡ items_commands None (copies_of d items)
 row-commands d layer [] = refl
 row-commands d layer (p ∷ items) =
-    ap (λ (cs : List Command). copy_commands (copy_name d p.item) (copy_number d p.item) p.place ++ cs) (row-commands d layer items)
+    ap (λ (cs : List CifCommand). copy_commands (copy_name d p.item) (copy_number d p.item) p.place ++ cs) (row-commands d layer items)
 
 -- the text of a row: that of its first item, and that of the others
 pub row-parts : (d : Netlist) (p : PlacedItem) (after : List PlacedItem) → text_of (items_commands None (copies_of d (p ∷ after)))
@@ -67,7 +67,7 @@ main-parts d last drawn above row higher =
     let behind : items_commands layer (copies_of d row ++ items_of d above higher)
     ≡ items_commands None (copies_of d row) ++ items_commands layer (items_of d above higher) =
     items-append layer (copies_of d row) (items_of d above higher)
-    ∙ ap (λ (cs : List Command). cs ++ items_commands (layer_after layer (copies_of d row)) (items_of d above higher)) (row-commands d layer row)
+    ∙ ap (λ (cs : List CifCommand). cs ++ items_commands (layer_after layer (copies_of d row)) (items_of d above higher)) (row-commands d layer row)
     ∙ ap (λ (l : Option (List ℕ)). items_commands None (copies_of d row) ++ items_commands l (items_of d above higher)) (row-layer d layer row) in
     ap text_of (items-append last (wires_of drawn) (copies_of d row ++ items_of d above higher))
     ∙ text_of-append (items_commands last (wires_of drawn)) (items_commands layer (copies_of d row ++ items_of d above higher))

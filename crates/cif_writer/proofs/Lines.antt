@@ -3,14 +3,14 @@ use Rattle.std.proofs.lemmas.List.{append-nil}
 use Rattle.cif_text.proofs.TextLemmas.{text_of-append}
 use Rattle.cif_text.specs.Printing.{line, text_of}
 use Rattle.cif_text.specs.Written.{name_commands, shapes_commands, symbol_commands}
-use Rattle.cif_text.specs.declared.command.Command.{Command}
-use Rattle.cif_text.specs.declared.command.Command.TheVariants as commands
+use Rattle.cif_text.specs.declared.command.CifCommand.{CifCommand}
+use Rattle.cif_text.specs.declared.command.CifCommand.TheVariants as commands
 use Rattle.cif_text.specs.declared.command.UserKind.{UserKind}
 use Rattle.cif_text.specs.declared.command.UserKind.TheVariants as users
 use Rattle.geom_core.specs.declared.layout.Shape.{Shape}
 
 -- the text of commands and one more
-pub text-last : (cs : List Command) (c : Command) → text_of (cs ++ (c ∷ [])) ≡ text_of cs ++ line c
+pub text-last : (cs : List CifCommand) (c : CifCommand) → text_of (cs ++ (c ∷ [])) ≡ text_of cs ++ line c
 text-last cs c = text_of-append cs (c ∷ []) ∙ ap (λ (l : List ℕ). text_of cs ++ l) (append-nil (line c))
 
 -- the text of a name, by the line of its command

@@ -6,7 +6,7 @@ use Rattle.channel_stack.specs.Layouts.{feed_drawing}
 use Rattle.channel_stack.specs.Stack.{LaidOut, drawings, laid_of, stack_of}
 use Rattle.cif_text.specs.Printing.{line}
 use Rattle.cif_text.specs.Written as written
-use Rattle.cif_text.specs.declared.command.Command.TheVariants as commands
+use Rattle.cif_text.specs.declared.command.CifCommand.TheVariants as commands
 use Rattle.design_model.specs.Drawing.{drawing_of}
 use Rattle.design_model.specs.Netlist.{Netlist}
 use Rattle.design_model.specs.declared.design.CellKind.{CellKind}

@@ -4,7 +4,7 @@ use Rattle.tech_rules.specs.Rules.{RuleValues}
 use Rattle.design_model.specs.Netlist.{Netlist}
 use Rattle.cif_text.specs.Printing as cif
 use Rattle.cif_text.specs.Written as written
-use Rattle.cif_text.specs.declared.command.Command.TheVariants as commands
+use Rattle.cif_text.specs.declared.command.CifCommand.TheVariants as commands
 use Rattle.feed_cells.specs.Fed.{Fed}
 use Rattle.cif_writer.specs.Symbols.{symbols_of, main_items}
 use Rattle.channel_stack.specs.Stack.{Stacked}

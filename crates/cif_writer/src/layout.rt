@@ -9,7 +9,7 @@ ghost use Rattle.channel_stack.specs.Stack.{drawings, laid_of, stack_of};
 ghost use Rattle.cif_text.specs.Printing.{line, text_of};
 ghost use Rattle.cif_text.specs.ReadsAs.{ReadsAs};
 ghost use Rattle.cif_text.specs.Written.{items_commands, layer_after, symbols_commands};
-ghost use Rattle.cif_text.specs.declared.command.Command.TheVariants as commands;
+ghost use Rattle.cif_text.specs.declared.command.CifCommand.TheVariants as commands;
 ghost use Rattle.cif_writer.specs.InReach.{AreInReach};
 ghost use Rattle.cif_writer.specs.LayoutText.{HoldsFront, placed_text, text_behind};
 ghost use Rattle.cif_writer.specs.Symbols.{copies_of, copy_name, copy_number, items_of, kind_name, symbol_drawings, symbols_with, wires_of};

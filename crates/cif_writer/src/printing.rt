@@ -2,13 +2,13 @@
 
 ghost use Rattle.cif_text.specs.Printing.{line, text_of, HasLine};
 ghost use Rattle.cif_text.specs.Written.{box_of, call_to, change, copy_commands, name_commands, shape_commands, shapes_commands, symbol_commands};
-ghost use Rattle.cif_text.specs.declared.command.Command.TheVariants as commands;
+ghost use Rattle.cif_text.specs.declared.command.CifCommand.TheVariants as commands;
 ghost use Rattle.geom_core.specs.Reach.{IsInReach, IsShapeInReach};
 ghost use Rattle.shelf_io.specs.Wrote.{Writes};
 ghost use Rattle.std.specs.List.{AllByRecursion};
 ghost use Rattle.std.specs.Prelude.{◌≡◌, ◌∷◌, ◌++◌, [], ◌-ℤ◌, ◌+ℤ◌, int_div, pos, List, ℕ, None, option_map};
 
-use cif_text::{Command, UserKind, print_command};
+use cif_text::{CifCommand, UserKind, print_command};
 use geom_core::{LayerName, Name, Place, Shape};
 use shelf_io::{Buffer, Failed, Sink};
 
@@ -16,7 +16,7 @@ use shelf_io::{Buffer, Failed, Sink};
 pub(crate) fn put_command<K: Sink>(
     buffer: &mut Buffer,
     out: &mut K,
-    command: &Command,
+    command: &CifCommand,
 ) -> Result<(), Failed>
     requires { HasLine command.now }
     ensures { Writes result (line command.now) buffer.old buffer.new (K.written out.old) (K.written out.new) (K.faults out.old) (K.faults out.new) (K.same_place out.old out.new) (K.else_same out.old out.new) }
@@ -55,13 +55,13 @@ fn put_name<K: Sink>(
 }
 
 // The box of a shape, in centimicrons.
-fn box_of(shape: &Shape) -> Command
+fn box_of(shape: &Shape) -> CifCommand
     requires { IsShapeInReach shape.now }
     ensures shape { result ≡ box_of shape.now.rect }
     ensures line { HasLine result }
 {
     let rect = shape.rect;
-    Command::Box {
+    CifCommand::Box {
         length: length_of(rect.x0, rect.x1),
         width: length_of(rect.y0, rect.y1),
         cx: middle_of(rect.x0, rect.x1),
@@ -89,11 +89,11 @@ fn middle_of(low: i64, high: i64) -> i64
 }
 
 // The call of a numbered symbol at a place.
-fn call_of(number: u64, place: &Place) -> Command
+fn call_of(number: u64, place: &Place) -> CifCommand
     ensures call { result ≡ call_to number place.now }
     ensures line { HasLine result }
 {
-    Command::Call {
+    CifCommand::Call {
         n: number,
         flip: place.mirror,
         quarters: 0,
@@ -112,12 +112,12 @@ fn put_layer<K: Sink>(
     ensures { Writes result (text_of (change last layer)) buffer.old buffer.new (K.written out.old) (K.written out.new) (K.faults out.old) (K.faults out.new) (K.same_place out.old out.new) (K.else_same out.old out.new) }
 {
     match last {
-        None => put_command(buffer, out, &Command::Layer(layer)),
+        None => put_command(buffer, out, &CifCommand::Layer(layer)),
         Some(last) => {
             if last == layer {
                 return Ok(());
             }
-            put_command(buffer, out, &Command::Layer(layer))
+            put_command(buffer, out, &CifCommand::Layer(layer))
         }
     }
 }
@@ -162,7 +162,7 @@ pub(crate) fn put_symbol<K: Sink>(
     requires { AllByRecursion IsShapeInReach shapes.now }
     ensures { Writes result (text_of (symbol_commands number (record { name = option_map (λ n. n.now) name.entry; shapes = shapes.now }))) buffer.old buffer.new (K.written out.old) (K.written out.new) (K.faults out.old) (K.faults out.new) (K.same_place out.old out.new) (K.else_same out.old out.new) }
 {
-    let start = Command::Start {
+    let start = CifCommand::Start {
         n: number,
         a: 1,
         b: 1,
@@ -170,7 +170,7 @@ pub(crate) fn put_symbol<K: Sink>(
     put_command(buffer, out, &start)?;
     put_name(buffer, out, UserKind::SymbolName, name)?;
     put_shapes(buffer, out, shapes)?;
-    put_command(buffer, out, &Command::Finish)
+    put_command(buffer, out, &CifCommand::Finish)
 }
 
 /// Puts the call of a numbered symbol at a place, behind the copy's name, if it has one.

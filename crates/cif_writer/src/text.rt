@@ -2,14 +2,14 @@
 
 ghost use Rattle.cif_text.specs.Printing.{line, text_of};
 ghost use Rattle.cif_text.specs.Written.{copy_commands, shape_commands, symbol_commands};
-ghost use Rattle.cif_text.specs.declared.command.Command.TheVariants as commands;
+ghost use Rattle.cif_text.specs.declared.command.CifCommand.TheVariants as commands;
 ghost use Rattle.geom_core.specs.Reach.{IsShapeInReach};
 ghost use Rattle.shelf_io.specs.Wrote.{Puts, Writes};
 ghost use Rattle.std.specs.List.{AllByRecursion};
 ghost use Rattle.std.specs.Prelude.{◌≡◌, ◌++◌, None, Some, option_map};
 
 use crate::printing::{put_command, put_copy, put_shape, put_symbol};
-use cif_text::{Command, print_command};
+use cif_text::{CifCommand, print_command};
 use geom_core::{LayerName, Name, Place, Shape};
 use shelf_io::{Buffer, Failed, Sink};
 use std::marker::Model;
@@ -36,7 +36,7 @@ impl Text {
         ensures { result ≡ record { buffered = line commands.Comment; last = None } }
     {
         let mut text = [0; 160];
-        let end = print_command(&Command::Comment, &mut text);
+        let end = print_command(&CifCommand::Comment, &mut text);
         Text {
             buffer: Buffer::with(&text[..end]),
             last: None,
@@ -88,7 +88,7 @@ impl Text {
     pub(crate) fn end<K: Sink>(&mut self, out: &mut K) -> Result<(), Failed>
         ensures { Puts result (self.old.buffered ++ line commands.End) (K.written out.old) (K.written out.new) (K.faults out.old) (K.faults out.new) (K.same_place out.old out.new) (K.else_same out.old out.new) }
     {
-        put_command(&mut self.buffer, out, &Command::End)?;
+        put_command(&mut self.buffer, out, &CifCommand::End)?;
         self.buffer.flush(out)
     }
 }

@@ -2,7 +2,7 @@
 
 ghost use Rattle.cif_text.specs.Printing.{line, text_of};
 ghost use Rattle.cif_text.specs.Written.{copy_commands, shape_commands, symbol_commands};
-ghost use Rattle.cif_text.specs.declared.command.Command.TheVariants as commands;
+ghost use Rattle.cif_text.specs.declared.command.CifCommand.TheVariants as commands;
 ghost use Rattle.cif_writer.specs.declared.writer.StartFault.TheVariants as faults;
 ghost use Rattle.geom_core.specs.Reach.{IsShapeInReach};
 ghost use Rattle.shelf_io.specs.Count.{Rose};

@@ -5,7 +5,7 @@ ghost use Rattle.geom_core.specs.Reach.{IsExtentInWideReach};
 ghost use Rattle.geom_core.specs.Rectangles.{Encloses, Meet, grown};
 ghost use Rattle.std.specs.Prelude.{◌≡◌, ◌<ℤ◌, ◌≤ℤ◌, ◌↔◌, ◌-ℤ◌, pos, IsTrue};
 
-use crate::reach::Reach;
+use crate::reach::CloseLength;
 use geom_core::Rect;
 use std::marker::Model;
 
@@ -53,7 +53,7 @@ impl Bounds {
     }
 
     // The bounds that just those rectangles meet whose two gaps from this one are both below `reach`.
-    pub(crate) fn near(rect: &Rect, reach: Reach) -> Bounds
+    pub(crate) fn near(rect: &Rect, reach: CloseLength) -> Bounds
         requires { IsExtentInWideReach rect.now }
         ensures { result ≡ grown (reach.length -ℤ pos 1) rect.now }
     {

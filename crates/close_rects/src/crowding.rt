@@ -10,7 +10,7 @@ use crate::bounds::Bounds;
 use crate::crowd::Crowd;
 use crate::member::Member;
 use crate::members::Members;
-use crate::reach::Reach;
+use crate::reach::CloseLength;
 use std::alloc::{AllocError, Global};
 
 /// The first pairs of members of different classes of which both gaps are below the reach of the first, `most` of them at most: by
@@ -57,7 +57,7 @@ fn places_after(alloc: Global, crowd: &Crowd, row: usize) -> Result<Vec<u32>, Al
     let member = crowd.members().at(row);
     let window = Bounds::near(
         &member.rect,
-        Reach {
+        CloseLength {
             length: member.reach,
         },
     );

@@ -7,7 +7,7 @@ ghost use Rattle.std.specs.Prelude.{◌≡◌};
 use crate::bounds::Bounds;
 use crate::indexed::Indexed;
 use crate::items::{Item, Items};
-use crate::reach::Reach;
+use crate::reach::CloseLength;
 use geom_core::Rect;
 use std::alloc::{AllocError, Global};
 use std::marker::Model;
@@ -19,7 +19,7 @@ use std::marker::Model;
 #[derive(Drop)]
 pub struct Scan {
     indexed: Indexed,
-    reach: Reach,
+    reach: CloseLength,
     row: usize,
     at: usize,
 }
@@ -53,7 +53,7 @@ impl Scan {
         let items = Items::numbered(alloc, rects)?.ordered();
         Ok(Scan {
             indexed: Indexed::of(alloc, items)?,
-            reach: Reach { length: reach },
+            reach: CloseLength { length: reach },
             row: 0,
             at: 1,
         })

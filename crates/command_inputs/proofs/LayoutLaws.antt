@@ -8,7 +8,7 @@ use Rattle.geom_core.specs.declared.layout.Layout.{Layout}
 use Rattle.geom_core.specs.declared.layout.Shape.{Shape}
 use Rattle.cif_text.specs.CifReads.{cif_reads}
 use Rattle.cif_text.specs.ReadsAs.{ReadsAs}
-use Rattle.cif_text.specs.declared.command.Command.{Command}
+use Rattle.cif_text.specs.declared.command.CifCommand.{CifCommand}
 use Rattle.cif_text.specs.declared.fault.CifKind.{CifKind}
 use Rattle.cif_reader.proofs.AgreementLaws.{expansion-means}
 use Rattle.cif_reader.specs.Expansion.{expansion}
@@ -46,7 +46,7 @@ pub layout-reads : (bytes : List ℕ) (layout : Layout) → layout_verdict bytes
 unfolding layout_verdict commands_verdict
 layout-reads bytes layout is = by (commands_verdict bytes) refl is
   where
-    said-reads : (read : Result (List Command) (CifKind × ℕ)) (commands : List Command) → cif_said read ≡ Ok commands → read ≡ Ok commands
+    said-reads : (read : Result (List CifCommand) (CifKind × ℕ)) (commands : List CifCommand) → cif_said read ≡ Ok commands → read ≡ Ok commands
     said-reads (Ok found) commands is = cc
     said-reads (Err bad) commands is = cc
 
@@ -54,7 +54,7 @@ layout-reads bytes layout is = by (commands_verdict bytes) refl is
     said-means (Ok l) is = cc
     said-means (Err bad) is = cc
 
-    by : (said : Result (List Command) Refusal) → commands_verdict bytes ≡ said → (said >>= (λ cs. meaning_said (expansion cs))) ≡ Ok layout → ReadsAs bytes layout
+    by : (said : Result (List CifCommand) Refusal) → commands_verdict bytes ≡ said → (said >>= (λ cs. meaning_said (expansion cs))) ≡ Ok layout → ReadsAs bytes layout
     by (Ok commands) found is = record {
       commands = commands;
       reads = said-reads (cif_reads bytes) commands (within-next _ _ bytes (λ whole. cif_said (cif_reads whole)) commands found);

@@ -4,7 +4,7 @@ use Rattle.limits.specs.declared.TheConstants.{MOST_LAYOUT_BYTES}
 use Rattle.geom_core.specs.declared.layout.Layout.{Layout}
 use Rattle.cif_text.specs.CifReads.{cif_reads}
 use Rattle.cif_text.specs.Sound.{AreSound}
-use Rattle.cif_text.specs.declared.command.Command as cif
+use Rattle.cif_text.specs.declared.command.CifCommand as cif
 use Rattle.cif_text.specs.declared.fault.CifKind.{CifKind}
 use Rattle.cif_reader.specs.Expansion.{expansion}
 use Rattle.cif_reader.specs.declared.fault.ExpandKind.{ExpandKind}
@@ -14,7 +14,7 @@ use Rattle.command_ends.specs.declared.refusal.Limited.TheVariants as limits
 use Rattle.command_ends.specs.declared.refusal.Refusal.{Refusal}
 use Rattle.command_ends.specs.declared.refusal.Refusal.TheVariants.{Cif, Meaning}
 
-abbrev pub cif_said : Result (List cif.Command) (CifKind × ℕ) → Result (List cif.Command) Refusal
+abbrev pub cif_said : Result (List cif.CifCommand) (CifKind × ℕ) → Result (List cif.CifCommand) Refusal
 cif_said (Ok commands) = Ok commands
 cif_said (Err bad) = Err (Cif bad.0 bad.1)
 
@@ -23,12 +23,12 @@ meaning_said (Ok layout) = Ok layout
 meaning_said (Err bad) = Err (Meaning bad.0 bad.1)
 
 -- commands that the reader can expand
-pub record AreExpandable (commands : List cif.Command) : Type 0 where
+pub record AreExpandable (commands : List cif.CifCommand) : Type 0 where
   pub sound : AreSound false commands
   pub few : length commands < 2 ^ 32
 
 -- the commands that the bytes of a layout's file are
-unfoldable pub commands_verdict : List ℕ → Result (List cif.Command) Refusal
+unfoldable pub commands_verdict : List ℕ → Result (List cif.CifCommand) Refusal
 commands_verdict bytes = do
   whole ← within_limit limits.Cif MOST_LAYOUT_BYTES bytes
   cif_said (cif_reads whole)

@@ -10,7 +10,7 @@ ghost use Rattle.std.specs.Prelude.{◌<◌, ◌^◌, length, IfOk};
 
 use crate::stages::{load_within, or_stop};
 use cif_reader::{ExpandFault, expand};
-use cif_text::{CifFault, Command, read_commands};
+use cif_text::{CifCommand, CifFault, read_commands};
 use command_ends::{Limited, Refusal, Stop};
 use geom_core::Layout;
 use limits::MOST_LAYOUT_BYTES;
@@ -18,7 +18,7 @@ use shelf_io::Shelf;
 use std::alloc::Global;
 
 // The commands of a text.
-fn read_text(alloc: Global, bytes: &[u8]) -> Result<Vec<Command>, Refusal>
+fn read_text(alloc: Global, bytes: &[u8]) -> Result<Vec<CifCommand>, Refusal>
     requires { length bytes.now < 2 ^ 32 }
     ensures says { Says (λ v. v.items) result (cif_said (cif_reads bytes.now)) }
     ensures possible { IfOk result (λ v. AreExpandable v.items) }
@@ -31,7 +31,11 @@ fn read_text(alloc: Global, bytes: &[u8]) -> Result<Vec<Command>, Refusal>
 }
 
 // The commands of a file. Its bytes are given up.
-fn load_commands<S: Shelf>(alloc: Global, shelf: &mut S, name: &str) -> Result<Vec<Command>, Stop>
+fn load_commands<S: Shelf>(
+    alloc: Global,
+    shelf: &mut S,
+    name: &str,
+) -> Result<Vec<CifCommand>, Stop>
     ensures loads { Loads (λ v. v.items) commands_verdict (λ told. told name.now) (FileFails name.now) result
         (files (S.holds shelf.old) (S.read_faults shelf.old) (S.write_faults shelf.old)) (files (S.holds shelf.new) (S.read_faults shelf.new) (S.write_faults shelf.new)) }
     ensures possible { IfOk result (λ v. AreExpandable v.items) }
@@ -41,7 +45,7 @@ fn load_commands<S: Shelf>(alloc: Global, shelf: &mut S, name: &str) -> Result<V
 }
 
 // The layout that commands give.
-fn expand_commands(alloc: Global, commands: &[Command]) -> Result<Layout, Refusal>
+fn expand_commands(alloc: Global, commands: &[CifCommand]) -> Result<Layout, Refusal>
     requires { AreExpandable commands.now }
     ensures says { Says (λ layout. layout) result (meaning_said (expansion commands.now)) }
     ensures measured { IfOk result IsMeasured }

@@ -5,8 +5,8 @@ use Rattle.geom_core.specs.LayerText.{is_layer_text, filled}
 use Rattle.geom_core.specs.declared.layer.LayerName.TheInside.{Inside}
 
 -- the name that is stored
-abbrev pub text_of : Inside → List ℕ
-text_of a = take a.length a.bytes
+abbrev pub layer_text : Inside → List ℕ
+layer_text a = take a.length a.bytes
 
 -- four bytes, of which the first `length` are a layer's name and the others are 0
 pub record IsNamed (a : Inside) : Type 0 where
@@ -21,6 +21,6 @@ made bytes len = record { bytes = bytes; length = len }
 abbrev pub inside_of : List ℕ → Inside
 inside_of text = record { bytes = filled text; length = length text }
 
-pub inverse_is : (a : Inside) → IsNamed a → inside_of (text_of a) ≡ a
+pub inverse_is : (a : Inside) → IsNamed a → inside_of (layer_text a) ≡ a
 inverse_is a h =
-    ap (λ (bytes : List ℕ). made bytes (length (text_of a))) h.zeros ∙ ap (λ (len : ℕ). made a.bytes len) h.length_is
+    ap (λ (bytes : List ℕ). made bytes (length (layer_text a))) h.zeros ∙ ap (λ (len : ℕ). made a.bytes len) h.length_is

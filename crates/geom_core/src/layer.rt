@@ -19,9 +19,9 @@ impl Model for LayerName {
 
     ghost Value = { List ℕ };
 
-    ghost use Rattle.geom_core.specs.LayerView.{text_of, IsNamed, inside_of, inverse_is};
+    ghost use Rattle.geom_core.specs.LayerView.{layer_text, IsNamed, inside_of, inverse_is};
 
-    ghost view = { text_of };
+    ghost view = { layer_text };
 
     ghost invariant = { IsNamed };
 

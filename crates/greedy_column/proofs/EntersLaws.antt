@@ -3,7 +3,7 @@ use Rattle.std.proofs.lemmas.Bool.{ne_eqb, cases_eq, ltb-true}
 use Rattle.choose_core.specs.declared.candidate.Candidate.{Candidate}
 use Rattle.choose_core.specs.declared.plan.Manner.{Manner}
 use Rattle.greedy_column.specs.declared.column.Track.{Track}
-use Rattle.greedy_column.specs.declared.entering.Pin.{Pin}
+use Rattle.greedy_column.specs.declared.entering.EnteringPin.{EnteringPin}
 use Rattle.greedy_column.specs.declared.entering.Entries.{Entries}
 use Rattle.greedy_column.specs.declared.entering.PinKind.{PinKind}
 use Rattle.greedy_column.specs.declared.entering.PinKind.TheVariants.{NoPins, BottomAlone, TopAlone, EqualPins, TwoPins}
@@ -56,7 +56,7 @@ module _ (manner : Manner) (may : List Candidate → ℕ → Type 0) (before : L
   old_id : (net line : ℕ) → IsOpenLine before net line → id_on before line ≢ fresh
   old_id net line is same = let less = numbered.below (id_on before line) (id_on-member before line is.begins is.within) in omega (arith, less, same)
 
-  pub new_both : (top bottom : Pin) (uppers lowers : List ℕ) (new : Newcomer) (entries : Entries) → 0 < top.net → 0 < bottom.net
+  pub new_both : (top bottom : EnteringPin) (uppers lowers : List ℕ) (new : Newcomer) (entries : Entries) → 0 < top.net → 0 < bottom.net
       → ((line : ℕ) → Contains uppers line → IsOpenLine before top.net line) → ((line : ℕ) → Contains lowers line → IsOpenLine before bottom.net line)
       → EntersNew manner may top bottom before fresh uppers lowers new entries → EnterBoth before top.net bottom.net entries
   new_both top bottom uppers lowers TopPin entries some too above below (line, by, is) =
@@ -80,7 +80,7 @@ module _ (manner : Manner) (may : List Candidate → ℕ → Type 0) (before : L
         apart = λ same. omega (arith, same);
       })
 
-  pub pair_both : (top bottom : Pin) (uppers lowers partnered : List ℕ) (entries : Entries) → 0 < top.net → 0 < bottom.net
+  pub pair_both : (top bottom : EnteringPin) (uppers lowers partnered : List ℕ) (entries : Entries) → 0 < top.net → 0 < bottom.net
       → ((line : ℕ) → Contains partnered line → Contains uppers line)
       → ((line : ℕ) → Contains uppers line → IsOpenLine before top.net line) → ((line : ℕ) → Contains lowers line → IsOpenLine before bottom.net line)
       → EntersPair manner may top bottom before fresh uppers lowers partnered entries → EnterBoth before top.net bottom.net entries

@@ -6,8 +6,8 @@ use Rattle.greedy_column.specs.declared.column.Track.{Track}
 use Rattle.greedy_column.specs.declared.column.Made.{Made}
 use Rattle.greedy_column.specs.declared.question.Question.{Question}
 use Rattle.greedy_column.specs.declared.entering.Entries.{Entries}
-use Rattle.greedy_column.specs.declared.entering.Edge.{Edge}
-use Rattle.greedy_column.specs.declared.entering.Edge.TheVariants.{Upper, Lower}
+use Rattle.greedy_column.specs.declared.entering.ChannelEdge.{ChannelEdge}
+use Rattle.greedy_column.specs.declared.entering.ChannelEdge.TheVariants.{Upper, Lower}
 use Rattle.greedy_column.specs.Tracks.{ids}
 use Rattle.greedy_column.specs.Lawful.{IsOpen}
 use Rattle.greedy_column.specs.Lines.{is_open, lines_from, open_lines, id_on, net_on}
@@ -66,32 +66,32 @@ IsOpen-from before net line apart some is =
 abbrev pub MayBeEntered : List Track → List Made → ℕ → ℕ → Type 0
 MayBeEntered before made net id = IsOpen before net id ⊎ Contains (map (λ (m : Made). m.id) made) id
 
-abbrev entered_at : Edge → Entries → ℕ
+abbrev entered_at : ChannelEdge → Entries → ℕ
 entered_at Upper entries = entries.top
 entered_at Lower entries = entries.bottom
 
-abbrev not_entered_at : Edge → Entries → ℕ
+abbrev not_entered_at : ChannelEdge → Entries → ℕ
 not_entered_at Upper entries = entries.bottom
 not_entered_at Lower entries = entries.top
 
-entry_id : (edge : Edge) (made : List Made) (id : ℕ) → entered_at edge (entry_at edge made id) ≡ id
+entry_id : (edge : ChannelEdge) (made : List Made) (id : ℕ) → entered_at edge (entry_at edge made id) ≡ id
 entry_id Upper made id = refl
 entry_id Lower made id = refl
 
-entry_made : (edge : Edge) (made : List Made) (id : ℕ) → (entry_at edge made id).made ≡ made
+entry_made : (edge : ChannelEdge) (made : List Made) (id : ℕ) → (entry_at edge made id).made ≡ made
 entry_made Upper made id = refl
 entry_made Lower made id = refl
 
-entry_other : (edge : Edge) (made : List Made) (id : ℕ) → not_entered_at edge (entry_at edge made id) ≡ 0
+entry_other : (edge : ChannelEdge) (made : List Made) (id : ℕ) → not_entered_at edge (entry_at edge made id) ≡ 0
 entry_other Upper made id = refl
 entry_other Lower made id = refl
 
 -- a pin alone enters a track that is open to its net, or one that is made, and the other edge none
-pub record EntersOne (before : List Track) (edge : Edge) (net : ℕ) (entries : Entries) : Type 0 where
+pub record EntersOne (before : List Track) (edge : ChannelEdge) (net : ℕ) (entries : Entries) : Type 0 where
   pub enters : MayBeEntered before entries.made net (entered_at edge entries)
   pub other : not_entered_at edge entries ≡ 0
 
-pub EntersOne-from : (may : List Candidate → ℕ → Type 0) (before : List Track) (fresh : ℕ) (edge : Edge) (question : Question) (own : List ℕ) (below : ℕ) (net : ℕ) (lines : List ℕ) (entries : Entries)
+pub EntersOne-from : (may : List Candidate → ℕ → Type 0) (before : List Track) (fresh : ℕ) (edge : ChannelEdge) (question : Question) (own : List ℕ) (below : ℕ) (net : ℕ) (lines : List ℕ) (entries : Entries)
     → Apart (ids before) → 0 < net → ((line : ℕ) → Contains lines line → IsOpenLine before net line) → EntersAlone may edge question own below before fresh lines entries
     → EntersOne before edge net entries
 EntersOne-from may before fresh edge question own below net [] entries apart some each is =

@@ -4,10 +4,10 @@ use Rattle.choose_core.specs.declared.plan.Manner.{Manner}
 use Rattle.greedy_column.specs.declared.column.Track.{Track}
 use Rattle.greedy_column.specs.declared.column.Made.{Made}
 use Rattle.greedy_column.specs.declared.question.Question.{Question}
-use Rattle.greedy_column.specs.declared.entering.Pin.{Pin}
+use Rattle.greedy_column.specs.declared.entering.EnteringPin.{EnteringPin}
 use Rattle.greedy_column.specs.declared.entering.Entries.{Entries}
-use Rattle.greedy_column.specs.declared.entering.Edge.{Edge}
-use Rattle.greedy_column.specs.declared.entering.Edge.TheVariants.{Upper, Lower}
+use Rattle.greedy_column.specs.declared.entering.ChannelEdge.{ChannelEdge}
+use Rattle.greedy_column.specs.declared.entering.ChannelEdge.TheVariants.{Upper, Lower}
 use Rattle.greedy_column.specs.declared.entering.PinKind.{PinKind}
 use Rattle.greedy_column.specs.declared.entering.PinKind.TheVariants.{NoPins, BottomAlone, TopAlone, EqualPins, TwoPins}
 use Rattle.greedy_column.specs.declared.entering.Newcomer.{Newcomer}
@@ -32,7 +32,7 @@ module _ (manner : Manner) (may : List Candidate → ℕ → Type 0) (before : L
   none_made : (top bottom : ℕ) → AreMadeForPins before fresh (record { made = []; top = top; bottom = bottom })
   none_made top bottom = record { placed = tt; entered = λ m member. absurd (member-none m member); few = omega arith }
 
-  made_at : (edge : Edge) (below : ℕ) → below ≤ length before → AreMadeForPins before fresh (entry_at edge (new_track fresh below ∷ []) fresh)
+  made_at : (edge : ChannelEdge) (below : ℕ) → below ≤ length before → AreMadeForPins before fresh (entry_at edge (new_track fresh below ∷ []) fresh)
   made_at Upper below within = record {
     placed = (refl, within, tt);
     entered = λ m member. inl (sym (ap (λ (n : Made). n.id) (member-only (new_track fresh below) m member)));
@@ -44,19 +44,19 @@ module _ (manner : Manner) (may : List Candidate → ℕ → Type 0) (before : L
     few = omega arith;
   }
 
-  none_at : (edge : Edge) (id : ℕ) → AreMadeForPins before fresh (entry_at edge [] id)
+  none_at : (edge : ChannelEdge) (id : ℕ) → AreMadeForPins before fresh (entry_at edge [] id)
   none_at Upper id = none_made id 0
   none_at Lower id = none_made 0 id
 
-  alone_made : (edge : Edge) (question : Question) (own : List ℕ) (below : ℕ) (lines : List ℕ) (entries : Entries) → below ≤ length before
+  alone_made : (edge : ChannelEdge) (question : Question) (own : List ℕ) (below : ℕ) (lines : List ℕ) (entries : Entries) → below ≤ length before
       → EntersAlone may edge question own below before fresh lines entries → AreMadeForPins before fresh entries
   alone_made edge question own below [] entries within is = subst (λ (e : Entries). AreMadeForPins before fresh e) (sym is) (made_at edge below within)
   alone_made edge question own below (line ∷ lines) entries within (picked, by, is) = subst (λ (e : Entries). AreMadeForPins before fresh e) (sym is) (none_at edge _)
 
-  any_within : (pin : Pin) (edge : Edge) → any_place manner pin edge before ≤ length before
+  any_within : (pin : EnteringPin) (edge : ChannelEdge) → any_place manner pin edge before ≤ length before
   any_within pin edge = (place_bounds manner (holds_track before pin.net) pin.next edge (length before) 0 (length before) (omega arith)).1
 
-  equal_made : (pin : Pin) (gone : Bool) (entries : Entries) → EntersEqual manner may pin before fresh gone entries → AreMadeForPins before fresh entries
+  equal_made : (pin : EnteringPin) (gone : Bool) (entries : Entries) → EntersEqual manner may pin before fresh gone entries → AreMadeForPins before fresh entries
   equal_made pin true entries is = subst (λ (e : Entries). AreMadeForPins before fresh e) (sym is) (none_made 0 0)
   equal_made pin false entries enters =
       alone_made Upper (straight_question pin) (own_lines pin.net before) (any_place manner pin Lower before) (open_lines pin.net before) entries
@@ -72,7 +72,7 @@ module _ (manner : Manner) (may : List Candidate → ℕ → Type 0) (before : L
     few = omega arith;
   }
 
-  new_made : (top bottom : Pin) (uppers lowers : List ℕ) (new : Newcomer) (entries : Entries) → LieWithin (length before) uppers → LieWithin (length before) lowers
+  new_made : (top bottom : EnteringPin) (uppers lowers : List ℕ) (new : Newcomer) (entries : Entries) → LieWithin (length before) uppers → LieWithin (length before) lowers
       → EntersNew manner may top bottom before fresh uppers lowers new entries → AreMadeForPins before fresh entries
   new_made top bottom uppers lowers TopPin entries above below (line, by, is) =
       let inside = below.each line (picked_is_option may (offer (bottom_question bottom) (own_lines bottom.net before)) lowers line by) in
@@ -98,13 +98,13 @@ module _ (manner : Manner) (may : List Candidate → ℕ → Type 0) (before : L
         few = omega arith;
       })
 
-  pair_made : (top bottom : Pin) (uppers lowers partnered : List ℕ) (entries : Entries) → LieWithin (length before) uppers → LieWithin (length before) lowers
+  pair_made : (top bottom : EnteringPin) (uppers lowers partnered : List ℕ) (entries : Entries) → LieWithin (length before) uppers → LieWithin (length before) lowers
       → EntersPair manner may top bottom before fresh uppers lowers partnered entries → AreMadeForPins before fresh entries
   pair_made top bottom uppers lowers [] entries above below enters = new_made top bottom uppers lowers (newcomer_of manner (holds_track before top.net) (holds_track before bottom.net) uppers lowers) entries above below enters
   pair_made top bottom uppers lowers (line ∷ lines) entries above below (upper, by, (lower, too, is)) =
       subst (λ (e : Entries). AreMadeForPins before fresh e) (sym is) (none_made _ _)
 
-  by_kind_made : (top bottom : Pin) (kind : PinKind) (entries : Entries) → EntersBy manner may top bottom before fresh kind entries → AreMadeForPins before fresh entries
+  by_kind_made : (top bottom : EnteringPin) (kind : PinKind) (entries : Entries) → EntersBy manner may top bottom before fresh kind entries → AreMadeForPins before fresh entries
   by_kind_made top bottom NoPins entries is = subst (λ (e : Entries). AreMadeForPins before fresh e) (sym is) (none_made 0 0)
   by_kind_made top bottom BottomAlone entries enters = alone_made Lower (bottom_question bottom) (own_lines bottom.net before)
       (any_place manner bottom Lower before) (open_lines bottom.net before) entries (any_within bottom Lower) enters
@@ -116,5 +116,5 @@ module _ (manner : Manner) (may : List Candidate → ℕ → Type 0) (before : L
       (LieWithin-lines (is_open top.net) before) (LieWithin-lines (is_open bottom.net) before) enters
 
   -- what step 1 makes is made for its pins
-  pub AreMadeForPins-from : (top bottom : Pin) (entries : Entries) → Enters manner may top bottom before fresh entries → AreMadeForPins before fresh entries
+  pub AreMadeForPins-from : (top bottom : EnteringPin) (entries : Entries) → Enters manner may top bottom before fresh entries → AreMadeForPins before fresh entries
   AreMadeForPins-from top bottom entries enters = by_kind_made top bottom (pin_kind top.net bottom.net) entries enters

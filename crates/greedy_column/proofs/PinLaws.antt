@@ -9,9 +9,9 @@ use Rattle.choose_core.specs.declared.plan.Manner.{Manner}
 use Rattle.greedy_column.specs.declared.column.Track.{Track}
 use Rattle.greedy_column.specs.declared.column.Column.{Column}
 use Rattle.greedy_column.specs.declared.span.Span.{Span}
-use Rattle.greedy_column.specs.declared.entering.Pin.{Pin}
+use Rattle.greedy_column.specs.declared.entering.EnteringPin.{EnteringPin}
 use Rattle.greedy_column.specs.declared.entering.Entries.{Entries}
-use Rattle.greedy_column.specs.declared.entering.Edge.TheVariants.{Upper, Lower}
+use Rattle.greedy_column.specs.declared.entering.ChannelEdge.TheVariants.{Upper, Lower}
 use Rattle.greedy_column.specs.declared.entering.PinKind.{PinKind}
 use Rattle.greedy_column.specs.declared.entering.PinKind.TheVariants.{NoPins, BottomAlone, TopAlone, EqualPins, TwoPins}
 use Rattle.greedy_column.specs.declared.entering.Newcomer.{Newcomer}
@@ -80,7 +80,7 @@ module _ (manner : Manner) (may : List Candidate → ℕ → Type 0) (before : L
       ])
       (first_apart k)
 
-  new_below : (top bottom : Pin) (uppers lowers : List ℕ) (new : Newcomer) (entries : Entries)
+  new_below : (top bottom : EnteringPin) (uppers lowers : List ℕ) (new : Newcomer) (entries : Entries)
       → ((line : ℕ) → Contains uppers line → IsOpenLine before top.net line) → ((line : ℕ) → Contains lowers line → IsOpenLine before bottom.net line)
       → EntersNew manner may top bottom before fresh uppers lowers new entries → IsBelow before entries
   new_below top bottom uppers lowers TopPin entries above below (line, by, is) =
@@ -123,7 +123,7 @@ module _ (manner : Manner) (may : List Candidate → ℕ → Type 0) (before : L
       subst (λ (e : Entries). IsBelow before e) (sym is)
       (subst (λ m. line_of m fresh < line_of m (fresh + 1)) (sym order) (omega (arith, lower, upper, second.0)))
 
-  pair_below : (top bottom : Pin) (uppers lowers partnered : List ℕ) (entries : Entries) → ((line : ℕ) → Contains partnered line → Contains uppers line)
+  pair_below : (top bottom : EnteringPin) (uppers lowers partnered : List ℕ) (entries : Entries) → ((line : ℕ) → Contains partnered line → Contains uppers line)
       → ((line : ℕ) → Contains uppers line → IsOpenLine before top.net line) → ((line : ℕ) → Contains lowers line → IsOpenLine before bottom.net line)
       → EntersPair manner may top bottom before fresh uppers lowers partnered entries → IsBelow before entries
   pair_below top bottom uppers lowers [] entries within above below enters =

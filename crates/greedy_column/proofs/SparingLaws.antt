@@ -7,10 +7,10 @@ use Rattle.greedy_column.specs.declared.column.Track.{Track}
 use Rattle.greedy_column.specs.declared.column.Made.{Made}
 use Rattle.greedy_column.specs.declared.column.Column.{Column}
 use Rattle.greedy_column.specs.declared.question.Question.{Question}
-use Rattle.greedy_column.specs.declared.entering.Pin.{Pin}
+use Rattle.greedy_column.specs.declared.entering.EnteringPin.{EnteringPin}
 use Rattle.greedy_column.specs.declared.entering.Entries.{Entries}
-use Rattle.greedy_column.specs.declared.entering.Edge.{Edge}
-use Rattle.greedy_column.specs.declared.entering.Edge.TheVariants.{Upper, Lower}
+use Rattle.greedy_column.specs.declared.entering.ChannelEdge.{ChannelEdge}
+use Rattle.greedy_column.specs.declared.entering.ChannelEdge.TheVariants.{Upper, Lower}
 use Rattle.greedy_column.specs.declared.entering.PinKind.{PinKind}
 use Rattle.greedy_column.specs.declared.entering.PinKind.TheVariants.{NoPins, BottomAlone, TopAlone, EqualPins, TwoPins}
 use Rattle.greedy_column.specs.Tracks.{ids}
@@ -29,28 +29,28 @@ use Rattle.greedy_column.proofs.SpareLaws.{HasNone-from, HasNoPair-from}
 
 -- how many tracks are made, and why
 module _ (may : List Candidate → ℕ → Type 0) (before : List Track) (fresh : ℕ) where
-  count_at : (edge : Edge) (entries : Entries) (id : ℕ) → entries ≡ entry_at edge [] id → length entries.made ≡ 0
+  count_at : (edge : ChannelEdge) (entries : Entries) (id : ℕ) → entries ≡ entry_at edge [] id → length entries.made ≡ 0
   count_at Upper entries id is = ap (λ (e : Entries). length e.made) is
   count_at Lower entries id is = ap (λ (e : Entries). length e.made) is
 
-  one_at : (edge : Edge) (entries : Entries) (m : Made) (id : ℕ) → entries ≡ entry_at edge (m ∷ []) id → length entries.made ≡ 1
+  one_at : (edge : ChannelEdge) (entries : Entries) (m : Made) (id : ℕ) → entries ≡ entry_at edge (m ∷ []) id → length entries.made ≡ 1
   one_at Upper entries m id is = ap (λ (e : Entries). length e.made) is
   one_at Lower entries m id is = ap (λ (e : Entries). length e.made) is
 
-  alone_count : (edge : Edge) (question : Question) (own : List ℕ) (below : ℕ) (lines : List ℕ) (entries : Entries)
+  alone_count : (edge : ChannelEdge) (question : Question) (own : List ℕ) (below : ℕ) (lines : List ℕ) (entries : Entries)
       → EntersAlone may edge question own below before fresh lines entries → ((lines ≡ []) × (length entries.made ≡ 1)) ⊎ (length entries.made ≡ 0)
   alone_count edge question own below [] entries is = inl (refl, one_at edge entries _ fresh is)
   alone_count edge question own below (line ∷ lines) entries (picked, by, is) = inr (count_at edge entries _ is)
 
   -- one of two pins gets a new track where each has lines that are open to it
-  one_new : (manner by : Manner) (top_holds bottom_holds : Bool) (top bottom : Pin) (uppers lowers : List ℕ) (entries : Entries)
+  one_new : (manner by : Manner) (top_holds bottom_holds : Bool) (top bottom : EnteringPin) (uppers lowers : List ℕ) (entries : Entries)
       → EntersNew manner may top bottom before fresh uppers lowers (newcomer_by by top_holds bottom_holds) entries → length entries.made ≡ 1
   one_new manner Published top_holds bottom_holds top bottom uppers lowers entries (picked, by, is) = ap (λ (e : Entries). length e.made) is
   one_new manner LookingAhead true true top bottom uppers lowers entries (picked, by, is) = ap (λ (e : Entries). length e.made) is
   one_new manner LookingAhead true false top bottom uppers lowers entries (picked, by, is) = ap (λ (e : Entries). length e.made) is
   one_new manner LookingAhead false bottom_holds top bottom uppers lowers entries (picked, by, is) = ap (λ (e : Entries). length e.made) is
 
-  new_count : (manner : Manner) (top bottom : Pin) (uppers lowers : List ℕ) (entries : Entries)
+  new_count : (manner : Manner) (top bottom : EnteringPin) (uppers lowers : List ℕ) (entries : Entries)
       → EntersNew manner may top bottom before fresh uppers lowers
       (newcomer_of manner (holds_track before top.net) (holds_track before bottom.net) uppers lowers) entries
       → (length entries.made ≡ 1) ⊎ ((uppers ≡ []) × (lowers ≡ []))
@@ -60,7 +60,7 @@ module _ (may : List Candidate → ℕ → Type 0) (before : List Track) (fresh 
   new_count manner top bottom (line ∷ uppers) [] entries (picked, by, is) = inl (ap (λ (e : Entries). length e.made) is)
   new_count manner top bottom [] [] entries is = inr (refl, refl)
 
-  pair_count : (manner : Manner) (top bottom : Pin) (uppers lowers partnered : List ℕ) (entries : Entries)
+  pair_count : (manner : Manner) (top bottom : EnteringPin) (uppers lowers partnered : List ℕ) (entries : Entries)
       → EntersPair manner may top bottom before fresh uppers lowers partnered entries
       → ((partnered ≡ []) × ((length entries.made ≡ 1) ⊎ ((uppers ≡ []) × (lowers ≡ [])))) ⊎ (length entries.made ≡ 0)
   pair_count manner top bottom uppers lowers [] entries enters = inl (refl, new_count manner top bottom uppers lowers entries enters)

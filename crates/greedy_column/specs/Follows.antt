@@ -9,7 +9,7 @@ use Rattle.greedy_column.specs.declared.column.Track.{Track}
 use Rattle.greedy_column.specs.declared.column.Column.{Column}
 use Rattle.greedy_column.specs.declared.span.Span.{Span}
 use Rattle.greedy_column.specs.declared.entering.Entries.{Entries}
-use Rattle.greedy_column.specs.declared.entering.Pin.{Pin}
+use Rattle.greedy_column.specs.declared.entering.EnteringPin.{EnteringPin}
 use Rattle.greedy_column.specs.Tracks.{ids}
 use Rattle.greedy_column.specs.Replay.{top_pin, bottom_pin, entered, freed}
 use Rattle.greedy_column.specs.Ahead.{next_of}
@@ -22,10 +22,10 @@ use Rattle.greedy_column.specs.Ending.{joined_pairs, groups, EndsFollow}
 use Rattle.greedy_column.specs.Moving.{IsOrderOfMoves, MovesFollow, move_ids}
 
 -- a pin of a net
-abbrev pub pin_with : (ℕ → Next) → ℕ → Pin
+abbrev pub pin_with : (ℕ → Next) → ℕ → EnteringPin
 pin_with next net = record { net = net; next = next net }
 
-abbrev pub pin_of : Pins → ℕ → ℕ → Pin
+abbrev pub pin_of : Pins → ℕ → ℕ → EnteringPin
 pin_of pins column net = pin_with (next_of pins column) net
 
 -- the entries that a record tells

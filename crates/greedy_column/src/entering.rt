@@ -15,14 +15,14 @@ use std::alloc::{AllocError, Global};
 
 // An edge of the channel.
 #[derive(Clone, Copy, Debug)]
-pub(crate) enum Edge {
+pub(crate) enum ChannelEdge {
     Upper,
     Lower,
 }
 
 // A pin's net, 0 for no pin, and where the net has its next pins.
 #[derive(Clone, Copy, Debug)]
-pub(crate) struct Pin {
+pub(crate) struct EnteringPin {
     pub(crate) net: u32,
     pub(crate) next: Next,
 }
@@ -53,7 +53,7 @@ pub(crate) struct Entries {
     pub(crate) bottom: u32,
 }
 
-impl Pin {
+impl EnteringPin {
     // What is asked of two equal pins of this net.
     fn straight_question(self) -> Question
         ensures { result ≡ straight_question self }
@@ -89,17 +89,17 @@ impl Pin {
 }
 
 // The entry of a pin at an edge.
-fn entry_at(edge: Edge, made: Vec<Made>, id: u32) -> Entries
+fn entry_at(edge: ChannelEdge, made: Vec<Made>, id: u32) -> Entries
     ensures { result ≡ entry_at edge made.items id }
 {
     let made = Items::new(made);
     match edge {
-        Edge::Upper => Entries {
+        ChannelEdge::Upper => Entries {
             made,
             top: id,
             bottom: 0,
         },
-        Edge::Lower => Entries {
+        ChannelEdge::Lower => Entries {
             made,
             top: 0,
             bottom: id,
@@ -142,8 +142,8 @@ impl<C: Chooses> Moment<'_, C> {
         &self,
         before: &Tracks,
         fresh: u32,
-        top: Pin,
-        bottom: Pin,
+        top: EnteringPin,
+        bottom: EnteringPin,
     ) -> Result<Entries, AllocError>
         requires { fresh + 2 < 2 ^ 32 }
         ensures { IfOk result (λ entries. Enters self.now.manner (C.answers self.now.chooser.now) top bottom before.now fresh entries) }
@@ -156,12 +156,12 @@ impl<C: Chooses> Moment<'_, C> {
             }),
             PinKind::BottomAlone => {
                 let question = bottom.bottom_question();
-                let lower = Edge::Lower;
+                let lower = ChannelEdge::Lower;
                 self.enter_alone(lower, lower, bottom, question, before, fresh)
             }
             PinKind::TopAlone => {
                 let question = top.top_question(before);
-                let upper = Edge::Upper;
+                let upper = ChannelEdge::Upper;
                 self.enter_alone(upper, upper, top, question, before, fresh)
             }
             PinKind::EqualPins => self.enter_equal(before, fresh, top),
@@ -177,9 +177,9 @@ impl<C: Chooses> Moment<'_, C> {
     // edge.
     fn enter_alone(
         &self,
-        edge: Edge,
-        placed: Edge,
-        pin: Pin,
+        edge: ChannelEdge,
+        placed: ChannelEdge,
+        pin: EnteringPin,
         question: Question,
         before: &Tracks,
         fresh: u32,
@@ -198,7 +198,12 @@ impl<C: Chooses> Moment<'_, C> {
     }
 
     // The entry of two equal pins.
-    fn enter_equal(&self, before: &Tracks, fresh: u32, pin: Pin) -> Result<Entries, AllocError>
+    fn enter_equal(
+        &self,
+        before: &Tracks,
+        fresh: u32,
+        pin: EnteringPin,
+    ) -> Result<Entries, AllocError>
         ensures { IfOk result (λ entries.
             EntersEqual self.now.manner (C.answers self.now.chooser.now) pin before.now fresh (holds_track before.now pin.net || is_ending pin.next) entries) }
     {
@@ -210,6 +215,13 @@ impl<C: Chooses> Moment<'_, C> {
             });
         }
         let question = pin.straight_question();
-        self.enter_alone(Edge::Upper, Edge::Lower, pin, question, before, fresh)
+        self.enter_alone(
+            ChannelEdge::Upper,
+            ChannelEdge::Lower,
+            pin,
+            question,
+            before,
+            fresh,
+        )
     }
 }

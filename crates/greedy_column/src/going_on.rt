@@ -31,7 +31,7 @@ pub(crate) struct Outcome {
 
 // What steps 2 and 3 do, and the verticals after them.
 #[derive(Drop)]
-struct Drawn {
+struct JoinsAndEnds {
     joins: Vec<(u32, u32)>,
     ended: Vec<u32>,
     spans: Vec<Span>,
@@ -39,7 +39,7 @@ struct Drawn {
 
 // What step 4 does, and the tracks after it.
 #[derive(Drop)]
-struct Carried {
+struct MovedOn {
     moves: Vec<(u32, u32)>,
     tracks: Tracks,
 }
@@ -52,13 +52,13 @@ impl<C: Chooses> Moment<'_, C> {
         ensures tracks { IfOk result (λ outcome. outcome.tracks ≡ moved outcome.moves (freed outcome.ended now.now)) }
     {
         let drawn = self.join_and_end(now, spans)?;
-        let Drawn {
+        let JoinsAndEnds {
             joins,
             ended,
             spans,
         } = drawn;
         let carried = self.move_on(now, &ended, spans)?;
-        let Carried { moves, tracks } = carried;
+        let MovedOn { moves, tracks } = carried;
         Ok(Outcome {
             joins: Items::new(joins),
             ended: Items::new(ended),
@@ -68,7 +68,7 @@ impl<C: Chooses> Moment<'_, C> {
     }
 
     // Steps 2 and 3.
-    fn join_and_end(&self, now: &Tracks, spans: Vec<Span>) -> Result<Drawn, AllocError>
+    fn join_and_end(&self, now: &Tracks, spans: Vec<Span>) -> Result<JoinsAndEnds, AllocError>
         ensures joins { IfOk result (λ drawn. AreJoinsTold (C.answers self.now.chooser.now) (next_after self.now.ahead.now.uses.items self.now.column) now.now spans.items
             drawn.spans.items drawn.joins.items) }
         ensures ends { IfOk result (λ drawn. AreEndsTold (C.answers self.now.chooser.now) (next_after self.now.ahead.now.uses.items self.now.column) now.now drawn.spans.items
@@ -79,7 +79,7 @@ impl<C: Chooses> Moment<'_, C> {
     }
 
     // The same, from the neighbouring tracks.
-    fn join_pairs(&self, paired: &Paired, mut spans: Vec<Span>) -> Result<Drawn, AllocError>
+    fn join_pairs(&self, paired: &Paired, mut spans: Vec<Span>) -> Result<JoinsAndEnds, AllocError>
         ensures joins { IfOk result (λ drawn. AreJoinsTold (C.answers self.now.chooser.now) (next_after self.now.ahead.now.uses.items self.now.column) paired.now.tracks.now spans.items
             drawn.spans.items drawn.joins.items) }
         ensures ends { IfOk result (λ drawn. AreEndsTold (C.answers self.now.chooser.now) (next_after self.now.ahead.now.uses.items self.now.column) paired.now.tracks.now drawn.spans.items
@@ -87,7 +87,7 @@ impl<C: Chooses> Moment<'_, C> {
     {
         let joins = self.joins_of(paired, &mut spans)?;
         let ended = self.ends_of_lines(paired, &spans)?;
-        Ok(Drawn {
+        Ok(JoinsAndEnds {
             joins,
             ended,
             spans,
@@ -121,7 +121,7 @@ impl<C: Chooses> Moment<'_, C> {
         now: &Tracks,
         ended: &[u32],
         mut spans: Vec<Span>,
-    ) -> Result<Carried, AllocError>
+    ) -> Result<MovedOn, AllocError>
         requires { IsNonDecreasing ended.now }
         ensures moves { IfOk result (λ carried. AreMovesTold self.now.manner (C.answers self.now.chooser.now) (next_after self.now.ahead.now.uses.items self.now.column) now.now
             (freed ended.now now.now) spans.items carried.moves.items) }
@@ -129,7 +129,7 @@ impl<C: Chooses> Moment<'_, C> {
     {
         let mut tracks = now.freed(self.alloc, ended)?;
         let moves = self.moves_of(now, &mut spans, &mut tracks)?;
-        Ok(Carried { moves, tracks })
+        Ok(MovedOn { moves, tracks })
     }
 
     // The moves of the kept tracks, which become verticals, and by which these are carried along.

@@ -5,7 +5,7 @@ ghost use Rattle.greedy_column.specs.Lines.{above_lowest, below_line, holds_trac
 ghost use Rattle.std.specs.Prelude.{◌≡◌, ◌<◌, ◌+◌, ◌^◌, ℕ, Contains, IfOk, length};
 
 use crate::column::Made;
-use crate::entering::{Edge, Entries, Newcomer, Pin};
+use crate::entering::{ChannelEdge, EnteringPin, Entries, Newcomer};
 use crate::lines::Lines;
 use crate::moment::Moment;
 use crate::places::{any_place, place_for, place_of_new};
@@ -48,8 +48,8 @@ impl<C: Chooses> Moment<'_, C> {
         &self,
         before: &Tracks,
         fresh: u32,
-        top: Pin,
-        bottom: Pin,
+        top: EnteringPin,
+        bottom: EnteringPin,
         uppers: &Lines,
         lowers: &Lines,
     ) -> Result<Entries, AllocError>
@@ -81,8 +81,8 @@ impl<C: Chooses> Moment<'_, C> {
     fn enter_partners(
         &self,
         before: &Tracks,
-        top: Pin,
-        bottom: Pin,
+        top: EnteringPin,
+        bottom: EnteringPin,
         lowers: &Lines,
         partnered: &Lines,
     ) -> Result<Entries, AllocError>
@@ -107,8 +107,8 @@ impl<C: Chooses> Moment<'_, C> {
         &self,
         before: &Tracks,
         fresh: u32,
-        top: Pin,
-        bottom: Pin,
+        top: EnteringPin,
+        bottom: EnteringPin,
         lowers: &Lines,
     ) -> Result<Entries, AllocError>
         requires { 0 < length lowers.now }
@@ -117,7 +117,7 @@ impl<C: Chooses> Moment<'_, C> {
         let question = bottom.bottom_question();
         let line = self.pick_own(question, before, bottom.net, lowers)?;
         let most = before.count();
-        let below = place_for(self.manner, top, Edge::Upper, before, line, most);
+        let below = place_for(self.manner, top, ChannelEdge::Upper, before, line, most);
         let made = vec![in self.alloc; Made { id: fresh, below }]?;
         Ok(Entries {
             made: Items::new(made),
@@ -131,8 +131,8 @@ impl<C: Chooses> Moment<'_, C> {
         &self,
         before: &Tracks,
         fresh: u32,
-        top: Pin,
-        bottom: Pin,
+        top: EnteringPin,
+        bottom: EnteringPin,
         uppers: &Lines,
     ) -> Result<Entries, AllocError>
         requires { 0 < length uppers.now }
@@ -140,7 +140,7 @@ impl<C: Chooses> Moment<'_, C> {
     {
         let question = top.top_question(before);
         let line = self.pick_own(question, before, top.net, uppers)?;
-        let below = place_for(self.manner, bottom, Edge::Lower, before, 0, line - 1);
+        let below = place_for(self.manner, bottom, ChannelEdge::Lower, before, 0, line - 1);
         let made = vec![in self.alloc; Made { id: fresh, below }]?;
         Ok(Entries {
             made: Items::new(made),
@@ -156,16 +156,24 @@ fn enter_both_new(
     manner: Manner,
     before: &Tracks,
     fresh: u32,
-    top: Pin,
-    bottom: Pin,
+    top: EnteringPin,
+    bottom: EnteringPin,
 ) -> Result<Entries, AllocError>
     requires { fresh + 2 < 2 ^ 32 }
     ensures { IfOk result (λ entries. entries ≡ both_new manner top bottom before.now fresh) }
 {
-    let lower = any_place(manner, bottom, Edge::Lower, before);
+    let lower = any_place(manner, bottom, ChannelEdge::Lower, before);
     let holds = before.holds(top.net);
     let most = before.count() + 1;
-    let upper = place_of_new(manner, holds, top.next, Edge::Upper, most, lower + 1, most);
+    let upper = place_of_new(
+        manner,
+        holds,
+        top.next,
+        ChannelEdge::Upper,
+        most,
+        lower + 1,
+        most,
+    );
     let made = vec![in alloc;
         Made {
             id: fresh,

@@ -4,22 +4,22 @@ ghost use Rattle.greedy_column.specs.Entering.{any_place, place_for};
 ghost use Rattle.greedy_column.specs.Places.{place_ahead, place_by_edge, place_by_next, place_of_new};
 ghost use Rattle.std.specs.Prelude.{◌≡◌, ◌<◌, ◌≤◌, ◌+◌, ◌^◌, length};
 
-use crate::entering::{Edge, Pin};
+use crate::entering::{ChannelEdge, EnteringPin};
 use crate::tracks::Tracks;
 use choose_core::{Manner, Next};
 
 // Of the places from `least` to `most` the one nearest to an edge.
-fn place_by_edge(edge: Edge, least: u32, most: u32) -> u32
+fn place_by_edge(edge: ChannelEdge, least: u32, most: u32) -> u32
     ensures { result ≡ place_by_edge edge least most }
 {
     match edge {
-        Edge::Upper => most,
-        Edge::Lower => least,
+        ChannelEdge::Upper => most,
+        ChannelEdge::Lower => least,
     }
 }
 
 // The one nearest to the next pins, or to this edge where these lie at no one edge.
-fn place_by_next(next: Next, edge: Edge, least: u32, most: u32) -> u32
+fn place_by_next(next: Next, edge: ChannelEdge, least: u32, most: u32) -> u32
     ensures { result ≡ place_by_next next edge least most }
 {
     match next {
@@ -30,7 +30,7 @@ fn place_by_next(next: Next, edge: Edge, least: u32, most: u32) -> u32
 }
 
 // The same, by this edge alone where the net holds a track.
-fn place_ahead(holds: bool, next: Next, edge: Edge, least: u32, most: u32) -> u32
+fn place_ahead(holds: bool, next: Next, edge: ChannelEdge, least: u32, most: u32) -> u32
     ensures { result ≡ place_ahead holds next edge least most }
 {
     if holds {
@@ -45,7 +45,7 @@ pub(crate) fn place_of_new(
     manner: Manner,
     holds: bool,
     next: Next,
-    edge: Edge,
+    edge: ChannelEdge,
     tracks: u32,
     least: u32,
     most: u32,
@@ -61,8 +61,8 @@ pub(crate) fn place_of_new(
 // The same for a pin above or below these tracks.
 pub(crate) fn place_for(
     manner: Manner,
-    pin: Pin,
-    edge: Edge,
+    pin: EnteringPin,
+    edge: ChannelEdge,
     before: &Tracks,
     least: u32,
     most: u32,
@@ -75,7 +75,7 @@ pub(crate) fn place_for(
 }
 
 // The same among all places.
-pub(crate) fn any_place(manner: Manner, pin: Pin, edge: Edge, before: &Tracks) -> u32
+pub(crate) fn any_place(manner: Manner, pin: EnteringPin, edge: ChannelEdge, before: &Tracks) -> u32
     ensures place { result ≡ any_place manner pin edge before.now }
     ensures within { result ≤ length before.now }
 {

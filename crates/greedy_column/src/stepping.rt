@@ -16,7 +16,7 @@ ghost use Rattle.std.specs.Prelude.{◌≡◌, ◌==◌, ◌&&◌, ◌<◌, ◌�
 
 use crate::ahead::Ahead;
 use crate::column::{Column, ColumnState, Made, Track};
-use crate::entering::{Entries, Pin};
+use crate::entering::{EnteringPin, Entries};
 use crate::going_on::Outcome;
 use crate::moment::Moment;
 use crate::moving::hold;
@@ -38,10 +38,10 @@ pub fn pin_in(side: &[u32], column: u32) -> u32
 }
 
 // A pin of a net.
-fn pin_of(ahead: &Ahead, column: u32, net: u32) -> Pin
+fn pin_of(ahead: &Ahead, column: u32, net: u32) -> EnteringPin
     ensures { result ≡ pin_with (next_after ahead.now.uses.items column) net }
 {
-    Pin {
+    EnteringPin {
         net,
         next: ahead.next(net, column),
     }

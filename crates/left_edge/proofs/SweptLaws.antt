@@ -10,7 +10,7 @@ use Rattle.std.specs.Ordering.{nat_cmp}
 use Rattle.channel_model.specs.Pins.{Pins, IsChannel}
 use Rattle.channel_model.specs.Nets.{nets_of}
 use Rattle.channel_model.proofs.NetsOf.{nets-are}
-use Rattle.left_edge.specs.declared.sweep.Sweep.{Sweep}
+use Rattle.left_edge.specs.declared.sweep.TracksSoFar.{TracksSoFar}
 use Rattle.left_edge.specs.Columns.{IsUnconstrained, net_at}
 use Rattle.left_edge.specs.Spans.{span}
 use Rattle.left_edge.specs.Swept.{IsSwept}
@@ -68,7 +68,7 @@ module _ (pins : Pins) (channel : IsChannel pins) (free : IsUnconstrained pins) 
       record { some = stands.0; starts = (has_span pins channel free (get_or nets place 0) stands).1.starts }
 
   -- before the first column
-  pub swept-none : (sweep : Sweep) → sweep.count ≡ 0 → ((level : ℕ) → contains nat_cmp sweep.free level ≡ false)
+  pub swept-none : (sweep : TracksSoFar) → sweep.count ≡ 0 → ((level : ℕ) → contains nat_cmp sweep.free level ≡ false)
       → length sweep.levels.items ≡ length nets → IsSwept pins 0 0 sweep
   swept-none sweep count none long = record {
     count = rw (lasts-none pins) count;
@@ -78,7 +78,7 @@ module _ (pins : Pins) (channel : IsChannel pins) (free : IsUnconstrained pins) 
   }
 
   -- a column where no net begins
-  pub swept-same : (column : ℕ) (sweep : Sweep) → IsSwept pins column column sweep → begins pins column ≡ false → IsSwept pins (suc column) column sweep
+  pub swept-same : (column : ℕ) (sweep : TracksSoFar) → IsSwept pins column column sweep → begins pins column ≡ false → IsSwept pins (suc column) column sweep
   swept-same column sweep was none =
       let same = lasts-same pins column none in
       record {
@@ -99,7 +99,7 @@ module _ (pins : Pins) (channel : IsChannel pins) (free : IsUnconstrained pins) 
           ]
 
   -- the lowest free track is that of the net that begins
-  module _ (column : ℕ) (old : Sweep) (was : IsSwept pins column column old) (is : begins pins column ≡ true) (level : ℕ)
+  module _ (column : ℕ) (old : TracksSoFar) (was : IsSwept pins column column old) (is : begins pins column ≡ true) (level : ℕ)
       (lowest : (l : ℕ) → l < level → contains nat_cmp old.free l ≡ false)
       (full : contains nat_cmp old.free level ≡ false → (level ≡ old.count) × ((l : ℕ) → contains nat_cmp old.free l ≡ false)) where
     abbrev past : ℕ → Bool
@@ -134,7 +134,7 @@ module _ (pins : Pins) (channel : IsChannel pins) (free : IsUnconstrained pins) 
     net : ℕ
     net = net_at pins column
 
-    pub given : (new : Sweep) (place : ℕ) → place < length nets → get_or nets place 0 ≡ net_at pins column
+    pub given : (new : TracksSoFar) (place : ℕ) → place < length nets → get_or nets place 0 ≡ net_at pins column
         → new.count ≡ cond (contains nat_cmp old.free level) old.count (old.count + 1)
         → ((l : ℕ) → contains nat_cmp new.free l ≡ (contains nat_cmp old.free l && not (eqb l level)))
         → new.levels.items ≡ set old.levels.items place level → IsSwept pins (suc column) column new
@@ -221,7 +221,7 @@ module _ (pins : Pins) (channel : IsChannel pins) (free : IsUnconstrained pins) 
         ]
 
   -- a column where no net ends
-  pub passed-same : (column : ℕ) (sweep : Sweep) → IsSwept pins (suc column) column sweep → ends pins column ≡ false → IsSwept pins (suc column) (suc column) sweep
+  pub passed-same : (column : ℕ) (sweep : TracksSoFar) → IsSwept pins (suc column) column sweep → ends pins column ≡ false → IsSwept pins (suc column) (suc column) sweep
   passed-same column sweep was none =
       let ls = lasts pins (suc column) in
       record {
@@ -235,7 +235,7 @@ module _ (pins : Pins) (channel : IsChannel pins) (free : IsUnconstrained pins) 
       }
 
   -- a column where a net ends, and its track is freed
-  pub passed : (column : ℕ) (old new : Sweep) (place : ℕ) → IsSwept pins (suc column) column old → ends pins column ≡ true
+  pub passed : (column : ℕ) (old new : TracksSoFar) (place : ℕ) → IsSwept pins (suc column) column old → ends pins column ≡ true
       → place < length nets → get_or nets place 0 ≡ net_at pins column → new.count ≡ old.count → new.levels.items ≡ old.levels.items
       → ((l : ℕ) → contains nat_cmp new.free l ≡ (eqb l (get_or old.levels.items place 0) || contains nat_cmp old.free l))
       → IsSwept pins (suc column) (suc column) new
@@ -283,7 +283,7 @@ module _ (pins : Pins) (channel : IsChannel pins) (free : IsUnconstrained pins) 
           (rw same held_there.within, ap (λ l. (span pins (get_or (lasts pins (suc column)) l 0)).last) same ∙ ap (λ n. (span pins n).last) held_there.at ∙ stops.1)
 
   -- after the last column all nets have their tracks
-  pub swept-all : (sweep : Sweep) → IsSwept pins (length pins.top) (length pins.top) sweep → sweep.levels.items ≡ map (level_of pins) nets
+  pub swept-all : (sweep : TracksSoFar) → IsSwept pins (length pins.top) (length pins.top) sweep → sweep.levels.items ≡ map (level_of pins) nets
   swept-all sweep was =
       same_lists sweep.levels.items (map (level_of pins) nets) (was.long ∙ sym (length-map nets (level_of pins)))
       (λ k d below.

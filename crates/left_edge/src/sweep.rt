@@ -22,13 +22,13 @@ pub(crate) struct Levels {
 // The tracks as the sweep comes to a column: how many there are, which of them are free, and those of the nets that have begun. A track is
 // told by how many lie below it.
 #[derive(Drop)]
-struct Sweep {
+struct TracksSoFar {
     count: u32,
     free: BTreeSet<u32>,
     levels: Vec<u32>,
 }
 
-impl Sweep {
+impl TracksSoFar {
     // Takes the lowest free track, or adds one on top.
     fn take_lowest(&mut self) -> u32
         requires { self.old.count + 1 < 2 ^ 32 }
@@ -99,7 +99,7 @@ pub(crate) fn sweep_columns(alloc: Global, spanned: &Spanned) -> Result<Levels, 
     ensures levels { IfOk result (λ levels. levels.of_nets.items ≡ map (level_of spanned.now.channel.now) spanned.now.nets.now) }
 {
     let channel = spanned.channel;
-    let mut sweep = Sweep {
+    let mut sweep = TracksSoFar {
         count: 0,
         free: BTreeSet::new(alloc),
         levels: vec![in alloc; 0u32; spanned.nets.len()]?,

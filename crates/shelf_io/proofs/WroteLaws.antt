@@ -4,7 +4,7 @@ use Rattle.std.proofs.lemmas.Result.{on_err_weaker, on_ok_weaker}
 use Rattle.shelf_io.specs.Appends.{Appends}
 use Rattle.shelf_io.specs.Count.{Rose}
 use Rattle.shelf_io.specs.Told.{EndsWithin, Refines, appended}
-use Rattle.shelf_io.specs.Wrote.{Ended, Failed, Puts, Writes, Wrote}
+use Rattle.shelf_io.specs.Wrote.{PutToEnd, Failed, Puts, Writes, Wrote}
 use Rattle.shelf_io.proofs.Appends.{appended-twice, both-whole, first-front, second-front}
 
 -- a told text with nothing behind it
@@ -43,11 +43,11 @@ pub behind : (x y a b p : List ℕ) → p ++ b ≡ a ++ x → p ++ (b ++ y) ≡ 
 behind x y a b p whole = sym (append_assoc p b y) ∙ ap (λ (l : List ℕ). l ++ y) whole ∙ append_assoc a x y
 
 -- what a text is that is put, or written, in no bytes, and by one call and then another
-pub ended-none : (o : Option (List ℕ)) (f : ℕ) {P : Type 0} → P → Ended [] o o f f P
+pub ended-none : (o : Option (List ℕ)) (f : ℕ) {P : Type 0} → P → PutToEnd [] o o f f P
 ended-none o f same = record { whole = told-same o; quiet = refl; same = same }
 
 pub ended-then : {x y : List ℕ} {o m n : Option (List ℕ)} {f g h : ℕ} {P Q R : Type 0} → (P → Q → R)
-    → Ended x o m f g P → Ended y m n g h Q → Ended (x ++ y) o n f h R
+    → PutToEnd x o m f g P → PutToEnd y m n g h Q → PutToEnd (x ++ y) o n f h R
 ended-then join one two = record {
   whole = both-whole _ _ _ _ _ _ refl one.whole two.whole;
   quiet = two.quiet ∙ one.quiet;
@@ -55,14 +55,14 @@ ended-then join one two = record {
 }
 
 -- what was put of a text before nothing more was is a front of it
-pub ended-front : (text : List ℕ) (k : ℕ) {o m n : Option (List ℕ)} {f g : ℕ} {P : Type 0} → Ended (take k text) o m f g P → Refines n m → EndsWithin o text n
+pub ended-front : (text : List ℕ) (k : ℕ) {o m n : Option (List ℕ)} {f g : ℕ} {P : Type 0} → PutToEnd (take k text) o m f g P → Refines n m → EndsWithin o text n
 ended-front text k one same = λ held at. (k, one.whole held (same held at))
 
 pub failed-first : (y : List ℕ) {x : List ℕ} {o n : Option (List ℕ)} {f h : ℕ} {P : Type 0} → Failed x o n f h P → Failed (x ++ y) o n f h P
 failed-first y one = record { front = first-front _ _ _ y _ refl one.front; cause = one.cause; later = one.later; same = one.same }
 
 pub failed-then : {x y : List ℕ} {o m n : Option (List ℕ)} {f g h : ℕ} {P Q R : Type 0} → (P → Q → R)
-    → Ended x o m f g P → Failed y m n g h Q → Failed (x ++ y) o n f h R
+    → PutToEnd x o m f g P → Failed y m n g h Q → Failed (x ++ y) o n f h R
 failed-then {h = h} join one two = record {
   front = second-front _ _ _ _ _ _ refl one.whole two.front;
   cause = subst (λ (count : ℕ). Rose count h) one.quiet two.cause;
@@ -110,7 +110,7 @@ failed-before x y a one = record { front = first-front _ _ (a ++ x) y (a ++ (x +
 
 -- a text that was written, and then put with all that was buffered
 ended-all : {x a b : List ℕ} {o m n : Option (List ℕ)} {f g h : ℕ} {P Q R : Type 0} → (P → Q → R)
-    → Wrote x a b o m f g P → Ended b m n g h Q → Ended (a ++ x) o n f h R
+    → Wrote x a b o m f g P → PutToEnd b m n g h Q → PutToEnd (a ++ x) o n f h R
 ended-all {x = x} {a = a} {b = b} join one two = record {
   whole = both-whole _ _ _ one.appends.put b (a ++ x) one.appends.whole one.appends.told two.whole;
   quiet = two.quiet ∙ one.quiet;
@@ -140,7 +140,7 @@ writes-failed result {x = x} {a = a} {b = b} {o = o} {n = n} {f = f} {h = h} {S 
 pub puts-failed : {T E : Type 0} (result : Result T E) {x : List ℕ} {o n : Option (List ℕ)} {f h : ℕ} {L : Type 0} {S : Bool → Type 0}
     → IsErr result → L → Failed x o n f h (S false) → Puts result x o n f h L S
 puts-failed result {x = x} {o = o} {n = n} {f = f} {h = h} {S = S} is place failed =
-    let both = failed-answer result (Ended x o n f h (S true)) (Failed x o n f h (S false)) is failed in
+    let both = failed-answer result (PutToEnd x o n f h (S true)) (Failed x o n f h (S false)) is failed in
     record { place = place; ended = both.0; failed = both.1 }
 
 -- nothing is written

@@ -12,7 +12,7 @@ pub record Wrote (text before after : List ℕ) (told told_after : Option (List 
   pub same : else_same
 
 -- A text was put to a sink to its end. Nothing else changed, and no count of faults.
-pub record Ended (text : List ℕ) (told told_after : Option (List ℕ)) (faults faults_after : ℕ) (else_same : Type 0) : Type 0 where
+pub record PutToEnd (text : List ℕ) (told told_after : Option (List ℕ)) (faults faults_after : ℕ) (else_same : Type 0) : Type 0 where
   pub whole : Refines told_after (appended told text)
   pub quiet : faults_after ≡ faults
   pub same : else_same
@@ -36,5 +36,5 @@ pub record Writes {T E : Type 0} (result : Result T E) (text before after : List
 pub record Puts {T E : Type 0} (result : Result T E) (text : List ℕ) (told told_after : Option (List ℕ)) (faults faults_after : ℕ)
     (same_place : Type 0) (else_same : Bool → Type 0) : Type 0 where
   pub place : same_place
-  pub ended : OnOk result (Ended text told told_after faults faults_after (else_same true))
+  pub ended : OnOk result (PutToEnd text told told_after faults faults_after (else_same true))
   pub failed : OnErr result (Failed text told told_after faults faults_after (else_same false))

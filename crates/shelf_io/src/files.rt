@@ -1,4 +1,4 @@
-//! Files in memory: the bytes under each name.
+//! NamedFiles in memory: the bytes under each name.
 
 ghost use Rattle.std.specs.Prelude.{◌≡◌, ◌≢◌, ◌<◌, ◌-◌, List, ℕ, Some, None, [], OnOk, OnErr, length, min};
 ghost use Rattle.shelf_io.specs.Files.{held};
@@ -9,13 +9,13 @@ use std::alloc::{AllocError, Global};
 use std::collections::BTreeMap;
 
 /// The files, by their names.
-pub(crate) type Files = BTreeMap<String, Vec<u8>>;
+pub(crate) type NamedFiles = BTreeMap<String, Vec<u8>>;
 
 /// Makes the name hold the bytes.
 #[tactic(auto, using(std::proofs::lemmas::Map::Text::text_keys))]
 pub(crate) fn replace(
     alloc: Global,
-    files: &mut Files,
+    files: &mut NamedFiles,
     name: &str,
     bytes: &[u8],
 ) -> Result<(), AllocError>
@@ -32,7 +32,7 @@ pub(crate) fn replace(
 
 /// Makes the name hold nothing, which takes memory only where it is lacking.
 #[tactic(auto, using(std::proofs::lemmas::Map::Text::text_keys))]
-pub(crate) fn empty(alloc: Global, files: &mut Files, name: &str) -> Result<(), AllocError>
+pub(crate) fn empty(alloc: Global, files: &mut NamedFiles, name: &str) -> Result<(), AllocError>
     ensures held { OnOk result (held files.new name.now ≡ Some []) }
     ensures others { (other : List ℕ) → other ≢ name.now
         → held files.new other ≡ held files.old other }
@@ -49,7 +49,7 @@ pub(crate) fn empty(alloc: Global, files: &mut Files, name: &str) -> Result<(), 
 /// Puts the piece at the end of the name's bytes. Failed comes where the name is lacking or memory
 /// is wanting; an empty piece takes none.
 #[tactic(auto, using(std::proofs::lemmas::Map::Text::text_keys))]
-pub(crate) fn append(files: &mut Files, name: &str, piece: &[u8]) -> Result<(), Failed>
+pub(crate) fn append(files: &mut NamedFiles, name: &str, piece: &[u8]) -> Result<(), Failed>
     ensures appended { OnOk result (held files.new name.now
         ≡ appended (held files.old name.now) piece.now) }
     ensures lacking { OnOk result (held files.old name.now ≢ None) }
@@ -70,7 +70,7 @@ pub(crate) fn append(files: &mut Files, name: &str, piece: &[u8]) -> Result<(), 
 
 /// Takes the name away.
 #[tactic(auto, using(std::proofs::lemmas::Map::Text::text_keys))]
-pub(crate) fn forget(files: &mut Files, name: &str)
+pub(crate) fn forget(files: &mut NamedFiles, name: &str)
     ensures lacking { held files.new name.now ≡ None }
     ensures others { (other : List ℕ) → other ≢ name.now
         → held files.new other ≡ held files.old other }

@@ -7,13 +7,13 @@ ghost use Rattle.shelf_io.specs.Told.{Gives, Refines, Emptied, appended};
 ghost use Rattle.shelf_io.specs.Plan.{is_marked, called};
 ghost use Rattle.shelf_io.specs.MemShelf.{held, failed_takes, failed_writes, plan_of, SameFaults, taken};
 
-use crate::files::{Files, append, copy_from, empty, replace};
+use crate::files::{NamedFiles, append, copy_from, empty, replace};
 use crate::plan::{Plan, raise};
 use crate::traits::{Failed, Shelf};
 use std::alloc::{AllocError, Global};
 use std::collections::BTreeMap;
 
-/// Files in memory.
+/// NamedFiles in memory.
 ///
 /// A call fails where it is marked, where it takes from or puts to a name that is lacking, and
 /// where a file can't grow for want of memory, which an empty piece never takes. It keeps one number of failed takes and one of
@@ -21,7 +21,7 @@ use std::collections::BTreeMap;
 #[derive(Drop)]
 pub struct MemShelf {
     alloc: Global,
-    files: Files,
+    files: NamedFiles,
     plan: Plan,
     reads: u64,
     writes: u64,

@@ -4,7 +4,7 @@ ghost use Rattle.std.specs.Prelude.{◌≡◌, ◌≢◌, ◌<◌, ◌≤◌, Li
 ghost use Rattle.shelf_io.specs.Told.{Gives, Refines};
 ghost use Rattle.shelf_io.specs.NeverShelf.{held, taken_count};
 
-use crate::files::{Files, copy_from, forget, replace};
+use crate::files::{NamedFiles, copy_from, forget, replace};
 use crate::traits::{Failed, Shelf, Sink};
 use std::alloc::{AllocError, Global};
 use std::collections::BTreeMap;
@@ -17,7 +17,7 @@ use std::collections::BTreeMap;
 #[derive(Drop)]
 pub struct NeverShelf {
     alloc: Global,
-    files: Files,
+    files: NamedFiles,
 }
 
 impl NeverShelf {

@@ -1,6 +1,6 @@
 use Rattle.cif_writer.proofs.layout.write_all.Goals as goal
 use Rattle.cif_text.specs.Printing.{line}
-use Rattle.cif_text.specs.declared.command.Command.TheVariants as commands
+use Rattle.cif_text.specs.declared.command.CifCommand.TheVariants as commands
 use Rattle.shelf_io.proofs.WritesLaws.{puts-both, puts-stopped}
 
 pub returns-in_err-write_symbols : goal.returns-in_err-write_symbols

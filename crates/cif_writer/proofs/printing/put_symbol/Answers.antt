@@ -1,4 +1,4 @@
-use Rattle.cif_text.specs.declared.command.Command.TheVariants as commands
+use Rattle.cif_text.specs.declared.command.CifCommand.TheVariants as commands
 use Rattle.cif_text.specs.declared.command.UserKind.TheVariants as users
 use Rattle.cif_writer.proofs.printing.put_symbol.Goals as goal
 use Rattle.std.proofs.Common.{◌++◌, List, ℕ, None, option_map}

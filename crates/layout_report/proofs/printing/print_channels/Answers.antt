@@ -1,7 +1,7 @@
 use Rattle.layout_report.proofs.printing.print_channels.Goals as goal
 use Rattle.std.proofs.Common.{rules, ◌≡◌, ◌+◌, ◌++◌, ◌∷◌, ◌∙◌, ℕ, List, [], Option, ap, append_assoc, append-nil, arith, length, refl, subst, sym, true, false}
 use Rattle.std.proofs.lemmas.List.{nil_from_length}
-use Rattle.shelf_io.specs.Wrote.{Ended, Failed}
+use Rattle.shelf_io.specs.Wrote.{PutToEnd, Failed}
 use Rattle.shelf_io.proofs.WroteLaws.{ended-none, ended-then, failed-first, failed-then, puts-failed}
 use Rattle.layout_report.specs.SummaryText.{channel_text, channels_text}
 use Rattle.layout_report.specs.declared.summary.ChannelLine.{ChannelLine}
@@ -9,7 +9,7 @@ use Rattle.layout_report.proofs.printing.print_channels.Invariants.{HasPut}
 
 -- where the next channel's line was put, one more is put
 one-more : {all rest : List ChannelLine} (after : List ChannelLine) (c : ChannelLine) {number : ℕ} {o m n : Option (List ℕ)} {f g h : ℕ} {P Q R : Type 0} → (P → Q → R)
-    → rest ≡ c ∷ after → HasPut all rest number o m f g P → Ended (channel_text number c) m n g h Q → HasPut all after (number + 1) o n f h R
+    → rest ≡ c ∷ after → HasPut all rest number o m f g P → PutToEnd (channel_text number c) m n g h Q → HasPut all after (number + 1) o n f h R
 one-more {all = all} after c {number = number} join is put next =
     let whole : put.done ++ (channel_text number c ++ channels_text (number + 1) after) ≡ channels_text 0 all = rw is at put.split in
     record {
@@ -27,10 +27,10 @@ in-part {all = all} after c {number = number} {o = o} {n = n} {f = f} {h = h} {R
 
 -- where none is left all are put
 all-put : {all : List ChannelLine} (rest : List ChannelLine) {number : ℕ} {o n : Option (List ℕ)} {f h : ℕ} {P : Type 0}
-    → rest ≡ [] → HasPut all rest number o n f h P → Ended (channels_text 0 all) o n f h P
+    → rest ≡ [] → HasPut all rest number o n f h P → PutToEnd (channels_text 0 all) o n f h P
 all-put {all = all} rest {number = number} {o = o} {n = n} {f = f} {h = h} {P = P} is put =
     let whole : put.done ++ [] ≡ channels_text 0 all = rw is at put.split in
-    subst (λ (text : List ℕ). Ended text o n f h P) (sym (append-nil put.done) ∙ whole) put.put
+    subst (λ (text : List ℕ). PutToEnd text o n f h P) (sym (append-nil put.done) ∙ whole) put.put
 
 pub loop-channel-init : goal.loop-channel-init
 loop-channel-init g c = record {

@@ -1,5 +1,5 @@
 use Rattle.std.proofs.Common.{◌≡◌, ◌+◌, ◌++◌, ℕ, List, Option, length, true}
-use Rattle.shelf_io.specs.Wrote.{Ended}
+use Rattle.shelf_io.specs.Wrote.{PutToEnd}
 use Rattle.layout_report.specs.SummaryText.{channels_text}
 use Rattle.layout_report.specs.declared.summary.ChannelLine.{ChannelLine}
 use Rattle.layout_report.proofs.printing.print_channels.Given as goal
@@ -8,7 +8,7 @@ use Rattle.layout_report.proofs.printing.print_channels.Given as goal
 pub record HasPut (all rest : List ChannelLine) (number : ℕ) (told told_now : Option (List ℕ)) (faults faults_now : ℕ) (else_same : Type 0) : Type 0 where
   pub done : List ℕ
   pub split : done ++ channels_text number rest ≡ channels_text 0 all
-  pub put : Ended done told told_now faults faults_now else_same
+  pub put : PutToEnd done told told_now faults faults_now else_same
 
 abbrev pub invariant-loop-channel : goal.invariant-loop-channel
 invariant-loop-channel g l = record {

@@ -3,7 +3,7 @@ use Rattle.channel_model.specs.Nets.{nets_of}
 use Rattle.left_edge.specs.Columns.{net_at}
 use Rattle.left_edge.proofs.TrackLaws.{lasts-few}
 use Rattle.left_edge.proofs.SweptLaws.{swept-same, given}
-use Rattle.left_edge.proofs.sweep.Sweep.enter.Goals as goal
+use Rattle.left_edge.proofs.sweep.TracksSoFar.enter.Goals as goal
 
 pub returns-then-not-is_begin : goal.returns-then-not-is_begin
 returns-then-not-is_begin c =

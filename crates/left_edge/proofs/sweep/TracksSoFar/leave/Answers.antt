@@ -4,7 +4,7 @@ use Rattle.std.specs.Ordering.{nat_cmp}
 use Rattle.channel_model.specs.Nets.{nets_of}
 use Rattle.left_edge.specs.Columns.{net_at}
 use Rattle.left_edge.proofs.SweptLaws.{passed-same, passed}
-use Rattle.left_edge.proofs.sweep.Sweep.leave.Goals as goal
+use Rattle.left_edge.proofs.sweep.TracksSoFar.leave.Goals as goal
 
 pub returns-then-not-is_end : goal.returns-then-not-is_end
 returns-then-not-is_end c =
