@@ -59,7 +59,7 @@ fn obeyed(rt: &HostRuntime, words: &[Word]) -> Result<u8, AllocError> {
         styles.push(styled(alloc, stock, choice)?)?;
     }
     let mut out = HostSink::new(rt);
-    let mut shelf = HostShelf::new(rt);
+    let mut shelf = HostShelf::new(alloc, rt);
     Ok(run(alloc, words, &mut shelf, &mut out, styles.as_slice()).status)
 }
 

@@ -2,9 +2,9 @@
 
 ghost use Rattle.channel_stack.specs.Stack.{channel_bases, row_bases, stack_top, most_columns};
 ghost use Rattle.layout_laws.specs.Heights.{channel_height};
-ghost use Rattle.std.specs.Prelude.{◌≡◌, ◌<◌, ◌≤◌, ◌*◌, ◌^◌, IfOk};
+ghost use Rattle.std.specs.Prelude.{◌≡◌, ◌<◌, ◌≤◌, ◌*◌, ◌^◌, IfOk, map};
 
-use channel_model::Wiring;
+use channel_model::{HasWiring, Wiring};
 use limits::MOST_LENGTH;
 use std::alloc::{AllocError, Global};
 use tech_rules::Rules;
@@ -19,25 +19,25 @@ fn channel_height(wiring: &Wiring, rules: &Rules) -> u64
 
 /// The lower edges of the channels in units, with rows of these heights between them. The one error is want of memory.
 #[tactic(auto, using(crate::proofs::StackBounds::edge_laws))]
-pub(crate) fn channel_bases(
+pub(crate) fn channel_bases<W: HasWiring>(
     alloc: Global,
-    wirings: &[Wiring],
+    wirings: &[W],
     heights: &[u32],
     rules: &Rules,
 ) -> Result<Vec<u32>, AllocError>
-    requires { stack_top rules.now heights.now 0 wirings.now < 2 ^ 32 }
-    ensures { IfOk result (λ bases. bases.items ≡ channel_bases rules.now heights.now 0 wirings.now) }
+    requires { stack_top rules.now heights.now 0 (map W.wiring_of wirings.now) < 2 ^ 32 }
+    ensures { IfOk result (λ bases. bases.items ≡ channel_bases rules.now heights.now 0 (map W.wiring_of wirings.now)) }
 {
     let mut bases = Vec::new(alloc);
     let mut base = 0;
     let mut rows = heights;
     let mut rest = wirings;
-    while let Some((wiring, above)) = rest.split_first() {
+    while let Some((one, above)) = rest.split_first() {
         bases.push(base as u32)?;
         let Some((height, others)) = rows.split_first() else {
             return Ok(bases);
         };
-        base += channel_height(wiring, rules) + u64::from(*height);
+        base += channel_height(one.wiring(), rules) + u64::from(*height);
         rows = others;
         rest = above;
     }
@@ -46,24 +46,24 @@ pub(crate) fn channel_bases(
 
 /// The lower edges of the rows in units: each lies on its channel. The one error is want of memory.
 #[tactic(auto, using(crate::proofs::StackBounds::edge_laws))]
-pub(crate) fn row_bases(
+pub(crate) fn row_bases<W: HasWiring>(
     alloc: Global,
-    wirings: &[Wiring],
+    wirings: &[W],
     heights: &[u32],
     rules: &Rules,
 ) -> Result<Vec<u32>, AllocError>
-    requires { stack_top rules.now heights.now 0 wirings.now < 2 ^ 32 }
-    ensures { IfOk result (λ bases. bases.items ≡ row_bases rules.now heights.now 0 wirings.now) }
+    requires { stack_top rules.now heights.now 0 (map W.wiring_of wirings.now) < 2 ^ 32 }
+    ensures { IfOk result (λ bases. bases.items ≡ row_bases rules.now heights.now 0 (map W.wiring_of wirings.now)) }
 {
     let mut bases = Vec::new(alloc);
     let mut base = 0;
     let mut rest = wirings;
     let mut rows = heights;
     while let Some((height, others)) = rows.split_first() {
-        let Some((wiring, above)) = rest.split_first() else {
+        let Some((one, above)) = rest.split_first() else {
             return Ok(bases);
         };
-        let row = base + channel_height(wiring, rules);
+        let row = base + channel_height(one.wiring(), rules);
         bases.push(row as u32)?;
         base = row + u64::from(*height);
         rest = above;
@@ -74,15 +74,15 @@ pub(crate) fn row_bases(
 
 /// The upper edge of the last channel in units. Takes no memory.
 #[tactic(auto, using(crate::proofs::StackBounds::edge_laws))]
-pub(crate) fn stack_top(wirings: &[Wiring], heights: &[u32], rules: &Rules) -> u64
-    requires { stack_top rules.now heights.now 0 wirings.now < 2 ^ 32 }
-    ensures { result ≡ stack_top rules.now heights.now 0 wirings.now }
+pub(crate) fn stack_top<W: HasWiring>(wirings: &[W], heights: &[u32], rules: &Rules) -> u64
+    requires { stack_top rules.now heights.now 0 (map W.wiring_of wirings.now) < 2 ^ 32 }
+    ensures { result ≡ stack_top rules.now heights.now 0 (map W.wiring_of wirings.now) }
 {
     let mut base = 0;
     let mut rows = heights;
     let mut rest = wirings;
-    while let Some((wiring, above)) = rest.split_first() {
-        let top = base + channel_height(wiring, rules);
+    while let Some((one, above)) = rest.split_first() {
+        let top = base + channel_height(one.wiring(), rules);
         let Some((height, others)) = rows.split_first() else {
             return top;
         };
@@ -94,13 +94,13 @@ pub(crate) fn stack_top(wirings: &[Wiring], heights: &[u32], rules: &Rules) -> u
 }
 
 /// The columns of the widest wiring. Takes no memory.
-pub(crate) fn most_columns(wirings: &[Wiring]) -> u32
-    ensures { result ≡ most_columns wirings.now }
+pub(crate) fn most_columns<W: HasWiring>(wirings: &[W]) -> u32
+    ensures { result ≡ most_columns (map W.wiring_of wirings.now) }
 {
     let mut most = 0;
     let mut rest = wirings;
-    while let Some((wiring, others)) = rest.split_first() {
-        most = most.max(wiring.columns);
+    while let Some((one, others)) = rest.split_first() {
+        most = most.max(one.wiring().columns);
         rest = others;
     }
     most

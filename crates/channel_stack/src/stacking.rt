@@ -10,12 +10,12 @@ ghost use Rattle.feed_cells.specs.Fed.{IsFed};
 ghost use Rattle.design_model.specs.Good.{Good};
 ghost use Rattle.design_model.specs.Room.{HasRoom};
 ghost use Rattle.std.specs.List.{All, AllByRecursion};
-ghost use Rattle.std.specs.Prelude.{◌≡◌, IfOk};
+ghost use Rattle.std.specs.Prelude.{◌≡◌, IfOk, map};
 
 use crate::bases::{channel_bases, most_columns, row_bases, stack_top};
 use crate::placed::{Laid, Placed};
 use crate::places::placed_rows;
-use channel_model::Wiring;
+use channel_model::HasWiring;
 use design_model::Design;
 use feed_cells::FedRows;
 use geom_core::Items;
@@ -24,23 +24,23 @@ use tech_rules::Rules;
 use wire_geom::{Drawn, draw};
 
 // The rectangles of the channels, each on its base.
-fn drawings(
+fn drawings<W: HasWiring>(
     alloc: Global,
-    wirings: &[Wiring],
+    wirings: &[W],
     bases: &[u32],
     rules: &Rules,
 ) -> Result<Vec<Items<Drawn>>, AllocError>
-    requires { AllByRecursion (λ (w : Wiring). All (IsOnGrid w.columns w.tracks) (elements w)) wirings.now }
-    ensures { IfOk result (λ drawn. drawn.items ≡ drawings rules.now wirings.now bases.now) }
+    requires { AllByRecursion (λ (w : Wiring). All (IsOnGrid w.columns w.tracks) (elements w)) (map W.wiring_of wirings.now) }
+    ensures { IfOk result (λ drawn. drawn.items ≡ drawings rules.now (map W.wiring_of wirings.now) bases.now) }
 {
     let mut drawn = Vec::new(alloc);
     let mut edges = bases;
     let mut rest = wirings;
-    while let Some((wiring, above)) = rest.split_first() {
+    while let Some((one, above)) = rest.split_first() {
         let Some((base, others)) = edges.split_first() else {
             return Ok(drawn);
         };
-        let channel = draw(alloc, wiring, *base, rules)?;
+        let channel = draw(alloc, one.wiring(), *base, rules)?;
         drawn.push(Items::new(channel))?;
         edges = others;
         rest = above;
@@ -55,19 +55,19 @@ fn drawings(
 /// The layout is within its bound. Where each wiring connects its channel, by whatever router, and the cells have room for their pins, the layout of these cells
 /// and feeds, with each wiring drawn on its channel's lower edge, is good for the design and the rules.
 #[tactic(auto, unfolding(crate::specs::Stack::stack_of))]
-pub fn lay(
+pub fn lay<W: HasWiring>(
     alloc: Global,
     design: &Design,
     fed: &FedRows,
-    wirings: &[Wiring],
+    wirings: &[W],
     rules: &Rules,
 ) -> Result<Laid, AllocError>
     requires fed { IsFed design.now fed.now }
-    requires routed { IsRouted rules.now design.now fed.now wirings.now }
-    ensures laid { IfOk result (λ laid. laid ≡ laid_of (stack_of rules.now design.now fed.now wirings.now)) }
-    ensures within { IfOk result (λ _. IsWithin rules.now design.now fed.now wirings.now (stack_of rules.now design.now fed.now wirings.now)) }
-    ensures good { IfOk result (λ _. HasRoom rules.now design.now → AreWired design.now fed.now wirings.now
-        → Good rules.now design.now (layout_of rules.now design.now (stack_of rules.now design.now fed.now wirings.now))) }
+    requires routed { IsRouted rules.now design.now fed.now (map W.wiring_of wirings.now) }
+    ensures laid { IfOk result (λ laid. laid ≡ laid_of (stack_of rules.now design.now fed.now (map W.wiring_of wirings.now))) }
+    ensures within { IfOk result (λ _. IsWithin rules.now design.now fed.now (map W.wiring_of wirings.now) (stack_of rules.now design.now fed.now (map W.wiring_of wirings.now))) }
+    ensures good { IfOk result (λ _. HasRoom rules.now design.now → AreWired design.now fed.now (map W.wiring_of wirings.now)
+        → Good rules.now design.now (layout_of rules.now design.now (stack_of rules.now design.now fed.now (map W.wiring_of wirings.now)))) }
 {
     // The bounds of the design's type are known once a field is read.
     let _pins = &design.pins;
@@ -92,18 +92,18 @@ pub fn lay(
 /// The layout is within its bound. Where each wiring connects its channel, by whatever router, and the cells have room for their pins, the layout that the result
 /// is is good for the design and the rules.
 #[tactic(auto, unfolding(crate::specs::Stack::stack_of))]
-pub fn stack(
+pub fn stack<W: HasWiring>(
     alloc: Global,
     design: &Design,
     fed: &FedRows,
-    wirings: &[Wiring],
+    wirings: &[W],
     rules: &Rules,
 ) -> Result<Placed, AllocError>
     requires fed { IsFed design.now fed.now }
-    requires routed { IsRouted rules.now design.now fed.now wirings.now }
-    ensures stacked { IfOk result (λ placed. placed ≡ stack_of rules.now design.now fed.now wirings.now) }
-    ensures within { IfOk result (λ placed. IsWithin rules.now design.now fed.now wirings.now placed) }
-    ensures good { IfOk result (λ placed. HasRoom rules.now design.now → AreWired design.now fed.now wirings.now
+    requires routed { IsRouted rules.now design.now fed.now (map W.wiring_of wirings.now) }
+    ensures stacked { IfOk result (λ placed. placed ≡ stack_of rules.now design.now fed.now (map W.wiring_of wirings.now)) }
+    ensures within { IfOk result (λ placed. IsWithin rules.now design.now fed.now (map W.wiring_of wirings.now) placed) }
+    ensures good { IfOk result (λ placed. HasRoom rules.now design.now → AreWired design.now fed.now (map W.wiring_of wirings.now)
         → Good rules.now design.now (layout_of rules.now design.now placed)) }
 {
     let laid = lay(alloc, design, fed, wirings, rules)?;

@@ -22,13 +22,13 @@ ghost use Rattle.shelf_io.specs.OtherFiles.{OthersSame};
 ghost use Rattle.shelf_io.specs.Told.{Refines};
 ghost use Rattle.shelf_io.specs.Wrote.{Puts, Writes};
 ghost use Rattle.std.specs.List.{All, AllByRecursion};
-ghost use Rattle.std.specs.Prelude.{◌≡◌, ◌++◌, List, None, Some, is_ok, option_map, OnOk, OnErr};
+ghost use Rattle.std.specs.Prelude.{◌≡◌, ◌++◌, List, None, Some, is_ok, map, option_map, OnOk, OnErr};
 ghost use Rattle.tech_rules.specs.Rules.{ValidRules};
 ghost use Rattle.wire_geom.specs.Drawing.{drawing};
 ghost use Rattle.wire_geom.specs.declared.drawn.Drawn.{Drawn};
 
 use crate::text::Text;
-use channel_model::Wiring;
+use channel_model::{HasWiring, Wiring};
 use channel_stack::{Laid, PlacedItem};
 use design_model::Design;
 use feed_cells::{FedRows, Item};
@@ -138,33 +138,33 @@ fn write_row<K: Sink>(
 
 /// A routed design as it is written: its rows with feeds, the wirings of its channels, where all of it lies, and the drawings of its symbols.
 #[derive(Drop)]
-pub struct RoutedDesign<'p> {
+pub struct RoutedDesign<'p, W> {
     pub design: &'p Design,
     pub fed: &'p FedRows,
-    pub wirings: &'p [Wiring],
+    pub wirings: &'p [W],
     pub laid: &'p Laid,
     pub symbols: &'p [Items<Shape>],
     pub rules: &'p Rules,
 }
 
 // Writes the channels and rows from the bottom up: channel 0, row 0, channel 1, and so on.
-fn write_main<'p, K: Sink>(
+fn write_main<'p, W: HasWiring, K: Sink>(
     text: &mut Text,
     out: &mut K,
-    routed: &'p RoutedDesign<'p>,
+    routed: &'p RoutedDesign<'p, W>,
 ) -> Result<(), Failed>
-    requires { AreInReach routed.now.rules.now routed.now.wirings.now routed.now.laid.now.channel_base routed.now.symbols.now }
-    ensures { Writes result (text_of (items_commands text.old.last (items_of routed.now.design.now (drawings routed.now.rules.now routed.now.wirings.now routed.now.laid.now.channel_base) routed.now.laid.now.cells))) text.old.buffered text.new.buffered (K.written out.old) (K.written out.new) (K.faults out.old) (K.faults out.new) (K.same_place out.old out.new) (K.else_same out.old out.new) }
+    requires { AreInReach routed.now.rules.now (map W.wiring_of routed.now.wirings.now) routed.now.laid.now.channel_base routed.now.symbols.now }
+    ensures { Writes result (text_of (items_commands text.old.last (items_of routed.now.design.now (drawings routed.now.rules.now (map W.wiring_of routed.now.wirings.now) routed.now.laid.now.channel_base) routed.now.laid.now.cells))) text.old.buffered text.new.buffered (K.written out.old) (K.written out.new) (K.faults out.old) (K.faults out.new) (K.same_place out.old out.new) (K.else_same out.old out.new) }
 {
     let mut channels = routed.wirings;
     let laid = routed.laid;
     let mut edges = laid.channel_base.items();
     let mut rows = laid.cells.items();
-    while let Some((wiring, above)) = channels.split_first() {
+    while let Some((one, above)) = channels.split_first() {
         let Some((base, others)) = edges.split_first() else {
             return Ok(());
         };
-        write_wires(text, out, wiring, *base, routed.rules)?;
+        write_wires(text, out, one.wiring(), *base, routed.rules)?;
         let Some((row, higher)) = rows.split_first() else {
             return Ok(());
         };
@@ -177,9 +177,12 @@ fn write_main<'p, K: Sink>(
 }
 
 // Puts the text of a routed design to a sink.
-fn write_all<'p, K: Sink>(out: &mut K, routed: &'p RoutedDesign<'p>) -> Result<(), Failed>
-    requires { AreInReach routed.now.rules.now routed.now.wirings.now routed.now.laid.now.channel_base routed.now.symbols.now }
-    ensures { Puts result (line commands.Comment ++ (text_behind (symbols_with routed.now.design.now 0 routed.now.symbols.now) (items_of routed.now.design.now (drawings routed.now.rules.now routed.now.wirings.now routed.now.laid.now.channel_base) routed.now.laid.now.cells))) (K.written out.old) (K.written out.new) (K.faults out.old) (K.faults out.new) (K.same_place out.old out.new) (K.else_same out.old out.new) }
+fn write_all<'p, W: HasWiring, K: Sink>(
+    out: &mut K,
+    routed: &'p RoutedDesign<'p, W>,
+) -> Result<(), Failed>
+    requires { AreInReach routed.now.rules.now (map W.wiring_of routed.now.wirings.now) routed.now.laid.now.channel_base routed.now.symbols.now }
+    ensures { Puts result (line commands.Comment ++ (text_behind (symbols_with routed.now.design.now 0 routed.now.symbols.now) (items_of routed.now.design.now (drawings routed.now.rules.now (map W.wiring_of routed.now.wirings.now) routed.now.laid.now.channel_base) routed.now.laid.now.cells))) (K.written out.old) (K.written out.new) (K.faults out.old) (K.faults out.new) (K.same_place out.old out.new) (K.else_same out.old out.new) }
 {
     let mut text = Text::begin();
     write_symbols(&mut text, out, routed.design, routed.symbols)?;
@@ -188,13 +191,13 @@ fn write_all<'p, K: Sink>(out: &mut K, routed: &'p RoutedDesign<'p>) -> Result<(
 }
 
 // Puts the text of a routed design to a file.
-fn put_design<'p, S: Shelf>(
+fn put_design<'p, W: HasWiring, S: Shelf>(
     shelf: &mut S,
     file: &str,
-    routed: &'p RoutedDesign<'p>,
+    routed: &'p RoutedDesign<'p, W>,
 ) -> Result<(), Failed>
-    requires { AreInReach routed.now.rules.now routed.now.wirings.now routed.now.laid.now.channel_base routed.now.symbols.now }
-    ensures { Puts result (line commands.Comment ++ (text_behind (symbols_with routed.now.design.now 0 routed.now.symbols.now) (items_of routed.now.design.now (drawings routed.now.rules.now routed.now.wirings.now routed.now.laid.now.channel_base) routed.now.laid.now.cells))) (S.holds shelf.old file.now) (S.holds shelf.new file.now) (S.write_faults shelf.old file.now) (S.write_faults shelf.new file.now) (Unit {0}) (λ calm. OthersSame calm file.now (S.holds shelf.old) (S.holds shelf.new) (S.read_faults shelf.old) (S.read_faults shelf.new) (S.write_faults shelf.old) (S.write_faults shelf.new)) }
+    requires { AreInReach routed.now.rules.now (map W.wiring_of routed.now.wirings.now) routed.now.laid.now.channel_base routed.now.symbols.now }
+    ensures { Puts result (line commands.Comment ++ (text_behind (symbols_with routed.now.design.now 0 routed.now.symbols.now) (items_of routed.now.design.now (drawings routed.now.rules.now (map W.wiring_of routed.now.wirings.now) routed.now.laid.now.channel_base) routed.now.laid.now.cells))) (S.holds shelf.old file.now) (S.holds shelf.new file.now) (S.write_faults shelf.old file.now) (S.write_faults shelf.new file.now) (Unit {0}) (λ calm. OthersSame calm file.now (S.holds shelf.old) (S.holds shelf.new) (S.read_faults shelf.old) (S.read_faults shelf.new) (S.write_faults shelf.old) (S.write_faults shelf.new)) }
 {
     let mut out = FileSink::new(shelf, file);
     write_all(&mut out, routed)
@@ -206,21 +209,21 @@ fn put_design<'p, S: Shelf>(
 ///
 /// The text reads as the layout that the stack of these rows and wirings is.
 #[tactic(auto, unfolding(crate::specs::LayoutText::placed_text))]
-pub fn write_layout<S: Shelf>(
+pub fn write_layout<W: HasWiring, S: Shelf>(
     shelf: &mut S,
     file: &str,
-    routed: &RoutedDesign,
+    routed: &RoutedDesign<W>,
 ) -> Result<(), Failed>
     requires valid { ValidRules routed.now.rules.now }
     requires high { HasRoom routed.now.rules.now routed.now.design.now }
     requires fed { IsFed routed.now.design.now routed.now.fed.now }
-    requires wired { IsRouted routed.now.rules.now routed.now.design.now routed.now.fed.now routed.now.wirings.now }
-    requires laid { routed.now.laid.now ≡ laid_of (stack_of routed.now.rules.now routed.now.design.now routed.now.fed.now routed.now.wirings.now) }
+    requires wired { IsRouted routed.now.rules.now routed.now.design.now routed.now.fed.now (map W.wiring_of routed.now.wirings.now) }
+    requires laid { routed.now.laid.now ≡ laid_of (stack_of routed.now.rules.now routed.now.design.now routed.now.fed.now (map W.wiring_of routed.now.wirings.now)) }
     requires symbols { routed.now.symbols.now ≡ symbol_drawings routed.now.rules.now routed.now.design.now routed.now.fed.now }
-    ensures text { OnOk result (Refines (S.holds shelf.new file.now) (Some (placed_text routed.now.rules.now routed.now.design.now routed.now.fed.now (stack_of routed.now.rules.now routed.now.design.now routed.now.fed.now routed.now.wirings.now)))) }
-    ensures reads_as { ReadsAs (placed_text routed.now.rules.now routed.now.design.now routed.now.fed.now (stack_of routed.now.rules.now routed.now.design.now routed.now.fed.now routed.now.wirings.now))
-        (layout_of routed.now.rules.now routed.now.design.now (stack_of routed.now.rules.now routed.now.design.now routed.now.fed.now routed.now.wirings.now)) }
-    ensures front { OnErr result (HoldsFront (placed_text routed.now.rules.now routed.now.design.now routed.now.fed.now (stack_of routed.now.rules.now routed.now.design.now routed.now.fed.now routed.now.wirings.now))
+    ensures text { OnOk result (Refines (S.holds shelf.new file.now) (Some (placed_text routed.now.rules.now routed.now.design.now routed.now.fed.now (stack_of routed.now.rules.now routed.now.design.now routed.now.fed.now (map W.wiring_of routed.now.wirings.now))))) }
+    ensures reads_as { ReadsAs (placed_text routed.now.rules.now routed.now.design.now routed.now.fed.now (stack_of routed.now.rules.now routed.now.design.now routed.now.fed.now (map W.wiring_of routed.now.wirings.now)))
+        (layout_of routed.now.rules.now routed.now.design.now (stack_of routed.now.rules.now routed.now.design.now routed.now.fed.now (map W.wiring_of routed.now.wirings.now))) }
+    ensures front { OnErr result (HoldsFront (placed_text routed.now.rules.now routed.now.design.now routed.now.fed.now (stack_of routed.now.rules.now routed.now.design.now routed.now.fed.now (map W.wiring_of routed.now.wirings.now)))
         (S.holds shelf.old file.now) (S.holds shelf.new file.now)) }
     ensures others { OthersSame (is_ok result) file.now (S.holds shelf.old) (S.holds shelf.new) (S.read_faults shelf.old) (S.read_faults shelf.new) (S.write_faults shelf.old) (S.write_faults shelf.new) }
     ensures cause { OnErr result (Rose (S.write_faults shelf.old file.now) (S.write_faults shelf.new file.now)) }

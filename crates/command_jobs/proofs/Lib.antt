@@ -2,7 +2,5 @@
 pub mod SizeLaws
 -- the wirings of routed channels connect the channels of rows with feeds, within the bound
 pub mod RoutedLaws
--- routed channels apart and together
-pub mod KeptLaws
 -- a layout in short
 pub mod SummaryLaws

@@ -20,7 +20,7 @@ use Rattle.pin_assign.specs.Bounds.{bound_of}
 use Rattle.pin_assign.specs.ChannelTables.{AreTablesFor}
 use Rattle.pin_assign.specs.Tables.{tables_of}
 use Rattle.tech_rules.specs.Rules.{RuleValues}
-use Rattle.command_jobs.specs.Kept.{wirings_of}
+use Rattle.command_jobs.specs.Text.{wirings_of}
 
 -- the wiring at a place is that of the routed channel there
 wiring-at : (kept : List Routed) (k : ℕ) (w : Wiring) → slice_get (wirings_of kept) k ≡ Some w → (one : Routed) × (slice_get kept k ≡ Some one) × (one.wiring ≡ w)

@@ -9,9 +9,8 @@ use Rattle.channel_stack.specs.Stack.{LaidOut, laid_of, stack_of}
 use Rattle.greedy_router.specs.declared.sweep.Routed.{Routed}
 use Rattle.layout_report.specs.declared.summary.ChannelLine.{ChannelLine}
 use Rattle.command_jobs.specs.Job.{Job}
-use Rattle.command_jobs.specs.Kept.{wirings_of}
 use Rattle.command_jobs.specs.Summarized.{cost_for, feeds_at, feeds_in, feeds_of, line_of_channel, summary_of, summary_with}
-use Rattle.command_jobs.specs.Text.{rows_with_feeds}
+use Rattle.command_jobs.specs.Text.{rows_with_feeds, wirings_of}
 use Rattle.std_laws.proofs.Greatest.{greatest-first}
 
 feed-width : (d : Netlist) (item : Item) → feeds_at item ≤ item_width d item

@@ -1,8 +1,6 @@
 -- the job, its rows, its routed channels and its text
 pub mod Job
 pub mod Rows
-pub mod Kept
-pub mod KeptView
 pub mod Text
 -- the layout in short
 pub mod Summarized

@@ -8,10 +8,9 @@ use Rattle.channel_stack.specs.Stack.{laid_of, stack_of}
 use Rattle.cif_writer.specs.Symbols.{symbol_drawings}
 use Rattle.greedy_router.specs.declared.sweep.Routed.{Routed}
 use Rattle.command_jobs.specs.Job.{Job}
-use Rattle.command_jobs.specs.Kept.{wirings_of}
 use Rattle.command_jobs.specs.Rows.{job_of}
 use Rattle.command_jobs.specs.Summarized.{summary_of}
-use Rattle.command_jobs.specs.Text.{AreRoutedRows}
+use Rattle.command_jobs.specs.Text.{AreRoutedRows, wirings_of}
 use Rattle.command_jobs.specs.declared.prepared.Prepared.TheInside.{Inside}
 
 -- a job, and its routed channels
@@ -20,14 +19,14 @@ pub record RoutedJob : Type 0 where
   pub kept : List Routed
 
 abbrev pub job_in : Inside → RoutedJob
-job_in a = record { job = job_of a.rules a.design a.wanted; kept = a.kept }
+job_in a = record { job = job_of a.rules a.design a.wanted; kept = a.kept.items }
 
 -- its rows with feeds and its channels are the job's, and lie where its layout says, which is good; and its symbols are drawn
 pub record IsPrepared (a : Inside) : Type 0 where
   pub valid : ValidRules a.rules
   pub high : HasRoom a.rules a.design
-  pub rows : AreRoutedRows (job_in a).job a.fed a.kept
-  pub laid : a.laid ≡ laid_of (stack_of a.rules a.design a.fed (wirings_of a.kept))
-  pub good : Good a.rules a.design (layout_of a.rules a.design (stack_of a.rules a.design a.fed (wirings_of a.kept)))
-  pub told : a.summary ≡ summary_of (job_in a).job a.kept
+  pub rows : AreRoutedRows (job_in a).job a.fed a.kept.items
+  pub laid : a.laid ≡ laid_of (stack_of a.rules a.design a.fed (wirings_of a.kept.items))
+  pub good : Good a.rules a.design (layout_of a.rules a.design (stack_of a.rules a.design a.fed (wirings_of a.kept.items)))
+  pub told : a.summary ≡ summary_of (job_in a).job a.kept.items
   pub symbols : a.symbols.items ≡ symbol_drawings a.rules a.design a.fed

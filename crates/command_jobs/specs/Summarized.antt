@@ -10,9 +10,8 @@ use Rattle.greedy_router.specs.declared.sweep.Routed.{Routed}
 use Rattle.layout_report.specs.declared.summary.ChannelLine.{ChannelLine}
 use Rattle.layout_report.specs.declared.summary.Summary.{Summary}
 use Rattle.command_jobs.specs.Job.{Job}
-use Rattle.command_jobs.specs.Kept.{wirings_of}
 use Rattle.command_jobs.specs.Rows.{rows_of, schedule_of}
-use Rattle.command_jobs.specs.Text.{rows_with_feeds}
+use Rattle.command_jobs.specs.Text.{rows_with_feeds, wirings_of}
 
 -- 1 for a feed, and 0 for a cell
 abbrev pub feeds_at : Item → ℕ

@@ -1,5 +1,5 @@
 -- the rows with feeds of a job, its channels, also routed, and the text of its layout
-use Rattle.std.specs.Prelude.{◌≡◌, ◌≤◌, ℕ, List}
+use Rattle.std.specs.Prelude.{◌≡◌, ◌≤◌, ℕ, List, map}
 use Rattle.limits.specs.declared.TheConstants.{MOST_COLUMNS}
 use Rattle.tech_rules.specs.Rules.{RuleValues}
 use Rattle.design_model.specs.Netlist.{Netlist}
@@ -14,8 +14,11 @@ use Rattle.channel_stack.specs.Routed.{AreWired, IsRouted}
 use Rattle.channel_stack.specs.Stack.{stack_of}
 use Rattle.cif_writer.specs.LayoutText.{placed_text}
 use Rattle.command_jobs.specs.Job.{Job}
-use Rattle.command_jobs.specs.Kept.{wirings_of}
 use Rattle.command_jobs.specs.Rows.{rows_of}
+
+-- the wirings of channels that are routed, from the lowest channel up
+abbrev pub wirings_of : List Routed → List Wiring
+wirings_of kept = map (λ (r : Routed). r.wiring) kept
 
 -- the text of rows with feeds and of the wirings of the channels between them
 abbrev pub routed_text : RuleValues → Netlist → Fed → List Wiring → List ℕ

@@ -1,7 +1,6 @@
 //! The job of laying a design out: its rows are annealed and get feeds, its channels are routed, and all of it is written.
 #![tactic(auto)]
 
-mod kept;
 mod placing;
 mod prepared;
 mod routing;

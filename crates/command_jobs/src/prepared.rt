@@ -15,7 +15,6 @@ ghost use Rattle.shelf_io.specs.OtherFiles.{OthersSame};
 ghost use Rattle.shelf_io.specs.Told.{Refines};
 ghost use Rattle.std.specs.Prelude.{◌≡◌, ◌≢◌, is_ok, Some, IfErr, IfOk, OnErr, OnOk};
 
-use crate::kept::Apart;
 use crate::placing::annealed_rows;
 use crate::routing::route_rows;
 use crate::summarizing::{channel_lines, summarized};
@@ -43,7 +42,7 @@ pub struct Prepared {
     design: Design,
     wanted: Wanted,
     fed: FedRows,
-    kept: Apart,
+    kept: Vec<Routed>,
     laid: Laid,
     symbols: Vec<Items<Shape>>,
     summary: Summary,
@@ -83,17 +82,17 @@ fn ready(
 {
     // What every value of the rules keeps is known once a field is read.
     let _ = &rules.version;
-    let lines = channel_lines(alloc, routed.as_slice(), &fed)?;
-    let kept = Apart::new(alloc, routed)?;
+    let channels = routed.as_slice();
+    let lines = channel_lines(alloc, channels, &fed)?;
     let symbols = symbol_drawings(alloc, &design, &fed, &rules)?;
-    let laid = lay(alloc, &design, &fed, kept.wirings(), &rules)?;
+    let laid = lay(alloc, &design, &fed, channels, &rules)?;
     let summary = summarized(&design, &fed, lines, &laid, cost);
     Ok(Prepared {
         rules,
         design,
         wanted,
         fed,
-        kept,
+        kept: routed,
         laid,
         symbols,
         summary,
@@ -137,7 +136,7 @@ impl Prepared {
         let routed = RoutedDesign {
             design: &self.design,
             fed: &self.fed,
-            wirings: self.kept.wirings(),
+            wirings: self.kept.as_slice(),
             laid: &self.laid,
             symbols: self.symbols.as_slice(),
             rules: &self.rules,
@@ -151,9 +150,6 @@ impl Prepared {
         ensures summary { result.summary ≡ summary_of self.job self.kept }
     {
         let Prepared { kept, summary, .. } = self;
-        Told {
-            kept: kept.together(),
-            summary,
-        }
+        Told { kept, summary }
     }
 }

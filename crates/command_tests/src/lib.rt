@@ -23,3 +23,5 @@ mod summary_tests;
 mod support;
 #[cfg(test)]
 mod word_tests;
+#[cfg(test)]
+mod written_tests;

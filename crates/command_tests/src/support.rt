@@ -99,7 +99,7 @@ pub(crate) fn named_style(alloc: Global, name: &str, choice: Choice) -> Result<S
 }
 
 /// A style in stock.
-fn stock_style(alloc: Global, stock: Stock) -> Result<Style, AllocError> {
+pub(crate) fn stock_style(alloc: Global, stock: Stock) -> Result<Style, AllocError> {
     let choice: Choice = Box::new(
         alloc,
         move |list: &[Candidate]| -> usize

@@ -9,21 +9,21 @@ use Rattle.greedy_column.specs.Uses.{AreSorted, is_past, next_at, next_after}
 later_test : (n m c k : ℕ) → (ltb n m || (eqb n m && leb c k)) ≡ true → (eqb n m && ltb k c) ≡ false
 later_test n m c k past = grind (arith, nat_tests)
 
-above_test : (n m c k : ℕ) → m < n → (eqb n m && ltb k c) ≡ false
-above_test n m c k above = grind (arith, nat_tests)
+pub other_test : (n m c k : ℕ) → n ≢ m → (eqb n m && ltb c k) ≡ false
+other_test n m c k other = grind (arith, nat_tests)
 
 here_test : (n m c k : ℕ) → (ltb n m || (eqb n m && leb c k)) ≡ false → n ≡ m → (eqb n m && ltb k c) ≡ true
 here_test n m c k past same = grind (arith, nat_tests)
 
-other_test : (n m c k : ℕ) → (ltb n m || (eqb n m && leb c k)) ≡ false → n ≢ m → m < n
-other_test n m c k past other = grind (arith, nat_tests)
+above_test : (n m c k : ℕ) → (ltb n m || (eqb n m && leb c k)) ≡ false → n ≢ m → m < n
+above_test n m c k past other = grind (arith, nat_tests)
 
--- no use of a list of greater nets is of the net
-none_after : (uses : List Use) (column net : ℕ) → ((k : ℕ) (d : Use) → k < length uses → net < (get_or uses k d).net) → next_after uses column net ≡ Ends
-none_after [] column net above = refl
-none_after (u ∷ uses) column net above =
-    cond-false (eqb u.net net && ltb column u.column) u.next (next_after uses column net) (above_test u.net net u.column column (above 0 u (omega arith)))
-    ∙ none_after uses column net (λ k d within. above (suc k) d (omega arith))
+-- where no use of a list is of a net, none tells its next pins
+pub none_of_net : (uses : List Use) (column net : ℕ) → ((k : ℕ) (d : Use) → k < length uses → (get_or uses k d).net ≢ net) → next_after uses column net ≡ Ends
+none_of_net [] column net other = refl
+none_of_net (u ∷ uses) column net other =
+    cond-false (eqb u.net net && ltb column u.column) u.next (next_after uses column net) (other_test u.net net column u.column (other 0 u (omega arith)))
+    ∙ none_of_net uses column net (λ k d within. other (suc k) d (omega arith))
 
 -- where the uses up to a place lie before a column of a net and the others behind it, the next of the net is told at the place
 pub next_after-at : (uses : List Use) (column net place : ℕ) → AreSorted uses
@@ -37,8 +37,8 @@ next_after-at (u ∷ uses) column net zero sorted before behind =
           cond-true (eqb u.net net && ltb column u.column) u.next (next_after uses column net) (here_test u.net net u.column column past same)
           ∙ sym (cond-true (eqb u.net net) u.next Ends (eq-eqb u.net net same))
       | inr other ↦
-          let above : net < u.net = other_test u.net net u.column column past other in
-          none_after (u ∷ uses) column net (λ k d within. let least = (sorted 0 k d (omega arith) within).nets in omega (arith, least, above))
+          let above : net < u.net = above_test u.net net u.column column past other in
+          none_of_net (u ∷ uses) column net (λ k d within. let least = (sorted 0 k d (omega arith) within).nets in omega (arith, least, above))
           ∙ sym (cond-false (eqb u.net net) u.next Ends (ne_eqb u.net net other))
     ]
 next_after-at (u ∷ uses) column net (suc place) sorted before behind =

@@ -54,10 +54,10 @@ Fair-from manner may pins column fresh before done matched numbered follows =
     let kept : List Track = freed done.ended now in
     let long : length kept ≡ length now = length-map now (freed_among done.ended) in
     let moves = moves_apart may (next_of pins column) now kept on.order (spans ++ on.joined) (free_lines now) on.moving
-    (Apart-order manner (next_of pins column) kept on.order on.ordered) on.moves_follow in
+    (Apart-order manner (next_of pins column) kept (spans ++ on.joined) (free_lines now) on.order on.ordered) on.moves_follow in
     let within : (m : ℕ × ℕ) → Contains on.moving m → ((0 < m.0) × (m.0 ≤ length now)) × ((0 < m.1) × (m.1 ≤ length now)) = λ m member.
     let found = moves_within may (next_of pins column) now kept on.order (spans ++ on.joined) (free_lines now) on.moving on.moves_follow m member in
-    let from = (LieWithin-lines is_held kept).each m.0 (held_in_order manner (next_of pins column) kept on.order on.ordered m.0 found.0) in
+    let from = (LieWithin-lines is_held kept).each m.0 (held_in_order manner (next_of pins column) kept (spans ++ on.joined) (free_lines now) on.order on.ordered m.0 found.0) in
     let to = (LieWithin-lines (is_open 0) now).each m.1 found.1 in
     ((from.0, omega (arith, from.1, long)), to) in
     let entries = AreEntered-from manner may pins column fresh before done matched numbered follows in
@@ -87,7 +87,7 @@ Fair-from manner may pins column fresh before done matched numbered follows =
             subst (λ n. IsMove before now done old n) (ap (λ (p : ℕ × ℕ). p.1) from.2)
             (subst (λ o. IsMove before now done o (id_on now from.0.1)) (ap (λ (p : ℕ × ℕ). p.0) from.2)
             (IsMove-from pins column fresh before done numbered made.placed made.entered entries apart from.0.0 from.0.1
-            (held_in_order manner (next_of pins column) kept on.order on.ordered from.0.0 lines.0) lines.1));
+            (held_in_order manner (next_of pins column) kept (spans ++ on.joined) (free_lines now) on.order on.ordered from.0.0 lines.0) lines.1));
         moved_once = Apart-to (map (λ (m : ℕ × ℕ). m.0) done.moves)
             (subst (λ l. Apart l) (sym (ap (λ (l : List (ℕ × ℕ)). map (λ (m : ℕ × ℕ). m.0) l) on.moves_told ∙ map-map (move_ids now) (λ (m : ℕ × ℕ). m.0) on.moving))
             (Apart-map (λ (m : ℕ × ℕ). id_on now m.0) (λ (m : ℕ × ℕ). m.0) on.moving

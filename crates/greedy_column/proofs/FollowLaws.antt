@@ -8,7 +8,7 @@ use Rattle.greedy_column.specs.Replay.{freed}
 use Rattle.greedy_column.specs.Lines.{held_lines, free_lines}
 use Rattle.greedy_column.specs.Joining.{neighbours}
 use Rattle.greedy_column.specs.Ending.{EndsFollow, groups, joined_pairs}
-use Rattle.greedy_column.specs.Moving.{MovesFollow}
+use Rattle.greedy_column.specs.Moving.{IsOrderOfMoves, MovesFollow, movable_lines}
 use Rattle.greedy_column.specs.Follows.{AreEndsTold, AreJoinsTold, AreMovesTold, FollowsOn}
 
 -- the steps, as they are told one by one
@@ -22,7 +22,7 @@ FollowsOn-from_told manner may next now spans drawn joins ended moves j e m = re
   moving = m.moving;
   joins_follow = j.follow;
   ends_follow = subst (λ (l : List Span). EndsFollow may next now l (groups (joined_pairs l (neighbours now)) (held_lines now)) e.ending) j.grown e.follow;
-  ordered = m.ordered;
+  ordered = subst (λ (l : List Span). IsOrderOfMoves manner next (freed ended now) (movable_lines l (free_lines now) (freed ended now)) m.order) j.grown m.ordered;
   moves_follow = subst (λ (l : List Span). MovesFollow may next now (freed ended now) m.order l (free_lines now) m.moving) j.grown m.follow;
   joins_told = j.told;
   ends_told = e.told;

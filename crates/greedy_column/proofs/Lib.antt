@@ -1,23 +1,29 @@
+-- lists that are lengthened
+pub mod ReachLaws
 -- options that are picked
 pub mod PickLaws
--- lines of tracks
+-- lines of tracks, what ascends, and windows of lines
 pub mod LineLaws
+pub mod AscentLaws
+pub mod WindowLaws
 -- places of new tracks
 pub mod PlaceLaws
 -- lists of uses, and where a net has its next pins by one
 pub mod UseLaws
 pub mod AheadLaws
+pub mod StartLaws
 -- the joins of a column
 pub mod JoinLaws
 -- sorted numbers
 pub mod SortedLaws
 -- neighbouring tracks, and the groups that end
+pub mod DeskLaws
+pub mod MarkLaws
 pub mod PairLaws
 pub mod EndLaws
 -- the moves of a column
 pub mod AloneLaws
 pub mod MoveLaws
-pub mod SplitLaws
 pub mod WaitingLaws
 pub mod OrderLaws
 -- what the steps make

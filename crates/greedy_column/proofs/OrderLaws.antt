@@ -7,8 +7,9 @@ use Rattle.choose_core.specs.declared.candidate.Next.{Next}
 use Rattle.choose_core.specs.declared.plan.Manner.{Manner}
 use Rattle.choose_core.specs.declared.plan.Manner.TheVariants.{Published, LookingAhead}
 use Rattle.greedy_column.specs.declared.column.Track.{Track}
+use Rattle.greedy_column.specs.declared.span.Span.{Span}
 use Rattle.greedy_column.specs.Lines.{held_lines, is_held}
-use Rattle.greedy_column.specs.Moving.{IsOrderOfMoves, behind_on, is_split}
+use Rattle.greedy_column.specs.Moving.{IsOrderOfMoves, behind_on, is_movable, is_split, movable_lines}
 use Rattle.greedy_column.proofs.IdLaws.{Apart}
 use Rattle.greedy_column.proofs.PartLaws.{Apart-lines_from}
 use Rattle.std_laws.proofs.Members.{member-head, member-tail, filter-member, filter-from}
@@ -57,29 +58,39 @@ module _ (key : ℕ → ℕ) (xs ys : List ℕ) (stable : IsStableByKey key nat_
   Apart-sorted : Apart xs → Apart ys
   Apart-sorted apart = apart_by_key key ys (λ x. subst (λ l. Apart l) (sym (stable x)) (Apart-filter (like key x) xs apart))
 
--- the lines of an order of moves are held
-pub held_in_order : (manner : Manner) (next : ℕ → Next) (kept : List Track) (order : List ℕ) → IsOrderOfMoves manner next kept order
-    → (line : ℕ) → Contains order line → Contains (held_lines kept) line
-held_in_order Published next kept order is line member = subst (λ l. Contains l line) is member
-held_in_order LookingAhead next kept order is line member =
-    elim (Contains-append_cases (filter (is_split kept) (held_lines kept)) is.others line (subst (λ l. Contains l line) is.split_first member)) [
-      | inl split ↦ (filter-from (is_split kept) (held_lines kept) line split).0
-      | inr other ↦ (filter-from (λ l. not (is_split kept l)) (held_lines kept) line
-          (in_sorted (behind_on next kept) (filter (λ l. not (is_split kept l)) (held_lines kept)) is.others is.farthest_first.stable line other)).0
+-- the lines of an order are those that are ordered, and each stands there once
+in_order : (manner : Manner) (next : ℕ → Next) (kept : List Track) (lines order : List ℕ) → IsOrderOfMoves manner next kept lines order
+    → (line : ℕ) → Contains order line → Contains lines line
+in_order Published next kept lines order is line member = subst (λ l. Contains l line) is member
+in_order LookingAhead next kept lines order is line member =
+    elim (Contains-append_cases (filter (is_split kept) lines) is.others line (subst (λ l. Contains l line) is.split_first member)) [
+      | inl split ↦ (filter-from (is_split kept) lines line split).0
+      | inr other ↦ (filter-from (λ l. not (is_split kept l)) lines line
+          (in_sorted (behind_on next kept) (filter (λ l. not (is_split kept l)) lines) is.others is.farthest_first.stable line other)).0
     ]
 
--- and each stands there once
-pub Apart-order : (manner : Manner) (next : ℕ → Next) (kept : List Track) (order : List ℕ) → IsOrderOfMoves manner next kept order → Apart order
-Apart-order Published next kept order is = subst (λ l. Apart l) (sym is) (Apart-lines_from is_held 1 kept)
-Apart-order LookingAhead next kept order is =
-    let lines : List ℕ = filter (λ l. not (is_split kept l)) (held_lines kept) in
+once_in_order : (manner : Manner) (next : ℕ → Next) (kept : List Track) (lines order : List ℕ) → Apart lines → IsOrderOfMoves manner next kept lines order
+    → Apart order
+once_in_order Published next kept lines order apart is = subst (λ l. Apart l) (sym is) apart
+once_in_order LookingAhead next kept lines order apart is =
+    let unsplit : List ℕ = filter (λ l. not (is_split kept l)) lines in
     subst (λ l. Apart l) (sym is.split_first)
-    (Apart-append (filter (is_split kept) (held_lines kept)) is.others
-    (Apart-filter (is_split kept) (held_lines kept) (Apart-lines_from is_held 1 kept))
-    (Apart-sorted (behind_on next kept) lines is.others is.farthest_first.stable
-    (Apart-filter (λ l. not (is_split kept l)) (held_lines kept) (Apart-lines_from is_held 1 kept)))
+    (Apart-append (filter (is_split kept) lines) is.others (Apart-filter (is_split kept) lines apart)
+    (Apart-sorted (behind_on next kept) unsplit is.others is.farthest_first.stable (Apart-filter (λ l. not (is_split kept l)) lines apart))
     (λ x split other.
-    let one = (filter-from (is_split kept) (held_lines kept) x split).1 in
-    let two = (filter-from (λ l. not (is_split kept l)) (held_lines kept) x
-    (in_sorted (behind_on next kept) lines is.others is.farthest_first.stable x other)).1 in
+    let one = (filter-from (is_split kept) lines x split).1 in
+    let two = (filter-from (λ l. not (is_split kept l)) lines x (in_sorted (behind_on next kept) unsplit is.others is.farthest_first.stable x other)).1 in
     cc (ap not one, two)))
+
+module _ (manner : Manner) (next : ℕ → Next) (kept : List Track) (spans : List Span) (free order : List ℕ)
+    (is : IsOrderOfMoves manner next kept (movable_lines spans free kept) order) where
+  -- the lines of an order of moves are held
+  pub held_in_order : (line : ℕ) → Contains order line → Contains (held_lines kept) line
+  held_in_order line member =
+      (filter-from (is_movable spans free kept) (held_lines kept) line (in_order manner next kept (movable_lines spans free kept) order is line member)).0
+
+  -- and each stands there once
+  pub Apart-order : Apart order
+  Apart-order =
+      once_in_order manner next kept (movable_lines spans free kept) order
+      (Apart-filter (is_movable spans free kept) (held_lines kept) (Apart-lines_from is_held 1 kept)) is

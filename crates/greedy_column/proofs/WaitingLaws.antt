@@ -1,17 +1,15 @@
-use Rattle.std.proofs.Common.{◌≡◌, ◌++◌, not, eqb, ℕ, List, [], ◌∷◌, Bool, true, false, cond, length, filter, map, refl, sym, subst, ap, ◌∙◌, arith, Contains, append_assoc}
+use Rattle.std.proofs.Common.{◌≡◌, ◌<◌, ◌++◌, not, ℕ, List, [], ◌∷◌, Bool, true, false, cond, length, filter, map, refl, sym, subst, ap, ◌∙◌, arith, Contains, append_assoc}
 use Rattle.std.proofs.Math.ListN.{get_or-map}
 use Rattle.std.proofs.lemmas.List.{length-map}
-use Rattle.std.proofs.lemmas.List.Sorted.{Contains-permutation, IsPermutation-sym}
-use Rattle.std.specs.List.{list_any}
+use Rattle.std.proofs.lemmas.List.Sorted.{Contains-permutation, IsNonDecreasingBy-short, IsPermutation-sym}
 use Rattle.std.specs.List.Sorted.{IsNonDecreasingBy, IsPermutation, IsStableByKey, ties}
 use Rattle.std.specs.Ordering.{is_lt, nat_cmp}
+use Rattle.choose_core.specs.declared.candidate.Next.{Next}
 use Rattle.greedy_column.specs.declared.column.Track.{Track}
 use Rattle.greedy_column.specs.declared.move_order.Waiting.{Waiting}
-use Rattle.greedy_column.specs.Lines.{held_lines, net_on}
-use Rattle.greedy_column.specs.Moving.{AreOrdered, is_split}
+use Rattle.greedy_column.specs.Moving.{AreOrdered, IsOrderAhead, behind_on, is_split}
 use Rattle.std_laws.proofs.Members.{member-head, member-tail, map-cases}
 use Rattle.std_laws.proofs.Images.{filter-map}
-use Rattle.std_laws.proofs.Counts.{filter-same}
 
 -- a loop that parts lines by a test goes on with one more
 pub part_more : (p : ℕ → Bool) (line : ℕ) (later done pushed all : List ℕ) (b : Bool) → b ≡ p line → pushed ≡ done ++ cond b (line ∷ []) []
@@ -58,6 +56,10 @@ module _ (key : ℕ → ℕ) where
       sym (filter-map like_waiting waiting ordered) ∙ stable (waiting x) ∙ filter-map like_waiting waiting lines in
       sym (lines_back (filter like ordered)) ∙ ap (map line_of_waiting) same ∙ lines_back (filter like lines)
 
+  -- fewer than two lines are ordered as they stand
+  pub AreOrdered-few : (lines : List ℕ) → length lines < 2 → AreOrdered key lines lines
+  AreOrdered-few lines few = record { sorted = IsNonDecreasingBy-short key lines (omega (arith, few)); stable = λ x. refl }
+
   -- lines are ordered by a stable sort of what waits on them
   pub AreOrdered-from_sort : (lines ordered : List ℕ) (found sorted : List Waiting) → found ≡ map waiting lines
       → IsNonDecreasingBy (λ (w : Waiting). w.behind) sorted → IsStableByKey (λ (w : Waiting). w.behind) nat_cmp found sorted → IsPermutation found sorted
@@ -74,13 +76,22 @@ module _ (key : ℕ → ℕ) where
             (subst (λ (l : List Waiting). IsStableByKey (λ (w : Waiting). w.behind) nat_cmp found l) whole stable));
       }
 
--- the lines of split nets, and the others, as they are found
-module _ (kept : List Track) (nets : List ℕ)
-    (tells : (line : ℕ) → Contains (held_lines kept) line → list_any (λ n. eqb n (net_on kept line)) nets ≡ is_split kept line) where
-  pub split_found : filter (λ line. list_any (λ n. eqb n (net_on kept line)) nets) (held_lines kept) ≡ filter (is_split kept) (held_lines kept)
-  split_found = filter-same (λ line. list_any (λ n. eqb n (net_on kept line)) nets) (is_split kept) (held_lines kept) tells
-
-  pub others_found : filter (λ line. not (list_any (λ n. eqb n (net_on kept line)) nets)) (held_lines kept)
-      ≡ filter (λ line. not (is_split kept line)) (held_lines kept)
-  others_found = filter-same (λ line. not (list_any (λ n. eqb n (net_on kept line)) nets)) (λ line. not (is_split kept line)) (held_lines kept)
-      (λ line member. ap not (tells line member))
+-- fewer than two lines are in order as they stand
+pub IsOrderAhead-few : (next : ℕ → Next) (kept : List Track) (lines : List ℕ) → length lines < 2 → IsOrderAhead next kept lines lines
+IsOrderAhead-few next kept [] few =
+    record { others = []; split_first = refl; farthest_first = AreOrdered-few (behind_on next kept) [] (omega arith) }
+IsOrderAhead-few next kept (line ∷ (other ∷ lines)) few = absurd (omega (arith, few))
+IsOrderAhead-few next kept (line ∷ []) few = step (is_split kept line) refl where
+  step : (b : Bool) → is_split kept line ≡ b → IsOrderAhead next kept (line ∷ []) (line ∷ [])
+  step true is = record {
+    others = [];
+    split_first = ap (λ c. cond c (line ∷ []) [] ++ []) (sym is);
+    farthest_first = subst (λ c. AreOrdered (behind_on next kept) (cond (not c) (line ∷ []) []) []) (sym is)
+        (AreOrdered-few (behind_on next kept) [] (omega arith));
+  }
+  step false is = record {
+    others = line ∷ [];
+    split_first = ap (λ c. cond c (line ∷ []) [] ++ line ∷ []) (sym is);
+    farthest_first = subst (λ c. AreOrdered (behind_on next kept) (cond (not c) (line ∷ []) []) (line ∷ [])) (sym is)
+        (AreOrdered-few (behind_on next kept) (line ∷ []) (omega arith));
+  }

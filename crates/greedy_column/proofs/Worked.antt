@@ -1,4 +1,4 @@
-use Rattle.std.proofs.Common.{◌≡◌, ◌<◌, ℕ, zero, suc, List, [], ◌∷◌, refl, false, lit<, arith, inl}
+use Rattle.std.proofs.Common.{◌≡◌, ◌<◌, ℕ, zero, suc, List, [], ◌∷◌, refl, false, lit<, arith}
 use Rattle.std.specs.List.Sorted.{IsStrictlyIncreasing}
 use Rattle.channel_model.proofs.Worked.{crossed}
 use Rattle.choose_core.specs.declared.candidate.Candidate.{Candidate}
@@ -96,12 +96,12 @@ module _ (may : List Candidate → ℕ → Type 0) (first : (list : List Candida
     goes_on = record {
       joined = [];
       ending = [];
-      order = 1 ∷ (2 ∷ []);
+      order = [];
       moving = [];
       joins_follow = refl;
       ends_follow = ([], ([], refl, ([], ([], refl, refl, refl)), refl));
       ordered = refl;
-      moves_follow = inl (refl, inl (refl, refl));
+      moves_follow = refl;
       joins_told = refl;
       ends_told = ended_none two_nets;
       moves_told = refl;
@@ -115,12 +115,12 @@ module _ (may : List Candidate → ℕ → Type 0) (first : (list : List Candida
     goes_on = record {
       joined = [];
       ending = 2 ∷ [];
-      order = 1 ∷ (3 ∷ []);
+      order = [];
       moving = [];
       joins_follow = refl;
       ends_follow = ([], (2 ∷ [], refl, (2 ∷ [], ([], refl, ([], ([], refl, refl, refl)), refl)), refl));
       ordered = refl;
-      moves_follow = inl (refl, inl (refl, refl));
+      moves_follow = refl;
       joins_told = refl;
       ends_told = ended_one;
       moves_told = refl;

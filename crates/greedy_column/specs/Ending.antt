@@ -23,6 +23,10 @@ chain_from (pair ∷ joined) line = if pair.low == line then line ∷ chain_from
 abbrev pub is_joined_below : List Span → ℕ → Bool
 is_joined_below joined line = list_any (λ (pair : Span). pair.high == line) joined
 
+-- a line is joined to one above it
+abbrev pub is_joined_above : List Span → ℕ → Bool
+is_joined_above joined line = list_any (λ (pair : Span). pair.low == line) joined
+
 -- the groups of some lines, in the order of their lowest tracks
 abbrev pub groups : List Span → List ℕ → List (List ℕ)
 groups joined lines = map (chain_from joined) (filter (λ line. not (is_joined_below joined line)) lines)
@@ -72,3 +76,10 @@ EndsFollow may next tracks spans (group ∷ groups) ending =
     (these : List ℕ) × ((others : List ℕ) × EndsOf may (length tracks) (next_on next tracks group)
     (own_lines (net_on tracks (slice_index group 0)) tracks) (gives_up next tracks spans group) group these
     × EndsFollow may next tracks spans groups others × (ending ≡ these ++ others))
+
+-- the lines that end of some groups are added to others
+pub record AddsEnds (may : List Candidate → ℕ → Type 0) (next : ℕ → Next) (tracks : List Track) (spans : List Span) (groups : List (List ℕ))
+    (before after : List ℕ) : Type 0 where
+  pub these : List ℕ
+  pub follow : EndsFollow may next tracks spans groups these
+  pub added : after ≡ before ++ these

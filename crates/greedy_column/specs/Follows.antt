@@ -19,7 +19,7 @@ use Rattle.greedy_column.specs.Lines.{free_lines, held_lines, id_on}
 use Rattle.greedy_column.specs.Entering.{Enters}
 use Rattle.greedy_column.specs.Joining.{span_in, neighbours, JoinsFollow, ids_of}
 use Rattle.greedy_column.specs.Ending.{joined_pairs, groups, EndsFollow}
-use Rattle.greedy_column.specs.Moving.{IsOrderOfMoves, MovesFollow, move_ids}
+use Rattle.greedy_column.specs.Moving.{IsOrderOfMoves, MovesFollow, movable_lines, move_ids}
 
 -- a pin of a net
 abbrev pub pin_with : (ℕ → Next) → ℕ → EnteringPin
@@ -54,12 +54,12 @@ pub record AreEndsTold (may : List Candidate → ℕ → Type 0) (next : ℕ →
   pub follow : EndsFollow may next now drawn (groups (joined_pairs drawn (neighbours now)) (held_lines now)) ending
   pub told : AreEnded now ending ended
 
--- Step 4, over the tracks that are kept and these verticals
+-- Step 4, over the tracks that are kept and these verticals, of those that have somewhere to go, in their order
 pub record AreMovesTold (manner : Manner) (may : List Candidate → ℕ → Type 0) (next : ℕ → Next) (now kept : List Track) (drawn : List Span)
     (moves : List (ℕ × ℕ)) : Type 0 where
   pub order : List ℕ
   pub moving : List (ℕ × ℕ)
-  pub ordered : IsOrderOfMoves manner next kept order
+  pub ordered : IsOrderOfMoves manner next kept (movable_lines drawn (free_lines now) kept) order
   pub follow : MovesFollow may next now kept order drawn (free_lines now) moving
   pub told : moves ≡ map (move_ids now) moving
 
@@ -73,7 +73,7 @@ pub record FollowsOn (manner : Manner) (may : List Candidate → ℕ → Type 0)
   pub moving : List (ℕ × ℕ)
   pub joins_follow : JoinsFollow may next (neighbours now) spans joined
   pub ends_follow : EndsFollow may next now (spans ++ joined) (groups (joined_pairs (spans ++ joined) (neighbours now)) (held_lines now)) ending
-  pub ordered : IsOrderOfMoves manner next (freed ended now) order
+  pub ordered : IsOrderOfMoves manner next (freed ended now) (movable_lines (spans ++ joined) (free_lines now) (freed ended now)) order
   pub moves_follow : MovesFollow may next now (freed ended now) order (spans ++ joined) (free_lines now) moving
   pub joins_told : joins ≡ map (ids_of now) joined
   pub ends_told : AreEnded now ending ended

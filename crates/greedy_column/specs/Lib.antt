@@ -19,6 +19,7 @@ pub mod Offers
 pub mod Entering
 pub mod Joining
 pub mod Ending
+pub mod Desk
 pub mod Moving
 pub mod Follows
 -- how many tracks are held

@@ -1,6 +1,7 @@
 -- a record is what the four steps make, each choice being an answer of the chooser
 use Rattle.std.specs.Prelude.{◌==◌, ◌<◌, ◌||◌, ◌+◌, ◌-◌, ◌^◌, ◌++◌, not, if◌then◌else◌, nat_lt, ℕ, suc, List, [], ◌∷◌, Bool, Contains, filter, map, slice_index, length}
 use Rattle.std.specs.List.{list_any}
+use Rattle.std.specs.List.Sorted.{IsStrictlyIncreasing}
 use Rattle.greedy_column.specs.declared.column.Track.{Track}
 use Rattle.greedy_column.specs.declared.lines.Sought.{Sought}
 use Rattle.greedy_column.specs.declared.lines.Sought.TheVariants.{Open, Held, Own}
@@ -37,6 +38,11 @@ is_sought (Own net) = λ t. t.net == net
 pub record AreLines (lines : List ℕ) : Type 0 where
   pub each : (line : ℕ) → Contains lines line → (0 < line) × (line + 1 < 2 ^ 32)
   pub few : length lines + 1 < 2 ^ 32
+
+-- such lines in ascending order
+pub record AreAscending (lines : List ℕ) : Type 0 where
+  pub on_tracks : AreLines lines
+  pub ascending : IsStrictlyIncreasing lines
 
 -- the lines that are free or a net's own, those that are free, and those that nets hold
 abbrev pub open_lines : ℕ → List Track → List ℕ

@@ -1,5 +1,5 @@
--- the order in which kept tracks move, the free lines that each may go to, and the moves that are made
-use Rattle.std.specs.Prelude.{◌≡◌, ◌≢◌, ◌⊎◌, ◌==◌, ◌+◌, ◌-◌, ◌++◌, not, nat_lt, Bool, ℕ, List, [], ◌∷◌, filter, length, min, max}
+-- the free lines that each kept track may go to, the order in which those move that have one, and the moves that are made
+use Rattle.std.specs.Prelude.{◌≡◌, ◌≢◌, ◌⊎◌, ◌==◌, ◌+◌, ◌-◌, ◌++◌, ◌&&◌, not, nat_le, nat_lt, Bool, ℕ, List, [], ◌∷◌, filter, length, min, max}
 use Rattle.std.specs.List.Sorted.{IsNonDecreasingBy, IsStableByKey}
 use Rattle.std.specs.Ordering.{nat_cmp}
 use Rattle.choose_core.specs.declared.candidate.Candidate.{Candidate}
@@ -9,10 +9,30 @@ use Rattle.choose_core.specs.declared.plan.Manner.{Manner}
 use Rattle.choose_core.specs.declared.plan.Manner.TheVariants.{Published, LookingAhead}
 use Rattle.greedy_column.specs.declared.column.Track.{Track}
 use Rattle.greedy_column.specs.declared.span.Span.{Span}
+use Rattle.greedy_column.specs.declared.window.Window.{Window}
 use Rattle.greedy_column.specs.Lines.{held_lines, id_on, net_on, own_lines}
 use Rattle.greedy_column.specs.Replay.{moved}
 use Rattle.greedy_column.specs.Offers.{IsPicked, offer, move_question}
 use Rattle.greedy_column.specs.Joining.{is_clear}
+
+-- the piece between two lines
+abbrev pub piece_between : ℕ → ℕ → ℕ → Span
+piece_between net one other = record { net = net; low = min one other; high = max one other }
+
+-- the free lines to which a track may move
+abbrev pub move_options : List Span → ℕ → ℕ → List ℕ → List ℕ
+move_options spans net line free = filter (λ other. is_clear spans (piece_between net line other)) free
+
+-- a line lies within a window
+abbrev pub is_within : Window → ℕ → Bool
+is_within window line = nat_le window.low line && nat_le line window.high
+
+-- a kept track has a free line to go to before any move, and the lines of those that have
+abbrev pub is_movable : List Span → List ℕ → List Track → ℕ → Bool
+is_movable spans free kept line = nat_lt 0 (length (move_options spans (net_on kept line) line free))
+
+abbrev pub movable_lines : List Span → List ℕ → List Track → List ℕ
+movable_lines spans free kept = filter (is_movable spans free kept) (held_lines kept)
 
 -- the net of a track holds others too
 abbrev pub is_split : List Track → ℕ → Bool
@@ -33,24 +53,16 @@ pub record AreOrdered (key : ℕ → ℕ) (lines ordered : List ℕ) : Type 0 wh
   pub sorted : IsNonDecreasingBy key ordered
   pub stable : IsStableByKey key nat_cmp lines ordered
 
--- first those of split nets, from bottom to top, and then the others, of which those go first that have the farthest to go
-pub record IsOrderAhead (next : ℕ → Next) (kept : List Track) (order : List ℕ) : Type 0 where
+-- first those lines whose nets are split, from bottom to top, and then the others, of which those go first that have the farthest to go
+pub record IsOrderAhead (next : ℕ → Next) (kept : List Track) (lines order : List ℕ) : Type 0 where
   pub others : List ℕ
-  pub split_first : order ≡ filter (is_split kept) (held_lines kept) ++ others
-  pub farthest_first : AreOrdered (behind_on next kept) (filter (λ line. not (is_split kept line)) (held_lines kept)) others
+  pub split_first : order ≡ filter (is_split kept) lines ++ others
+  pub farthest_first : AreOrdered (behind_on next kept) (filter (λ line. not (is_split kept line)) lines) others
 
--- the order in which the kept tracks may move: as published, from bottom to top
-abbrev pub IsOrderOfMoves : Manner → (ℕ → Next) → List Track → List ℕ → Type 0
-IsOrderOfMoves Published next kept order = order ≡ held_lines kept
-IsOrderOfMoves LookingAhead next kept order = IsOrderAhead next kept order
-
--- the piece between two lines
-abbrev pub piece_between : ℕ → ℕ → ℕ → Span
-piece_between net one other = record { net = net; low = min one other; high = max one other }
-
--- the free lines to which a track may move
-abbrev pub move_options : List Span → ℕ → ℕ → List ℕ → List ℕ
-move_options spans net line free = filter (λ other. is_clear spans (piece_between net line other)) free
+-- the order in which the kept tracks of some lines may move: as published, from bottom to top
+abbrev pub IsOrderOfMoves : Manner → (ℕ → Next) → List Track → List ℕ → List ℕ → Type 0
+IsOrderOfMoves Published next kept lines order = order ≡ lines
+IsOrderOfMoves LookingAhead next kept lines order = IsOrderAhead next kept lines order
 
 -- a kept track goes on on a line: its own where it has no option, else one that is picked, be it its own
 abbrev pub GoesTo : (List Candidate → ℕ → Type 0) → Next → List ℕ → ℕ → List ℕ → ℕ → Type 0

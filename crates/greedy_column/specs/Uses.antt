@@ -1,5 +1,5 @@
 -- where a net has its next pins
-use Rattle.std.specs.Prelude.{◌≡◌, ◌<◌, ◌≤◌, ◌==◌, ◌&&◌, ◌||◌, ◌++◌, nat_lt, nat_le, if◌then◌else◌, Bool, Option, Some, None, [], ◌∷◌, suc, ℕ, List, length, slice_index_or}
+use Rattle.std.specs.Prelude.{◌≡◌, ◌<◌, ◌≤◌, ◌==◌, ◌&&◌, ◌||◌, ◌++◌, ◌+◌, nat_lt, nat_le, if◌then◌else◌, Bool, Option, Some, None, [], ◌∷◌, suc, ℕ, List, length, slice_index, slice_index_or}
 use Rattle.choose_core.specs.declared.candidate.Next.{Next}
 use Rattle.choose_core.specs.declared.candidate.Next.TheVariants.{Ends, Top, Bottom, Both}
 use Rattle.greedy_column.specs.declared.uses.Use.{Use}
@@ -12,6 +12,17 @@ pub record IsBefore (u v : Use) : Type 0 where
 -- uses by net, and by column for each net
 abbrev pub AreSorted : List Use → Type 0
 AreSorted uses = (i j : ℕ) (d : Use) → i ≤ j → j < length uses → IsBefore (slice_index_or uses i d) (slice_index_or uses j d)
+
+-- Places of sorted uses, by net number: before the place of a net stand the uses of lesser nets, and from there on those of others.
+pub record ArePlaces (uses : List Use) (starts : List ℕ) : Type 0 where
+  pub within : (net : ℕ) → net < length starts → slice_index starts net ≤ length uses
+  pub lesser : (net k : ℕ) (d : Use) → net < length starts → k < slice_index starts net → (slice_index_or uses k d).net < net
+  pub others : (net k : ℕ) (d : Use) → net < length starts → slice_index starts net ≤ k → k < length uses → net ≤ (slice_index_or uses k d).net
+
+-- the uses of each net stand from its place to that of the net behind it
+pub record AreStarts (uses : List Use) (starts : List ℕ) : Type 0 where
+  pub places : ArePlaces uses starts
+  pub all : (k : ℕ) (d : Use) → k < length uses → (slice_index_or uses k d).net + 1 < length starts
 
 -- a use lies before a net and a column, or there
 abbrev pub is_past : ℕ → ℕ → Use → Bool

@@ -1,8 +1,9 @@
 //! Where each net of a channel has its next pins after a column: at one edge, at both, or nowhere.
 
-ghost use Rattle.greedy_column.specs.Uses.{AreSorted};
+ghost use Rattle.greedy_column.specs.Uses.{AreSorted, AreStarts};
 ghost use Rattle.std.specs.Prelude.{◌≡◌, IfOk};
 
+use crate::starts::{own_uses, starts_of};
 use crate::uses::{Use, first_behind, next_at, sort_by_net, uses_of};
 use channel_model::Channel;
 use choose_core::Next;
@@ -12,26 +13,31 @@ use std::alloc::{AllocError, Global};
 #[derive(Debug, Drop)]
 pub struct Ahead {
     uses: Vec<Use>,
+    starts: Vec<u32>,
     ghost sorted: { AreSorted uses.items },
+    ghost begun: { AreStarts uses.items starts.items },
 }
 
 impl Ahead {
     ghost use Rattle.greedy_column.specs.Ahead.{IsAhead};
     ghost use Rattle.greedy_column.specs.Uses.{next_after};
 
-    /// The pin columns of the nets of a channel, in O(W log W) time for W columns. The one error is want of memory.
+    /// The pin columns of the nets of a channel, in O(W log W + N) time for W columns and N as the greatest number of a net. The one
+    /// error is want of memory.
     pub fn new(alloc: Global, channel: &Channel) -> Result<Ahead, AllocError>
         ensures { IfOk result (λ ahead. IsAhead channel.now ahead) }
     {
         let mut uses = uses_of(alloc, channel)?;
         sort_by_net(&mut uses)?;
-        Ok(Ahead { uses })
+        let starts = starts_of(alloc, &uses)?;
+        Ok(Ahead { uses, starts })
     }
 
     // Where a net has its next pins after a column.
     pub fn next(&self, net: u32, column: u32) -> Next
         ensures { result ≡ next_after self.now.uses.items column net }
     {
-        next_at(first_behind(&self.uses, net, column), net)
+        let own = own_uses(&self.uses, &self.starts, net);
+        next_at(first_behind(own, net, column), net)
     }
 }

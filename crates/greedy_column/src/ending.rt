@@ -1,20 +1,22 @@
 //! Which tracks end: all but one of each group that is joined, or all of them where their net has no more pins.
 
-ghost use Rattle.greedy_column.specs.Ending.{EndsButOne, EndsFollow, EndsOf, chain_from, groups, is_given_up, is_split, joined_pairs, others_of, outside};
+ghost use Rattle.greedy_column.specs.Desk.{MarksSplit, is_marked};
+ghost use Rattle.greedy_column.specs.Ending.{AddsEnds, EndsButOne, EndsFollow, EndsOf, chain_from, groups, is_given_up, joined_pairs, others_of, outside};
 ghost use Rattle.greedy_column.specs.Joining.{neighbours};
 ghost use Rattle.greedy_column.specs.Lines.{held_lines, net_on, own_lines};
 ghost use Rattle.greedy_column.specs.Offers.{keep_question};
 ghost use Rattle.greedy_column.specs.Uses.{next_after};
 ghost use Rattle.greedy_column.specs.declared.span.Span.{Span};
-ghost use Rattle.std.specs.List.{list_any};
-ghost use Rattle.std.specs.Prelude.{◌≡◌, ◌==◌, ◌<◌, ◌≤◌, ◌+◌, ◌^◌, ℕ, List, Contains, IfOk, length, map};
+ghost use Rattle.std.specs.Prelude.{◌≡◌, ◌==◌, ◌<◌, ◌≤◌, ◌+◌, ◌++◌, ◌∷◌, ◌^◌, [], List, Contains, IfOk, OnOk, if◌then◌else◌, length, not};
 
 use crate::ahead::Ahead;
+use crate::desk::Desk;
 use crate::entering::is_ending;
-use crate::grouping::{Grouping, lowest_lines};
-use crate::lines::Lines;
+use crate::grouping::chain;
+use crate::lines::{Lines, push_where};
+use crate::marks::is_marked;
 use crate::moment::Moment;
-use crate::pairs::Paired;
+use crate::pairs::{Paired, Pairs};
 use crate::question::Question;
 use crate::span::Span;
 use crate::tracks::Tracks;
@@ -37,11 +39,11 @@ fn keep_question(tracks: &Tracks, next: Next) -> Question
     }
 }
 
-// Whether a net gives up all its tracks.
-fn is_given_up(next: Next, split: bool) -> bool
-    ensures { result ≡ is_given_up next split }
+// Whether a net gives up all its tracks, by the marks of those that have more than one group.
+fn gives_up(marks: &[u32], net: u32, next: Next) -> bool
+    ensures { result ≡ is_given_up next (is_marked marks.now net) }
 {
-    is_ending(next) && !split
+    is_ending(next) && !is_marked(marks, net)
 }
 
 impl<C: Chooses> Moment<'_, C> {
@@ -88,40 +90,105 @@ impl<C: Chooses> Moment<'_, C> {
     fn ends_from(
         &self,
         tracks: &Tracks,
-        grouping: &Grouping,
+        joined: &Pairs,
+        marks: &[u32],
         line: u32,
     ) -> Result<Vec<u32>, AllocError>
         ensures { IfOk result (λ ending.
             let net = net_on tracks.now line in
             let next = next_after self.now.ahead.now.uses.items self.now.column net in
             EndsOf (C.answers self.now.chooser.now) (length tracks.now) next (own_lines net tracks.now)
-            (is_given_up next (list_any (λ n. n == net) grouping.now.split)) (chain_from grouping.now.joined line) ending.items) }
+            (is_given_up next (is_marked marks.now net)) (chain_from joined.now line) ending.items) }
     {
         let net = tracks.net_on(line);
         let next = self.ahead.next(net, self.column);
-        let given_up = is_given_up(next, grouping.split.has(net));
-        let group = grouping.group_at(self.alloc, line)?;
+        let given_up = gives_up(marks, net, next);
+        let group = chain(self.alloc, joined, line)?;
         self.ends_of(tracks, net, next, given_up, group)
     }
 
-    // The lines that end of the groups whose lowest lines are these.
-    fn ends_among(
+    // Adds a line that is joined to no other, where it ends.
+    fn push_alone(
         &self,
         tracks: &Tracks,
-        grouping: &Grouping,
-        lines: &[u32],
-    ) -> Result<Vec<u32>, AllocError>
-        ensures { IfOk result (λ ending. (spans : List Span)
-            → ((net : ℕ) → list_any (λ n. n == net) grouping.now.split ≡ is_split spans (neighbours tracks.now) net)
-            → EndsFollow (C.answers self.now.chooser.now) (next_after self.now.ahead.now.uses.items self.now.column) tracks.now spans
-            (map (chain_from grouping.now.joined) lines.now) ending.items) }
+        marks: &[u32],
+        line: u32,
+        ending: &mut Vec<u32>,
+    ) -> Result<(), AllocError>
+        ensures { OnOk result (
+            let net = net_on tracks.now line in
+            let next = next_after self.now.ahead.now.uses.items self.now.column net in
+            ending.new.items ≡ ending.old.items ++ (if is_given_up next (is_marked marks.now net) then line ∷ [] else [])) }
     {
+        let net = tracks.net_on(line);
+        let next = self.ahead.next(net, self.column);
+        push_where(ending, gives_up(marks, net, next), line)
+    }
+
+    // Adds the lines that end of the group whose lowest line is this one, at once where no line is joined to it.
+    fn push_group(
+        &self,
+        tracks: &Tracks,
+        joined: &Pairs,
+        marks: &[u32],
+        line: u32,
+        ending: &mut Vec<u32>,
+    ) -> Result<(), AllocError>
+        ensures { OnOk result ((spans : List Span) → MarksSplit spans (neighbours tracks.now) marks.now
+            → AddsEnds (C.answers self.now.chooser.now) (next_after self.now.ahead.now.uses.items self.now.column) tracks.now spans
+            (chain_from joined.now line ∷ []) ending.old.items ending.new.items) }
+    {
+        if !joined.is_joined_above(line) {
+            return self.push_alone(tracks, marks, line, ending);
+        }
+        let ends = self.ends_from(tracks, joined, marks, line)?;
+        ending.extend_from_slice(&ends)?;
+        Ok(())
+    }
+
+    // The same for a line of this net: none where the line is free, or is joined to one below it.
+    fn push_ends(
+        &self,
+        tracks: &Tracks,
+        joined: &Pairs,
+        marks: &[u32],
+        net: u32,
+        line: u32,
+        ending: &mut Vec<u32>,
+    ) -> Result<(), AllocError>
+        ensures { OnOk result ((spans : List Span) → MarksSplit spans (neighbours tracks.now) marks.now
+            → AddsEnds (C.answers self.now.chooser.now) (next_after self.now.ahead.now.uses.items self.now.column) tracks.now spans
+            (groups joined.now (if not (net == 0) then line ∷ [] else [])) ending.old.items ending.new.items) }
+    {
+        if net == 0 {
+            return Ok(());
+        }
+        if joined.is_joined_below(line) {
+            return Ok(());
+        }
+        self.push_group(tracks, joined, marks, line, ending)
+    }
+
+    // The lines that end, group by group, where the nets of more than one are marked.
+    fn ends_by(
+        &self,
+        paired: &Paired,
+        spans: &[Span],
+        marks: &[u32],
+    ) -> Result<Vec<u32>, AllocError>
+        requires { MarksSplit spans.now paired.now.pairs marks.now }
+        ensures { IfOk result (λ ending.
+            EndsFollow (C.answers self.now.chooser.now) (next_after self.now.ahead.now.uses.items self.now.column) paired.now.tracks.now spans.now
+            (groups (joined_pairs spans.now (neighbours paired.now.tracks.now)) (held_lines paired.now.tracks.now)) ending.items) }
+    {
+        let joined = paired.pairs.joined(self.alloc, spans)?;
         let mut ending = Vec::new(self.alloc);
-        let mut rest = lines;
-        while let Some((line, later)) = rest.split_first() {
-            let ends = self.ends_from(tracks, grouping, *line)?;
-            ending.extend_from_slice(&ends)?;
-            rest = later;
+        let mut line = 1u32;
+        let mut rest = paired.tracks.list();
+        while let Some((track, above)) = rest.split_first() {
+            self.push_ends(paired.tracks, &joined, marks, track.net, line, &mut ending)?;
+            line += 1;
+            rest = above;
         }
         Ok(ending)
     }
@@ -129,6 +196,7 @@ impl<C: Chooses> Moment<'_, C> {
     // The lines that end, group by group.
     pub(crate) fn ending_lines(
         &self,
+        desk: &mut Desk,
         paired: &Paired,
         spans: &[Span],
     ) -> Result<Vec<u32>, AllocError>
@@ -136,9 +204,10 @@ impl<C: Chooses> Moment<'_, C> {
             EndsFollow (C.answers self.now.chooser.now) (next_after self.now.ahead.now.uses.items self.now.column) paired.now.tracks.now spans.now
             (groups (joined_pairs spans.now (neighbours paired.now.tracks.now)) (held_lines paired.now.tracks.now)) ending.items) }
     {
-        let grouping = Grouping::new(self.alloc, spans, &paired.pairs)?;
-        let lowest = lowest_lines(self.alloc, paired.tracks, &grouping.joined)?;
-        self.ends_among(paired.tracks, &grouping, &lowest)
+        let marks = desk.marks(self.alloc, &paired.pairs, spans)?;
+        let ending = self.ends_by(paired, spans, &marks)?;
+        desk.take_back(marks, &paired.pairs);
+        Ok(ending)
     }
 }
 

@@ -36,6 +36,9 @@ pub(crate) fn freed(
     requires { IsNonDecreasing ended.now }
     ensures { IfOk result (λ kept. kept.items ≡ freed ended.now tracks.now) }
 {
+    if ended.is_empty() {
+        return Vec::from_slice(alloc, tracks);
+    }
     tracks
         .iter()
         .map(|track| freed_among(ended, *track))

@@ -8,10 +8,11 @@ ghost use Rattle.std.specs.Prelude.{◌≡◌, ◌<◌, ◌+◌, ◌^◌, IfOk, 
 
 use crate::ahead::Ahead;
 use crate::column::Track;
+use crate::desk::Desk;
 use crate::freeing::ended_ids;
 use crate::joining::join_ids;
 use crate::moment::Moment;
-use crate::move_order::order_of_moves;
+use crate::move_order::{movable_lines, order_of_moves};
 use crate::moving::move_ids;
 use crate::pairs::Paired;
 use crate::span::Span;
@@ -46,12 +47,17 @@ struct MovedOn {
 
 impl<C: Chooses> Moment<'_, C> {
     // Steps 2 to 4, over the tracks that the pins have entered and the verticals of these.
-    pub(crate) fn go_on(&self, now: &Tracks, spans: Vec<Span>) -> Result<Outcome, AllocError>
+    pub(crate) fn go_on(
+        &self,
+        desk: &mut Desk,
+        now: &Tracks,
+        spans: Vec<Span>,
+    ) -> Result<Outcome, AllocError>
         ensures follows { IfOk result (λ outcome. FollowsOn self.now.manner (C.answers self.now.chooser.now) (next_after self.now.ahead.now.uses.items self.now.column) now.now spans.items
             outcome.joins outcome.ended outcome.moves) }
         ensures tracks { IfOk result (λ outcome. outcome.tracks ≡ moved outcome.moves (freed outcome.ended now.now)) }
     {
-        let drawn = self.join_and_end(now, spans)?;
+        let drawn = self.join_and_end(desk, now, spans)?;
         let JoinsAndEnds {
             joins,
             ended,
@@ -68,25 +74,35 @@ impl<C: Chooses> Moment<'_, C> {
     }
 
     // Steps 2 and 3.
-    fn join_and_end(&self, now: &Tracks, spans: Vec<Span>) -> Result<JoinsAndEnds, AllocError>
+    fn join_and_end(
+        &self,
+        desk: &mut Desk,
+        now: &Tracks,
+        spans: Vec<Span>,
+    ) -> Result<JoinsAndEnds, AllocError>
         ensures joins { IfOk result (λ drawn. AreJoinsTold (C.answers self.now.chooser.now) (next_after self.now.ahead.now.uses.items self.now.column) now.now spans.items
             drawn.spans.items drawn.joins.items) }
         ensures ends { IfOk result (λ drawn. AreEndsTold (C.answers self.now.chooser.now) (next_after self.now.ahead.now.uses.items self.now.column) now.now drawn.spans.items
             drawn.ended.items) }
     {
-        let paired = now.paired(self.alloc)?;
-        self.join_pairs(&paired, spans)
+        let paired = now.paired(self.alloc, desk)?;
+        self.join_pairs(desk, &paired, spans)
     }
 
     // The same, from the neighbouring tracks.
-    fn join_pairs(&self, paired: &Paired, mut spans: Vec<Span>) -> Result<JoinsAndEnds, AllocError>
+    fn join_pairs(
+        &self,
+        desk: &mut Desk,
+        paired: &Paired,
+        mut spans: Vec<Span>,
+    ) -> Result<JoinsAndEnds, AllocError>
         ensures joins { IfOk result (λ drawn. AreJoinsTold (C.answers self.now.chooser.now) (next_after self.now.ahead.now.uses.items self.now.column) paired.now.tracks.now spans.items
             drawn.spans.items drawn.joins.items) }
         ensures ends { IfOk result (λ drawn. AreEndsTold (C.answers self.now.chooser.now) (next_after self.now.ahead.now.uses.items self.now.column) paired.now.tracks.now drawn.spans.items
             drawn.ended.items) }
     {
         let joins = self.joins_of(paired, &mut spans)?;
-        let ended = self.ends_of_lines(paired, &spans)?;
+        let ended = self.ends_of_lines(desk, paired, &spans)?;
         Ok(JoinsAndEnds {
             joins,
             ended,
@@ -108,10 +124,15 @@ impl<C: Chooses> Moment<'_, C> {
     }
 
     // Step 3: the tracks that end.
-    fn ends_of_lines(&self, paired: &Paired, spans: &[Span]) -> Result<Vec<u32>, AllocError>
+    fn ends_of_lines(
+        &self,
+        desk: &mut Desk,
+        paired: &Paired,
+        spans: &[Span],
+    ) -> Result<Vec<u32>, AllocError>
         ensures { IfOk result (λ ended. AreEndsTold (C.answers self.now.chooser.now) (next_after self.now.ahead.now.uses.items self.now.column) paired.now.tracks.now spans.now ended.items) }
     {
-        let ending = self.ending_lines(paired, spans)?;
+        let ending = self.ending_lines(desk, paired, spans)?;
         ended_ids(self.alloc, paired.tracks, &ending)
     }
 
@@ -143,8 +164,16 @@ impl<C: Chooses> Moment<'_, C> {
             spans.old.items moves.items) }
         ensures tracks { IfOk result (λ moves. kept.new ≡ moved moves.items kept.old) }
     {
-        let order = order_of_moves(self.alloc, self.manner, self.ahead, self.column, kept)?;
-        let free = now.open_lines(self.alloc, 0)?;
+        let free = now.free_lines(self.alloc)?;
+        let lines = movable_lines(self.alloc, spans, &free, kept)?;
+        let order = order_of_moves(
+            self.alloc,
+            self.manner,
+            self.ahead,
+            self.column,
+            kept,
+            lines,
+        )?;
         let moving = self.move_all(now, &order, spans, free, kept)?;
         move_ids(self.alloc, now, &moving)
     }

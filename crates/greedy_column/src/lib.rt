@@ -3,13 +3,16 @@
 
 mod ahead;
 mod column;
+mod desk;
 mod ending;
 mod entering;
+mod free_lines;
 mod freeing;
 mod going_on;
 mod grouping;
 mod joining;
 mod lines;
+mod marks;
 mod moment;
 mod move_order;
 mod moving;
@@ -20,12 +23,16 @@ mod question;
 mod replays;
 mod sorted;
 mod span;
+mod starts;
 mod stepping;
+mod table;
 mod tracks;
 mod uses;
+mod window;
 
 pub use ahead::Ahead;
 pub use column::{Column, ColumnState, Made, Track};
+pub use desk::Desk;
 pub use lines::line_of;
 pub use moving::held_by;
 pub use replays::{entered, left};

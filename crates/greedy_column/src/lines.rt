@@ -2,14 +2,13 @@
 
 ghost use Rattle.greedy_column.specs.Ending.{outside};
 ghost use Rattle.greedy_column.specs.Lines.{AreLines, above_lowest, below_line, held_lines, is_sought, lines_from, open_lines, own_lines};
-ghost use Rattle.greedy_column.specs.Moving.{move_options, without};
+ghost use Rattle.greedy_column.specs.Moving.{without};
 ghost use Rattle.greedy_column.specs.Tracks.{ids, line_of};
+ghost use Rattle.std.specs.List.Sorted.{IsStrictlyIncreasing};
 ghost use Rattle.std.specs.List.{list_any};
-ghost use Rattle.std.specs.Prelude.{◌≡◌, ◌==◌, ◌<◌, ◌≤◌, ◌+◌, ◌++◌, ◌∷◌, [], ◌^◌, if◌then◌else◌, IfOk, OnOk, filter, length, nat_lt};
+ghost use Rattle.std.specs.Prelude.{◌≡◌, ◌==◌, ◌<◌, ◌≤◌, ◌+◌, ◌++◌, ◌∷◌, [], ◌^◌, if◌then◌else◌, IfOk, OnOk, filter, length, nat_lt, not};
 
 use crate::column::Track;
-use crate::moving::piece_between;
-use crate::span::Span;
 use crate::tracks::Tracks;
 use std::alloc::{AllocError, Global};
 use std::marker::Model;
@@ -77,11 +76,12 @@ impl Tracks {
     }
 
     // The lines of the tracks that are sought.
-    fn lines_where(&self, alloc: Global, sought: Sought) -> Result<Vec<u32>, AllocError>
+    pub(crate) fn lines_where(&self, alloc: Global, sought: Sought) -> Result<Vec<u32>, AllocError>
         ensures lines { IfOk result (λ lines. lines.items ≡ lines_from (is_sought sought) 1 self.now) }
         ensures are { IfOk result (λ lines. AreLines lines.items) }
+        ensures ascending { IfOk result (λ lines. IsStrictlyIncreasing lines.items) }
     {
-        let mut lines = Vec::new(alloc);
+        let mut lines = Vec::with_capacity(alloc, self.list().len())?;
         let mut line = 1u32;
         let mut rest = self.list();
         while let Some((track, above)) = rest.split_first() {
@@ -125,8 +125,8 @@ impl Lines {
     fn above(&self, alloc: Global, lower: u32) -> Result<Lines, AllocError>
         ensures { IfOk result (λ above. above ≡ filter (λ line. nat_lt lower line) self.now) }
     {
-        let lines = self.list.iter().copied();
-        let list = lines.filter(|line| lower < *line).collect(alloc)?;
+        let mut list = self.list().to_vec(alloc)?;
+        list.retain(|line| lower < *line);
         Ok(Lines { list })
     }
 
@@ -134,35 +134,16 @@ impl Lines {
     pub(crate) fn below(&self, alloc: Global, upper: u32) -> Result<Lines, AllocError>
         ensures { IfOk result (λ below. below ≡ below_line upper self.now) }
     {
-        let lines = self.list.iter().copied();
-        let list = lines.filter(|line| *line < upper).collect(alloc)?;
+        let mut list = self.list().to_vec(alloc)?;
+        list.retain(|line| *line < upper);
         Ok(Lines { list })
     }
 
-    // What is left of these lines once one is taken.
-    pub(crate) fn without(&self, alloc: Global, line: u32) -> Result<Lines, AllocError>
-        ensures { IfOk result (λ left. left ≡ without line self.now) }
+    // Leaves one of these lines out.
+    pub(crate) fn leave_out(&mut self, line: u32)
+        ensures { self.new ≡ without line self.old }
     {
-        let lines = self.list.iter().copied();
-        let list = lines.filter(|other| *other != line).collect(alloc)?;
-        Ok(Lines { list })
-    }
-
-    // Of these free lines those to which a track of a net on this line may move past the verticals of other nets.
-    pub(crate) fn move_options(
-        &self,
-        alloc: Global,
-        spans: &[Span],
-        net: u32,
-        line: u32,
-    ) -> Result<Lines, AllocError>
-        ensures { IfOk result (λ options. options ≡ move_options spans.now net line self.now) }
-    {
-        let lines = self.list.iter().copied();
-        let list = lines
-            .filter(|other| piece_between(net, line, *other).is_clear(spans))
-            .collect(alloc)?;
-        Ok(Lines { list })
+        leave_out(&mut self.list, line);
     }
 
     // The lines outside a group.
@@ -174,15 +155,20 @@ impl Lines {
     }
 }
 
+// Leaves a line out of some.
+fn leave_out(lines: &mut Vec<u32>, line: u32)
+    ensures { lines.new.items ≡ without line lines.old.items }
+{
+    lines.retain(|other| *other != line);
+}
+
 // Of some lines those outside a group.
 fn outside(alloc: Global, group: &[u32], lines: &[u32]) -> Result<Vec<u32>, AllocError>
     ensures { IfOk result (λ others. others.items ≡ outside group.now lines.now) }
 {
-    lines
-        .iter()
-        .copied()
-        .filter(|line| !is_member(group, *line))
-        .collect(alloc)
+    let mut others = lines.to_vec(alloc)?;
+    others.retain(|line| !is_member(group, *line));
+    Ok(others)
 }
 
 // Whether a line is of a group.

@@ -1,17 +1,15 @@
-//! The order in which kept tracks may move: from bottom to top, or split nets first and then the farthest to go.
+//! Which kept tracks may move, and in what order: from bottom to top, or split nets first and then the farthest to go.
 
-ghost use Rattle.greedy_column.specs.Lines.{held_lines, net_on};
-ghost use Rattle.greedy_column.specs.Moving.{AreOrdered, IsOrderAhead, IsOrderOfMoves, behind, behind_on, is_split};
+ghost use Rattle.greedy_column.specs.Moving.{AreOrdered, IsOrderAhead, IsOrderOfMoves, behind, behind_on, is_movable, is_split, movable_lines};
 ghost use Rattle.greedy_column.specs.Uses.{next_after};
 ghost use Rattle.std.specs.List.Sorted.{IsNonDecreasingBy, IsPermutation, IsStableByKey};
-ghost use Rattle.std.specs.List.{list_any};
 ghost use Rattle.std.specs.Ordering.{nat_cmp};
-ghost use Rattle.std.specs.Prelude.{◌≡◌, ◌==◌, ◌<◌, ◌+◌, ◌^◌, ℕ, Contains, IfOk, OnOk, filter, length, map, not};
+ghost use Rattle.std.specs.Prelude.{◌≡◌, ◌<◌, ◌+◌, ◌^◌, IfOk, OnOk, filter, length, map, not};
 
 use crate::ahead::Ahead;
+use crate::free_lines::FreeLines;
 use crate::lines::push_where;
-use crate::pairs::Pairs;
-use crate::sorted::Sorted;
+use crate::span::Span;
 use crate::tracks::Tracks;
 use choose_core::{Manner, Next};
 use std::alloc::{AllocError, Global};
@@ -30,19 +28,44 @@ struct Parted {
     others: Vec<u32>,
 }
 
-// The order in which the kept tracks may move.
+// The lines of the kept tracks that have one of these free lines to go to past these verticals.
+pub(crate) fn movable_lines(
+    alloc: Global,
+    spans: &[Span],
+    free: &FreeLines,
+    kept: &Tracks,
+) -> Result<Vec<u32>, AllocError>
+    ensures { IfOk result (λ lines. lines.items ≡ movable_lines spans.now free.now kept.now) }
+{
+    if free.list().is_empty() {
+        return Ok(Vec::new(alloc));
+    }
+    let mut lines = kept.held_lines(alloc)?;
+    lines.retain(|line| is_movable(spans, free, kept, *line));
+    Ok(lines)
+}
+
+// Whether the kept track of a line has one of these free lines to go to past these verticals.
+fn is_movable(spans: &[Span], free: &FreeLines, kept: &Tracks, line: u32) -> bool
+    ensures { result ≡ is_movable spans.now free.now kept.now line }
+{
+    free.has_option(spans, kept.net_on(line), line)
+}
+
+// The order in which the kept tracks of these lines may move.
 pub(crate) fn order_of_moves(
     alloc: Global,
     manner: Manner,
     ahead: &Ahead,
     column: u32,
     kept: &Tracks,
+    lines: Vec<u32>,
 ) -> Result<Vec<u32>, AllocError>
-    ensures { IfOk result (λ lines. IsOrderOfMoves manner (next_after ahead.now.uses.items column) kept.now lines.items) }
+    ensures { IfOk result (λ order. IsOrderOfMoves manner (next_after ahead.now.uses.items column) kept.now lines.items order.items) }
 {
     match manner {
-        Manner::Published => kept.held_lines(alloc),
-        Manner::LookingAhead => order_ahead(alloc, ahead, column, kept),
+        Manner::Published => Ok(lines),
+        Manner::LookingAhead => order_ahead(alloc, ahead, column, kept, lines),
     }
 }
 
@@ -52,59 +75,43 @@ fn order_ahead(
     ahead: &Ahead,
     column: u32,
     kept: &Tracks,
+    lines: Vec<u32>,
 ) -> Result<Vec<u32>, AllocError>
-    ensures { IfOk result (λ lines. IsOrderAhead (next_after ahead.now.uses.items column) kept.now lines.items) }
+    ensures { IfOk result (λ order. IsOrderAhead (next_after ahead.now.uses.items column) kept.now lines.items order.items) }
 {
-    let parted = parted_lines(alloc, kept)?;
-    let others = farthest_first(alloc, ahead, column, kept, &parted.others)?;
-    let mut lines = parted.split;
-    lines.extend_from_slice(&others)?;
-    Ok(lines)
+    if lines.len() < 2 {
+        return Ok(lines);
+    }
+    let parted = parted_lines(alloc, kept, &lines)?;
+    let Parted { split, others } = parted;
+    let farthest = farthest_first(alloc, ahead, column, kept, others)?;
+    let mut order = split;
+    order.extend_from_slice(&farthest)?;
+    Ok(order)
 }
 
-// The lines that nets hold, parted by whether these are split.
-fn parted_lines(alloc: Global, kept: &Tracks) -> Result<Parted, AllocError>
-    ensures split { IfOk result (λ parted. parted.split.items ≡ filter (is_split kept.now) (held_lines kept.now)) }
-    ensures others { IfOk result (λ parted. parted.others.items ≡ filter (λ line. not (is_split kept.now line)) (held_lines kept.now)) }
+// Some lines, parted by whether their nets are split.
+fn parted_lines(alloc: Global, kept: &Tracks, lines: &[u32]) -> Result<Parted, AllocError>
+    ensures split { IfOk result (λ parted. parted.split.items ≡ filter (is_split kept.now) lines.now) }
+    ensures others { IfOk result (λ parted. parted.others.items ≡ filter (λ line. not (is_split kept.now line)) lines.now) }
 {
-    let nets = split_nets(alloc, kept)?;
-    let held = kept.held_lines(alloc)?;
-    part(alloc, kept, &nets, &held)
-}
-
-// The nets that hold more than one track, in ascending order.
-fn split_nets(alloc: Global, kept: &Tracks) -> Result<Sorted, AllocError>
-    ensures { IfOk result (λ nets. (line : ℕ) → Contains (held_lines kept.now) line
-        → list_any (λ n. n == net_on kept.now line) nets ≡ is_split kept.now line) }
-{
-    let pairs = kept.neighbours(alloc)?;
-    Ok(Sorted::new(nets_of(alloc, &pairs)?))
-}
-
-// The nets of some pairs of tracks.
-fn nets_of(alloc: Global, pairs: &Pairs) -> Result<Vec<u32>, AllocError>
-    ensures { IfOk result (λ nets. nets.items ≡ map (λ pair. pair.net) pairs.now) }
-{
-    pairs.list().iter().map(|pair| pair.net).collect(alloc)
-}
-
-// Some lines, parted by whether their nets are among these.
-fn part(alloc: Global, kept: &Tracks, nets: &Sorted, lines: &[u32]) -> Result<Parted, AllocError>
-    ensures split { IfOk result (λ parted.
-        parted.split.items ≡ filter (λ line. list_any (λ n. n == net_on kept.now line) nets.now) lines.now) }
-    ensures others { IfOk result (λ parted.
-        parted.others.items ≡ filter (λ line. not (list_any (λ n. n == net_on kept.now line) nets.now)) lines.now) }
-{
-    let mut split = Vec::new(alloc);
-    let mut others = Vec::new(alloc);
+    let mut split = Vec::with_capacity(alloc, lines.len())?;
+    let mut others = Vec::with_capacity(alloc, lines.len())?;
     let mut rest = lines;
     while let Some((line, later)) = rest.split_first() {
         rest = later;
-        let among = nets.has(kept.net_on(*line));
+        let among = is_split(kept, *line);
         push_where(&mut split, among, *line)?;
         push_where(&mut others, !among, *line)?;
     }
     Ok(Parted { split, others })
+}
+
+// Whether the net of a line holds other tracks too.
+fn is_split(kept: &Tracks, line: u32) -> bool
+    ensures { result ≡ is_split kept.now line }
+{
+    kept.held(kept.net_on(line)) > 1
 }
 
 // Some lines, those first that have the farthest to go.
@@ -113,11 +120,14 @@ fn farthest_first(
     ahead: &Ahead,
     column: u32,
     kept: &Tracks,
-    lines: &[u32],
+    lines: Vec<u32>,
 ) -> Result<Vec<u32>, AllocError>
-    ensures { IfOk result (λ ordered. AreOrdered (behind_on (next_after ahead.now.uses.items column) kept.now) lines.now ordered.items) }
+    ensures { IfOk result (λ ordered. AreOrdered (behind_on (next_after ahead.now.uses.items column) kept.now) lines.items ordered.items) }
 {
-    let mut waiting = waiting_on(alloc, ahead, column, kept, lines)?;
+    if lines.len() < 2 {
+        return Ok(lines);
+    }
+    let mut waiting = waiting_on(alloc, ahead, column, kept, &lines)?;
     sort_by_behind(&mut waiting)?;
     lines_of(alloc, &waiting)
 }

@@ -10,6 +10,7 @@ ghost use Rattle.std.specs.Prelude.{◌≡◌, ◌<◌, ◌+◌, ◌++◌, ◌�
 
 use crate::ahead::Ahead;
 use crate::column::Track;
+use crate::free_lines::FreeLines;
 use crate::lines::Lines;
 use crate::moment::Moment;
 use crate::question::Question;
@@ -19,7 +20,7 @@ use choose_core::{Ask, Chooses, Next};
 use std::alloc::{AllocError, Global};
 
 // The piece between two lines.
-pub(crate) fn piece_between(net: u32, one: u32, other: u32) -> Span
+fn piece_between(net: u32, one: u32, other: u32) -> Span
     ensures { result ≡ piece_between net one other }
 {
     Span {
@@ -44,20 +45,21 @@ impl<C: Chooses> Moment<'_, C> {
     // Where a kept track of a net goes on, by an answer where it has options.
     fn target_of(
         &self,
-        next: Next,
         net: u32,
         kept: &Tracks,
         line: u32,
-        options: &Lines,
+        options: &[u32],
     ) -> Result<u32, AllocError>
-        ensures { IfOk result (λ target. GoesTo (C.answers self.now.chooser.now) next (without line (own_lines net kept.now)) line options.now target) }
+        requires { length options.now + 1 < 2 ^ 32 }
+        ensures { IfOk result (λ target. GoesTo (C.answers self.now.chooser.now) (next_after self.now.ahead.now.uses.items self.now.column net)
+            (without line (own_lines net kept.now)) line options.now target) }
     {
-        if options.list().is_empty() {
+        if options.is_empty() {
             return Ok(line);
         }
+        let next = self.ahead.next(net, self.column);
         let others = other_lines(self.alloc, kept, net, line)?;
-        let lines = with_own(self.alloc, line, options.list())?;
-        self.pick_line(move_question(line, next), &others, &lines)
+        self.pick_from(move_question(line, next), &others, line, options)
     }
 
     // The line on which the kept track of a line goes on.
@@ -66,16 +68,15 @@ impl<C: Chooses> Moment<'_, C> {
         tracks: &Tracks,
         kept: &Tracks,
         spans: &[Span],
-        free: &Lines,
+        free: &FreeLines,
         line: u32,
     ) -> Result<u32, AllocError>
         ensures { IfOk result (λ target. GoesTo (C.answers self.now.chooser.now) (next_after self.now.ahead.now.uses.items self.now.column (net_on tracks.now line))
             (others_of_net tracks.now kept.now line) line (move_options spans.now (net_on tracks.now line) line free.now) target) }
     {
         let net = tracks.net_on(line);
-        let next = self.ahead.next(net, self.column);
-        let options = free.move_options(self.alloc, spans, net, line)?;
-        self.target_of(next, net, kept, line, &options)
+        let options = free.move_options(spans, net, line);
+        self.target_of(net, kept, line, options)
     }
 
     // The moves of a column, as lines, in their order, by which the kept tracks are carried along.
@@ -84,7 +85,7 @@ impl<C: Chooses> Moment<'_, C> {
         tracks: &Tracks,
         lines: &[u32],
         spans: &mut Vec<Span>,
-        mut free: Lines,
+        mut free: FreeLines,
         kept: &mut Tracks,
     ) -> Result<Vec<(u32, u32)>, AllocError>
         ensures moves { IfOk result (λ moves.
@@ -100,20 +101,11 @@ impl<C: Chooses> Moment<'_, C> {
             if target == *line {
                 continue;
             }
-            go_to(self.alloc, tracks, *line, target, spans, &mut free, kept)?;
+            go_to(tracks, *line, target, spans, &mut free, kept)?;
             moves.push((*line, target))?;
         }
         Ok(moves)
     }
-}
-
-// A line, and then others.
-fn with_own(alloc: Global, line: u32, others: &[u32]) -> Result<Vec<u32>, AllocError>
-    ensures { IfOk result (λ lines. lines.items ≡ line ∷ others.now) }
-{
-    let mut lines = vec![in alloc; line]?;
-    lines.extend_from_slice(others)?;
-    Ok(lines)
 }
 
 // The other lines on which a net holds tracks.
@@ -123,17 +115,18 @@ fn other_lines(alloc: Global, kept: &Tracks, net: u32, line: u32) -> Result<Line
     if kept.holds_alone(net, line) {
         return Ok(Lines::none(alloc));
     }
-    kept.own_lines(alloc, net)?.without(alloc, line)
+    let mut own = kept.own_lines(alloc, net)?;
+    own.leave_out(line);
+    Ok(own)
 }
 
 // One move between lines: it becomes a vertical, its line is free no more, and the kept tracks are carried along.
 fn go_to(
-    alloc: Global,
     tracks: &Tracks,
     line: u32,
     target: u32,
     spans: &mut Vec<Span>,
-    free: &mut Lines,
+    free: &mut FreeLines,
     kept: &mut Tracks,
 ) -> Result<(), AllocError>
     ensures spans { OnOk result (spans.new.items ≡ spans.old.items ++ piece_between (net_on tracks.now line) line target ∷ []) }
@@ -141,7 +134,7 @@ fn go_to(
     ensures kept { OnOk result (kept.new ≡ carried tracks.now kept.old line target) }
 {
     spans.push(piece_between(tracks.net_on(line), line, target))?;
-    *free = free.without(alloc, target)?;
+    free.take(target);
     kept.carry(tracks.id_on(line), tracks.id_on(target));
     Ok(())
 }
@@ -167,10 +160,25 @@ pub(crate) fn carry(tracks: &mut [Track], moves: &[(u32, u32)])
     let mut rest = moves;
     while let Some((step, later)) = rest.split_first() {
         let net = held_by(tracks, step.0);
-        hold(tracks, step.0, 0);
-        hold(tracks, step.1, net);
+        pass_on(tracks, step.0, step.1, net);
         rest = later;
     }
+}
+
+// Frees the track of one id, and gives that of another to a net, in one pass.
+fn pass_on(tracks: &mut [Track], from: u32, to: u32, net: u32)
+    ensures { tracks.new ≡ hold to net (hold from 0 tracks.old) }
+{
+    for track in tracks.iter_mut() {
+        *track = passed_on(from, to, net, *track);
+    }
+}
+
+// The same for one track.
+fn passed_on(from: u32, to: u32, net: u32, track: Track) -> Track
+    ensures { result ≡ given to net (given from 0 track) }
+{
+    given(to, net, given(from, 0, track))
 }
 
 /// The net that holds the track of an id, 0 where there is none. Takes no memory.

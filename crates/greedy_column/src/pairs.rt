@@ -1,15 +1,16 @@
 //! Two neighbouring tracks of a net as a pair: which pairs verticals join, and which may still be joined.
 
+ghost use Rattle.greedy_column.specs.Desk.{IsBlank, IsBlankBut, noted};
 ghost use Rattle.greedy_column.specs.Ending.{joined_pairs};
 ghost use Rattle.greedy_column.specs.Joining.{ArePairs, neighbours, pair_of, possible_joins};
-ghost use Rattle.std.specs.BTreeMap.{get};
-ghost use Rattle.std.specs.Ordering.{nat_cmp};
 ghost use Rattle.std.specs.Prelude.{◌≡◌, ◌++◌, IfOk, OnOk};
 
+use crate::column::Track;
+use crate::desk::Desk;
 use crate::span::Span;
+use crate::table::{entry, put, reach};
 use crate::tracks::Tracks;
 use std::alloc::{AllocError, Global};
-use std::collections::BTreeMap;
 use std::marker::Model;
 
 // Pairs of tracks of one net, each as the piece between them.
@@ -40,34 +41,14 @@ pub(crate) struct Paired<'a> {
 
 impl Tracks {
     // These tracks with their neighbours.
-    pub(crate) fn paired(&self, alloc: Global) -> Result<Paired<'_>, AllocError>
+    pub(crate) fn paired(&self, alloc: Global, desk: &mut Desk) -> Result<Paired<'_>, AllocError>
         ensures { IfOk result (λ paired. paired.tracks.now ≡ self.now) }
     {
-        let pairs = self.neighbours(alloc)?;
+        let pairs = desk.neighbours(alloc, self)?;
         Ok(Paired {
             tracks: self,
             pairs,
         })
-    }
-
-    // All two neighbouring tracks of a net, by ascending lower track.
-    pub(crate) fn neighbours(&self, alloc: Global) -> Result<Pairs, AllocError>
-        ensures { IfOk result (λ pairs. pairs ≡ neighbours self.now) }
-    {
-        let mut lowest = BTreeMap::new(alloc);
-        let mut list = Vec::new(alloc);
-        let tracks = self.list();
-        let mut place = tracks.len();
-        while place > 0 {
-            let line = place as u32;
-            place -= 1;
-            let net = tracks[place].net;
-            let above = line_in(&lowest, net);
-            push_pair(&mut list, net, line, above)?;
-            lowest.insert(net, line)?;
-        }
-        list.reverse();
-        Ok(Pairs { list })
     }
 }
 
@@ -101,11 +82,49 @@ impl Pairs {
     }
 }
 
-// The line that is noted for a net.
-fn line_in(lines: &BTreeMap<u32, u32>, net: u32) -> Option<u32>
-    ensures { result ≡ get nat_cmp lines.now net }
+// All two neighbouring tracks of a net, by ascending lower track, from the top down: a blank table comes to tell by net the lowest
+// line so far.
+pub(crate) fn neighbours_by(
+    alloc: Global,
+    tracks: &Tracks,
+    above: &mut Vec<u32>,
+) -> Result<Pairs, AllocError>
+    requires { IsBlank above.old.items }
+    ensures pairs { IfOk result (λ pairs. pairs ≡ neighbours tracks.now) }
+    ensures others { IsBlankBut tracks.now above.new.items }
 {
-    lines.get(&net).copied()
+    let all = tracks.list();
+    let mut list = Vec::with_capacity(alloc, all.len())?;
+    let mut place = all.len();
+    while place > 0 {
+        let line = place as u32;
+        place -= 1;
+        let net = all[place].net;
+        reach(above, net, 0)?;
+        push_pair(&mut list, net, line, noted(entry(above, net)))?;
+        put(above, net, line);
+    }
+    list.reverse();
+    Ok(Pairs { list })
+}
+
+// Makes a table blank that is blank but for the nets of these tracks.
+pub(crate) fn clear(above: &mut Vec<u32>, tracks: &[Track])
+    requires { IsBlankBut tracks.now above.old.items }
+    ensures { IsBlank above.new.items }
+{
+    let mut rest = tracks;
+    while let Some((track, others)) = rest.split_first() {
+        put(above, track.net, 0);
+        rest = others;
+    }
+}
+
+// The line that an entry tells, none where it is 0.
+fn noted(entry: u32) -> Option<u32>
+    ensures { result ≡ noted entry }
+{
+    if entry == 0 { None } else { Some(entry) }
 }
 
 // Adds a track of a net and the next one above it, where there is one.

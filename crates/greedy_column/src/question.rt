@@ -2,7 +2,7 @@
 
 ghost use Rattle.greedy_column.specs.Lines.{own_lines};
 ghost use Rattle.greedy_column.specs.Offers.{IsPicked, distance, gap_to, least_distance, offer, pull_to};
-ghost use Rattle.std.specs.Prelude.{◌≡◌, ◌<◌, ◌≤◌, ◌+◌, ◌^◌, Contains, IfOk, length, map};
+ghost use Rattle.std.specs.Prelude.{◌≡◌, ◌<◌, ◌≤◌, ◌+◌, ◌∷◌, ◌^◌, Contains, IfOk, length, map, slice_get};
 
 use crate::lines::Lines;
 use crate::moment::Moment;
@@ -85,6 +85,21 @@ impl<C: Chooses> Moment<'_, C> {
         Ok(lines[self.chooser.choose(&offers)])
     }
 
+    // A line of a net that holds other tracks too, or one of these options, picked by the chooser.
+    pub(crate) fn pick_from(
+        &self,
+        question: Question,
+        others: &Lines,
+        line: u32,
+        options: &[u32],
+    ) -> Result<u32, AllocError>
+        requires { length options.now + 1 < 2 ^ 32 }
+        ensures { IfOk result (λ target. IsPicked (C.answers self.now.chooser.now) (offer question others.now) (line ∷ options.now) target) }
+    {
+        let offers = offers_from(self.alloc, question, others, line, options)?;
+        Ok(line_at(line, options, self.chooser.choose(&offers)))
+    }
+
     // One of these lines of a net, beside the tracks that it holds, picked by the chooser.
     pub(crate) fn pick_own(
         &self,
@@ -115,4 +130,32 @@ fn offers(
         .iter()
         .map(|line| question.offer(others, *line))
         .collect(alloc)
+}
+
+// A line and then some options, as they are offered.
+fn offers_from(
+    alloc: Global,
+    question: Question,
+    others: &Lines,
+    line: u32,
+    options: &[u32],
+) -> Result<Vec<Candidate>, AllocError>
+    ensures { IfOk result (λ offers. offers.items ≡ map (offer question others.now) (line ∷ options.now)) }
+{
+    let mut offers = Vec::with_capacity(alloc, options.len() + 1)?;
+    offers.push(question.offer(others, line))?;
+    let mut rest = options;
+    while let Some((option, later)) = rest.split_first() {
+        offers.push(question.offer(others, *option))?;
+        rest = later;
+    }
+    Ok(offers)
+}
+
+// What stands at a place of a list that is a line and then some options.
+fn line_at(line: u32, options: &[u32], place: usize) -> u32
+    requires { place < length options.now + 1 }
+    ensures { slice_get (line ∷ options.now) place ≡ Some result }
+{
+    if place == 0 { line } else { options[place - 1] }
 }

@@ -16,6 +16,7 @@ ghost use Rattle.std.specs.Prelude.{◌≡◌, ◌==◌, ◌&&◌, ◌<◌, ◌�
 
 use crate::ahead::Ahead;
 use crate::column::{Column, ColumnState, Made, Track};
+use crate::desk::Desk;
 use crate::entering::{EnteringPin, Entries};
 use crate::going_on::Outcome;
 use crate::moment::Moment;
@@ -97,6 +98,7 @@ impl<C: Chooses> Moment<'_, C> {
     // One column, from the nets of its pins.
     fn column_of(
         &self,
+        desk: &mut Desk,
         before: Tracks,
         fresh: u32,
         top: u32,
@@ -120,13 +122,14 @@ impl<C: Chooses> Moment<'_, C> {
         let top_pin = pin_of(self.ahead, self.column, top);
         let bottom_pin = pin_of(self.ahead, self.column, bottom);
         let entries = self.enter(&before, fresh, top_pin, bottom_pin)?;
-        let outcome = self.outcome_of(before, &entries, straight, top, bottom)?;
+        let outcome = self.outcome_of(desk, before, &entries, straight, top, bottom)?;
         Ok(taken_from(entries, straight, outcome))
     }
 
     // What steps 2 to 4 do, over the tracks that the pins of these nets have entered.
     fn outcome_of(
         &self,
+        desk: &mut Desk,
         before: Tracks,
         entries: &Entries,
         straight: bool,
@@ -154,7 +157,7 @@ impl<C: Chooses> Moment<'_, C> {
             entries.top,
             entries.bottom,
         )?;
-        self.go_on(&Tracks::new(now), spans)
+        self.go_on(desk, &Tracks::new(now), spans)
     }
 }
 
@@ -217,12 +220,16 @@ pub fn step(
         length channel.now.top ≤ column → IsHeld state.old.order → held_count state.new.order < held_count state.old.order) }
     ensures err { OnErr result (state.new ≡ state.old) }
 {
-    step_with(alloc, state, channel, ahead, column, manner, chooser)
+    let mut desk = Desk::new(alloc);
+    step_with(
+        alloc, &mut desk, state, channel, ahead, column, manner, chooser,
+    )
 }
 
-/// The same as `step`, for all that chooses.
+/// The same as `step`, for all that chooses, by a desk that the columns of a sweep use one after another.
 pub fn step_with<C: Chooses>(
     alloc: Global,
+    desk: &mut Desk,
     state: &mut ColumnState,
     channel: &Channel,
     ahead: &Ahead,
@@ -252,8 +259,8 @@ pub fn step_with<C: Chooses>(
         column,
         manner,
     };
-    let before = Tracks::new(state.order.items().to_vec(alloc)?);
-    let taken = moment.column_of(before, state.fresh, top, bottom)?;
+    let before = Tracks::new(Vec::from_slice(alloc, state.order.items())?);
+    let taken = moment.column_of(desk, before, state.fresh, top, bottom)?;
     let Taken { done, tracks } = taken;
     let fresh = state.fresh + done.made.items().len() as u32;
     state.order = tracks;

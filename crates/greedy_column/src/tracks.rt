@@ -77,7 +77,7 @@ impl Tracks {
     }
 
     // How many tracks a net holds.
-    fn held(&self, net: u32) -> usize
+    pub(crate) fn held(&self, net: u32) -> usize
         ensures { result ≡ count_by (λ t. t.net == net) self.now }
     {
         self.list().iter().filter(|track| track.net == net).count()

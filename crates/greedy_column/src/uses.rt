@@ -4,7 +4,7 @@ ghost use Rattle.greedy_column.specs.Uses.{AreSorted, is_past, next_after, next_
 ghost use Rattle.std.specs.List.{AllWithin};
 ghost use Rattle.std.specs.List.Sorted.{IsNonDecreasingBy, IsStableByKey};
 ghost use Rattle.std.specs.Ordering.{nat_cmp};
-ghost use Rattle.std.specs.Prelude.{◌≡◌, ◌<◌, ◌≤◌, ◌++◌, IfOk, OnOk, false, length, true};
+ghost use Rattle.std.specs.Prelude.{◌≡◌, ◌<◌, ◌≤◌, ◌++◌, ◌^◌, IfOk, OnOk, false, length, true};
 
 use channel_model::Channel;
 use choose_core::Next;
@@ -22,6 +22,7 @@ pub(crate) struct Use {
 pub(crate) fn sort_by_net(uses: &mut Vec<Use>) -> Result<(), AllocError>
     ensures sorted { OnOk result (IsNonDecreasingBy (λ u. u.net) uses.new.items) }
     ensures stable { OnOk result (IsStableByKey (λ u. u.net) nat_cmp uses.old.items uses.new.items) }
+    ensures long { OnOk result (length uses.new.items ≡ length uses.old.items) }
 {
     uses.sort_by_key(|used| used.net)?;
     Ok(())
@@ -52,7 +53,8 @@ pub(crate) fn next_at(used: Option<Use>, net: u32) -> Next
 
 // The uses by the pins of all columns, by column.
 pub(crate) fn uses_of(alloc: Global, channel: &Channel) -> Result<Vec<Use>, AllocError>
-    ensures { IfOk result (λ uses. uses.items ≡ uses_from channel.now.top channel.now.bottom 0) }
+    ensures uses { IfOk result (λ uses. uses.items ≡ uses_from channel.now.top channel.now.bottom 0) }
+    ensures few { IfOk result (λ uses. length uses.items < 2 ^ 32) }
 {
     let mut uses = Vec::new(alloc);
     let mut column = 0u32;

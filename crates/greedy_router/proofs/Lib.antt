@@ -29,6 +29,8 @@ pub mod WiredLaws
 pub mod FewerLaws
 -- tables tell what the wiring is made of
 pub mod TellLaws
+-- tracks are never taken away
+pub mod GrowLaws
 -- the tracks after some columns
 pub mod ReplayLaws
 -- the wiring, column by column
@@ -45,6 +47,9 @@ pub mod RoutedLaws
 pub mod EdgeLaws
 -- the best of the sweeps that a plan tries
 pub mod PlanLaws
+pub mod RanLaws
+-- no sweep of the plan has fewer tracks
+pub mod FewestLaws
 -- lists that lie one behind another
 pub mod PackedLaws
 -- the records of columns, from lists that lie together

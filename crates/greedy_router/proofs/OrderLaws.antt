@@ -1,5 +1,5 @@
 use Rattle.std.proofs.Common.{◌≡◌, ◌↔◌, inl, inr, ◌<◌, ◌≤◌, ◌+◌, eqb, ltb, leb, ℕ, suc, List, [], ◌∷◌, Bool, true, false, cond, length, filter, refl, sym, subst, ap, ◌∙◌, arith, Contains, eqb-true, eq-eqb}
-use Rattle.std.proofs.lemmas.Bool.{cond-true, lt-ltb, le-ltb, leb-true, le-leb, lt-leb}
+use Rattle.std.proofs.lemmas.Bool.{cond-true, cond-false, ne_eqb, lt-ltb, le-ltb, leb-true, le-leb, lt-leb}
 use Rattle.std.specs.List.{insert}
 use Rattle.channel_model.specs.Pins.{Pins}
 use Rattle.greedy_column.specs.declared.column.Track.{Track}
@@ -102,6 +102,13 @@ leb-front true true a b c d some too same = refl
 leb-front true false a b c d some too same = le-leb 1 (suc b) (omega arith) ∙ sym (le-leb 1 (suc d) (omega arith))
 leb-front false true a b c d some too same = lt-leb (suc a) 1 (omega (arith, some)) ∙ sym (lt-leb (suc c) 1 (omega (arith, too)))
 leb-front false false a b c d some too same = leb-suc a b ∙ same ∙ sym (leb-suc c d)
+
+pub line_of-absent : (order : List ℕ) (id : ℕ) → (Contains order id → ⊥) → line_of order id ≡ length order + 1
+line_of-absent [] id none = refl
+line_of-absent (i ∷ order) id none =
+    let other : eqb i id ≡ false = ne_eqb i id (λ same. none (subst (λ n. Contains (n ∷ order) id) (sym same) (member-head id order))) in
+    let rest = line_of-absent order id (λ member. none (member-tail i order id member)) in
+    cond-false (eqb i id) 1 (suc (line_of order id)) other ∙ omega (arith, rest)
 
 pub order-filter : (p : ℕ → Bool) (order : List ℕ) (a b : ℕ) → p a ≡ true → p b ≡ true
     → leb (line_of (filter p order) a) (line_of (filter p order) b) ≡ leb (line_of order a) (line_of order b)

@@ -1,6 +1,7 @@
-use Rattle.std.proofs.Common.{◌≡◌, ◌<◌, ◌++◌, eqb, leb, ℕ, suc, List, [], ◌∷◌, cond, length, map, get_or, refl, sym, ap, ◌∙◌, Contains}
+use Rattle.std.proofs.Common.{◌≡◌, ◌<◌, ◌++◌, eqb, leb, ℕ, suc, List, [], ◌∷◌, Bool, false, cond, filter, length, map, get_or, refl, sym, ap, ◌∙◌, Contains}
 use Rattle.std.specs.List.{list_any}
 use Rattle.std.specs.Prelude.{◌&&◌, ◌||◌}
+use Rattle.std.proofs.lemmas.Bool.{cond-false}
 use Rattle.std.proofs.lemmas.List.{map-append}
 use Rattle.channel_model.specs.Pins.{Pins}
 use Rattle.channel_model.specs.declared.wiring.Segment.TheVariants.{Along}
@@ -15,6 +16,13 @@ use Rattle.greedy_router.specs.SweepWiring.{across, leaves, is_of, along, alongs
 use Rattle.greedy_router.specs.Tables.{Tells, across_on, pair_span, along_by, alongs_by, meets_by, has_via_by, via_by, vias_by, column_segments_by}
 use Rattle.std_laws.proofs.Images.{map-map, picked-agree}
 use Rattle.std_laws.proofs.Searches.{any-agree}
+
+-- nothing is picked where no id passes
+pub none-picked : {X : Type 0} (made : ℕ → X) (passes : ℕ → Bool) (order : List ℕ) → ((id : ℕ) → passes id ≡ false)
+    → map made (filter passes order) ≡ []
+none-picked made passes [] none = refl
+none-picked made passes (id ∷ order) none =
+    ap (map made) (cond-false (passes id) (id ∷ filter passes order) (filter passes order) (none id)) ∙ none-picked made passes order none
 
 -- the wires along the tracks that are left, from tables
 alongs-told : (order : List ℕ) (column : ℕ) (now : List Track) (nets since : List ℕ) (done : Column) → Tells nets (held_by now)

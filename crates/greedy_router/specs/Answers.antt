@@ -1,5 +1,5 @@
 -- what the calls answer
-use Rattle.std.specs.Prelude.{◌≡◌, ◌⊎◌, ◌<◌, ◌≤◌, ◌+◌, Bool, true, false, ℕ, List, [], ◌∷◌, length, slice_get, Some}
+use Rattle.std.specs.Prelude.{◌≡◌, ◌⊎◌, ◌<◌, ◌≤◌, ◌+◌, ◌++◌, Bool, true, false, ℕ, List, [], ◌∷◌, length, slice_get, Option, Some, None}
 use Rattle.channel_model.specs.Density.{density_of}
 use Rattle.channel_model.specs.Limits.{most_tracks, most_extra}
 use Rattle.channel_model.specs.Nets.{nets_of}
@@ -13,6 +13,7 @@ use Rattle.left_edge.specs.Columns.{IsConstrained, IsUnconstrained}
 use Rattle.left_edge.specs.EdgeWiring.{edge_wiring}
 use Rattle.left_edge.specs.Single.{IsLeast, IsSingle}
 use Rattle.plain_router.specs.Plain.{plain_of}
+use Rattle.greedy_column.specs.declared.column.Column.{Column}
 use Rattle.greedy_router.specs.declared.sweep.By.{By}
 use Rattle.greedy_router.specs.declared.sweep.By.TheVariants.{Greedy, Plain, Edge}
 use Rattle.greedy_router.specs.declared.sweep.Routed.{Routed}
@@ -72,23 +73,51 @@ IsRoutedWithin manner may pins share one =
 abbrev pub IsSmaller : Wiring → Wiring → Type 0
 IsSmaller one other = (one.tracks < other.tracks) ⊎ ((one.tracks ≡ other.tracks) × (one.columns < other.columns))
 
--- what sweeps of these shares answer, one for each
-pub record AreTried (manner : Manner) (may : List Candidate → ℕ → Type 0) (pins : Pins) (shares : List ℕ) (tried : List Routed) : Type 0 where
+-- The sweep of a share is given up: it is past its limits with no fewer tracks than these, and no more than a router may take.
+pub record IsGivenUp (manner : Manner) (may : List Candidate → ℕ → Type 0) (pins : Pins) (share fewest : ℕ) : Type 0 where
+  pub tracks : ℕ
+  pub sweep : Sweep
+  pub over : IsOver manner (begun_of share pins) may pins tracks (most_extra (length (nets_of pins))) sweep
+  pub enough : fewest ≤ tracks
+  pub within : tracks ≤ most_tracks (length (nets_of pins))
+
+-- what the sweep of a share comes to: it routes the channel, or it is given up, beside a wiring of so many tracks
+abbrev pub IsTried : Manner → (List Candidate → ℕ → Type 0) → Pins → ℕ → ℕ → Option Routed → Type 0
+IsTried manner may pins fewest share (Some one) = IsRoutedWithin manner may pins share one
+IsTried manner may pins fewest share None = IsGivenUp manner may pins share fewest
+
+-- what the sweeps of these shares come to, one for each
+pub record AreTried (manner : Manner) (may : List Candidate → ℕ → Type 0) (pins : Pins) (fewest : ℕ) (shares : List ℕ) (tried : List (Option Routed)) : Type 0 where
   pub each : length tried ≡ length shares
-  pub routed : (k share : ℕ) (one : Routed) → slice_get shares k ≡ Some share → slice_get tried k ≡ Some one → IsRoutedWithin manner may pins share one
+  pub tries : (k share : ℕ) (one : Option Routed) → slice_get shares k ≡ Some share → slice_get tried k ≡ Some one → IsTried manner may pins fewest share one
 
--- the first of the smallest
-pub record IsBest (tried : List Routed) (one : Routed) : Type 0 where
+-- of those that were not given up the first of the smallest
+pub record IsBest (tried : List (Option Routed)) (one : Routed) : Type 0 where
   pub place : ℕ
-  pub there : slice_get tried place ≡ Some one
-  pub smallest : (k : ℕ) (other : Routed) → slice_get tried k ≡ Some other → IsSmaller other.wiring one.wiring → ⊥
-  pub first : (k : ℕ) (other : Routed) → slice_get tried k ≡ Some other → k < place → IsSmaller one.wiring other.wiring
+  pub there : slice_get tried place ≡ Some (Some one)
+  pub smallest : (k : ℕ) (other : Routed) → slice_get tried k ≡ Some (Some other) → IsSmaller other.wiring one.wiring → ⊥
+  pub first : (k : ℕ) (other : Routed) → slice_get tried k ≡ Some (Some other) → k < place → IsSmaller one.wiring other.wiring
 
--- a channel is routed by the best of the sweeps that a plan tries
+-- A channel is routed by the best of the sweeps that a plan tries. A sweep that has more tracks than the best before it is given up.
 pub record IsPlanned (plan : Plan) (may : List Candidate → ℕ → Type 0) (pins : Pins) (one : Routed) : Type 0 where
-  pub tried : List Routed
-  pub are_tried : AreTried plan.manner may pins (plan.first ∷ plan.others) tried
+  pub tried : List (Option Routed)
+  pub are_tried : AreTried plan.manner may pins one.wiring.tracks (plan.first ∷ plan.others) tried
   pub best : IsBest tried one
+
+-- a sweep goes on as another one began: with its columns, and then others
+pub record GoesOn (made longer : Sweep) : Type 0 where
+  pub rest : List Column
+  pub columns : longer.columns ≡ made.columns ++ rest
+
+-- a sweep of a share was made, and however it goes on, the channel is routed by it with no fewer tracks than these
+pub record HasNoFewer (manner : Manner) (may : List Candidate → ℕ → Type 0) (pins : Pins) (fewest share : ℕ) : Type 0 where
+  pub made : Sweep
+  pub is_sweep : IsSweep manner (begun_of share pins) may pins made
+  pub no_fewer : (one : Routed) → IsRoutedWithin manner may pins share one → GoesOn made one.sweep → fewest ≤ one.wiring.tracks
+
+-- no sweep of a plan has fewer tracks than these
+pub record AreFewest (plan : Plan) (may : List Candidate → ℕ → Type 0) (pins : Pins) (fewest : ℕ) : Type 0 where
+  pub each : (k share : ℕ) → slice_get (plan.first ∷ plan.others) k ≡ Some share → HasNoFewer plan.manner may pins fewest share
 
 -- a channel without vertical constraints is routed by the left edges of its nets, and without a sweep: no wiring with one Along for each
 -- net has fewer tracks
@@ -107,9 +136,11 @@ pub record IsRoutedOr (edge : Bool) (otherwise : Routed → Type 0) (pins : Pins
   pub constrained : edge ≡ true → (column : ℕ) → IsConstrained pins column → otherwise one
   pub unasked : edge ≡ false → otherwise one
 
--- a channel is routed as a plan says, within what a router may take for its nets, and its wiring connects it
+-- a channel is routed as a plan says, by a sweep of no more tracks than any other of the plan, within what a router may take for its nets,
+-- and its wiring connects it
 pub record IsRoutedAs (edge : Bool) (plan : Plan) (may : List Candidate → ℕ → Type 0) (pins : Pins) (one : Routed) : Type 0 where
   pub routed : IsRoutedOr edge (IsPlanned plan may pins) pins one
+  pub fewest : (one.by ≡ Edge → ⊥) → AreFewest plan may pins one.wiring.tracks
   pub wired : Wired pins one.wiring
   pub within : IsWithinLimits pins one.wiring
 

@@ -10,6 +10,8 @@ pub mod SweepWiring
 pub mod Answers
 -- the same wiring, from tables by ids
 pub mod Tables
+-- the final order of the tracks, with a table of their lines
+pub mod FinalOrder
 -- whether a sweep goes on
 pub mod Running
 -- a sweep that was made, and how the channel is routed by it

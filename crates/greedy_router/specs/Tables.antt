@@ -1,5 +1,5 @@
 -- the same wiring, from tables by ids
-use Rattle.std.specs.Prelude.{◌≡◌, ◌<◌, ◌++◌, ◌==◌, ◌&&◌, ◌||◌, if◌then◌else◌, nat_le, Bool, ℕ, List, map, filter, length, slice_index}
+use Rattle.std.specs.Prelude.{◌≡◌, ◌<◌, ◌++◌, ◌==◌, ◌&&◌, ◌||◌, if◌then◌else◌, nat_le, Bool, ℕ, List, Contains, map, filter, length, slice_index}
 use Rattle.std.specs.List.{list_any}
 use Rattle.channel_model.specs.declared.wiring.Segment.{Segment}
 use Rattle.channel_model.specs.declared.wiring.Segment.TheVariants.{Across, Along}
@@ -11,10 +11,17 @@ use Rattle.greedy_column.specs.Tracks.{line_of}
 use Rattle.greedy_column.specs.Joining.{span_in}
 use Rattle.greedy_column.specs.Verticals.{between}
 use Rattle.greedy_router.specs.SweepWiring.{leaves, is_of}
+use Rattle.greedy_router.specs.declared.by_id.ById.{ById}
 
 -- a table has, for each id below its length, what a function says
 abbrev pub Tells : List ℕ → (ℕ → ℕ) → Type 0
 Tells table says = (id : ℕ) → id < length table → slice_index table id ≡ says id
+
+-- tables have entries for all ids of an order, and as many
+pub record HasAll (order : List ℕ) (by_id : ById) : Type 0 where
+  pub within : (id : ℕ) → Contains order id → id < length by_id.since.items
+  pub nets : length by_id.nets.items ≡ length by_id.since.items
+  pub laters : length by_id.laters.items ≡ length by_id.since.items
 
 -- since when a track is held, from tables: a track that was free has been entered in this column if at all
 abbrev pub since_by : ℕ → List ℕ → List ℕ → ℕ → ℕ

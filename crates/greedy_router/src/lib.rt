@@ -3,9 +3,12 @@
 //! vertical constraint.
 #![tactic(auto)]
 
+mod by_id;
 mod channels;
 mod columns;
 mod edges;
+mod final_order;
+mod has_wiring;
 mod packed;
 mod pieces;
 mod planning;

@@ -1,12 +1,12 @@
 //! The segments and the vias of one column of a sweep, on the lines of the final order of tracks.
 
 ghost use Rattle.channel_model.specs.declared.wiring.Segment.{Segment};
-ghost use Rattle.greedy_column.specs.Tracks.{ids};
 ghost use Rattle.greedy_router.specs.SweepWiring.{is_of, leaves};
 ghost use Rattle.greedy_router.specs.Tables.{across_on, along_by, alongs_by, column_segments_by, has_via_by, meets_by, pair_span, via_by, vias_by};
 ghost use Rattle.std.specs.List.{list_any};
-ghost use Rattle.std.specs.Prelude.{◌≡◌, ◌==◌, ◌<◌, ◌+◌, ◌^◌, ◌++◌, ℕ, IfOk, OnOk, length, map};
+ghost use Rattle.std.specs.Prelude.{◌≡◌, ◌==◌, ◌<◌, ◌+◌, ◌^◌, ◌++◌, ℕ, IfOk, OnOk, false, length, map};
 
+use crate::final_order::FinalOrder;
 use crate::tables::entry;
 use channel_model::{Segment, Via};
 use greedy_column::{Column, Span, Track, held_by, line_of};
@@ -19,13 +19,12 @@ pub(crate) struct Moment<'a> {
     pub(crate) column: u32,
     pub(crate) done: &'a Column,
     pub(crate) entered: &'a [Track],
-    pub(crate) order: &'a [Track],
+    pub(crate) order: &'a FinalOrder<'a>,
     pub(crate) pins: &'a [Span],
     pub(crate) nets: &'a [u32],
     pub(crate) laters: &'a [u32],
     pub(crate) since: &'a [u32],
     ghost few_entered: { length entered.now + 1 < 2 ^ 32 },
-    ghost few: { length order.now + 1 < 2 ^ 32 },
 }
 
 // A piece of wire in a column.
@@ -59,6 +58,13 @@ fn leaves(done: &Column, id: u32) -> bool
     is_among(done.ended.items(), id) || is_left(done.moves.items(), id)
 }
 
+// Whether a net may leave a track in a column.
+fn leaves_some(done: &Column) -> bool
+    ensures { result ≡ false → (id : ℕ) → leaves done.now id ≡ false }
+{
+    !(done.ended.items().is_empty() && done.moves.items().is_empty())
+}
+
 // Whether an id is among some.
 fn is_among(ids: &[u32], id: u32) -> bool
     ensures { result ≡ list_any (λ one. one == id) ids.now }
@@ -90,11 +96,11 @@ fn is_in_some(id: u32, pairs: &[(u32, u32)]) -> bool
 impl Moment<'_> {
     // The piece between two tracks, on the lines of the final order.
     fn pair_span(&self, pair: (u32, u32)) -> Span
-        ensures { result ≡ pair_span self.now.entered.now (ids self.now.order.now) pair }
+        ensures { result ≡ pair_span self.now.entered.now self.now.order.now pair }
     {
         let net = held_by(self.entered, pair.0);
-        let first = line_of(self.order, pair.0);
-        let second = line_of(self.order, pair.1);
+        let first = self.order.line(pair.0);
+        let second = self.order.line(pair.1);
         if line_of(self.entered, pair.0) <= line_of(self.entered, pair.1) {
             Span {
                 net,
@@ -113,7 +119,7 @@ impl Moment<'_> {
     // Those of several pairs.
     fn pair_spans(&self, alloc: Global, pairs: &[(u32, u32)]) -> Result<Vec<Span>, AllocError>
         ensures { IfOk result (λ spans.
-            spans.items ≡ map (pair_span self.now.entered.now (ids self.now.order.now)) pairs.now) }
+            spans.items ≡ map (pair_span self.now.entered.now self.now.order.now) pairs.now) }
     {
         pairs
             .iter()
@@ -123,11 +129,11 @@ impl Moment<'_> {
 
     // The wire along a track that is left.
     fn along(&self, id: u32) -> Segment
-        ensures { result ≡ along_by (ids self.now.order.now) self.now.column self.now.nets.now self.now.since.now id }
+        ensures { result ≡ along_by self.now.order.now self.now.column self.now.nets.now self.now.since.now id }
     {
         Segment::Along {
             net: entry(self.nets, id),
-            track: line_of(self.order, id),
+            track: self.order.line(id),
             from: entry(self.since, id),
             to: self.column,
         }
@@ -136,9 +142,12 @@ impl Moment<'_> {
     // The wires along the tracks that are left, from bottom to top.
     fn alongs(&self, alloc: Global) -> Result<Vec<Segment>, AllocError>
         ensures { IfOk result (λ alongs. alongs.items
-            ≡ alongs_by (ids self.now.order.now) self.now.column self.now.nets.now self.now.since.now self.now.done.now) }
+            ≡ alongs_by self.now.order.now self.now.column self.now.nets.now self.now.since.now self.now.done.now) }
     {
-        let ids = self.order.iter().map(|track| track.id);
+        if !leaves_some(self.done) {
+            return Ok(Vec::new(alloc));
+        }
+        let ids = self.order.tracks().iter().map(|track| track.id);
         ids.filter(|id| leaves(self.done, *id))
             .map(|id| self.along(id))
             .collect(alloc)
@@ -150,7 +159,7 @@ impl Moment<'_> {
         alloc: Global,
         segments: &mut Vec<Segment>,
     ) -> Result<(), AllocError>
-        ensures { OnOk result (segments.new.items ≡ segments.old.items ++ column_segments_by (ids self.now.order.now) self.now.column
+        ensures { OnOk result (segments.new.items ≡ segments.old.items ++ column_segments_by self.now.order.now self.now.column
             self.now.entered.now self.now.nets.now self.now.since.now self.now.pins.now self.now.done.now) }
     {
         let joins = self.pair_spans(alloc, self.done.joins.items())?;
@@ -164,33 +173,41 @@ impl Moment<'_> {
 
     // Whether a pin's piece meets a track of its net.
     fn meets(&self, id: u32, span: Span) -> bool
-        ensures { result ≡ meets_by (ids self.now.order.now) self.now.nets.now id span }
+        ensures { result ≡ meets_by self.now.order.now self.now.nets.now id span }
     {
-        span.net == entry(self.nets, id)
-            && (span.low <= line_of(self.order, id) && line_of(self.order, id) <= span.high)
+        let line = self.order.line(id);
+        span.net == entry(self.nets, id) && (span.low <= line && line <= span.high)
     }
 
     // Whether a piece of some pin meets a track of its net.
     fn is_met(&self, id: u32) -> bool
-        ensures { result ≡ list_any (meets_by (ids self.now.order.now) self.now.nets.now id) self.now.pins.now }
+        ensures { result ≡ list_any (meets_by self.now.order.now self.now.nets.now id) self.now.pins.now }
     {
         self.pins.iter().any(|span| self.meets(id, *span))
     }
 
     // Whether a track has a via.
     fn has_via(&self, id: u32) -> bool
-        ensures { result ≡ has_via_by (ids self.now.order.now) self.now.nets.now self.now.pins.now self.now.done.now id }
+        ensures { result ≡ has_via_by self.now.order.now self.now.nets.now self.now.pins.now self.now.done.now id }
     {
         self.is_met(id)
             || (is_in_some(id, self.done.joins.items()) || is_in_some(id, self.done.moves.items()))
     }
 
+    // Whether a track may have a via.
+    fn has_some(&self) -> bool
+        ensures { result ≡ false → (id : ℕ) → has_via_by self.now.order.now self.now.nets.now self.now.pins.now self.now.done.now id ≡ false }
+    {
+        !(self.pins.is_empty()
+            && (self.done.joins.items().is_empty() && self.done.moves.items().is_empty()))
+    }
+
     // The via of a track.
     fn via(&self, id: u32) -> Via
-        ensures { result ≡ via_by (ids self.now.order.now) self.now.column self.now.nets.now self.now.laters.now id }
+        ensures { result ≡ via_by self.now.order.now self.now.column self.now.nets.now self.now.laters.now id }
     {
         let net = entry(self.nets, id);
-        let track = line_of(self.order, id);
+        let track = self.order.line(id);
         Via {
             net: if net == 0 {
                 entry(self.laters, id)
@@ -204,10 +221,13 @@ impl Moment<'_> {
 
     // The vias, from bottom to top.
     fn vias(&self, alloc: Global) -> Result<Vec<Via>, AllocError>
-        ensures { IfOk result (λ vias. vias.items ≡ vias_by (ids self.now.order.now) self.now.column self.now.nets.now self.now.laters.now
+        ensures { IfOk result (λ vias. vias.items ≡ vias_by self.now.order.now self.now.column self.now.nets.now self.now.laters.now
             self.now.pins.now self.now.done.now) }
     {
-        let ids = self.order.iter().map(|track| track.id);
+        if !self.has_some() {
+            return Ok(Vec::new(alloc));
+        }
+        let ids = self.order.tracks().iter().map(|track| track.id);
         ids.filter(|id| self.has_via(*id))
             .map(|id| self.via(id))
             .collect(alloc)
@@ -215,7 +235,7 @@ impl Moment<'_> {
 
     // Adds the vias.
     pub(crate) fn push_vias(&self, alloc: Global, vias: &mut Vec<Via>) -> Result<(), AllocError>
-        ensures { OnOk result (vias.new.items ≡ vias.old.items ++ vias_by (ids self.now.order.now) self.now.column self.now.nets.now
+        ensures { OnOk result (vias.new.items ≡ vias.old.items ++ vias_by self.now.order.now self.now.column self.now.nets.now
             self.now.laters.now self.now.pins.now self.now.done.now) }
     {
         let more = self.vias(alloc)?;

@@ -1,10 +1,10 @@
 //! Routes a channel by each sweep of a plan, and keeps the wiring of fewest tracks and then of fewest columns.
 
 ghost use Rattle.channel_model.specs.Wired.{Wired};
-ghost use Rattle.greedy_router.specs.Answers.{IsPlanned, IsRoutedAs, IsRoutedWithin, IsWithinLimits};
+ghost use Rattle.greedy_router.specs.Answers.{AreFewest, IsPlanned, IsRoutedAs, IsWithinLimits};
 ghost use Rattle.greedy_router.specs.Planning.{better};
 ghost use Rattle.greedy_router.specs.Runs.{routed_of};
-ghost use Rattle.std.specs.Prelude.{◌≡◌, IfOk, false};
+ghost use Rattle.std.specs.Prelude.{◌≡◌, IfOk, false, true};
 
 use crate::run::Run;
 use crate::run_limits::Start;
@@ -15,10 +15,14 @@ use channel_model::Channel;
 use choose_core::{Chooser, Chooses, Plan, Style};
 use std::alloc::{AllocError, Global};
 
-// The run of the smaller wiring, and the earlier of two that are alike.
+// The run of the smaller wiring, and the earlier of two that are alike. One that is past its limits is given up.
 fn better<'s>(best: Run<'s>, one: Run<'s>) -> Run<'s>
-    ensures { routed_of result ≡ better (routed_of best.entry) (routed_of one.entry) }
+    ensures given_up { one.entry.over ≡ true → result ≡ best.entry }
+    ensures better { one.entry.over ≡ false → routed_of result ≡ better (routed_of best.entry) (routed_of one.entry) }
 {
+    if one.over {
+        return best;
+    }
     if one.size().is_smaller(best.size()) {
         one
     } else {
@@ -26,20 +30,7 @@ fn better<'s>(best: Run<'s>, one: Run<'s>) -> Run<'s>
     }
 }
 
-// Sweeps a channel of N nets with 2N tracks and N columns beyond the channel's.
-fn run_within<'s, C: Chooses>(
-    alloc: Global,
-    surveyed: &'s Surveyed<'s>,
-    start: Start,
-    chooser: &C,
-) -> Result<Run<'s>, AllocError>
-    ensures { IfOk result (λ run.
-        IsRoutedWithin start.manner (C.answers chooser.now) surveyed.now.channel.now start.share (routed_of run)) }
-{
-    run_columns(alloc, surveyed, start, surveyed.limits(), chooser)
-}
-
-// The best run of a plan.
+// The best run of a plan. A sweep that has more tracks than the best before it is given up, since tracks are never taken away.
 fn best_run<'s, C: Chooses>(
     alloc: Global,
     surveyed: &'s Surveyed<'s>,
@@ -50,10 +41,13 @@ fn best_run<'s, C: Chooses>(
 {
     let manner = plan.manner;
     let share = plan.first;
-    let mut best = run_within(alloc, surveyed, Start { manner, share }, chooser)?;
+    let start = Start { manner, share };
+    let mut best = run_columns(alloc, surveyed, start, surveyed.limits(), chooser)?;
     for share in plan.others.items() {
         let share = *share;
-        let one = run_within(alloc, surveyed, Start { manner, share }, chooser)?;
+        let start = Start { manner, share };
+        let limits = surveyed.limits_within(best.size().tracks);
+        let one = run_columns(alloc, surveyed, start, limits, chooser)?;
         best = better(best, one);
     }
     Ok(best)
@@ -67,6 +61,7 @@ pub(crate) fn route_planned<C: Chooses>(
     plan: &Plan,
 ) -> Result<Routed, AllocError>
     ensures planned { IfOk result (λ routed. IsPlanned plan.now (C.answers chooser.now) channel.now routed) }
+    ensures fewest { IfOk result (λ routed. AreFewest plan.now (C.answers chooser.now) channel.now routed.wiring.tracks) }
     ensures wired { IfOk result (λ routed. Wired channel.now routed.wiring) }
     ensures within { IfOk result (λ routed. IsWithinLimits channel.now routed.wiring) }
 {
@@ -88,9 +83,10 @@ fn route_best_with<C: Chooses>(
     route_planned(alloc, channel, chooser, plan)
 }
 
-/// Routes a channel of N nets by the sweeps of a style's plan, each with 2N tracks and N columns beyond the channel's as `route_channel`
-/// does, and keeps the wiring of fewest tracks, of these that of fewest columns, and of these the first. Two sweeps are held at a time,
-/// and only the best is wired. The one error is want of memory.
+/// Routes a channel of N nets by the sweeps of a style's plan, the first with 2N tracks and N columns beyond the channel's as
+/// `route_channel` does, and keeps the wiring of fewest tracks, of these that of fewest columns, and of these the first. A later sweep is
+/// given up once it has more tracks than the best before it, which no columns take away: so no sweep of the plan has fewer tracks than what is
+/// kept. Two sweeps are held at a time, and only the best is wired. The one error is want of memory.
 pub fn route_best(alloc: Global, channel: &Channel, style: &Style) -> Result<Routed, AllocError>
     ensures { IfOk result (λ routed. IsRoutedAs false style.now.plan (⟦<Chooser as Chooses>⟧.answers style.now.chooser) channel.now routed) }
 {

@@ -12,7 +12,7 @@ use crate::run::Run;
 use crate::run_limits::{Limits, Start};
 use crate::surveyed::Surveyed;
 use choose_core::Chooses;
-use greedy_column::{ColumnState, Track, step_with};
+use greedy_column::{ColumnState, Desk, Track, step_with};
 use std::alloc::{AllocError, Global};
 
 // How many tracks nets hold.
@@ -67,6 +67,7 @@ pub(crate) fn run_columns<'s, C: Chooses>(
     let Limits { tracks, extra } = limits;
     let begun = surveyed.begun(share);
     let mut state = ColumnState::new(alloc, begun)?;
+    let mut desk = Desk::new(alloc);
     let mut columns = Vec::new(alloc);
     let width = channel.top.items().len();
     let last = width + extra as usize;
@@ -74,6 +75,7 @@ pub(crate) fn run_columns<'s, C: Chooses>(
         let column = columns.len() as u32;
         let done = step_with(
             alloc,
+            &mut desk,
             &mut state,
             channel,
             &surveyed.ahead,

@@ -72,4 +72,15 @@ impl<'c> Surveyed<'c> {
             extra: self.nets,
         }
     }
+
+    // The same with so many tracks.
+    pub(crate) fn limits_within(&self, tracks: u32) -> Limits
+        ensures tracks { result.tracks ≡ tracks }
+        ensures extra { result.extra ≡ most_extra (length (nets_of self.now.channel.now)) }
+    {
+        Limits {
+            tracks,
+            extra: self.nets,
+        }
+    }
 }

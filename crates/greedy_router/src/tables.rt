@@ -1,12 +1,10 @@
 //! Tables by the ids of tracks: which net holds each track, and since which column.
 
 ghost use Rattle.greedy_column.specs.Tracks.{held_by};
-ghost use Rattle.greedy_router.specs.SweepWiring.{since_after};
 ghost use Rattle.greedy_router.specs.Tables.{Tells, since_by};
-ghost use Rattle.std.specs.Prelude.{◌≡◌, ◌==◌, IfOk, OnOk, length, slice_index, slice_set};
+ghost use Rattle.std.specs.Prelude.{◌≡◌, ◌==◌, ℕ, length, slice_index, slice_set};
 
 use greedy_column::Track;
-use std::alloc::{AllocError, Global};
 
 // What a table has for an id, 0 past its end.
 pub(crate) fn entry(table: &[u32], id: u32) -> u32
@@ -29,7 +27,7 @@ fn is_blank(table: &[u32], id: usize) -> bool
 }
 
 // Writes an entry, where the table has one of this id.
-fn put(table: &mut [u32], id: u32, value: u32)
+pub(crate) fn put(table: &mut [u32], id: u32, value: u32)
     ensures { table.new ≡ slice_set table.old id value }
 {
     let id = id as usize;
@@ -38,45 +36,37 @@ fn put(table: &mut [u32], id: u32, value: u32)
     }
 }
 
-// The nets that hold tracks, by the ids below `room`.
-pub(crate) fn nets_by_id(
-    alloc: Global,
-    tracks: &[Track],
-    room: usize,
-) -> Result<Vec<u32>, AllocError>
-    ensures tells { IfOk result (λ nets. Tells nets.items (held_by tracks.now)) }
-    ensures long { IfOk result (λ nets. length nets.items ≡ room) }
+// Sets all entries of a table to 0.
+fn clear(table: &mut [u32])
+    ensures blank { (id : ℕ) → slice_index table.new id ≡ 0 }
+    ensures long { length table.new ≡ length table.old }
 {
-    let mut nets = vec![in alloc; 0; room]?;
+    for id in 0..table.len() {
+        table[id] = 0;
+    }
+}
+
+// Makes a table tell which nets hold tracks, by the ids of these, and 0 for all others.
+pub(crate) fn tell_nets(table: &mut [u32], tracks: &[Track])
+    ensures tells { Tells table.new (held_by tracks.now) }
+    ensures long { length table.new ≡ length table.old }
+{
+    clear(table);
     let mut rest = tracks;
     while let Some((track, below)) = rest.split_last() {
-        put(&mut nets, track.id, track.net);
+        put(table, track.id, track.net);
         rest = below;
     }
-    Ok(nets)
 }
 
 // Notes the column as that since when each track is held that was free before it, from the nets before.
-fn note_column(since: &mut [u32], nets: &[u32], column: u32)
-    ensures { Tells since.new (since_by column nets.now since.old) }
+pub(crate) fn note_column(since: &mut [u32], nets: &[u32], column: u32)
+    ensures tells { Tells since.new (since_by column nets.now since.old) }
+    ensures long { length since.new ≡ length since.old }
 {
     for id in 0..since.len() {
         if is_blank(nets, id) {
             since[id] = column;
         }
     }
-}
-
-// Notes the column for the tracks that were free before it.
-pub(crate) fn note_free(
-    alloc: Global,
-    since: &mut [u32],
-    before: &[Track],
-    column: u32,
-) -> Result<(), AllocError>
-    ensures { OnOk result (Tells since.new (since_after column before.now (λ id. slice_index since.old id))) }
-{
-    let nets = nets_by_id(alloc, before, since.len())?;
-    note_column(since, &nets, column);
-    Ok(())
 }

@@ -6,13 +6,14 @@ ghost use Rattle.greedy_column.specs.Replay.{after, entered, free_tracks};
 ghost use Rattle.greedy_column.specs.Tracks.{ids};
 ghost use Rattle.greedy_column.specs.Verticals.{pin_verticals, verticals};
 ghost use Rattle.greedy_router.specs.SweepWiring.{across, alongs, column_vias, segments_from, since_after, vias_from};
-ghost use Rattle.greedy_router.specs.Tables.{Tells};
+ghost use Rattle.greedy_router.specs.Tables.{HasAll, Tells};
 ghost use Rattle.std.specs.List.Sorted.{IsNonDecreasing};
 ghost use Rattle.std.specs.Prelude.{◌≡◌, ◌<◌, ◌+◌, ◌^◌, ◌++◌, ℕ, IfOk, OnOk, Contains, length, map, slice_index};
 
+use crate::by_id::ById;
+use crate::final_order::FinalOrder;
 use crate::pieces::Moment;
 use crate::run::Run;
-use crate::tables::{nets_by_id, note_free};
 use channel_model::{Channel, Segment, Via};
 use greedy_column::{Column, ColumnState, Span, Track, entered, left, pin_in, pin_spans};
 use std::alloc::{AllocError, Global};
@@ -25,33 +26,30 @@ pub(crate) struct Wires {
 }
 
 // A column of a sweep that is wired: its record, and the tracks before it, once its pins have entered and after it. It is drawn on the lines
-// of the final order, which has ids below `room`.
+// of the final order.
 #[derive(Clone, Copy)]
 struct Turn<'a> {
     channel: &'a Channel,
-    order: &'a [Track],
-    room: usize,
+    order: &'a FinalOrder<'a>,
     column: u32,
     done: &'a Column,
     before: &'a [Track],
     entered: &'a [Track],
     left: &'a [Track],
     ghost few_entered: { length entered.now + 1 < 2 ^ 32 },
-    ghost few: { length order.now + 1 < 2 ^ 32 },
-    ghost below: { (id : ℕ) → Contains (ids order.now) id → id < room },
 }
 
 impl Turn<'_> {
     // The pieces of the column's pins, on the lines of the final order.
     fn pins(&self, alloc: Global) -> Result<Vec<Span>, AllocError>
         ensures { IfOk result (λ spans. spans.items
-            ≡ map (span_in (ids self.now.order.now)) (pin_verticals self.now.channel.now self.now.column self.now.done.now)) }
+            ≡ map (span_in self.now.order.now) (pin_verticals self.now.channel.now self.now.column self.now.done.now)) }
     {
         let channel = self.channel;
         let done = self.done;
         pin_spans(
             alloc,
-            self.order,
+            self.order.tracks(),
             done.straight,
             pin_in(channel.top.items(), self.column),
             pin_in(channel.bottom.items(), self.column),
@@ -60,46 +58,50 @@ impl Turn<'_> {
         )
     }
 
-    // Adds the segments and the vias, where a table has since when the tracks are held.
-    fn draw(&self, alloc: Global, wires: &mut Wires, since: &[u32]) -> Result<(), AllocError>
+    // Adds the segments and the vias, where a table has since when the tracks are held, by tables that are made to tell of the nets.
+    fn draw(&self, alloc: Global, wires: &mut Wires, by_id: &mut ById) -> Result<(), AllocError>
+        requires { HasAll self.now.order.now by_id.old }
+        ensures since { OnOk result (by_id.new.since.items ≡ by_id.old.since.items) }
+        ensures all { OnOk result (HasAll self.now.order.now by_id.new) }
         ensures segments { OnOk result (wires.new.segments.items ≡ wires.old.segments.items
-            ++ (map (across (ids self.now.order.now) self.now.column)
+            ++ (map (across self.now.order.now self.now.column)
             (verticals self.now.channel.now self.now.column self.now.done.now self.now.entered.now)
-            ++ alongs (ids self.now.order.now) self.now.column self.now.entered.now (λ id. slice_index since.now id) self.now.done.now)) }
+            ++ alongs self.now.order.now self.now.column self.now.entered.now (λ id. slice_index by_id.old.since.items id) self.now.done.now)) }
         ensures vias { OnOk result (wires.new.vias.items ≡ wires.old.vias.items
-            ++ column_vias (ids self.now.order.now) self.now.column self.now.entered.now self.now.left.now
+            ++ column_vias self.now.order.now self.now.column self.now.entered.now self.now.left.now
             (pin_verticals self.now.channel.now self.now.column self.now.done.now) self.now.done.now) }
     {
         let pins = self.pins(alloc)?;
-        let nets = nets_by_id(alloc, self.entered, self.room)?;
-        let laters = nets_by_id(alloc, self.left, self.room)?;
+        by_id.tell(self.entered, self.left);
         let moment = Moment {
             column: self.column,
             done: self.done,
             entered: self.entered,
             order: self.order,
             pins: &pins,
-            nets: &nets,
-            laters: &laters,
-            since,
+            nets: &by_id.nets,
+            laters: &by_id.laters,
+            since: &by_id.since,
         };
         moment.push_segments(alloc, &mut wires.segments)?;
         moment.push_vias(alloc, &mut wires.vias)
     }
 
     // Notes since when the tracks are held, and adds the segments and the vias.
-    fn wire(&self, alloc: Global, wires: &mut Wires, since: &mut [u32]) -> Result<(), AllocError>
-        ensures since { OnOk result (Tells since.new (since_after self.now.column self.now.before.now (λ id. slice_index since.old id))) }
+    fn wire(&self, alloc: Global, wires: &mut Wires, by_id: &mut ById) -> Result<(), AllocError>
+        requires { HasAll self.now.order.now by_id.old }
+        ensures since { OnOk result (Tells by_id.new.since.items (since_after self.now.column self.now.before.now (λ id. slice_index by_id.old.since.items id))) }
+        ensures all { OnOk result (HasAll self.now.order.now by_id.new) }
         ensures segments { OnOk result (wires.new.segments.items ≡ wires.old.segments.items
-            ++ (map (across (ids self.now.order.now) self.now.column)
+            ++ (map (across self.now.order.now self.now.column)
             (verticals self.now.channel.now self.now.column self.now.done.now self.now.entered.now)
-            ++ alongs (ids self.now.order.now) self.now.column self.now.entered.now (λ id. slice_index since.new id) self.now.done.now)) }
+            ++ alongs self.now.order.now self.now.column self.now.entered.now (λ id. slice_index by_id.new.since.items id) self.now.done.now)) }
         ensures vias { OnOk result (wires.new.vias.items ≡ wires.old.vias.items
-            ++ column_vias (ids self.now.order.now) self.now.column self.now.entered.now self.now.left.now
+            ++ column_vias self.now.order.now self.now.column self.now.entered.now self.now.left.now
             (pin_verticals self.now.channel.now self.now.column self.now.done.now) self.now.done.now) }
     {
-        note_free(alloc, since, self.before, self.column)?;
-        self.draw(alloc, wires, since)
+        by_id.note_free(self.before, self.column);
+        self.draw(alloc, wires, by_id)
     }
 }
 
@@ -145,14 +147,14 @@ pub(crate) fn wire_columns(alloc: Global, run: &Run) -> Result<Wires, AllocError
 {
     let surveyed = run.surveyed;
     let channel = surveyed.channel;
-    let order = run.state.order.items();
     let room = run.state.fresh as usize;
+    let tracks = run.state.order.items();
+    let order = FinalOrder::new(alloc, tracks, room)?;
     let mut wires = Wires {
         segments: Vec::new(alloc),
         vias: Vec::new(alloc),
     };
-    let mut table = vec![in alloc; 0; room]?;
-    let since = table.as_mut_slice();
+    let mut by_id = ById::new(alloc, room)?;
     let mut before = first_tracks(alloc, run)?;
     let mut column = 0u32;
     let mut rest = run.columns.as_slice();
@@ -160,15 +162,14 @@ pub(crate) fn wire_columns(alloc: Global, run: &Run) -> Result<Wires, AllocError
         let Passed { entered, left } = pass(alloc, channel, column, done, &before)?;
         let turn = Turn {
             channel,
-            order,
-            room,
+            order: &order,
             column,
             done,
             before: &before,
             entered: &entered,
             left: &left,
         };
-        turn.wire(alloc, &mut wires, since)?;
+        turn.wire(alloc, &mut wires, &mut by_id)?;
         before = left;
         column += 1;
         rest = later;

@@ -26,7 +26,7 @@ fn text_on(alloc: Global, shelf: &MemShelf) -> Result<Option<Vec<u8>>, AllocErro
 }
 
 /// The text of a routed design as it is written to a shelf in memory; None where that fails.
-fn text_drawn(alloc: Global, routed: &RoutedDesign) -> Result<Option<Vec<u8>>, AllocError>
+fn text_drawn(alloc: Global, routed: &RoutedDesign<Wiring>) -> Result<Option<Vec<u8>>, AllocError>
     requires valid { ValidRules routed.now.rules.now }
     requires high { HasRoom routed.now.rules.now routed.now.design.now }
     requires fed { IsFed routed.now.design.now routed.now.fed.now }

@@ -4,6 +4,8 @@
 #[cfg(test)]
 mod design_tests;
 #[cfg(test)]
+mod file_tests;
+#[cfg(test)]
 mod geometry_tests;
 #[cfg(test)]
 mod name_tests;

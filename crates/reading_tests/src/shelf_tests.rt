@@ -1,17 +1,14 @@
-//! Each maker and call once on its happy path, and what no clause says: which calls are counted,
-//! and what a real file gives.
+//! Each maker and call once on its happy path, and what no clause says: which calls are counted.
 
 use shelf_io::{
-    Buffer, Failed, FileSink, HostShelf, HostSink, LineWord, LoadFault, MemShelf, MemSink,
-    NeverShelf, NeverSink, Shelf, Sink, load, put_line,
+    Buffer, Failed, FileSink, LineWord, LoadFault, MemShelf, MemSink, NeverShelf, NeverSink, Shelf,
+    Sink, load, put_line,
 };
 use std::alloc::{AllocError, Global};
-use std::path::PathBuf;
 use std::test::Fail;
-use std::{env, fs, io, process};
 
 /// Bytes that tell their places apart.
-fn numbered(alloc: Global, count: usize) -> Result<Vec<u8>, AllocError> {
+pub(crate) fn numbered(alloc: Global, count: usize) -> Result<Vec<u8>, AllocError> {
     let mut bytes = Vec::new(alloc);
     for i in 0..count {
         bytes.push((i % 251) as u8)?;
@@ -34,7 +31,7 @@ fn marked_shelf(alloc: Global, text: &[u8], mark: u64) -> Result<MemShelf, Alloc
 }
 
 /// How a file of at most so many bytes is loaded.
-fn loading<S: Shelf>(
+pub(crate) fn loading<S: Shelf>(
     alloc: Global,
     shelf: &mut S,
     name: &str,
@@ -54,7 +51,7 @@ fn loading<S: Shelf>(
 }
 
 /// Whether this text is loaded.
-fn is_loaded<S: Shelf>(alloc: Global, shelf: &mut S, name: &str, text: &[u8]) -> bool {
+pub(crate) fn is_loaded<S: Shelf>(alloc: Global, shelf: &mut S, name: &str, text: &[u8]) -> bool {
     loading(alloc, shelf, name, 5000, text) == "this text"
 }
 
@@ -93,7 +90,7 @@ fn load_gives_a_file_or_says_why_not(rt: HostRuntime) -> Result<(), Fail> {
 }
 
 /// Puts all of some bytes at the end of a file, through a buffer.
-fn put_all<S: Shelf>(shelf: &mut S, name: &str, bytes: &[u8]) -> Result<(), Failed> {
+pub(crate) fn put_all<S: Shelf>(shelf: &mut S, name: &str, bytes: &[u8]) -> Result<(), Failed> {
     let mut file = FileSink::new(shelf, name);
     let mut buffer = Buffer::new();
     buffer.append(&mut file, bytes)?;
@@ -237,42 +234,5 @@ fn what_never_fails_gives_a_file_once_and_drops_what_is_put(rt: HostRuntime) -> 
     assert!(rt; gives_once(rt.alloc(), &mut shelf));
     let mut shelf = never_shelf(rt.alloc())?;
     assert!(rt; drops_puts(rt.alloc(), &mut shelf));
-    Ok(())
-}
-
-/// A path for this process alone.
-fn own_path(rt: &HostRuntime) -> io::Result<PathBuf> {
-    let name = format!(in rt.alloc(); "shelf_io-test-{}", process::id(rt.process()))?;
-    Ok(env::temp_dir(rt)?.join(rt.alloc(), name.as_str())?)
-}
-
-/// Whether nothing is loaded from a path or put there.
-fn is_lacking<S: Shelf>(alloc: Global, shelf: &mut S, path: &str) -> bool {
-    loading(alloc, shelf, path, 5000, b"") == "read fault" && shelf.put(path, b"x") == Err(Failed)
-}
-
-/// Whether a path is begun and a text put there.
-fn is_written<S: Shelf>(shelf: &mut S, path: &str, text: &[u8]) -> bool {
-    shelf.begin(path) == Ok(()) && put_all(shelf, path, text) == Ok(())
-}
-
-/// Whether a path that lacks a file holds the text that was put last.
-fn holds_the_last<S: Shelf>(alloc: Global, shelf: &mut S, path: &str) -> Result<bool, AllocError> {
-    let text = numbered(alloc, 5000)?;
-    Ok(
-        is_lacking(alloc, shelf, path)
-            && is_written(shelf, path, b"old")
-            && is_written(shelf, path, text.as_slice())
-            && is_loaded(alloc, shelf, path, text.as_slice()),
-    )
-}
-
-#[test]
-fn real_files_hold_what_is_put(rt: HostRuntime) -> Result<(), Fail> {
-    assert!(rt; HostSink::new(&rt).put(b"a line\n") == Ok(7));
-    let path = own_path(&rt)?;
-    let holds = holds_the_last(rt.alloc(), &mut HostShelf::new(&rt), path.as_str());
-    fs::remove_file(&rt, path.as_path())?;
-    assert!(rt; holds?);
     Ok(())
 }

@@ -4,8 +4,11 @@ pub mod StandingLaws
 pub mod SumLaws
 -- what right tables say of instances
 pub mod PlaceLaws
--- costs of nets that are measured anew
-pub mod RemeasureLaws
+-- the least or the greatest of numbers as one of them changes
+pub mod ExtremeLaws
+-- lists of numbers side by side, and how far they spread in all
+pub mod ExtremesLaws
+pub mod SpreadLaws
 -- seats that are put somewhere
 pub mod PutLaws
 -- what a swap moves
@@ -14,6 +17,9 @@ pub mod OutsideLaws
 pub mod ReachLaws
 -- costs by tables
 pub mod CostLaws
+-- the pins of instances by their places in nets, and where they stand once their instance is put elsewhere
+pub mod PinTableLaws
+pub mod PinPlaceLaws
 -- all tables of weighed rows after a change
 pub mod BoardLaws
 pub mod SpansLaws

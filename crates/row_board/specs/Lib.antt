@@ -13,6 +13,13 @@ pub mod Standings
 -- the pins of nets and the nets of instances
 pub mod NetPins
 pub mod NetsView
+-- the least and the greatest of numbers, and how far they are apart
+pub mod Extreme
+pub mod Extremes
+pub mod Spreads
+pub mod SpreadsView
+-- where the pins of nets stand
+pub mod PinPlaces
 -- what nets cost by a table of where instances stand
 pub mod NetCosts
 pub mod NetCostsView

@@ -1,13 +1,15 @@
 -- the pins of nets and the nets of instances
 use Rattle.std.specs.Prelude.{◌≡◌, ℕ, ◌+◌, ◌*◌, ◌<◌, ◌≤◌, ◌==◌, List, length, map, filter, Bool, true, false, if◌then◌else◌, Option, None, Some, slice_get}
-use Rattle.std.specs.List.{list_any}
+use Rattle.std.specs.List.{Contains}
 use Rattle.design_model.specs.Netlist.{Netlist}
+use Rattle.list_facts.specs.Lists.{list_there}
 use Rattle.design_model.specs.declared.design.Pin.{Pin}
 use Rattle.row_board.specs.Cost.{pins_of_net, spread}
 use Rattle.row_board.specs.Standings.{standing_of}
 use Rattle.row_model.specs.Stands.{first_column, turned_column}
 use Rattle.row_model.specs.Widths.{columns_of}
 use Rattle.row_board.specs.declared.net_pins.NetPin.{NetPin}
+use Rattle.row_board.specs.declared.net_pins.InstancePin.{InstancePin}
 use Rattle.row_board.specs.Spot.{Spot}
 use Rattle.row_board.specs.Weights.{Weighing}
 
@@ -24,17 +26,35 @@ net_pin d p = record {
   mirrored = offset_of true (columns_of d p.instance) (first_column d p);
 }
 
+-- the pins of a net, as it has them
+abbrev pub net_pins : Netlist → ℕ → List NetPin
+net_pins d net = map (net_pin d) (pins_of_net d net)
+
+-- a pin of an instance, as its net has it
+abbrev pub as_net_pin : ℕ → InstancePin → NetPin
+as_net_pin instance p = record { instance = instance; upright = p.upright; mirrored = p.mirrored }
+
 -- the nets of an instance, one for each of its pins
 abbrev pub nets_of : Netlist → ℕ → List ℕ
 nets_of d instance = map (λ (p : Pin). p.net) (filter (λ (p : Pin). p.instance == instance) d.pins)
 
 -- a table has the pins of each net
 pub record ArePins (d : Netlist) (pins : List (List NetPin)) : Type 0 where
-  pub each : (net : ℕ) → net ≤ length d.nets → slice_get pins net ≡ Some (map (net_pin d) (pins_of_net d net))
+  pub each : (net : ℕ) → net ≤ length d.nets → slice_get pins net ≡ Some (net_pins d net)
 
--- a table has the nets of each instance
-pub record AreNets (d : Netlist) (nets : List (List ℕ)) : Type 0 where
-  pub each : (instance : ℕ) → instance < length d.instances → slice_get nets instance ≡ Some (nets_of d instance)
+-- pins are those of an instance where so many nets have such pins: each stands at its place in its net, and each of the instance that stands in a net is among them
+pub record AreInstancePins (nets : ℕ → List NetPin) (count instance : ℕ) (pins : List InstancePin) : Type 0 where
+  pub each : (p : InstancePin) → Contains pins p → p.net ≤ count → slice_get (nets p.net) p.place ≡ Some (as_net_pin instance p)
+  pub all : (net place : ℕ) (q : NetPin) → net ≤ count → slice_get (nets net) place ≡ Some q → q.instance ≡ instance
+      → (p : InstancePin) × Contains pins p × (p.net ≡ net) × (p.place ≡ place)
+
+-- a table has the pins of each instance
+pub record ArePinsByInstance (d : Netlist) (pins : List (List InstancePin)) : Type 0 where
+  pub each : (instance : ℕ) → instance < length d.instances → AreInstancePins (net_pins d) (length d.nets) instance (list_there (slice_get pins instance))
+
+-- another has their number
+pub record AreCounts (d : Netlist) (counts : List ℕ) : Type 0 where
+  pub each : (instance : ℕ) → instance < length d.instances → slice_get counts instance ≡ Some (length (nets_of d instance))
 
 -- how far a pin is from the left side of its cell, which may be mirrored
 abbrev pub offset_in : NetPin → Bool → ℕ
@@ -53,8 +73,4 @@ measured row_cost standings pins = spread (map (pin_column standings) pins) + ro
 
 -- what a net of a design costs by a table
 abbrev pub cost_by : Netlist → Weighing → List Spot → ℕ → ℕ
-cost_by d w standings net = measured w.row_cost standings (map (net_pin d) (pins_of_net d net))
-
--- whether a net is that of a pin of one of these seats
-abbrev pub has_net : List ℕ → ℕ → Bool
-has_net nets net = list_any (λ (n : ℕ). n == net) nets
+cost_by d w standings net = measured w.row_cost standings (net_pins d net)

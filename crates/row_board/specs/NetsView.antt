@@ -1,6 +1,9 @@
--- a design whose pins by net and nets by instance are tabled, and that the tables are its own
+-- a design whose pins by net and by instance are tabled, and that the tables are its own
+use Rattle.std.specs.Prelude.{◌≡◌, length, map}
+use Rattle.std.specs.List.{range_with_len}
 use Rattle.design_model.specs.Netlist.{IsNetlist, Netlist}
-use Rattle.row_board.specs.NetPins.{AreNets, ArePins}
+use Rattle.row_board.specs.NetPins.{AreCounts, ArePins, ArePinsByInstance}
+use Rattle.row_model.specs.Widths.{columns_of}
 use Rattle.row_board.specs.declared.nets.Nets.TheInside.{Inside}
 
 abbrev pub design_in : Inside → Netlist
@@ -8,5 +11,7 @@ design_in a = a.design.now
 
 pub record AreTables (a : Inside) : Type 0 where
   pub good : IsNetlist a.design.now
-  pub pins : ArePins a.design.now a.pins
-  pub nets : AreNets a.design.now a.nets
+  pub by_net : ArePins a.design.now a.by_net
+  pub by_instance : ArePinsByInstance a.design.now a.by_instance
+  pub counts : AreCounts a.design.now a.counts.items
+  pub widths : a.widths.items ≡ map (columns_of a.design.now) (range_with_len 0 (length a.design.now.instances))

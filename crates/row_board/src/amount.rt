@@ -1,4 +1,4 @@
-//! A number of at most 2^41, as one net may cost.
+//! A number of at most 2^41, as a row may miss its width.
 
 use std::marker::Model;
 

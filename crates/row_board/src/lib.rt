@@ -4,19 +4,24 @@
 mod amount;
 mod building;
 mod costing;
+mod extreme;
+mod extremes;
 mod moving;
 mod net_costs;
 mod net_pins;
 mod nets;
+mod pin_places;
 mod row_lengths;
 mod seated;
 mod seats;
 mod spans;
+mod spreads;
 mod standings;
 mod stretch;
 mod summed;
 mod trial;
 mod weights;
+mod widths;
 
 pub use costing::cost;
 pub use spans::Spans;

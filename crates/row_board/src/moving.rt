@@ -13,7 +13,7 @@ use crate::seats::{put, row_at};
 use crate::standings::Standing;
 use geom_core::Items;
 use limits::{MOST_INSTANCES, MOST_KIND_COLUMNS, MOST_PLACED_ROWS};
-use row_model::{Seat, columns_of};
+use row_model::Seat;
 
 /// The seats of a row from a place up to another, which a change moves.
 #[derive(Clone, Copy)]
@@ -60,7 +60,7 @@ fn left_of(costs: &NetCosts, seats: &[Seat], place: usize) -> u64
         return 0;
     };
     let standing = costs.standing(before.instance);
-    standing.left + u64::from(columns_of(costs.design(), before.instance))
+    standing.left + u64::from(costs.columns_of(before.instance))
 }
 
 /// Enters where the instances of the seats stand that a change moved. The seat before them is entered.
@@ -74,7 +74,8 @@ pub(crate) fn enter_reach(costs: &mut NetCosts, rows: &[Items<Seat>], reach: Mov
     ensures entered { (k : ℕ) → reach.from ≤ k → k < reach.to → IsEntered costs.old.design rows.now costs.new.standings reach.row k }
     ensures kept { (row k : ℕ) → IsEntered costs.old.design rows.now costs.old.standings row k → IsEntered costs.old.design rows.now costs.new.standings row k }
 {
-    let design = costs.design();
+    // What every design keeps is known by this call.
+    let _design = costs.design();
     let seats = row_at(rows, reach.row);
     let mut left = left_of(costs, seats, reach.from);
     for place in reach.from..reach.to {
@@ -85,8 +86,9 @@ pub(crate) fn enter_reach(costs: &mut NetCosts, rows: &[Items<Seat>], reach: Mov
             place: place as u32,
             left,
         };
+        let width = costs.columns_of(seat.instance);
         costs.put(seat.instance, standing);
-        left += u64::from(columns_of(design, seat.instance));
+        left += u64::from(width);
     }
 }
 
@@ -117,10 +119,11 @@ pub(crate) fn exchange_seats(
     ensures exchanged { AreExchanged costs.now.standings a b rows.old rows.new }
     ensures unmoved { AreUnmoved costs.now.design rows.new costs.now.standings result.0 result.1 }
 {
-    let design = costs.design();
+    // What every design keeps is known by this call.
+    let _design = costs.design();
     let one = costs.standing(a);
     let other = costs.standing(b);
-    let even = columns_of(design, a) == columns_of(design, b);
+    let even = costs.columns_of(a) == costs.columns_of(b);
     let reach = moved_seats(rows, one, other, even);
     let other_reach = moved_seats(rows, other, one, even);
     put(rows, one, other.seat(b));

@@ -1,17 +1,15 @@
 //! What each net costs by a table of where instances stand, with the sum, as instances are put elsewhere.
 
-ghost use Rattle.row_board.specs.NetPins.{cost_by, has_net};
-ghost use Rattle.std.specs.List.{range_with_len};
-ghost use Rattle.std.specs.Option.{option_map};
-ghost use Rattle.std.specs.Prelude.{◌≡◌, ◌≤◌, ◌+◌, ℕ, length, map, slice_get, if◌then◌else◌, IfOk};
+ghost use Rattle.row_board.specs.PinPlaces.{columns_by, rows_by};
+ghost use Rattle.std.specs.Prelude.{◌≡◌, IfOk};
 
-use crate::net_pins::standing_of;
 use crate::nets::Nets;
+use crate::pin_places::{places_of, put_columns, put_rows, standing_of};
+use crate::spreads::Spreads;
 use crate::standings::Standing;
-use crate::summed::Summed;
 use crate::weights::Weights;
 use design_model::Design;
-use limits::MOST_PINS;
+use limits::{MOST_KIND_COLUMNS, MOST_PINS};
 use std::alloc::{AllocError, Global};
 use std::marker::Model;
 
@@ -22,7 +20,8 @@ pub(crate) struct NetCosts<'d> {
     nets: Nets<'d>,
     weights: Weights,
     standings: Vec<Standing>,
-    costs: Summed,
+    columns: Spreads,
+    rows: Spreads,
 }
 
 impl<'d> Model for NetCosts<'d> {
@@ -37,42 +36,25 @@ impl<'d> Model for NetCosts<'d> {
     ghost invariant = { AreCosts };
 }
 
-// What each net costs, from net 0 on.
-fn measured_nets(
+// The columns and the rows of the pins of each net, from net 0 on.
+fn places_by(
     alloc: Global,
     nets: &Nets,
     standings: &[Standing],
-    weights: Weights,
-) -> Result<Summed, AllocError>
-    ensures { IfOk result (λ costs. costs ≡ map (cost_by nets.now weights standings.now) (range_with_len 0 (length nets.now.nets + 1))) }
+) -> Result<(Spreads, Spreads), AllocError>
+    ensures columns { IfOk result (λ places. places.0 ≡ record { most = 2004294967295; lists = columns_by nets.now standings.now }) }
+    ensures rows { IfOk result (λ places. places.1 ≡ record { most = 513; lists = rows_by nets.now standings.now }) }
 {
     let design = nets.design();
     let count = design.nets.items().len() + 1;
-    let mut costs = Summed::new(alloc);
+    let mut columns = Spreads::new(alloc, 2_004_294_967_295);
+    let mut rows = Spreads::new(alloc, 513);
     for net in 0..count {
-        costs.push(nets.cost(net, standings, weights))?;
+        let (net_columns, net_rows) = places_of(alloc, nets.pins(net), standings)?;
+        columns = columns.with_list(net_columns.as_slice())?;
+        rows = rows.with_list(net_rows.as_slice())?;
     }
-    Ok(costs)
-}
-
-// Measures nets anew.
-fn remeasure(
-    nets: &Nets,
-    changed: &[u32],
-    standings: &[Standing],
-    weights: Weights,
-    costs: &mut Summed,
-)
-    ensures count { length costs.new ≡ length costs.old }
-    ensures each { (net : ℕ) → net ≤ length nets.now.nets → slice_get costs.new net ≡ option_map (λ (old : ℕ). if has_net changed.now net then cost_by nets.now weights standings.now net else old) (slice_get costs.old net) }
-{
-    let mut rest = changed;
-    while let Some((net, after)) = rest.split_first() {
-        let n = *net as usize;
-        let cost = nets.cost(n, standings, weights);
-        costs.set(n, cost);
-        rest = after;
-    }
+    Ok((columns, rows))
 }
 
 impl<'d> NetCosts<'d> {
@@ -81,7 +63,8 @@ impl<'d> NetCosts<'d> {
     ghost use Rattle.row_board.specs.NetPins.{nets_of};
     ghost use Rattle.row_board.specs.Standings.{standing_of, traded};
     ghost use Rattle.row_board.specs.Weights.{AreFew};
-    ghost use Rattle.std.specs.Prelude.{◌≡◌, ◌<◌, ◌≤◌, ◌*◌, length, slice_set, sum, IfOk};
+    ghost use Rattle.row_model.specs.Widths.{columns_of};
+    ghost use Rattle.std.specs.Prelude.{◌≡◌, ◌<◌, ◌≤◌, ◌+◌, ◌*◌, length, slice_set, sum, IfOk};
 
     /// What the nets of a design cost by this table. The one error is want of memory.
     pub(crate) fn new(
@@ -95,12 +78,13 @@ impl<'d> NetCosts<'d> {
         // The bounds of the design's type are known once a field is read.
         let _pins = &design.pins;
         let nets = Nets::new(alloc, design)?;
-        let costs = measured_nets(alloc, &nets, standings.as_slice(), weights)?;
+        let (columns, rows) = places_by(alloc, &nets, standings.as_slice())?;
         Ok(NetCosts {
             nets,
             weights,
             standings,
-            costs,
+            columns,
+            rows,
         })
     }
 
@@ -132,23 +116,21 @@ impl<'d> NetCosts<'d> {
         ensures is { result ≡ sum (table_costs self.now.design self.now.weights self.now.standings) }
         ensures small { result ≤ 2199023255552 * (MOST_PINS + 1) }
     {
-        self.costs.sum()
+        let weights = self.weights;
+        self.columns.sum() + weights.row_cost * self.rows.sum()
     }
 
-    /// An instance of the table is put there. Takes no memory, and steps as the number of the pins of its nets.
+    /// An instance of the table is put there. Takes no memory, and steps as the number of its pins, but where the last pin of a net at one of its edges goes inwards.
     pub(crate) fn put(&mut self, instance: u32, standing: Standing)
         ensures { self.new ≡ record self.old { standings = slice_set self.old.standings instance standing } }
     {
         let n = instance as usize;
         if n < self.standings.len() {
+            let was = self.standings[n];
             self.standings[n] = standing;
-            remeasure(
-                &self.nets,
-                self.nets.of(instance),
-                self.standings.as_slice(),
-                self.weights,
-                &mut self.costs,
-            );
+            let pins = self.nets.of(instance);
+            put_columns(&mut self.columns, pins, standing);
+            put_rows(&mut self.rows, pins, was.row, standing.row);
         }
     }
 
@@ -166,6 +148,14 @@ impl<'d> NetCosts<'d> {
     pub(crate) fn pin_count(&self, instance: u32) -> u64
         ensures { instance < length self.now.design.instances → result ≡ length (nets_of self.now.design instance) }
     {
-        self.nets.of(instance).len() as u64
+        self.nets.pin_count(instance)
+    }
+
+    /// The width of an instance of the design in columns, 0 of any other.
+    pub(crate) fn columns_of(&self, instance: u32) -> u32
+        ensures width { result ≡ columns_of self.now.design instance }
+        ensures few { result ≤ MOST_KIND_COLUMNS }
+    {
+        self.nets.columns_of(instance)
     }
 }

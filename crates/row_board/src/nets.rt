@@ -1,20 +1,21 @@
-//! The nets of a design: the pins of each net, and the nets of each instance.
+//! The nets of a design: the pins of each net, and of each instance its pins with their places in their nets, and its width.
 
-use crate::amount::Amount;
-use crate::net_pins::{NetPin, instance_nets, measure, net_pins};
-use crate::standings::Standing;
-use crate::weights::Weights;
+use crate::net_pins::{InstancePin, NetPin, pin_counts, pin_tables};
+use crate::widths::widths_of;
 use design_model::Design;
+use limits::{MOST_KIND_COLUMNS, MOST_PINS};
 use list_facts::Lists;
 use std::alloc::{AllocError, Global};
 use std::marker::Model;
 
-/// The nets of a design: the pins of each, and those that each instance has a pin of. Contracts see the design.
+/// The nets of a design: the pins of each net, and of each instance its pins, their number, and its width in columns. Contracts see the design.
 #[derive(Drop)]
 pub(crate) struct Nets<'d> {
     design: &'d Design,
-    pins: Lists<NetPin>,
-    nets: Lists<u32>,
+    by_net: Lists<NetPin>,
+    by_instance: Lists<InstancePin>,
+    counts: Vec<u32>,
+    widths: Vec<u32>,
 }
 
 impl<'d> Model for Nets<'d> {
@@ -31,7 +32,8 @@ impl<'d> Model for Nets<'d> {
 
 impl<'d> Nets<'d> {
     ghost use Rattle.design_model.specs.Netlist.{IsNetlist};
-    ghost use Rattle.row_board.specs.NetPins.{cost_by, nets_of};
+    ghost use Rattle.row_board.specs.NetPins.{AreInstancePins, net_pins, nets_of};
+    ghost use Rattle.row_model.specs.Widths.{columns_of};
     ghost use Rattle.std.specs.Prelude.{◌≡◌, ◌<◌, ◌≤◌, length, IfOk};
 
     /// The nets of a design. The one error is want of memory.
@@ -40,9 +42,16 @@ impl<'d> Nets<'d> {
     {
         // The bounds of the design's type are known once a field is read.
         let _pins = &design.pins;
-        let pins = net_pins(alloc, design)?;
-        let nets = instance_nets(alloc, design)?;
-        Ok(Nets { design, pins, nets })
+        let (by_net, by_instance) = pin_tables(alloc, design)?;
+        let counts = pin_counts(alloc, design)?;
+        let widths = widths_of(alloc, design)?;
+        Ok(Nets {
+            design,
+            by_net,
+            by_instance,
+            counts,
+            widths,
+        })
     }
 
     /// The design.
@@ -53,17 +62,44 @@ impl<'d> Nets<'d> {
         self.design
     }
 
-    /// The nets of an instance of the design, one for each of its pins.
-    pub(crate) fn of(&self, instance: u32) -> &[u32]
-        ensures { instance < length self.now.instances → result.now ≡ nets_of self.now instance }
+    /// The pins of a net of the design.
+    pub(crate) fn pins(&self, net: usize) -> &[NetPin]
+        ensures is { net ≤ length self.now.nets → result.now ≡ net_pins self.now net }
+        ensures few { net ≤ length self.now.nets → length result.now ≤ MOST_PINS }
     {
-        self.nets.at(instance as usize)
+        self.by_net.at(net)
     }
 
-    /// What a net of the design costs by a table of where instances stand. Takes no memory, and steps as the number of its pins.
-    pub(crate) fn cost(&self, net: usize, standings: &[Standing], weights: Weights) -> Amount
-        ensures { net ≤ length self.now.nets → result ≡ cost_by self.now weights standings.now net }
+    /// The pins of an instance, none of one that the design does not have.
+    pub(crate) fn of(&self, instance: u32) -> &[InstancePin]
+        ensures { AreInstancePins (net_pins self.now) (length self.now.nets) instance result.now }
     {
-        measure(self.pins.at(net), standings, weights)
+        let design = self.design;
+        let n = instance as usize;
+        if n < design.instances.items().len() {
+            return self.by_instance.at(n);
+        }
+        &[]
+    }
+
+    /// The number of pins of an instance of the design.
+    pub(crate) fn pin_count(&self, instance: u32) -> u64
+        ensures { instance < length self.now.instances → result ≡ length (nets_of self.now instance) }
+    {
+        match self.counts.get(instance as usize) {
+            Some(count) => u64::from(*count),
+            None => 0,
+        }
+    }
+
+    /// The width of an instance of the design in columns, 0 of any other.
+    pub(crate) fn columns_of(&self, instance: u32) -> u32
+        ensures width { result ≡ columns_of self.now instance }
+        ensures few { result ≤ MOST_KIND_COLUMNS }
+    {
+        match self.widths.get(instance as usize) {
+            Some(width) => *width,
+            None => 0,
+        }
     }
 }

@@ -8,11 +8,11 @@ use crate::seated::Seated;
 use crate::trial::{slack_of, total_of, trial_cost};
 use crate::weights::Weights;
 use design_model::Design;
-use row_model::{PlacedRows, Rows, columns_of};
+use row_model::{PlacedRows, Rows};
 use std::alloc::{AllocError, Global};
 use std::marker::Model;
 
-/// Rows of a design with their cost, which is kept while the rows change: for each net what it costs, and for each instance where it stands.
+/// Rows of a design with their cost, which is kept while the rows change: for each net how far its pins spread, and for each instance where it stands.
 /// Contracts see the design, the rows and the weights.
 #[derive(Drop)]
 pub struct Spans<'d> {
@@ -84,14 +84,15 @@ impl<'d> Spans<'d> {
         requires b { b < length self.old.design.instances }
         ensures { self.new ≡ record self.old { rows = swapped a b self.old.rows } }
     {
-        let design = self.costs.design();
+        // What every value keeps is known once a field is read.
+        let _rows = &self.rows;
         if a == b {
             return;
         }
         let one = self.costs.standing(a).row;
         let other = self.costs.standing(b).row;
-        let width = columns_of(design, a);
-        let other_width = columns_of(design, b);
+        let width = self.costs.columns_of(a);
+        let other_width = self.costs.columns_of(b);
         let rows = &mut self.rows;
         let seats = rows.rows.items_mut();
         let (first, second) = exchange_seats(seats, &self.costs, a, b);
@@ -120,20 +121,21 @@ impl<'d> Spans<'d> {
         ensures left { self.new ≡ self.old }
     {
         // Where both are of one width, a swap shifts no other and is soon taken back.
-        let design = self.costs.design();
-        if columns_of(design, a) == columns_of(design, b) {
+        if self.costs.columns_of(a) == self.costs.columns_of(b) {
             return false;
         }
-        let spans = &*self;
-        let before = total_of(&spans.costs, &spans.lengths);
-        let rows = &spans.rows;
+        let before = total_of(&self.costs, &self.lengths);
+        let trial = trial_cost(&mut self.costs, &self.lengths, a, b);
+        let over = trial.saturating_sub(most);
+        if over <= before {
+            return false;
+        }
+        let rows = &self.rows;
         let seated = Seated {
             rows: rows.rows.items(),
-            costs: &spans.costs,
+            costs: &self.costs,
         };
-        let slack = slack_of(&seated, a, b);
-        let trial = trial_cost(&mut self.costs, &self.lengths, a, b);
-        trial.saturating_sub(most).saturating_sub(slack) > before
+        over.saturating_sub(slack_of(&seated, a, b)) > before
     }
 
     /// Two instances exchange their places, each with its mirror, exactly where the rows then cost at most so much more than before. Whether

@@ -13,7 +13,7 @@ use crate::seated::Seated;
 use crate::seats::row_at;
 use crate::stretch::Stretch;
 use geom_core::Items;
-use row_model::{Seat, columns_of};
+use row_model::Seat;
 
 /// What rows cost by their tables: the sum of what the nets cost, and the columns by which the rows miss their target as the weights tell. Takes no memory.
 pub(crate) fn total_of(costs: &NetCosts, lengths: &RowLengths) -> u64
@@ -67,9 +67,8 @@ pub(crate) fn slack_of(seated: &Seated, a: u32, b: u32) -> u64
     ensures { result ≡ slack seated.now.table.design seated.now.rows seated.now.table.weights seated.now.table.standings a b }
 {
     let costs = seated.costs();
-    let design = costs.design();
-    let width = u64::from(columns_of(design, a));
-    let other_width = u64::from(columns_of(design, b));
+    let width = u64::from(costs.columns_of(a));
+    let other_width = u64::from(costs.columns_of(b));
     let pins = shifted_pins(seated, a, b);
     let other_pins = shifted_pins(seated, b, a);
     let length_cost = costs.weights().length_cost;

@@ -5,28 +5,44 @@ ghost use Rattle.std.specs.Prelude.{◌≡◌, ◌<◌, ◌≤◌, List, ℕ, le
 
 use crate::plan::raise;
 use crate::traits::{Failed, Shelf, Sink};
+use std::alloc::Global;
 use std::fs::{self, Files, OpenOptions};
 use std::io::{Print, Read, Seek, SeekFrom, Write};
 
 /// The files of the system, by their paths. It keeps one count of failed reading and one of failed
 /// writing; each stands for every name.
+///
+/// The file that was written last stays open, where there is memory for its name, until another is
+/// begun or put to, a call that writes fails, or the shelf is dropped.
 #[derive(Drop)]
 pub struct HostShelf<'r, R: Files> {
+    alloc: Global,
     system: &'r R,
+    last: Option<OpenFile<R>>,
     reads: u64,
     writes: u64,
 }
 
+// A file that is open to be written at its end.
+#[derive(Drop)]
+struct OpenFile<R: Files> {
+    name: String,
+    file: R::File,
+}
+
 impl<'r, R: Files> HostShelf<'r, R> {
-    /// The files that the runtime reaches. Nothing has failed yet.
-    pub fn new(system: &'r R) -> HostShelf<'r, R>
+    /// The files that the runtime reaches. Nothing has failed yet. The memory is for the name of the
+    /// file that was written last.
+    pub fn new(alloc: Global, system: &'r R) -> HostShelf<'r, R>
         ensures reads { (name : List ℕ) → ⟦<HostShelf<'r, R> as Shelf>⟧.read_faults result name
             ≡ 0 }
         ensures writes { (name : List ℕ) → ⟦<HostShelf<'r, R> as Shelf>⟧.write_faults result name
             ≡ 0 }
     {
         HostShelf {
+            alloc,
             system,
+            last: None,
             reads: 0,
             writes: 0,
         }
@@ -51,6 +67,7 @@ impl<'r, R: Files> Shelf for HostShelf<'r, R> {
     }
 
     fn begin(&mut self, name: &str) -> Result<(), Failed> {
+        self.last = None;
         match fs::create(self.system, name) {
             Ok(_) => Ok(()),
             Err(_) => {
@@ -61,9 +78,10 @@ impl<'r, R: Files> Shelf for HostShelf<'r, R> {
     }
 
     fn put(&mut self, name: &str, piece: &[u8]) -> Result<usize, Failed> {
-        match write_end(self.system, name, piece) {
+        match write_end(self.alloc, self.system, &mut self.last, name, piece) {
             Some(n) => Ok(n),
             None => {
+                self.last = None;
                 self.writes = raise(self.writes);
                 Err(Failed)
             }
@@ -80,13 +98,43 @@ fn read_at<R: Files>(system: &R, name: &str, at: u64, into: &mut [u8]) -> Option
     file.read(into).ok()
 }
 
-/// Writes once at the end of a file that exists; `None` where the system reports an error, or takes
-/// nothing of a piece that is not empty.
-fn write_end<R: Files>(system: &R, name: &str, piece: &[u8]) -> Option<usize>
+/// Writes once at the end of a file that exists, which is the open one then where there is memory
+/// for its name; `None` where the system reports an error, or takes nothing of a piece that is not
+/// empty.
+fn write_end<R: Files>(
+    alloc: Global,
+    system: &R,
+    last: &mut Option<OpenFile<R>>,
+    name: &str,
+    piece: &[u8],
+) -> Option<usize>
     ensures fits { IfSome result (λ n. n ≤ length piece.now) }
     ensures some { IfSome result (λ n. 0 < length piece.now → 0 < n) }
 {
+    if let Some(open) = last {
+        if open.name.as_str() == name {
+            return write_once(&mut open.file, piece);
+        }
+    }
+    *last = None;
     let mut file = OpenOptions::new().append(true).open(system, name).ok()?;
+    let n = write_once(&mut file, piece)?;
+    *last = named(alloc, name, file);
+    Some(n)
+}
+
+/// An open file with its name; `None`, and the file is closed, where there is no memory for it.
+fn named<R: Files>(alloc: Global, name: &str, file: R::File) -> Option<OpenFile<R>> {
+    let name = String::from_str(alloc, name).ok()?;
+    Some(OpenFile { name, file })
+}
+
+/// Writes once to an open file; `None` where the system reports an error, or takes nothing of a
+/// piece that is not empty.
+fn write_once<F: Write>(file: &mut F, piece: &[u8]) -> Option<usize>
+    ensures fits { IfSome result (λ n. n ≤ length piece.now) }
+    ensures some { IfSome result (λ n. 0 < length piece.now → 0 < n) }
+{
     let n = file.write(piece).ok()?;
     written(n, piece)
 }

@@ -21,6 +21,14 @@ pub(crate) fn chooser_of(alloc: Global, stock: Stock) -> Result<Chooser, Fail> {
     Ok(Chooser::new(Name::new(stock.name().to_vec(alloc)?), choice))
 }
 
+/// A style in stock, with its sweeps.
+pub(crate) fn style_of(alloc: Global, stock: Stock) -> Result<Style, Fail> {
+    Ok(Style {
+        chooser: chooser_of(alloc, stock)?,
+        plan: stock.plan(alloc)?,
+    })
+}
+
 /// The style `near`, which tries sweeps of these shares in the published manner.
 pub(crate) fn near_style(alloc: Global, first: u32, others: &[u32]) -> Result<Style, Fail> {
     Ok(Style {

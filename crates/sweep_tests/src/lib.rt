@@ -1,5 +1,6 @@
 //! Tests of the greedy channel router: the styles, sweeps and wirings of small channels, sweeps that begin with free tracks, the best of
-//! several, channels without constraints, and many made channels whose wirings are looked at point by point.
+//! several, channels without constraints, many made channels whose wirings are looked at point by point, and channels whose wirings
+//! a program of another origin has worked out.
 #![tactic(auto)]
 
 #[cfg(test)]
@@ -10,6 +11,12 @@ mod connected;
 mod deft_tests;
 #[cfg(test)]
 mod free_tracks_tests;
+#[cfg(test)]
+mod known_first;
+#[cfg(test)]
+mod known_last;
+#[cfg(test)]
+mod known_tests;
 #[cfg(test)]
 mod left_edge_tests;
 #[cfg(test)]

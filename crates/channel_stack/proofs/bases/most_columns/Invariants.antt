@@ -4,8 +4,8 @@ use Rattle.channel_model.specs.declared.wiring.Wiring.{Wiring}
 use Rattle.channel_stack.specs.Stack.{most_columns}
 use Rattle.channel_stack.proofs.bases.most_columns.Given as goal
 
-abbrev pub invariant-loop-wiring : goal.invariant-loop-wiring
-invariant-loop-wiring l = fold max l.most (map (λ (w : Wiring). w.columns) l.rest) ≡ most_columns l.wirings
+abbrev pub invariant-loop-one : goal.invariant-loop-one
+invariant-loop-one g l = fold max l.most (map (λ (w : Wiring). w.columns) (map g.W.HasWiring.wiring_of l.rest)) ≡ most_columns (map g.W.HasWiring.wiring_of l.wirings)
 
-abbrev pub decreases-loop-wiring : goal.decreases-loop-wiring
-decreases-loop-wiring l = length l.rest
+abbrev pub decreases-loop-one : goal.decreases-loop-one
+decreases-loop-one g l = length l.rest

@@ -1,4 +1,4 @@
-use Rattle.std.proofs.Common.{rules as all_rules, ◌≡◌, ◌<◌, ◌≤◌, ◌^◌, ◌*◌, List, arith, subst, sym}
+use Rattle.std.proofs.Common.{rules as all_rules, ◌≡◌, ◌<◌, ◌≤◌, ◌^◌, ◌*◌, List, arith, map, subst, sym}
 use Rattle.std.proofs.Math.Nat.{mul-le-mul}
 use Rattle.std.specs.List.{AllByRecursion}
 use Rattle.feed_cells.specs.Fed.{items_width}
@@ -11,50 +11,50 @@ use Rattle.channel_stack.proofs.Heights.{rows-fit, stack-within, top-fits}
 use Rattle.channel_stack.proofs.stacking.lay.Goals as goal
 
 pub channel_bases-requires : goal.channel_bases-requires
-channel_bases-requires c =
+channel_bases-requires g c =
     let valid : ValidRules c.args.rules.now = subst ValidRules c.rules.view_is c.rules.invariant in
     let same : c.args.fed.now.heights ≡ c.items-heights.result.now = search all_rules in
-    top-fits c.args.rules.now c.args.design.now c.args.fed.now c.args.wirings.now c.items-heights.result.now valid c.requires.fed c.requires.routed same
+    top-fits c.args.rules.now c.args.design.now c.args.fed.now (map g.W.HasWiring.wiring_of c.args.wirings.now) c.items-heights.result.now valid c.requires.fed c.requires.routed same
 
 pub row_bases-requires : goal.row_bases-requires
-row_bases-requires c =
+row_bases-requires g c =
     let valid : ValidRules c.args.rules.now = subst ValidRules c.rules.view_is c.rules.invariant in
     let same : c.args.fed.now.heights ≡ c.items-heights.result.now = search all_rules in
-    top-fits c.args.rules.now c.args.design.now c.args.fed.now c.args.wirings.now c.items-heights.result.now valid c.requires.fed c.requires.routed same
+    top-fits c.args.rules.now c.args.design.now c.args.fed.now (map g.W.HasWiring.wiring_of c.args.wirings.now) c.items-heights.result.now valid c.requires.fed c.requires.routed same
 
 pub stack_top-requires : goal.stack_top-requires
-stack_top-requires c =
+stack_top-requires g c =
     let valid : ValidRules c.args.rules.now = subst ValidRules c.rules.view_is c.rules.invariant in
     let same : c.args.fed.now.heights ≡ c.items-heights.result.now = search all_rules in
-    top-fits c.args.rules.now c.args.design.now c.args.fed.now c.args.wirings.now c.items-heights.result.now valid c.requires.fed c.requires.routed same
+    top-fits c.args.rules.now c.args.design.now c.args.fed.now (map g.W.HasWiring.wiring_of c.args.wirings.now) c.items-heights.result.now valid c.requires.fed c.requires.routed same
 
 pub overflow_mul-result-3 : goal.overflow_mul-result-3
-overflow_mul-result-3 c =
+overflow_mul-result-3 g c =
     let valid : ValidRules c.args.rules.now = subst ValidRules c.rules.view_is c.rules.invariant in
     let same : c.args.fed.now.heights ≡ c.items-heights.result.now = search all_rules in
-    let fits : stack_top c.args.rules.now c.items-heights.result.now 0 c.args.wirings.now < 2 ^ 32 =
-    top-fits c.args.rules.now c.args.design.now c.args.fed.now c.args.wirings.now c.items-heights.result.now valid c.requires.fed c.requires.routed same in
+    let fits : stack_top c.args.rules.now c.items-heights.result.now 0 (map g.W.HasWiring.wiring_of c.args.wirings.now) < 2 ^ 32 =
+    top-fits c.args.rules.now c.args.design.now c.args.fed.now (map g.W.HasWiring.wiring_of c.args.wirings.now) c.items-heights.result.now valid c.requires.fed c.requires.routed same in
     let low : c.stack_top.result ≤ 2 ^ 32 = omega arith in
     let fine : c.from-centi.result ≤ 1000 = omega (arith, c.rules.invariant.ranges.grid.centi) in
     let product : c.stack_top.result * c.from-centi.result ≤ 2 ^ 32 * 1000 = mul-le-mul low fine in
     omega arith
 
 pub placed_rows-requires : goal.placed_rows-requires
-placed_rows-requires c =
+placed_rows-requires g c =
     let valid : ValidRules c.args.rules.now = subst ValidRules c.rules.view_is c.rules.invariant in
     let rows : c.items.result.now ≡ c.args.fed.now.rows = search all_rules in
     subst (λ (l : List (List Item)). AllByRecursion (λ (items : List Item). items_width c.args.design.now items < 2 ^ 39) l) (sym rows)
-    (rows-fit c.args.rules.now c.args.design.now c.args.fed.now c.args.wirings.now valid c.requires.fed c.requires.routed)
+    (rows-fit c.args.rules.now c.args.design.now c.args.fed.now (map g.W.HasWiring.wiring_of c.args.wirings.now) valid c.requires.fed c.requires.routed)
 
 pub returns-clause-laid : goal.returns-clause-laid
 unfolding stack_of
-returns-clause-laid c = search all_rules
+returns-clause-laid g c = search all_rules
 
 pub returns-clause-within : goal.returns-clause-within
-returns-clause-within c = stack-within c.args.rules.now c.args.design.now c.args.fed.now c.args.wirings.now c.requires.fed c.requires.routed
+returns-clause-within g c = stack-within c.args.rules.now c.args.design.now c.args.fed.now (map g.W.HasWiring.wiring_of c.args.wirings.now) c.requires.fed c.requires.routed
 
 pub returns-clause-good : goal.returns-clause-good
-returns-clause-good c =
+returns-clause-good g c =
     let valid : ValidRules c.args.rules.now = subst ValidRules c.rules.view_is c.rules.invariant in
     let is : IsNetlist c.args.design.now = subst IsNetlist c.design.view_is c.design.invariant.netlist in
-    λ room wired. stack-good c.args.rules.now valid c.args.design.now is room c.args.fed.now c.requires.fed c.args.wirings.now wired
+    λ room wired. stack-good c.args.rules.now valid c.args.design.now is room c.args.fed.now c.requires.fed (map g.W.HasWiring.wiring_of c.args.wirings.now) wired

@@ -1,5 +1,5 @@
 use Rattle.channel_stack.proofs.stacking.stack.Goals as goal
-use Rattle.std.proofs.Common.{rules as all_rules, ◌≡◌, ℕ, Some, sym, subst}
+use Rattle.std.proofs.Common.{rules as all_rules, ◌≡◌, ℕ, Some, map, sym, subst}
 use Rattle.std.specs.List.{All, slice_get}
 use Rattle.channel_model.specs.Elements.{elements}
 use Rattle.channel_model.specs.Wired.{IsOnGrid}
@@ -11,20 +11,20 @@ use Rattle.channel_stack.specs.Stack.{Stacked, stack_of}
 use Rattle.std_laws.proofs.Every.{every-from-get}
 
 pub drawings-requires : goal.drawings-requires
-drawings-requires c =
-    every-from-get (λ (w : Wiring). All (IsOnGrid w.columns w.tracks) (elements w)) c.args.wirings.now
-    (λ (k : ℕ) (w : Wiring) (at : slice_get c.args.wirings.now k ≡ Some w). c.requires.routed.on_grid k w at)
+drawings-requires g c =
+    every-from-get (λ (w : Wiring). All (IsOnGrid w.columns w.tracks) (elements w)) (map g.W.HasWiring.wiring_of c.args.wirings.now)
+    (λ (k : ℕ) (w : Wiring) (at : slice_get (map g.W.HasWiring.wiring_of c.args.wirings.now) k ≡ Some w). c.requires.routed.on_grid k w at)
 
 pub returns-clause-stacked : goal.returns-clause-stacked
 unfolding stack_of
-returns-clause-stacked c = search all_rules
+returns-clause-stacked g c = search all_rules
 
 pub returns-clause-within : goal.returns-clause-within
-returns-clause-within c =
-    subst (IsWithin c.args.rules.now c.args.design.now c.args.fed.now c.args.wirings.now) (sym (returns-clause-stacked c)) c.in_ok-laid.ensures.within
+returns-clause-within g c =
+    subst (IsWithin c.args.rules.now c.args.design.now c.args.fed.now (map g.W.HasWiring.wiring_of c.args.wirings.now)) (sym (returns-clause-stacked g c)) c.in_ok-laid.ensures.within
 
 pub returns-clause-good : goal.returns-clause-good
-returns-clause-good c =
+returns-clause-good g c =
     λ room wired.
-    subst (λ (p : Stacked). Good c.args.rules.now c.args.design.now (layout_of c.args.rules.now c.args.design.now p)) (sym (returns-clause-stacked c))
+    subst (λ (p : Stacked). Good c.args.rules.now c.args.design.now (layout_of c.args.rules.now c.args.design.now p)) (sym (returns-clause-stacked g c))
     (c.in_ok-laid.ensures.good room wired)

@@ -1,5 +1,5 @@
 use Rattle.cif_writer.proofs.layout.write_layout.Goals as goal
-use Rattle.std.proofs.Common.{ap, refl, subst}
+use Rattle.std.proofs.Common.{ap, map, refl, subst}
 use Rattle.std.proofs.lemmas.Result.{on_err_weaker, on_ok_weaker}
 use Rattle.std.specs.List.{All}
 use Rattle.channel_model.specs.Elements.{elements}
@@ -22,9 +22,9 @@ put_design-requires g c =
     let routed = c.args.routed.now in
     let netlist : IsNetlist c.args.routed.now.design.now = subst IsNetlist c.design.view_is c.design.invariant.netlist in
     record {
-      on_grid = every-from-get (λ (w : Wiring). All (IsOnGrid w.columns w.tracks) (elements w)) routed.wirings.now c.requires.wired.on_grid;
+      on_grid = every-from-get (λ (w : Wiring). All (IsOnGrid w.columns w.tracks) (elements w)) (map g.W.HasWiring.wiring_of routed.wirings.now) c.requires.wired.on_grid;
       wires = rw (ap (λ (l : LaidOut). l.channel_base) c.requires.laid)
-          (stack-reach routed.rules.now routed.design.now routed.fed.now routed.wirings.now c.requires.valid c.requires.fed c.requires.wired);
+          (stack-reach routed.rules.now routed.design.now routed.fed.now (map g.W.HasWiring.wiring_of routed.wirings.now) c.requires.valid c.requires.fed c.requires.wired);
       shapes = rw c.requires.symbols (symbols-reach routed.rules.now routed.design.now routed.fed.now c.requires.valid netlist c.requires.fed);
     }
 
@@ -33,7 +33,7 @@ returns g c =
     let rules = c.args.routed.now.rules.now in
     let design = c.args.routed.now.design.now in
     let fed = c.args.routed.now.fed.now in
-    let wirings = c.args.routed.now.wirings.now in
+    let wirings = (map g.W.HasWiring.wiring_of c.args.routed.now.wirings.now) in
     let netlist : IsNetlist c.args.routed.now.design.now = subst IsNetlist c.design.view_is c.design.invariant.netlist in
     let whole = whole-text rules design fed wirings c.args.routed.now.symbols.now c.args.routed.now.laid.now c.requires.symbols c.requires.laid in
     let begun = c.in_ok-begin.ensures in
@@ -49,4 +49,4 @@ returns g c =
 pub returns-in_err-begin-clause-reads_as : goal.returns-in_err-begin-clause-reads_as
 returns-in_err-begin-clause-reads_as g c =
     let netlist : IsNetlist c.args.routed.now.design.now = subst IsNetlist c.design.view_is c.design.invariant.netlist in
-    stack-reads c.args.routed.now.rules.now c.requires.valid c.args.routed.now.design.now netlist c.requires.high c.args.routed.now.fed.now c.requires.fed c.args.routed.now.wirings.now c.requires.wired
+    stack-reads c.args.routed.now.rules.now c.requires.valid c.args.routed.now.design.now netlist c.requires.high c.args.routed.now.fed.now c.requires.fed (map g.W.HasWiring.wiring_of c.args.routed.now.wirings.now) c.requires.wired

@@ -1,24 +1,18 @@
-use Rattle.std.proofs.Common.{◌∙◌, ap, eqb, filter, not, List, ℕ}
-use Rattle.std.proofs.lemmas.Result.{IfOk-weaker}
-use Rattle.std.specs.List.{list_any}
-use Rattle.greedy_column.specs.Lines.{net_on}
-use Rattle.greedy_column.proofs.WaitingLaws.{split_found, others_found}
+use Rattle.std.proofs.Common.{◌≡◌, ◌∷◌, ap, not, rules}
+use Rattle.greedy_column.specs.Moving.{is_split}
+use Rattle.greedy_column.proofs.WaitingLaws.{part_more}
 use Rattle.greedy_column.proofs.move_order.parted_lines.Goals as goal
 
-pub returns-clause-split : goal.returns-clause-split
-returns-clause-split c =
+pub loop-line-preserved : goal.loop-line-preserved
+loop-line-preserved c =
     let kept = c.args.kept.now in
-    let nets = c.in_ok-nets.nets in
-    IfOk-weaker c.part.result _ _ (λ parted is.
-    is ∙ (λ i. filter (λ line. list_any (λ n. eqb n (net_on kept line)) nets) (c.deref.ensures.value i))
-    ∙ ap (λ (l : List ℕ). filter (λ line. list_any (λ n. eqb n (net_on kept line)) nets) l) c.in_ok-held.ensures
-    ∙ split_found kept nets c.in_ok-nets.ensures) c.part.ensures.split
-
-pub returns-clause-others : goal.returns-clause-others
-returns-clause-others c =
-    let kept = c.args.kept.now in
-    let nets = c.in_ok-nets.nets in
-    IfOk-weaker c.part.result _ _ (λ parted is.
-    is ∙ (λ i. filter (λ line. not (list_any (λ n. eqb n (net_on kept line)) nets)) (c.deref.ensures.value i))
-    ∙ ap (λ (l : List ℕ). filter (λ line. not (list_any (λ n. eqb n (net_on kept line)) nets)) l) c.in_ok-held.ensures
-    ∙ others_found kept nets c.in_ok-nets.ensures) c.part.ensures.others
+    let line = c.in-Some.line.now in
+    let later = c.in-Some.later.now in
+    let cut : c.loop-line.rest.now ≡ line ∷ later = search rules in
+    let so_far = rw cut at c.loop-line.invariant in
+    record {
+      split = part_more (is_split kept) line later c.loop-line.split.items c.push_where.new.lines.items _ _ c.is_split-among.ensures
+          (c.in_ok-push_where.ensures) so_far.split;
+      others = part_more (λ l. not (is_split kept l)) line later c.loop-line.others.items c.push_where-in-Some.new.lines.items _ _
+          (ap not c.is_split-among.ensures) (c.in_ok-push_where-2.ensures) so_far.others;
+    }

@@ -1,5 +1,5 @@
 use Rattle.std.proofs.Common.{rules, ◌≡◌, ◌<◌, ◌∙◌, ◌+◌, subst, sym, ap, arith, get_or, ℕ, List, length}
-use Rattle.channel_model.specs.Pins.{IsChannel}
+use Rattle.channel_model.specs.Pins.{IsChannel, Pins}
 use Rattle.greedy_column.specs.declared.column.Made.{Made}
 use Rattle.greedy_column.specs.declared.column.Track.{Track}
 use Rattle.greedy_column.specs.Uses.{next_after}
@@ -12,7 +12,7 @@ use Rattle.greedy_column.proofs.stepping.step_with.Goals as goal
 
 pub new-before-requires : goal.new-before-requires
 new-before-requires g c =
-    let same : length c.in_ok-to_vec.field-0.items ≡ length c.items-3.result.now = search rules in
+    let same : length c.in_ok-from_slice.field-0.items ≡ length c.items-3.result.now = search rules in
     omega (
       arith,
       ap (λ (l : List Track). length l) c.items-3.ensures,
@@ -35,7 +35,7 @@ returns-clause-follows g c =
     let copied : c.new-before.result ≡ c.args.state.now.order = search rules in
     Follows-from_copy c.args.manner _ (next_after c.args.ahead.now.uses.items c.args.column) c.args.channel.now c.args.column c.args.state.now.fresh c.args.state.now.order
     c.new-before.result _ c.pin_in-top.result c.pin_in-bottom.result copied
-    (c.pin_in-top.ensures ∙ ap (λ (l : List ℕ). get_or l c.args.column 0) (cc)) (c.pin_in-bottom.ensures ∙ ap (λ (l : List ℕ). get_or l c.args.column 0) (cc))
+    (c.pin_in-top.ensures ∙ ap (λ (l : List ℕ). get_or l c.args.column 0) (c.items.ensures ∙ ap (λ (p : Pins). p.top) c.channel.view_is)) (c.pin_in-bottom.ensures ∙ ap (λ (l : List ℕ). get_or l c.args.column 0) (c.items-2.ensures ∙ ap (λ (p : Pins). p.bottom) c.channel.view_is))
     (λ net. c.requires.ahead c.args.column net) c.in_ok-taken.ensures.straight c.in_ok-taken.ensures.enters c.in_ok-taken.ensures.follows
 
 pub returns-clause-fair : goal.returns-clause-fair
@@ -48,7 +48,7 @@ returns-clause-state g c =
     let copied : c.new-before.result ≡ c.args.state.now.order = search rules in
     IsState-from_copy c.args.channel.now c.args.column c.args.state.now.fresh c.args.state.now.order c.new-before.result c.in_ok-taken.taken.done
     c.pin_in-top.result c.pin_in-bottom.result copied
-    (c.pin_in-top.ensures ∙ ap (λ (l : List ℕ). get_or l c.args.column 0) (cc)) (c.pin_in-bottom.ensures ∙ ap (λ (l : List ℕ). get_or l c.args.column 0) (cc))
+    (c.pin_in-top.ensures ∙ ap (λ (l : List ℕ). get_or l c.args.column 0) (c.items.ensures ∙ ap (λ (p : Pins). p.top) c.channel.view_is)) (c.pin_in-bottom.ensures ∙ ap (λ (l : List ℕ). get_or l c.args.column 0) (c.items-2.ensures ∙ ap (λ (p : Pins). p.bottom) c.channel.view_is))
     c.requires.state.numbered c.requires.state.standing (returns-clause-fair g c).lawful.made c.in_ok-taken.taken.tracks _ c.in_ok-taken.ensures.tracks
     (ap (λ (l : List Made). c.args.state.now.fresh + length l) c.items-4.ensures)
 

@@ -2,9 +2,10 @@ use Rattle.std.proofs.Common.{rules, subst, sym}
 use Rattle.std.proofs.lemmas.Result.{IfOk-weaker}
 use Rattle.channel_model.specs.Pins.{IsChannel}
 use Rattle.channel_model.specs.Wired.{Wired}
-use Rattle.greedy_router.specs.Answers.{IsWithinLimits}
+use Rattle.greedy_router.specs.Answers.{AreFewest, IsWithinLimits}
 use Rattle.greedy_router.specs.Runs.{routed_of}
 use Rattle.greedy_router.specs.declared.sweep.Routed.{Routed}
+use Rattle.greedy_router.proofs.FewestLaws.{planned-fewest}
 use Rattle.greedy_router.proofs.PlanLaws.{planned-wired, planned-within}
 use Rattle.greedy_router.proofs.planning.route_planned.Goals as goal
 
@@ -23,4 +24,13 @@ returns-clause-within g c =
     IfOk-weaker c.routed-2.result _ _ (λ routed is.
     subst (λ (r : Routed). IsWithinLimits pins r.wiring) (sym is)
     (planned-within c.args.plan.now (g.C.Chooses.answers c.args.chooser.now) pins (routed_of c.in_ok-best_run.field-0)
+    (rw c.in_ok-surveyed.ensures at c.in_ok-best_run.ensures))) c.routed-2.ensures
+
+pub returns-clause-fewest : goal.returns-clause-fewest
+returns-clause-fewest g c =
+    let pins = c.args.channel.now in
+    let may = g.C.Chooses.answers c.args.chooser.now in
+    IfOk-weaker c.routed-2.result _ _ (λ routed is.
+    subst (λ (r : Routed). AreFewest c.args.plan.now may pins r.wiring.tracks) (sym is)
+    (planned-fewest c.args.plan.now may pins (routed_of c.in_ok-best_run.field-0)
     (rw c.in_ok-surveyed.ensures at c.in_ok-best_run.ensures))) c.routed-2.ensures

@@ -1,37 +1,50 @@
 use Rattle.std.proofs.Common.{◌≡◌, ◌<◌, ◌+◌, ◌∷◌, ℕ, suc, List, length, ap, arith, add-one, rules, sym, Contains, All, ◌∙◌, get_or, refl, replicate, subst}
-use Rattle.std.proofs.lemmas.List.{get_or-replicate}
+use Rattle.std.proofs.lemmas.List.{get_or-replicate, length-replicate}
 use Rattle.std.proofs.lemmas.List.Elements.{All-head, All-tail}
 use Rattle.std.specs.List.Sorted.{IsNonDecreasing}
 use Rattle.greedy_column.specs.declared.column.Track.{Track}
 use Rattle.greedy_column.specs.declared.column.Column.{Column}
 use Rattle.greedy_column.specs.Tracks.{ids}
 use Rattle.greedy_column.specs.Replay.{after, entered}
+use Rattle.greedy_column.proofs.TableLaws.{length-ids}
 use Rattle.greedy_router.specs.SweepWiring.{since_after}
 use Rattle.greedy_router.proofs.TellLaws.{segments_from-agree}
 use Rattle.greedy_router.proofs.ReplayLaws.{entered-few, fair-more, replay-more}
 use Rattle.greedy_router.proofs.WiringLaws.{segments-more, vias-more}
 use Rattle.greedy_router.proofs.wiring.wire_columns.Goals as goal
 
--- the ids of tracks that are the same are below the same
-below : {tracks others : List Track} {room : ℕ} → others ≡ tracks → ((id : ℕ) → Contains (ids tracks) id → id < room)
-    → (id : ℕ) → Contains (ids others) id → id < room
-below {room} same within = subst (λ (l : List Track). (id : ℕ) → Contains (ids l) id → id < room) (sym same) within
+-- the ids of the final order are below the first that none has
+pub new-requires-clause-below : goal.new-requires-clause-below
+new-requires-clause-below c id member =
+    let within : Contains (ids c.run.inside.state.order) id = subst (λ (l : List Track). Contains (ids l) id) c.items-tracks.ensures member in
+    let less = c.run.invariant.below id within in
+    search (rules, less)
 
 pub loop-done-init : goal.loop-done-init
 loop-done-init c =
     let run = c.run.invariant in
-    let blank : c.as_mut_slice-since.result.now ≡ replicate c.run.inside.state.fresh 0 = search rules in
-    rw (← c.run.view_is, c.as_slice-rest.ensures.value, c.items-order.ensures, c.in_ok-before.ensures, ← c.run.view_is)
+    let room : ℕ = c.run.inside.state.fresh in
+    let order : List ℕ = ids c.order.inside.tracks.now in
+    let told : order ≡ ids c.items-tracks.result.now = c.order.view_is ∙ c.in_ok-order.ensures in
+    let since : c.in_ok-by_id.by_id.since.items ≡ replicate room 0 = c.in_ok-by_id.ensures.since in
+    let below : (id : ℕ) → Contains order id → id < room =
+    subst (λ (l : List ℕ). (id : ℕ) → Contains l id → id < room) (sym told)
+    (subst (λ (l : List Track). (id : ℕ) → Contains (ids l) id → id < room) (sym c.items-tracks.ensures) run.below) in
+    rw (← c.run.view_is, c.as_slice-rest.ensures.value, c.in_ok-before.ensures, ← c.run.view_is)
     (record {
       counted = omega arith;
       fair = (c.run.inside.begun + 1, run.fair);
       ascending = run.ascending;
-      replay = run.order;
-      long = search rules;
-      segments = rw c.new.ensures.items
-          (segments_from-agree (ids c.run.inside.state.order) c.run.inside.surveyed.now.channel.now 0 _ (λ id. get_or c.as_mut_slice-since.result.now id 0) (λ id. 0)
-          c.run.inside.columns.items (λ id member. ap (λ l. get_or l id 0) blank ∙ get_or-replicate c.run.inside.state.fresh id 0 0 (run.below id member)));
-      vias = rw c.new-2.ensures.items refl;
+      replay = told ∙ ap ids (c.items-tracks.ensures ∙ run.order);
+      all = record {
+        within = λ id member. let less = below id member in omega (arith, less, ap (λ (l : List ℕ). length l) since, length-replicate {A = ℕ} room 0);
+        nets = ap (λ (l : List ℕ). length l) (c.in_ok-by_id.ensures.nets ∙ sym since);
+        laters = ap (λ (l : List ℕ). length l) (c.in_ok-by_id.ensures.laters ∙ sym since);
+      };
+      segments = rw c.new-2.ensures.items
+          (segments_from-agree order c.run.inside.surveyed.now.channel.now 0 _ (λ id. get_or c.in_ok-by_id.by_id.since.items id 0) (λ id. 0)
+          c.run.inside.columns.items (λ id member. ap (λ l. get_or l id 0) since ∙ get_or-replicate {A = ℕ} room id 0 0 (below id member)));
+      vias = rw c.new-3.ensures.items refl;
     })
 
 pub pass-requires-clause-made : goal.pass-requires-clause-made
@@ -54,7 +67,7 @@ pub loop-done-preserved : goal.loop-done-preserved
 loop-done-preserved c =
     let done : Column = c.in-Some.done.now in
     let later : List Column = c.in-Some.later.now in
-    let order : List ℕ = ids c.items-order.result.now in
+    let order : List ℕ = ids c.order.inside.tracks.now in
     let pins = c.run.inside.surveyed.now.channel.now in
     let before : List Track = c.loop-done.before.items in
     let column : ℕ = c.loop-done.column in
@@ -63,19 +76,18 @@ loop-done-preserved c =
     let one : column + 1 ≡ suc column = add-one column in
     let left : c.in_ok-entered.field-0.left.items ≡ after pins column done before = rw c.deref.ensures.value at c.in_ok-entered.ensures.left in
     let now : c.in_ok-entered.field-0.entered.items ≡ entered pins column done before = rw c.deref.ensures.value at c.in_ok-entered.ensures.entered in
-    let made = rw (c.deref-in-Some.ensures.value, c.deref-in-Some-2.ensures.value, c.deref-in-Some-3.ensures.value, now, left) at c.in_ok-wire.ensures in
-    let long : length c.wire.new.since ≡ length c.loop-done.since = search rules in
-    let room : length c.loop-done.since ≡ c.run.inside.state.fresh = kept.long in
-    let noted : (id : ℕ) → Contains order id → get_or c.wire.new.since id 0 ≡ since_after column before (λ i. get_or c.loop-done.since i 0) id =
-    λ id member. made.since id (let less = below c.items-order.ensures c.run.invariant.below id member in omega (arith, less, long, room)) in
+    let made = rw (← c.order.view_is, c.deref-in-Some.ensures.value, c.deref-in-Some-2.ensures.value, c.deref-in-Some-3.ensures.value, now, left) at c.in_ok-wire.ensures in
+    let noted : (id : ℕ) → Contains order id → get_or c.wire.new.by_id.since.items id 0
+    ≡ since_after column before (λ i. get_or c.loop-done.by_id.since.items i 0) id =
+    λ id member. made.since id (made.all.within id member) in
     record {
       counted = omega (arith, kept.counted);
       fair = fair-more pins column (column + 1) kept.fair.0 before c.in_ok-entered.field-0.left.items done later one left kept.fair.1;
       ascending = All-tail (λ (d : Column). IsNonDecreasing d.ended) done later kept.ascending;
-      replay = replay-more pins column (column + 1) before c.in_ok-entered.field-0.left.items c.items-order.result.now done later one left kept.replay;
-      long = long ∙ room;
+      replay = replay-more pins column (column + 1) before c.in_ok-entered.field-0.left.items order done later one left kept.replay;
+      all = made.all;
       segments = segments-more order pins column (column + 1) before c.in_ok-entered.field-0.left.items done later c.loop-done.wires.segments.items
-          c.wire.new.wires.segments.items _ (λ id. get_or c.loop-done.since id 0) (λ id. get_or c.wire.new.since id 0) one left noted
+          c.wire.new.wires.segments.items _ (λ id. get_or c.loop-done.by_id.since.items id 0) (λ id. get_or c.wire.new.by_id.since.items id 0) one left noted
           made.segments kept.segments;
       vias = vias-more order pins column (column + 1) before c.in_ok-entered.field-0.left.items done later c.loop-done.wires.vias.items
           c.wire.new.wires.vias.items _ one left made.vias kept.vias;
@@ -91,10 +103,6 @@ invariant_of-turn c =
     let cut : c.loop-done.rest.now ≡ done ∷ later = search rules in
     let kept = rw cut at c.loop-done.invariant in
     let now : c.in_ok-entered.field-0.entered.items ≡ entered pins column done before = rw c.deref.ensures.value at c.in_ok-entered.ensures.entered in
-    let few = entered-few pins column kept.fair.0 before c.items-order.result.now done later kept.fair.1 kept.replay in
-    let order = ap (λ (l : List Track). length l) c.items-order.ensures in
-    record {
-      few_entered = rw (c.deref-in-Some-2.ensures.value, now) (omega (arith, few, order, c.run.invariant.few_tracks));
-      few = omega (arith, order, c.run.invariant.few_tracks);
-      below = below c.items-order.ensures c.run.invariant.below;
-    }
+    let few = entered-few pins column before (ids c.order.inside.tracks.now) done later kept.replay in
+    let order = ap (λ (l : List ℕ). length l) (c.order.view_is ∙ c.in_ok-order.ensures) ∙ length-ids c.items-tracks.result.now ∙ ap (λ (l : List Track). length l) c.items-tracks.ensures in
+    rw (c.deref-in-Some-2.ensures.value, now) (omega (arith, few, order, c.run.invariant.few_tracks))

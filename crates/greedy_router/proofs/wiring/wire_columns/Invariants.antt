@@ -5,6 +5,7 @@ use Rattle.greedy_column.specs.Tracks.{ids}
 use Rattle.greedy_column.specs.Replay.{free_tracks, replay_from}
 use Rattle.greedy_column.specs.Fair.{AllFair}
 use Rattle.greedy_router.specs.SweepWiring.{segments_from, vias_from}
+use Rattle.greedy_router.specs.Tables.{HasAll}
 use Rattle.greedy_router.proofs.wiring.wire_columns.Given as goal
 
 abbrev pub invariant-loop-done : goal.invariant-loop-done
@@ -12,13 +13,13 @@ invariant-loop-done l = record {
   counted : l.column + length l.rest ≡ length l.run.sweep.columns;
   fair : (fresh : ℕ) × AllFair l.channel l.column fresh l.before.items l.rest;
   ascending : All (λ (done : Column). IsNonDecreasing done.ended) l.rest;
-  replay : l.order ≡ replay_from l.channel l.column l.before.items l.rest;
-  long : length l.since ≡ l.room;
+  replay : (ids l.order-inside.tracks.now) ≡ ids (replay_from l.channel l.column l.before.items l.rest);
+  all : HasAll (ids l.order-inside.tracks.now) l.by_id;
   segments : l.wires.segments.items
-      ++ segments_from (ids l.order) l.channel l.column l.before.items (λ id. get_or l.since id 0) l.rest
-      ≡ segments_from (ids l.order) l.channel 0 (free_tracks l.run.sweep.begun) (λ id. 0) l.run.sweep.columns;
-  vias : l.wires.vias.items ++ vias_from (ids l.order) l.channel l.column l.before.items l.rest
-      ≡ vias_from (ids l.order) l.channel 0 (free_tracks l.run.sweep.begun) l.run.sweep.columns;
+      ++ segments_from (ids l.order-inside.tracks.now) l.channel l.column l.before.items (λ id. get_or l.by_id.since.items id 0) l.rest
+      ≡ segments_from (ids l.order-inside.tracks.now) l.channel 0 (free_tracks l.run.sweep.begun) (λ id. 0) l.run.sweep.columns;
+  vias : l.wires.vias.items ++ vias_from (ids l.order-inside.tracks.now) l.channel l.column l.before.items l.rest
+      ≡ vias_from (ids l.order-inside.tracks.now) l.channel 0 (free_tracks l.run.sweep.begun) l.run.sweep.columns;
 }
 
 abbrev pub decreases-loop-done : goal.decreases-loop-done

@@ -1,5 +1,4 @@
 use Rattle.std.proofs.Common.{◌≡◌, ℕ, List, Some, false, get_or, length, refl, ap, sym, ◌∙◌, arith, rules, subst}
-use Rattle.design_model.specs.Netlist.{Netlist}
 use Rattle.row_board.specs.NetCosts.{Tabled}
 use Rattle.row_board.specs.Standings.{AreApart, HasEntered}
 use Rattle.row_model.specs.Widths.{columns_of}
@@ -34,9 +33,9 @@ loop-place-preserved c = record {
   rest = search rules;
   so_far = entered-step c.args.costs.now.design c.args.reach.row c.args.reach.from c.loop-place.place c.row_at-seats.result.now c.loop-place.left c.from-left.result c.args.costs.now.standings
       c.loop-place.costs.standings c.put.new.self.standings (record { instance = 0; mirror = false }) c.loop-place.invariant.so_far c.loop-place.invariant.apart c.loop-place.auto.place (omega (arith, c.requires.reach.within, ap length c.row_at-seats.ensures))
-      (c.from-left.ensures ∙ c.columns_of.ensures.width
-      ∙ ap (λ (d : Netlist). columns_of d (get_or c.row_at-seats.result.now c.loop-place.place (record { instance = 0; mirror = false })).instance) c.design-design.ensures.is)
-      (omega (arith, c.from-left.ensures, c.columns_of.ensures.few)) (ap (λ (t : Tabled). t.standings) c.put.ensures);
+      (c.from-left.ensures ∙ c.columns_of-width.ensures.width
+      ∙ ap (λ (t : Tabled). columns_of t.design (get_or c.row_at-seats.result.now c.loop-place.place (record { instance = 0; mirror = false })).instance) c.loop-place.invariant.rest)
+      (omega (arith, c.from-left.ensures, c.columns_of-width.ensures.few)) (ap (λ (t : Tabled). t.standings) c.put.ensures);
 }
 
 pub returns-clause-entered : goal.returns-clause-entered

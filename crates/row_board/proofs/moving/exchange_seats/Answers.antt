@@ -1,13 +1,11 @@
 use Rattle.row_board.proofs.moving.exchange_seats.Goals as goal
-use Rattle.std.proofs.Common.{◌≡◌, ◌<◌, ℕ, length, ap, ap₂, sym, ◌∙◌, subst}
+use Rattle.std.proofs.Common.{◌≡◌, ◌<◌, ℕ, length, ap₂, sym, subst}
 use Rattle.std.specs.Prelude.{nat_eq}
-use Rattle.design_model.specs.Netlist.{Netlist}
 use Rattle.row_board.specs.Moving.{ArePut, AreUnmoved}
 use Rattle.row_board.specs.Spot.{Spot}
 use Rattle.row_board.specs.Standings.{standing_of}
 use Rattle.row_board.specs.declared.moving.MovedSeats.{MovedSeats}
 use Rattle.row_model.specs.Rows.{ArePlaced}
-use Rattle.row_model.specs.Widths.{columns_of}
 use Rattle.row_board.proofs.MoveLaws.{cell-told}
 use Rattle.row_board.proofs.PutLaws.{seats-exchanged}
 use Rattle.row_board.proofs.ReachLaws.{unmoved, unmoved-ordered, AreReaches}
@@ -18,7 +16,6 @@ use Rattle.std_laws.proofs.Tests.{nat_eq-alike}
 pub returns : goal.returns
 returns c =
     let d = c.args.costs.now.design in
-    let width : (n i : ℕ) → n ≡ columns_of c.design-design.result.now i → n ≡ columns_of d i = λ n i is. is ∙ ap (λ (d : Netlist). columns_of d i) c.design-design.ensures.is in
     let at = λ (i : ℕ) (s : Spot) (within : i < length d.instances) (is : s ≡ standing_of c.args.costs.now.standings i).
     (cell-told d c.args.rows.now c.args.costs.now.standings i s c.design-design.ensures.good c.requires.seated.placed c.requires.seated.entered within is).at in
     let both = seats-exchanged c.args.rows.now c.put.new.rows c.put-2.new.rows c.standing-one.result c.standing-other.result c.args.a c.args.b _ _ (placed-distinct _ _ c.requires.seated.placed)
@@ -34,7 +31,7 @@ returns c =
       other = c.standing-other.result;
       is_one = c.standing-one.ensures;
       is_other = c.standing-other.ensures;
-      alike = nat_eq-alike c.columns_of.result c.columns_of-2.result _ _ (width _ _ c.columns_of.ensures.width) (width _ _ c.columns_of-2.ensures.width);
+      alike = nat_eq-alike c.columns_of.result c.columns_of-2.result _ _ c.columns_of.ensures.width c.columns_of-2.ensures.width;
       row = c.moved_seats-reach.ensures.row;
       from = c.moved_seats-reach.ensures.from;
       to = c.moved_seats-reach.ensures.to;

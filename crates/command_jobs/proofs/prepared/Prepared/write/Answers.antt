@@ -1,21 +1,26 @@
-use Rattle.std.proofs.Common.{◌≡◌, ◌∙◌, ap, subst, List, ℕ, OnErr}
-use Rattle.channel_model.specs.declared.wiring.Wiring.{Wiring}
+use Rattle.std.proofs.Common.{◌≡◌, ◌∙◌, ap, subst, sym, List, ℕ, OnErr}
+use Rattle.channel_stack.specs.Routed.{IsRouted}
 use Rattle.channel_stack.specs.Stack.{stack_of}
 use Rattle.cif_writer.specs.LayoutText.{HoldsFront, placed_text}
 use Rattle.feed_cells.specs.Fed.{Fed}
-use Rattle.command_jobs.specs.Kept.{wirings_of}
-use Rattle.command_jobs.specs.PreparedView.{RoutedJob, job_in}
-use Rattle.command_jobs.specs.Text.{job_text}
+use Rattle.greedy_router.specs.declared.sweep.Routed.{Routed}
+use Rattle.command_jobs.specs.PreparedView.{RoutedJob}
+use Rattle.command_jobs.specs.Text.{job_text, wirings_of}
 use Rattle.command_jobs.proofs.prepared.Prepared.write.Goals as goal
+
+pub write_layout-requires-clause-wired : goal.write_layout-requires-clause-wired
+write_layout-requires-clause-wired g c =
+    let a = c.self.inside in
+    subst (λ (l : List Routed). IsRouted a.rules a.design a.fed (wirings_of l)) (sym c.as_slice.ensures.value) c.self.invariant.rows.routed
 
 pub returns-clause-front : goal.returns-clause-front
 unfolding job_text
 returns-clause-front g c =
     let a = c.self.inside in
-    let placed : Fed → List Wiring → List ℕ = λ fed ws. placed_text a.rules a.design fed (stack_of a.rules a.design fed ws) in
-    let text : placed a.fed c.wirings.result.now ≡ job_text c.args.self.now.job c.args.self.now.kept =
-    ap (placed a.fed) c.wirings.ensures
-    ∙ ap (λ (fed : Fed). placed fed (wirings_of a.kept)) c.self.invariant.rows.is
+    let placed : Fed → List Routed → List ℕ = λ fed kept. placed_text a.rules a.design fed (stack_of a.rules a.design fed (wirings_of kept)) in
+    let text : placed a.fed c.as_slice.result.now ≡ job_text c.args.self.now.job c.args.self.now.kept =
+    ap (placed a.fed) c.as_slice.ensures.value
+    ∙ ap (λ (fed : Fed). placed fed a.kept.items) c.self.invariant.rows.is
     ∙ ap (λ (p : RoutedJob). job_text p.job p.kept) c.self.view_is in
     subst (λ (l : List ℕ). OnErr c.write_layout.result (HoldsFront l (g.S.Shelf.holds c.args.shelf.now c.args.out.now) (g.S.Shelf.holds c.write_layout.new.shelf c.args.out.now)))
     text c.write_layout.ensures.front

@@ -1,8 +1,9 @@
-use Rattle.std.proofs.Common.{◌∙◌, ap, map, subst, List, ℕ}
+use Rattle.std.proofs.Common.{◌≡◌, ◌∙◌, ap, map, subst, List, ℕ}
 use Rattle.std.proofs.lemmas.Result.{IfOk-weaker}
+use Rattle.greedy_column.specs.declared.span.Span.{Span}
 use Rattle.greedy_column.specs.Uses.{next_after}
 use Rattle.greedy_column.specs.Lines.{free_lines}
-use Rattle.greedy_column.specs.Moving.{MovesFollow, move_ids}
+use Rattle.greedy_column.specs.Moving.{IsOrderOfMoves, MovesFollow, movable_lines, move_ids}
 use Rattle.greedy_column.proofs.moment.Moment.moves_of.Goals as goal
 
 pub returns-clause-moves : goal.returns-clause-moves
@@ -11,13 +12,17 @@ returns-clause-moves g c =
     let next = next_after c.args.self.now.ahead.now.uses.items c.args.self.now.column in
     let now = c.args.now.now in
     let kept = c.args.kept.now in
-    let order = c.deref.result.now in
+    let drawn = c.args.spans.now.items in
+    let order = c.deref-2.result.now in
+    let movable : c.in_ok-lines.lines.items ≡ movable_lines drawn (free_lines now) kept =
+    c.in_ok-lines.ensures ∙ ap (λ (l : List Span). movable_lines l c.in_ok-free.free kept) c.deref.ensures.value
+    ∙ ap (λ (l : List ℕ). movable_lines drawn l kept) c.in_ok-free.ensures in
     IfOk-weaker c.move_ids.result _ _ (λ moves is. record {
       order = c.in_ok-order.order.items;
       moving = c.in_ok-moving.moving.items;
-      ordered = c.in_ok-order.ensures;
-      follow = subst (λ (l : List ℕ). MovesFollow may next now kept l c.args.spans.now.items (free_lines now) c.in_ok-moving.moving.items) c.deref.ensures.value
-          (subst (λ (l : List ℕ). MovesFollow may next now kept order c.args.spans.now.items l c.in_ok-moving.moving.items) c.in_ok-free.ensures
+      ordered = subst (λ (l : List ℕ). IsOrderOfMoves c.args.self.now.manner next kept l c.in_ok-order.order.items) movable c.in_ok-order.ensures;
+      follow = subst (λ (l : List ℕ). MovesFollow may next now kept l drawn (free_lines now) c.in_ok-moving.moving.items) c.deref-2.ensures.value
+          (subst (λ (l : List ℕ). MovesFollow may next now kept order drawn l c.in_ok-moving.moving.items) c.in_ok-free.ensures
           c.in_ok-moving.ensures.moves);
-      told = is ∙ ap (λ (l : List (ℕ × ℕ)). map (move_ids now) l) c.deref-2.ensures.value;
+      told = is ∙ ap (λ (l : List (ℕ × ℕ)). map (move_ids now) l) c.deref-3.ensures.value;
     }) c.move_ids.ensures

@@ -1,19 +1,21 @@
-use Rattle.std.proofs.Common.{ℕ, List, cond, ap, ◌∙◌}
-use Rattle.std.specs.List.{slice_get}
-use Rattle.std.specs.Option.{option_map}
-use Rattle.row_board.specs.NetPins.{cost_by, has_net}
+use Rattle.std.proofs.Common.{◌≡◌, ◌<◌, Some, length, refl, ap, arith, slice_get}
+use Rattle.std.proofs.lemmas.Option.{slice_get_read}
 use Rattle.row_board.specs.Spot.{Spot}
-use Rattle.row_board.proofs.CostLaws.{costs-put}
+use Rattle.row_board.proofs.PinPlaceLaws.{columns-put, rows-put}
 use Rattle.row_board.proofs.net_costs.NetCosts.put.Goals as goal
 
 pub invariant_of-self : goal.invariant_of-self
 invariant_of-self c =
     let i = c.self.inside in
+    let within : c.args.instance < length i.standings.items = omega (arith, c.if-n-len.true, c.len.ensures) in
+    let was : slice_get i.standings.items c.args.instance ≡ Some c.index-was.result.now =
+    slice_get_read i.standings.items (length i.standings.items) c.args.instance c.index-was.result.now refl within c.index-was.ensures in
     record {
       good = c.self.invariant.good;
       weights = c.self.invariant.weights;
-      costs = costs-put i.nets i.weights i.standings.items c.args.instance c.args.standing c.of.result.now i.costs c.remeasure.new.costs c.self.invariant.good c.of.ensures c.self.invariant.costs
-          c.remeasure.ensures.count
-          (λ net within. c.remeasure.ensures.each net within
-          ∙ ap (λ (l : List Spot). option_map (λ (n : ℕ). cond (has_net c.of.result.now net) (cost_by c.self.inside.nets c.self.inside.weights l net) n) (slice_get c.self.inside.costs net)) c.as_slice.ensures.value);
+      columns = columns-put i.nets i.standings.items c.args.instance c.args.standing c.of-pins.result.now i.columns c.put_columns.new.columns within c.of-pins.ensures
+          c.self.invariant.columns c.put_columns.ensures.most c.put_columns.ensures.lists;
+      rows = rows-put i.nets i.standings.items c.args.instance c.args.standing c.index-was.result.now c.was.inside.row c.standing.inside.row c.of-pins.result.now i.rows
+          c.put_rows.new.rows was (ap (λ (s : Spot). s.row) c.was.view_is) (ap (λ (s : Spot). s.row) c.standing.view_is) c.of-pins.ensures c.self.invariant.rows
+          c.put_rows.ensures.most c.put_rows.ensures.lists;
     }

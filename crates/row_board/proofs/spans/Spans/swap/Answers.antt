@@ -1,6 +1,5 @@
 use Rattle.row_board.proofs.spans.Spans.swap.Goals as goal
-use Rattle.std.proofs.Common.{◌≡◌, ◌<◌, ℕ, List, length, ap, sym, ◌∙◌, subst, arith}
-use Rattle.design_model.specs.Netlist.{Netlist}
+use Rattle.std.proofs.Common.{◌<◌, ℕ, List, length, ap, sym, ◌∙◌, subst, arith}
 use Rattle.row_board.specs.Moving.{AreExchanged}
 use Rattle.row_board.specs.NetCosts.{Tabled}
 use Rattle.row_board.specs.RowLengths.{Lengths}
@@ -9,7 +8,6 @@ use Rattle.row_board.specs.Standings.{IsEntered}
 use Rattle.row_board.specs.WeighedRows.{WeighedRows}
 use Rattle.row_model.specs.Changes.{swapped}
 use Rattle.row_model.specs.Rows.{ArePlaced, AreRows}
-use Rattle.row_model.specs.Widths.{columns_of}
 use Rattle.row_model.specs.declared.rows.Seat.{Seat}
 use Rattle.row_model.proofs.PlacedLaws.{placed-distinct}
 use Rattle.row_model.proofs.TwiceLaws.{swap-same}
@@ -57,7 +55,6 @@ invariant_of-self c =
     let new = c.enter_reach-2.new.costs in
     let rest = c.enter_reach-2.ensures.rest ∙ ap (λ (t : Tabled). record t { standings = new.standings }) c.enter_reach.ensures.rest in
     let old = c.items_mut-seats.ensures.value ∙ c.rows.view_is in
-    let width : (n i : ℕ) → n ≡ columns_of c.design-design.result.now i → n ≡ columns_of d i = λ n i is. is ∙ ap (λ (d : Netlist). columns_of d i) c.design-design.ensures.is in
     let within = λ (n : ℕ) (is : n < length c.args.self.now.design.instances). subst (λ (v : WeighedRows). n < length v.design.instances) (sym c.self.view_is) is in
     spans-kept i c.self.invariant rows _ (overwritten-same rows _ (c.exchange_seats.auto.rows ∙ ap length c.items_mut-seats.ensures.value)) new rest c.change-2.new.self
     (record {
@@ -69,7 +66,7 @@ invariant_of-self c =
           (within c.args.a c.requires.a) (within c.args.b c.requires.b) (exchanged.swapped ∙ ap (swapped c.args.a c.args.b) old)
           (subst (λ (l : List (List Seat)). AreExchanged i.costs.standings c.args.a c.args.b l rows) old exchanged.exchanged)
           (ap (λ (s : Spot). s.row) (c.one.view_is ∙ c.standing.ensures)) (ap (λ (s : Spot). s.row) (c.other.view_is ∙ c.standing-2.ensures))
-          (width _ _ c.columns_of-width.ensures.width) (width _ _ c.columns_of-other_width.ensures.width)
+          c.columns_of-width.ensures.width c.columns_of-other_width.ensures.width
           board.are_lengths c.change.ensures.widths c.change.ensures.target c.change-2.ensures.widths c.change-2.ensures.target;
     })
 

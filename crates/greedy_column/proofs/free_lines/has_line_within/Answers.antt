@@ -1,0 +1,11 @@
+use Rattle.std.proofs.Common.{◌∙◌, List, ℕ, ap, filter, leb, length, ltb}
+use Rattle.greedy_column.proofs.AscentLaws.{filter-filter}
+use Rattle.greedy_column.proofs.free_lines.has_line_within.Goals as goal
+
+pub returns : goal.returns
+returns c =
+    let low = c.args.window.low in
+    let high = c.args.window.high in
+    c.has_line_to.ensures
+    ∙ ap (λ (l : List ℕ). ltb 0 (length l)) (ap (λ (l : List ℕ). filter (λ line. leb line high) l) c.from_line.ensures.from
+    ∙ filter-filter (λ line. leb low line) (λ line. leb line high) c.args.lines.now)

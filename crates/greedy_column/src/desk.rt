@@ -1,0 +1,69 @@
+//! What the columns of a sweep use one after another, so that it is made once.
+
+use crate::marks::{mark_split, unmark};
+use crate::pairs::{Pairs, clear, neighbours_by};
+use crate::span::Span;
+use crate::tracks::Tracks;
+use std::alloc::{AllocError, Global};
+use std::marker::Model;
+use std::mem;
+
+/// What the columns of a sweep use one after another. It tells nothing: each column leaves it as it was.
+#[derive(Debug, Drop)]
+pub struct Desk {
+    above: Vec<u32>,
+}
+
+impl Model for Desk {
+    ghost use Rattle.greedy_column.specs.Desk.{IsBlank};
+
+    ghost Value = { Unit {0} };
+
+    ghost view = { λ desk. tt };
+
+    ghost invariant = { λ desk. IsBlank desk.above.items };
+}
+
+impl Desk {
+    ghost use Rattle.greedy_column.specs.Desk.{MarksSplit, MarksWithin};
+    ghost use Rattle.greedy_column.specs.Joining.{neighbours};
+    ghost use Rattle.std.specs.Prelude.{◌≡◌, IfOk};
+
+    /// A desk for the first column. Takes no memory.
+    pub fn new(alloc: Global) -> Desk {
+        Desk {
+            above: Vec::new(alloc),
+        }
+    }
+
+    // All two neighbouring tracks of a net, by ascending lower track.
+    pub(crate) fn neighbours(&mut self, alloc: Global, tracks: &Tracks) -> Result<Pairs, AllocError>
+        ensures { IfOk result (λ pairs. pairs ≡ neighbours tracks.now) }
+    {
+        let found = neighbours_by(alloc, tracks, &mut self.above);
+        clear(&mut self.above, tracks.list());
+        found
+    }
+
+    // A table in which the nets of more than one group are marked, and which is to be given back.
+    pub(crate) fn marks(
+        &mut self,
+        alloc: Global,
+        pairs: &Pairs,
+        spans: &[Span],
+    ) -> Result<Vec<u32>, AllocError>
+        ensures { IfOk result (λ marks. MarksSplit spans.now pairs.now marks.items) }
+    {
+        let mut marks = mem::replace(&mut self.above, Vec::new(alloc));
+        mark_split(&mut marks, pairs.list(), spans)?;
+        Ok(marks)
+    }
+
+    // Takes such a table back.
+    pub(crate) fn take_back(&mut self, mut marks: Vec<u32>, pairs: &Pairs)
+        requires { MarksWithin pairs.now marks.items }
+    {
+        unmark(&mut marks, pairs.list());
+        self.above = marks;
+    }
+}

@@ -1,0 +1,78 @@
+//! The tracks of a sweep after its last column, with the line of each id.
+
+ghost use Rattle.greedy_column.specs.Tracks.{ids, line_of};
+ghost use Rattle.greedy_router.specs.Tables.{Tells};
+ghost use Rattle.std.specs.Prelude.{◌≡◌, ◌<◌, ◌+◌, ◌^◌, ℕ, Contains, IfOk, length};
+
+use crate::tables::put;
+use greedy_column::Track;
+use std::alloc::{AllocError, Global};
+use std::marker::Model;
+
+// The tracks of a sweep after its last column, from bottom to top, and a table of their lines by their ids. Contracts see the ids.
+#[derive(Drop)]
+pub(crate) struct FinalOrder<'a> {
+    tracks: &'a [Track],
+    lines: Vec<u32>,
+}
+
+impl<'a> Model for FinalOrder<'a> {
+    ghost use Rattle.greedy_router.specs.FinalOrder.{IsOrder, order_in};
+    ghost use Rattle.std.specs.Prelude.{List, ℕ};
+
+    ghost Value = { List ℕ };
+
+    ghost view = { order_in };
+
+    ghost invariant = { IsOrder };
+}
+
+// The lines of tracks by the ids below `room`, that above all tracks where there is no such id.
+fn lines_by_id(alloc: Global, tracks: &[Track], room: usize) -> Result<Vec<u32>, AllocError>
+    requires { length tracks.now + 1 < 2 ^ 32 }
+    ensures tells { IfOk result (λ lines. Tells lines.items (line_of (ids tracks.now))) }
+    ensures long { IfOk result (λ lines. length lines.items ≡ room) }
+{
+    let above = tracks.len() as u32 + 1;
+    let mut lines = vec![in alloc; above; room]?;
+    let mut rest = tracks;
+    while let Some((track, below)) = rest.split_last() {
+        put(&mut lines, track.id, rest.len() as u32);
+        rest = below;
+    }
+    Ok(lines)
+}
+
+impl<'a> FinalOrder<'a> {
+    // These tracks, which have ids below `room`.
+    pub(crate) fn new(
+        alloc: Global,
+        tracks: &'a [Track],
+        room: usize,
+    ) -> Result<FinalOrder<'a>, AllocError>
+        requires few { length tracks.now + 1 < 2 ^ 32 }
+        requires below { (id : ℕ) → Contains (ids tracks.now) id → id < room }
+        ensures { IfOk result (λ order. order ≡ ids tracks.now) }
+    {
+        let lines = lines_by_id(alloc, tracks, room)?;
+        Ok(FinalOrder { tracks, lines })
+    }
+
+    // The tracks.
+    pub(crate) fn tracks(&self) -> &'a [Track]
+        ensures order { ids result.now ≡ self.now }
+        ensures few { length result.now + 1 < 2 ^ 32 }
+    {
+        self.tracks
+    }
+
+    // The line of an id, one above all tracks where it has none.
+    pub(crate) fn line(&self, id: u32) -> u32
+        ensures { result ≡ line_of self.now id }
+    {
+        match self.lines.get(id as usize) {
+            Some(line) => *line,
+            None => self.tracks.len() as u32 + 1,
+        }
+    }
+}
