@@ -1,4 +1,4 @@
-use Rattle.std.proofs.Common.{◌≡◌, ◌<◌, ◌≤◌, ℕ, suc, ◌+◌, ◌-◌, List, [], ◌∷◌, ◌++◌, length, get_or, map, set, take, Bool, true, false, cond, Some, refl, ap, sym, ◌∙◌, arith, fold, min, max, Contains, subst}
+use Rattle.std.proofs.Common.{◌≡◌, ◌<◌, ◌≤◌, ℕ, suc, ◌+◌, ◌-◌, List, [], ◌∷◌, ◌++◌, length, get_or, map, set, take, Bool, true, false, cond, Some, refl, ap, ap₂, sym, ◌∙◌, arith, fold, min, max, Contains, subst}
 use Rattle.std.proofs.lemmas.Bool.{cond-false}
 use Rattle.std.proofs.lemmas.Bool.Decides.{nat_tests}
 use Rattle.std.proofs.lemmas.List.Sums.{sum_by-cons, sum_by-set, sum_by_push}
@@ -7,7 +7,7 @@ use Rattle.std.proofs.lemmas.Option.{get_or_from_slice_get, slice_get_within}
 use Rattle.std.specs.List.{AllByRecursion, count_by, slice_get}
 use Rattle.std.specs.Prelude.{nat_eq, nat_lt}
 use Rattle.row_board.specs.Cost.{spread}
-use Rattle.row_board.specs.Extreme.{extreme_with, extreme_without, is_beyond, IsExtreme}
+use Rattle.row_board.specs.Extreme.{extreme_of, extreme_with, extreme_without, farthest, is_beyond, IsExtreme}
 use Rattle.row_board.specs.declared.extreme.Extreme.{Extreme}
 use Rattle.row_board.specs.declared.extreme.Side.{Side}
 use Rattle.row_board.specs.declared.extreme.Side.TheVariants.{Low, High}
@@ -138,19 +138,29 @@ least-many : (bound first : ℕ) (ns : List ℕ) → bound ≤ first → AllByRe
 least-many bound first [] low all = low
 least-many bound first (n ∷ ns) low all = least-many bound (min first n) ns (omega (arith, low, all.0)) all.1
 
+-- the extreme of numbers on a side is the number that is farthest out there
+farthest-is : (side : Side) (n : ℕ) (ns : List ℕ) (e : Extreme) → IsExtreme side (n ∷ ns) e → e.at ≡ farthest side (n ∷ ns)
+farthest-is Low n ns e is =
+    let some : 0 < count_by (λ (m : ℕ). nat_eq m e.at) (n ∷ ns) = omega (arith, is.some (omega arith), is.count) in
+    let from : fold min n (map (λ (m : ℕ). m) ns) ≤ e.at = least-all (λ (m : ℕ). m) n ns e.at (count-member e.at (n ∷ ns) some) in
+    let above : e.at ≤ fold min n ns =
+    least-many e.at n ns (nat_lt-is-within n e.at is.within.0)
+    (every-weaker (λ (m : ℕ). nat_lt m e.at ≡ false) (λ (m : ℕ). e.at ≤ m) (λ m within. nat_lt-is-within m e.at within) ns is.within.1) in
+    omega (arith, from, above, ap (fold min n) (map-itself ns))
+farthest-is High n ns e is =
+    let some : 0 < count_by (λ (m : ℕ). nat_eq m e.at) (n ∷ ns) = omega (arith, is.some (omega arith), is.count) in
+    let to : e.at ≤ fold max n (map (λ (m : ℕ). m) ns) = greatest-all (λ (m : ℕ). m) n ns e.at (count-member e.at (n ∷ ns) some) in
+    let below : fold max n ns ≤ e.at =
+    greatest-few e.at n ns (nat_lt-is-within e.at n is.within.0)
+    (every-weaker (λ (m : ℕ). nat_lt e.at m ≡ false) (λ (m : ℕ). m ≤ e.at) (λ m within. nat_lt-is-within e.at m within) ns is.within.1) in
+    omega (arith, to, below, ap (fold max n) (map-itself ns))
+
+pub extreme-is : (side : Side) (n : ℕ) (ns : List ℕ) (e : Extreme) → IsExtreme side (n ∷ ns) e → e ≡ extreme_of side (n ∷ ns)
+extreme-is side n ns e is =
+    let at = farthest-is side n ns e is in
+    ap₂ (λ (at count : ℕ). record { at = at; count = count }) at (is.count ∙ ap (λ (at : ℕ). count_by (λ (m : ℕ). nat_eq m at) (n ∷ ns)) at)
+
 -- numbers spread from one extreme to the other
 pub spread-extremes : (ns : List ℕ) (low high : Extreme) → IsExtreme Low ns low → IsExtreme High ns high → (length ns ≡ 0 → high.at ≤ low.at) → spread ns ≡ high.at - low.at
 spread-extremes [] low high least greatest none = let flat : high.at ≤ low.at = none refl in omega arith
-spread-extremes (n ∷ ns) low high least greatest none =
-    let long : 0 < length (n ∷ ns) = omega arith in
-    let some_low : 0 < count_by (λ (m : ℕ). nat_eq m low.at) (n ∷ ns) = omega (arith, least.some long, least.count) in
-    let some_high : 0 < count_by (λ (m : ℕ). nat_eq m high.at) (n ∷ ns) = omega (arith, greatest.some long, greatest.count) in
-    let from : fold min n (map (λ (m : ℕ). m) ns) ≤ low.at = least-all (λ (m : ℕ). m) n ns low.at (count-member low.at (n ∷ ns) some_low) in
-    let to : high.at ≤ fold max n (map (λ (m : ℕ). m) ns) = greatest-all (λ (m : ℕ). m) n ns high.at (count-member high.at (n ∷ ns) some_high) in
-    let above : low.at ≤ fold min n ns =
-    least-many low.at n ns (nat_lt-is-within n low.at least.within.0)
-    (every-weaker (λ (m : ℕ). nat_lt m low.at ≡ false) (λ (m : ℕ). low.at ≤ m) (λ m within. nat_lt-is-within m low.at within) ns least.within.1) in
-    let below : fold max n ns ≤ high.at =
-    greatest-few high.at n ns (nat_lt-is-within high.at n greatest.within.0)
-    (every-weaker (λ (m : ℕ). nat_lt high.at m ≡ false) (λ (m : ℕ). m ≤ high.at) (λ m within. nat_lt-is-within high.at m within) ns greatest.within.1) in
-    omega (arith, from, to, above, below, ap (fold min n) (map-itself ns), ap (fold max n) (map-itself ns))
+spread-extremes (n ∷ ns) low high least greatest none = omega (arith, farthest-is Low n ns low least, farthest-is High n ns high greatest)

@@ -30,7 +30,9 @@ pub mod TotalLaws
 -- how much rows cost at most
 pub mod BoundLaws
 -- what a swap shifts, and how much rows then cost at least
-pub mod ShiftLaws
+pub mod EndLaws
+pub mod EdgeLaws
+pub mod HitLaws
 pub mod ShareLaws
 pub mod NearLaws
 pub mod TrialLaws

@@ -1,23 +1,24 @@
-use Rattle.std.proofs.Common.{◌≡◌, ◌≢◌, ◌⊎◌, inl, inr, ◌<◌, ◌≤◌, ℕ, ◌+◌, List, [], ◌∷◌, ◌++◌, length, get_or, map, set, filter, Bool, true, false, cond, Option, None, Some, refl, ap, sym, ◌∙◌, subst, arith, Contains, append_assoc, length-append}
-use Rattle.std.proofs.lemmas.List.{length-map}
+use Rattle.std.proofs.Common.{◌≡◌, ◌⊎◌, inl, inr, ◌<◌, ◌≤◌, ℕ, List, [], ◌∷◌, ◌++◌, length, map, filter, Bool, true, false, cond, Option, None, Some, refl, ap, ap₂, sym, ◌∙◌, subst, arith, Contains, append_assoc, length-append}
+use Rattle.std.proofs.lemmas.List.{length-map, map-append}
 use Rattle.std.proofs.lemmas.List.Elements.{Contains-append_left, Contains-push, Contains-push_cases}
 use Rattle.std.proofs.lemmas.Option.{same_Some}
-use Rattle.std.specs.List.{slice_get}
+use Rattle.std.specs.List.{slice_get, AllByRecursion}
 use Rattle.std.specs.Option.{option_map}
 use Rattle.std.specs.Prelude.{nat_eq}
 use Rattle.design_model.specs.Netlist.{IsNetlist, Netlist}
 use Rattle.design_model.specs.declared.design.Pin.{Pin}
 use Rattle.list_facts.specs.Lists.{list_there, with_item}
 use Rattle.row_board.specs.Cost.{pins_of_net}
-use Rattle.row_board.specs.NetPins.{as_net_pin, net_pin, net_pins, nets_of, AreInstancePins}
+use Rattle.row_board.specs.NetPins.{as_net_pin, net_pin, net_pins, own_pin, pin_with_net, pins_of_instance, AreInstancePins}
 use Rattle.row_board.specs.declared.net_pins.InstancePin.{InstancePin}
 use Rattle.row_board.specs.declared.net_pins.NetPin.{NetPin}
+use Rattle.design_model.proofs.DesignPins.{pins-within}
 use Rattle.row_board.proofs.CostLaws.{net-pins-within}
 use Rattle.std_laws.proofs.Counts.{filter-short}
-use Rattle.std_laws.proofs.Every.{every-get}
+use Rattle.std_laws.proofs.Every.{every-get, every-weaker}
 use Rattle.std_laws.proofs.Members.{member-none}
-use Rattle.std_laws.proofs.Places.{get-before, get-pushed, get-read, get-set-other, get-set-same, map-get, slice_get-push}
-use Rattle.std_laws.proofs.Tests.{equal_or_not, nat_eq-equal, nat_eq-false, nat_eq-itself, nat_eq-true}
+use Rattle.std_laws.proofs.Places.{get-before, get-pushed, map-get, slice_get-push}
+use Rattle.std_laws.proofs.Tests.{nat_eq-equal, nat_eq-false, nat_eq-itself, nat_eq-true}
 
 -- what stands in a list stands there once an item is put behind
 kept : {A : Type 0} (b : Bool) (item : A) (xs : List A) (k : ℕ) (x : A) → slice_get xs k ≡ Some x → slice_get (with_item b item xs) k ≡ Some x
@@ -131,45 +132,37 @@ pub there-with : {A : Type 0} (b : Bool) (item : A) (old new : Option (List A)) 
 there-with {A} b item old new xs at put =
     ap list_there (put ∙ ap (option_map (with_item b item)) at) ∙ ap (λ (o : Option (List A)). with_item b item (list_there o)) (sym at)
 
--- one more pin is counted
-pub count-more : (counts : List ℕ) (i n : ℕ) (p : Pin) (rest after : List Pin) → rest ≡ p ∷ after → p.instance < length counts → n ≡ get_or counts p.instance n
-    → option_map (λ (m : ℕ). m + length (filter (λ (q : Pin). nat_eq q.instance i) after)) (slice_get (set counts p.instance (n + 1)) i)
-    ≡ option_map (λ (m : ℕ). m + length (filter (λ (q : Pin). nat_eq q.instance i) rest)) (slice_get counts i)
-count-more counts i n p rest after is within read = by (equal_or_not i p.instance)
+-- one more pin of an instance is tabled
+pub own-more : (d : Netlist) (i : ℕ) (p : Pin) (own : InstancePin) (one : NetPin) (xs xs' : List InstancePin) (rest after : List Pin) → rest ≡ p ∷ after → one ≡ net_pin d p
+    → own.net ≡ p.net → own.upright ≡ one.upright → own.mirrored ≡ one.mirrored → xs' ≡ with_item (nat_eq p.instance i) own xs
+    → map (own_pin i) xs' ++ map (pin_with_net d) (filter (λ (q : Pin). nat_eq q.instance i) after)
+    ≡ map (own_pin i) xs ++ map (pin_with_net d) (filter (λ (q : Pin). nat_eq q.instance i) rest)
+own-more d i p own one xs xs' rest after is made net upright mirrored put =
+    ap (λ (l : List InstancePin). map (own_pin i) l ++ map (pin_with_net d) (filter (λ (q : Pin). nat_eq q.instance i) after)) put
+    ∙ by (nat_eq p.instance i) refl
+    ∙ sym (ap (λ (ps : List Pin). map (own_pin i) xs ++ map (pin_with_net d) (filter (λ (q : Pin). nat_eq q.instance i) ps)) is)
   where
-    whole : (b : Bool) → nat_eq p.instance i ≡ b
-        → length (filter (λ (q : Pin). nat_eq q.instance i) rest) ≡ length (cond b (p ∷ filter (λ (q : Pin). nat_eq q.instance i) after) (filter (λ (q : Pin). nat_eq q.instance i) after))
-    whole b test =
-        ap (λ (ps : List Pin). length (filter (λ (q : Pin). nat_eq q.instance i) ps)) is
-        ∙ ap (λ (c : Bool). length (cond c (p ∷ filter (λ (q : Pin). nat_eq q.instance i) after) (filter (λ (q : Pin). nat_eq q.instance i) after))) test
+    same : p.instance ≡ i → own_pin i own ≡ pin_with_net d p
+    same mine =
+        ap₂ (λ (n k : ℕ). (n, record { instance = i; upright = k; mirrored = own.mirrored })) net (upright ∙ ap (λ (q : NetPin). q.upright) made)
+        ∙ ap₂ (λ (j k : ℕ). (p.net, record { instance = j; upright = (net_pin d p).upright; mirrored = k })) (sym mine) (mirrored ∙ ap (λ (q : NetPin). q.mirrored) made)
 
-    by : (i ≡ p.instance) ⊎ (i ≢ p.instance)
-        → option_map (λ (m : ℕ). m + length (filter (λ (q : Pin). nat_eq q.instance i) after)) (slice_get (set counts p.instance (n + 1)) i)
-        ≡ option_map (λ (m : ℕ). m + length (filter (λ (q : Pin). nat_eq q.instance i) rest)) (slice_get counts i)
-    by (inl same) =
-        let one : length (filter (λ (q : Pin). nat_eq q.instance i) rest) ≡ length (filter (λ (q : Pin). nat_eq q.instance i) after) + 1 =
-        whole true (nat_eq-true p.instance i (sym same)) ∙ omega arith in
-        let sums : (n + 1) + length (filter (λ (q : Pin). nat_eq q.instance i) after) ≡ n + length (filter (λ (q : Pin). nat_eq q.instance i) rest) = omega (arith, one) in
-        ap (λ (k : ℕ). option_map (λ (m : ℕ). m + length (filter (λ (q : Pin). nat_eq q.instance i) after)) (slice_get (set counts p.instance (n + 1)) k)) same
-        ∙ ap (option_map (λ (m : ℕ). m + length (filter (λ (q : Pin). nat_eq q.instance i) after))) (get-set-same counts p.instance (n + 1) within)
-        ∙ ap (λ (m : ℕ). Some m) sums
-        ∙ sym (ap (option_map (λ (m : ℕ). m + length (filter (λ (q : Pin). nat_eq q.instance i) rest))) (ap (slice_get counts) same ∙ get-read counts p.instance n within read))
-    by (inr other) =
-        let none : length (filter (λ (q : Pin). nat_eq q.instance i) rest) ≡ length (filter (λ (q : Pin). nat_eq q.instance i) after) =
-        whole false (nat_eq-false p.instance i (λ same. other (sym same))) in
-        ap (option_map (λ (m : ℕ). m + length (filter (λ (q : Pin). nat_eq q.instance i) after))) (get-set-other counts p.instance i (n + 1) other)
-        ∙ sym (ap (λ (k : ℕ). option_map (λ (m : ℕ). m + k) (slice_get counts i)) none)
+    by : (b : Bool) → nat_eq p.instance i ≡ b
+        → map (own_pin i) (with_item b own xs) ++ map (pin_with_net d) (filter (λ (q : Pin). nat_eq q.instance i) after)
+        ≡ map (own_pin i) xs ++ map (pin_with_net d) (cond b (p ∷ filter (λ (q : Pin). nat_eq q.instance i) after) (filter (λ (q : Pin). nat_eq q.instance i) after))
+    by true mine =
+        ap (λ (l : List (ℕ × NetPin)). l ++ map (pin_with_net d) (filter (λ (q : Pin). nat_eq q.instance i) after)) (map-append (own_pin i) xs (own ∷ []))
+        ∙ append_assoc (map (own_pin i) xs) (own_pin i own ∷ []) (map (pin_with_net d) (filter (λ (q : Pin). nat_eq q.instance i) after))
+        ∙ ap (λ (x : ℕ × NetPin). map (own_pin i) xs ++ x ∷ map (pin_with_net d) (filter (λ (q : Pin). nat_eq q.instance i) after)) (same (nat_eq-equal p.instance i mine))
+    by false other = refl
 
-pub count-few : (d : Netlist) (counts : List ℕ) (n : ℕ) (p : Pin) (rest after : List Pin) → IsNetlist d → rest ≡ p ∷ after → p.instance < length counts → n ≡ get_or counts p.instance n
-    → option_map (λ (m : ℕ). m + length (filter (λ (q : Pin). nat_eq q.instance p.instance) rest)) (slice_get counts p.instance) ≡ Some (length (nets_of d p.instance)) → n ≤ 200000
-count-few d counts n p rest after good is within read so_far =
-    let all : n + length (filter (λ (q : Pin). nat_eq q.instance p.instance) rest) ≡ length (nets_of d p.instance) =
-    same_Some _ _
-    (sym (ap (option_map (λ (m : ℕ). m + length (filter (λ (q : Pin). nat_eq q.instance p.instance) rest))) (get-read counts p.instance n within read)) ∙ so_far) in
-    omega (
-      arith,
-      all,
-      length-map (filter (λ (q : Pin). nat_eq q.instance p.instance) d.pins) (λ (q : Pin). q.net),
-      filter-short (λ (q : Pin). nat_eq q.instance p.instance) d.pins,
-      good.few_pins,
-    )
+-- where no pin passes a test, none is left
+pub filter-none : (p : Pin → Bool) (xs : List Pin) → AllByRecursion (λ (x : Pin). p x ≡ false) xs → filter p xs ≡ []
+filter-none p [] none = refl
+filter-none p (x ∷ xs) none = ap (λ (b : Bool). cond b (x ∷ filter p xs) (filter p xs)) none.0 ∙ filter-none p xs none.1
+
+-- an instance that a design does not have has no pins there either
+pub own-nowhere : (d : Netlist) (i : ℕ) → IsNetlist d → length d.instances ≤ i → [] ≡ map (pin_with_net d) (pins_of_instance d i)
+own-nowhere d i good past =
+    ap (map (pin_with_net d)) (sym (filter-none (λ (p : Pin). nat_eq p.instance i) d.pins
+    (every-weaker (λ (p : Pin). p.instance < length d.instances) (λ (p : Pin). nat_eq p.instance i ≡ false) (λ p below. nat_eq-false p.instance i (λ same. omega (arith, below, past, same))) d.pins (pins-within d good))))

@@ -1,8 +1,8 @@
-use Rattle.std.proofs.Common.{◌≡◌, ◌<◌, ◌≤◌, ℕ, ◌+◌, ◌*◌, List, [], ◌∷◌, length, map, sum, Bool, false, cond, refl, ap, ap₂, ◌∙◌, arith, add-one}
+use Rattle.std.proofs.Common.{◌≡◌, ◌<◌, ◌≤◌, ℕ, ◌+◌, ◌*◌, List, [], length, map, sum, false, ap, ap₂, ◌∙◌, arith, add-one}
 use Rattle.std.proofs.lemmas.Bool.Decides.{nat_tests}
 use Rattle.std.proofs.lemmas.List.Elements.{recursion_from_All}
 use Rattle.std.proofs.lemmas.List.Sums.{sum_by-cons}
-use Rattle.std.specs.List.{filter, range_with_len, AllByRecursion}
+use Rattle.std.specs.List.{range_with_len}
 use Rattle.std.specs.Prelude.{nat_eq}
 use Rattle.design_model.specs.Netlist.{IsNetlist, Netlist}
 use Rattle.design_model.specs.declared.design.Pin.{Pin}
@@ -15,16 +15,13 @@ use Rattle.row_board.specs.Weights.{Weighing}
 use Rattle.row_model.specs.Widths.{row_width}
 use Rattle.row_board.specs.NetCosts.{table_costs}
 use Rattle.row_board.proofs.CostLaws.{costs-right}
+use Rattle.row_board.proofs.PinTableLaws.{filter-none}
 use Rattle.row_model.specs.declared.rows.Seat.{Seat}
 use Rattle.row_board.specs.Spot.{Spot}
 use Rattle.std_laws.proofs.Every.{every-weaker}
 use Rattle.std_laws.proofs.Images.{map-map}
 
 -- net 0 has no pins
-filter-none : (p : Pin → Bool) (xs : List Pin) → AllByRecursion (λ (x : Pin). p x ≡ false) xs → filter p xs ≡ []
-filter-none p [] none = refl
-filter-none p (x ∷ xs) none = ap (λ (b : Bool). cond b (x ∷ filter p xs) (filter p xs)) none.0 ∙ filter-none p xs none.1
-
 no-pins : (d : Netlist) → IsNetlist d → pins_of_net d 0 ≡ []
 no-pins d good =
     filter-none (λ (p : Pin). nat_eq p.net 0) d.pins

@@ -1,4 +1,4 @@
-use Rattle.std.proofs.Common.{◌≡◌, ◌≢◌, ◌<◌, ◌≤◌, ℕ, ◌+◌, ◌-◌, ◌*◌, List, length, map, set, sum, Bool, true, false, Option, None, Some, refl, ap, ap₂, sym, ◌∙◌, subst, arith}
+use Rattle.std.proofs.Common.{◌≡◌, ◌≢◌, ◌<◌, ◌≤◌, ℕ, ◌+◌, ◌*◌, List, length, map, set, sum, Bool, true, false, Option, None, Some, refl, ap, ap₂, sym, ◌∙◌, subst, arith}
 use Rattle.std.proofs.Math.Nat.{mul-le-mul_left}
 use Rattle.std.proofs.lemmas.List.{length-set}
 use Rattle.std.proofs.lemmas.Option.{slice_get_within}
@@ -12,7 +12,7 @@ use Rattle.row_board.specs.RowLengths.{Lengths}
 use Rattle.row_board.specs.RowLengthsView.{misses_of}
 use Rattle.row_board.specs.Spot.{Spot}
 use Rattle.row_board.specs.Standings.{in_place_of, standing_in, standing_of, traded}
-use Rattle.row_board.specs.Trial.{shift_end, slack}
+use Rattle.row_board.specs.Trial.{least_cost}
 use Rattle.row_board.specs.Weights.{Weighing}
 use Rattle.row_model.specs.Changes.{swapped}
 use Rattle.row_model.specs.Widths.{columns_of, row_width}
@@ -21,12 +21,12 @@ use Rattle.row_board.proofs.MoveLaws.{cell-told}
 use Rattle.row_model.proofs.PlacedLaws.{placed-distinct}
 use Rattle.row_board.proofs.PutLaws.{swap-puts}
 use Rattle.row_model.proofs.SwapLaws.{swapped-length}
-use Rattle.row_board.proofs.TotalLaws.{cost-told, nets-sum}
+use Rattle.row_board.proofs.TotalLaws.{nets-sum}
 use Rattle.row_board.proofs.TrialLaws.{trial-costs}
 use Rattle.row_board.proofs.UnevenLaws.{uneven-near}
 use Rattle.std_laws.proofs.Images.{map-map}
 use Rattle.std_laws.proofs.Places.{list-same, get-none, get-set-other, get-set-same}
-use Rattle.std_laws.proofs.Tests.{nat_eq-equal, nat_eq-differ, nat_lt-above}
+use Rattle.std_laws.proofs.Tests.{nat_eq-equal, nat_eq-differ}
 
 -- what a table has after two instances trade their places
 pub traded-other : (a b : ℕ) (s : List Spot) (i : ℕ) → i ≢ a → i ≢ b → slice_get (traded a b s) i ≡ slice_get s i
@@ -82,10 +82,11 @@ put-back t once twice back a b one other is_one is_other first second third =
     ∙ ap₂ (λ (one other : Spot). record t { standings = set (set (traded a b t.standings) a one) b other }) is_one is_other
     ∙ ap (λ (l : List Spot). record t { standings = l }) (traded-back a b t.standings)
 
--- rows cost after a swap at least what they do by the traded table, but for the slack
-pub trial-total : (d : Netlist) (rows : List (List Seat)) (w : Weighing) (standings : List Spot) (lengths : Lengths) (a b : ℕ) → IsNetlist d → IsBoard d rows standings lengths → a ≢ b
+-- rows cost after a swap at least what they do by the traded table, but for what the shifts may save and with what they surely cost
+trial-total : (d : Netlist) (rows : List (List Seat)) (w : Weighing) (standings : List Spot) (lengths : Lengths) (a b : ℕ) → IsNetlist d → IsBoard d rows standings lengths → a ≢ b
     → a < length d.instances → b < length d.instances
-    → sum (table_costs d w (traded a b standings)) + w.length_cost * sum (misses_of lengths) ≤ cost_of d (swapped a b rows) w + slack d rows w standings a b
+    → least_cost d rows w (traded a b standings) a b (standing_of standings a) (standing_of standings b) (sum (table_costs d w (traded a b standings)) + w.length_cost * sum (misses_of lengths))
+    ≤ cost_of d (swapped a b rows) w
 unfolding cost_of
 trial-total d rows w standings lengths a b good board apart in_a in_b =
     let one = standing_of standings a in
@@ -93,8 +94,8 @@ trial-total d rows w standings lengths a b good board apart in_a in_b =
     let cell_a = cell-told d rows standings a one good board.seated.placed board.seated.entered in_a refl in
     let cell_b = cell-told d rows standings b other good board.seated.placed board.seated.entered in_b refl in
     let puts = swap-puts rows one.row one.place other.row other.place (record { instance = a; mirror = one.mirror }) (record { instance = b; mirror = other.mirror }) (placed-distinct d rows board.seated.placed) cell_a.at cell_b.at in
-    let nets = trial-costs d rows w standings a b (shift_end rows one other) (shift_end rows other one)
-    (record { good = good; placed = board.seated.placed; entered = board.seated.entered; count = board.seated.count; in_a = in_a; in_b = in_b; apart = apart; to = refl; to' = refl }) in
+    let nets = trial-costs d rows w standings a b
+    (record { good = good; placed = board.seated.placed; entered = board.seated.entered; count = board.seated.count; in_a = in_a; in_b = in_b; apart = apart }) in
     let uneven = uneven-near d rows (swapped a b rows) one.row one.place other.row other.place (target_of d (length rows)) (record { instance = a; mirror = one.mirror }) (record { instance = b; mirror = other.mirror })
     cell_a.at cell_b.at apart puts in
     let target = ap (λ (n : ℕ). sum (map (λ (seats : List Seat). difference (row_width d seats) (target_of d n)) (swapped a b rows))) (sym (swapped-length rows a b)) in
@@ -106,10 +107,14 @@ trial-total d rows w standings lengths a b good board apart in_a in_b =
     all : (x y z m u : ℕ) → x ≤ y + 2 * u → y ≡ z → m ≡ x → m ≤ z + 2 * u
     all x y z m u one two three = omega (arith, one, two, three)
 
--- so the rows surely cost more where the traded table tells that they cost far more
+-- so the rows surely cost more than a limit where they do so by that
 pub dear-told : (d : Netlist) (rows : List (List Seat)) (w : Weighing) (standings : List Spot) (lengths : Lengths) (a b : ℕ) → IsNetlist d → IsBoard d rows standings lengths → a ≢ b
-    → a < length d.instances → b < length d.instances → (before less trial most : ℕ) → before ≡ sum (table_costs d w standings) + w.length_cost * sum (misses_of lengths)
-    → less ≡ slack d rows w standings a b → trial ≡ sum (table_costs d w (traded a b standings)) + w.length_cost * sum (misses_of lengths)
-    → before < trial - most - less → cost_of d rows w + most < cost_of d (swapped a b rows) w
-dear-told d rows w standings lengths a b good board apart in_a in_b before less trial most is_before is_less is_trial nat_lt-above =
-    omega (arith, nat_lt-above, is_before, is_less, is_trial, cost-told d rows w standings lengths good board, trial-total d rows w standings lengths a b good board apart in_a in_b)
+    → a < length d.instances → b < length d.instances → (cost least limit : ℕ) → cost ≡ sum (table_costs d w (traded a b standings)) + w.length_cost * sum (misses_of lengths)
+    → least ≡ least_cost d rows w (traded a b standings) a b (standing_of standings a) (standing_of standings b) cost → limit < least → limit < cost_of d (swapped a b rows) w
+dear-told d rows w standings lengths a b good board apart in_a in_b cost least limit is_cost is_least dear =
+    omega (
+      arith,
+      dear,
+      is_least ∙ ap (least_cost d rows w (traded a b standings) a b (standing_of standings a) (standing_of standings b)) is_cost,
+      trial-total d rows w standings lengths a b good board apart in_a in_b,
+    )

@@ -2,6 +2,7 @@
 use Rattle.std.specs.Prelude.{◌≡◌, ℕ, ◌+◌, ◌-◌, ◌≤◌, ◌<◌, List, Some, length, take, drop, slice_get}
 use Rattle.row_board.specs.Extreme.{IsExtreme}
 use Rattle.row_board.specs.declared.extreme.Extreme.{Extreme}
+use Rattle.row_board.specs.declared.extreme.Side.{Side}
 use Rattle.row_board.specs.declared.extreme.Side.TheVariants.{Low, High}
 use Rattle.row_board.specs.declared.extremes.Extremes.{Extremes}
 use Rattle.limits.specs.declared.TheConstants.{MOST_PINS}
@@ -16,6 +17,10 @@ low_extreme p = record { at = p.least; count = p.at_least }
 
 abbrev pub high_extreme : Extremes → Extreme
 high_extreme p = record { at = p.greatest; count = p.at_greatest }
+
+abbrev pub extreme_at : Side → Extremes → Extreme
+extreme_at Low p = low_extreme p
+extreme_at High p = high_extreme p
 
 abbrev pub distance : Extremes → ℕ
 distance p = p.greatest - p.least

@@ -32,6 +32,5 @@ pub mod RowLengths
 pub mod RowLengthsView
 -- tables of placed rows
 pub mod Board
-pub mod Seated
--- two instances that take each other's place while no other is shifted
+-- what a swap shifts, and what rows cost at least after it
 pub mod Trial

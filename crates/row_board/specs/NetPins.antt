@@ -34,10 +34,6 @@ net_pins d net = map (net_pin d) (pins_of_net d net)
 abbrev pub as_net_pin : ℕ → InstancePin → NetPin
 as_net_pin instance p = record { instance = instance; upright = p.upright; mirrored = p.mirrored }
 
--- the nets of an instance, one for each of its pins
-abbrev pub nets_of : Netlist → ℕ → List ℕ
-nets_of d instance = map (λ (p : Pin). p.net) (filter (λ (p : Pin). p.instance == instance) d.pins)
-
 -- a table has the pins of each net
 pub record ArePins (d : Netlist) (pins : List (List NetPin)) : Type 0 where
   pub each : (net : ℕ) → net ≤ length d.nets → slice_get pins net ≡ Some (net_pins d net)
@@ -52,9 +48,20 @@ pub record AreInstancePins (nets : ℕ → List NetPin) (count instance : ℕ) (
 pub record ArePinsByInstance (d : Netlist) (pins : List (List InstancePin)) : Type 0 where
   pub each : (instance : ℕ) → instance < length d.instances → AreInstancePins (net_pins d) (length d.nets) instance (list_there (slice_get pins instance))
 
--- another has their number
-pub record AreCounts (d : Netlist) (counts : List ℕ) : Type 0 where
-  pub each : (instance : ℕ) → instance < length d.instances → slice_get counts instance ≡ Some (length (nets_of d instance))
+-- a pin of an instance with its net, as an instance has it and as a design does
+abbrev pub own_pin : ℕ → InstancePin → ℕ × NetPin
+own_pin instance p = (p.net, as_net_pin instance p)
+
+abbrev pub pin_with_net : Netlist → Pin → ℕ × NetPin
+pin_with_net d p = (p.net, net_pin d p)
+
+abbrev pub pins_of_instance : Netlist → ℕ → List Pin
+pins_of_instance d instance = filter (λ (p : Pin). p.instance == instance) d.pins
+
+-- a table has the pins of each instance in their order, each once
+pub record AreInOrder (d : Netlist) (pins : List (List InstancePin)) : Type 0 where
+  pub each : (instance : ℕ) → instance < length d.instances
+      → map (own_pin instance) (list_there (slice_get pins instance)) ≡ map (pin_with_net d) (pins_of_instance d instance)
 
 -- how far a pin is from the left side of its cell, which may be mirrored
 abbrev pub offset_in : NetPin → Bool → ℕ

@@ -2,7 +2,7 @@
 use Rattle.std.specs.Prelude.{◌≡◌, length, map}
 use Rattle.std.specs.List.{range_with_len}
 use Rattle.design_model.specs.Netlist.{IsNetlist, Netlist}
-use Rattle.row_board.specs.NetPins.{AreCounts, ArePins, ArePinsByInstance}
+use Rattle.row_board.specs.NetPins.{AreInOrder, ArePins, ArePinsByInstance}
 use Rattle.row_model.specs.Widths.{columns_of}
 use Rattle.row_board.specs.declared.nets.Nets.TheInside.{Inside}
 
@@ -13,5 +13,5 @@ pub record AreTables (a : Inside) : Type 0 where
   pub good : IsNetlist a.design.now
   pub by_net : ArePins a.design.now a.by_net
   pub by_instance : ArePinsByInstance a.design.now a.by_instance
-  pub counts : AreCounts a.design.now a.counts.items
+  pub in_order : AreInOrder a.design.now a.by_instance
   pub widths : a.widths.items ≡ map (columns_of a.design.now) (range_with_len 0 (length a.design.now.instances))

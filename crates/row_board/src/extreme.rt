@@ -1,6 +1,6 @@
 //! The least or the greatest of numbers, with how many of them stand there, as one of them changes.
 
-ghost use Rattle.row_board.specs.Extreme.{IsExtreme, extreme_with, extreme_without, is_beyond};
+ghost use Rattle.row_board.specs.Extreme.{IsExtreme, across, alone_at_end, at_end, extreme_with, extreme_without, is_beyond};
 ghost use Rattle.std.specs.Prelude.{◌≡◌, ◌≤◌, ℕ, List, Some, length, slice_get, slice_set};
 
 use limits::MOST_PINS;
@@ -22,6 +22,16 @@ impl Side {
             Side::High => other < number,
         }
     }
+
+    /// The side across.
+    pub(crate) fn across(self) -> Side
+        ensures { result ≡ across self }
+    {
+        match self {
+            Side::Low => Side::High,
+            Side::High => Side::Low,
+        }
+    }
 }
 
 /// The least or the greatest of numbers, and how many of them stand there.
@@ -32,6 +42,25 @@ pub(crate) struct Extreme {
 }
 
 impl Extreme {
+    /// 1 where a number stands there, else 0.
+    pub(crate) fn ends(self, number: u64) -> u64
+        ensures is { result ≡ at_end self number }
+        ensures few { result ≤ 1 }
+    {
+        if number == self.at { 1 } else { 0 }
+    }
+
+    /// 1 where a number is the only one that stands there, else 0.
+    pub(crate) fn ends_alone(self, number: u64) -> u64
+        ensures is { result ≡ alone_at_end self number }
+        ensures few { result ≤ 1 }
+    {
+        if self.count == 1 {
+            return self.ends(number);
+        }
+        0
+    }
+
     /// The extreme of numbers on a side, which is 0 where there are none. Takes no memory, and steps as their number.
     pub(crate) fn of(side: Side, numbers: &[u64]) -> Extreme
         requires { length numbers.now ≤ MOST_PINS }

@@ -1,6 +1,6 @@
 //! The least and the greatest of a list of numbers, which are kept as the numbers change.
 
-ghost use Rattle.row_board.specs.Extremes.{AreExtremes, part_of};
+ghost use Rattle.row_board.specs.Extremes.{AreExtremes, extreme_at, part_of};
 ghost use Rattle.std.specs.Prelude.{◌≡◌, ◌≤◌, ◌<◌, ◌+◌, ◌-◌, ℕ, List, Some, length, slice_get, slice_set};
 
 use crate::extreme::{Extreme, Side};
@@ -37,6 +37,22 @@ impl Extremes {
         }
     }
 
+    /// The extreme of the numbers on a side.
+    pub(crate) fn extreme(self, side: Side) -> Extreme
+        ensures { result ≡ extreme_at side self }
+    {
+        match side {
+            Side::Low => Extreme {
+                at: self.least,
+                count: self.at_least,
+            },
+            Side::High => Extreme {
+                at: self.greatest,
+                count: self.at_greatest,
+            },
+        }
+    }
+
     /// The greatest of the numbers less the least, and 0 where there are none. Takes no memory.
     pub(crate) fn distance(self) -> u64
         ensures { result ≡ self.greatest - self.least }
@@ -53,16 +69,10 @@ impl Extremes {
         ensures count { result.count ≡ self.count }
         ensures is { (old : List ℕ) (k : ℕ) → AreExtremes old self → slice_get old k ≡ Some was → numbers.now ≡ slice_set old k now → AreExtremes numbers.now result }
     {
-        let low = Extreme {
-            at: self.least,
-            count: self.at_least,
-        };
-        let high = Extreme {
-            at: self.greatest,
-            count: self.at_greatest,
-        };
-        let low = low.moved(Side::Low, was, now, numbers);
-        let high = high.moved(Side::High, was, now, numbers);
+        let low = self.extreme(Side::Low).moved(Side::Low, was, now, numbers);
+        let high = self
+            .extreme(Side::High)
+            .moved(Side::High, was, now, numbers);
         Extremes {
             least: low.at,
             greatest: high.at,

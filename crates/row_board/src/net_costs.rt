@@ -3,8 +3,9 @@
 ghost use Rattle.row_board.specs.PinPlaces.{columns_by, rows_by};
 ghost use Rattle.std.specs.Prelude.{◌≡◌, IfOk};
 
+use crate::extreme::Side;
 use crate::nets::Nets;
-use crate::pin_places::{places_of, put_columns, put_rows, standing_of};
+use crate::pin_places::{column_of, places_of, put_columns, put_rows, standing_of};
 use crate::spreads::Spreads;
 use crate::standings::Standing;
 use crate::weights::Weights;
@@ -36,6 +37,13 @@ impl<'d> Model for NetCosts<'d> {
     ghost invariant = { AreCosts };
 }
 
+/// How many pins end their nets on a side, and how many alone end theirs across.
+#[derive(Clone, Copy)]
+pub(crate) struct Ends {
+    pub(crate) ends: u64,
+    pub(crate) alone: u64,
+}
+
 // The columns and the rows of the pins of each net, from net 0 on.
 fn places_by(
     alloc: Global,
@@ -60,8 +68,10 @@ fn places_by(
 impl<'d> NetCosts<'d> {
     ghost use Rattle.design_model.specs.Netlist.{IsNetlist};
     ghost use Rattle.row_board.specs.NetCosts.{Tabled, table_costs};
-    ghost use Rattle.row_board.specs.NetPins.{nets_of};
+    ghost use Rattle.row_board.specs.Extreme.{across};
+    ghost use Rattle.row_board.specs.NetPins.{pins_of_instance};
     ghost use Rattle.row_board.specs.Standings.{standing_of, traded};
+    ghost use Rattle.row_board.specs.Trial.{ends_net, ends_net_alone, marked_pins};
     ghost use Rattle.row_board.specs.Weights.{AreFew};
     ghost use Rattle.row_model.specs.Widths.{columns_of};
     ghost use Rattle.std.specs.Prelude.{◌≡◌, ◌<◌, ◌≤◌, ◌+◌, ◌*◌, length, slice_set, sum, IfOk};
@@ -144,11 +154,34 @@ impl<'d> NetCosts<'d> {
         self.put(b, one.taken_by(other));
     }
 
-    /// The number of pins of an instance of the design.
+    /// The number of pins of an instance. Takes no memory.
     pub(crate) fn pin_count(&self, instance: u32) -> u64
-        ensures { instance < length self.now.design.instances → result ≡ length (nets_of self.now.design instance) }
+        ensures is { result ≡ length (pins_of_instance self.now.design instance) }
+        ensures few { result ≤ MOST_PINS }
     {
-        self.nets.pin_count(instance)
+        self.nets.of(instance).len() as u64
+    }
+
+    /// How many pins of an instance end their nets on a side, and how many alone end theirs across. Takes no memory, and steps as the number of its pins.
+    pub(crate) fn ends(&self, side: Side, instance: u32) -> Ends
+        ensures ends { result.ends ≡ marked_pins self.now.design (ends_net self.now.design self.now.standings side) instance }
+        ensures alone { result.alone ≡ marked_pins self.now.design (ends_net_alone self.now.design self.now.standings (across side)) instance }
+        ensures few { result.ends ≤ MOST_PINS }
+        ensures few_alone { result.alone ≤ MOST_PINS }
+    {
+        let standing = self.standing(instance);
+        let mut found = Ends { ends: 0, alone: 0 };
+        let mut rest = self.nets.of(instance);
+        while let Some((pin, after)) = rest.split_first() {
+            let column = column_of(standing, *pin);
+            let net = pin.net as usize;
+            let near = self.columns.extreme(side, net);
+            let far = self.columns.extreme(side.across(), net);
+            found.ends += near.ends(column);
+            found.alone += far.ends_alone(column);
+            rest = after;
+        }
+        found
     }
 
     /// The width of an instance of the design in columns, 0 of any other.

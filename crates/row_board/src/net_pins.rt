@@ -1,6 +1,6 @@
 //! The pins of each net with their offsets in their cells, and the pins of each instance with their places in their nets.
 
-ghost use Rattle.row_board.specs.NetPins.{AreCounts, ArePins, ArePinsByInstance, net_pin, offset_of};
+ghost use Rattle.row_board.specs.NetPins.{AreInOrder, ArePins, ArePinsByInstance, net_pin, offset_of};
 ghost use Rattle.std.specs.Prelude.{◌≡◌, IfOk};
 
 use design_model::{Design, Pin};
@@ -57,6 +57,7 @@ pub(crate) fn pin_tables(
 ) -> Result<(Lists<NetPin>, Lists<InstancePin>), AllocError>
     ensures by_net { IfOk result (λ tables. ArePins design.now tables.0) }
     ensures by_instance { IfOk result (λ tables. ArePinsByInstance design.now tables.1) }
+    ensures in_order { IfOk result (λ tables. AreInOrder design.now tables.1) }
 {
     let tables = ColumnTables::new(alloc, design)?;
     let mut by_net = Lists::new(alloc, design.nets.items().len() + 1)?;
@@ -76,20 +77,4 @@ pub(crate) fn pin_tables(
         rest = after;
     }
     Ok((by_net, by_instance))
-}
-
-/// The number of pins of each instance. The one error is want of memory; steps as the number of pins.
-pub(crate) fn pin_counts(alloc: Global, design: &Design) -> Result<Vec<u32>, AllocError>
-    ensures { IfOk result (λ counts. AreCounts design.now counts.items) }
-{
-    let mut counts = vec![in alloc; 0u32; design.instances.items().len()]?;
-    let mut rest = design.pins.items();
-    while let Some((pin, after)) = rest.split_first() {
-        let n = pin.instance as usize;
-        if n < counts.len() {
-            counts[n] += 1;
-        }
-        rest = after;
-    }
-    Ok(counts)
 }

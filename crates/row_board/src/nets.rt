@@ -1,6 +1,6 @@
 //! The nets of a design: the pins of each net, and of each instance its pins with their places in their nets, and its width.
 
-use crate::net_pins::{InstancePin, NetPin, pin_counts, pin_tables};
+use crate::net_pins::{InstancePin, NetPin, pin_tables};
 use crate::widths::widths_of;
 use design_model::Design;
 use limits::{MOST_KIND_COLUMNS, MOST_PINS};
@@ -8,13 +8,12 @@ use list_facts::Lists;
 use std::alloc::{AllocError, Global};
 use std::marker::Model;
 
-/// The nets of a design: the pins of each net, and of each instance its pins, their number, and its width in columns. Contracts see the design.
+/// The nets of a design: the pins of each net, and of each instance its pins and its width in columns. Contracts see the design.
 #[derive(Drop)]
 pub(crate) struct Nets<'d> {
     design: &'d Design,
     by_net: Lists<NetPin>,
     by_instance: Lists<InstancePin>,
-    counts: Vec<u32>,
     widths: Vec<u32>,
 }
 
@@ -32,9 +31,9 @@ impl<'d> Model for Nets<'d> {
 
 impl<'d> Nets<'d> {
     ghost use Rattle.design_model.specs.Netlist.{IsNetlist};
-    ghost use Rattle.row_board.specs.NetPins.{AreInstancePins, net_pins, nets_of};
+    ghost use Rattle.row_board.specs.NetPins.{AreInstancePins, net_pins, own_pin, pin_with_net, pins_of_instance};
     ghost use Rattle.row_model.specs.Widths.{columns_of};
-    ghost use Rattle.std.specs.Prelude.{◌≡◌, ◌<◌, ◌≤◌, length, IfOk};
+    ghost use Rattle.std.specs.Prelude.{◌≡◌, ◌<◌, ◌≤◌, length, map, IfOk};
 
     /// The nets of a design. The one error is want of memory.
     pub(crate) fn new(alloc: Global, design: &'d Design) -> Result<Nets<'d>, AllocError>
@@ -43,13 +42,11 @@ impl<'d> Nets<'d> {
         // The bounds of the design's type are known once a field is read.
         let _pins = &design.pins;
         let (by_net, by_instance) = pin_tables(alloc, design)?;
-        let counts = pin_counts(alloc, design)?;
         let widths = widths_of(alloc, design)?;
         Ok(Nets {
             design,
             by_net,
             by_instance,
-            counts,
             widths,
         })
     }
@@ -72,7 +69,8 @@ impl<'d> Nets<'d> {
 
     /// The pins of an instance, none of one that the design does not have.
     pub(crate) fn of(&self, instance: u32) -> &[InstancePin]
-        ensures { AreInstancePins (net_pins self.now) (length self.now.nets) instance result.now }
+        ensures placed { AreInstancePins (net_pins self.now) (length self.now.nets) instance result.now }
+        ensures in_order { map (own_pin instance) result.now ≡ map (pin_with_net self.now) (pins_of_instance self.now instance) }
     {
         let design = self.design;
         let n = instance as usize;
@@ -80,16 +78,6 @@ impl<'d> Nets<'d> {
             return self.by_instance.at(n);
         }
         &[]
-    }
-
-    /// The number of pins of an instance of the design.
-    pub(crate) fn pin_count(&self, instance: u32) -> u64
-        ensures { instance < length self.now.instances → result ≡ length (nets_of self.now instance) }
-    {
-        match self.counts.get(instance as usize) {
-            Some(count) => u64::from(*count),
-            None => 0,
-        }
     }
 
     /// The width of an instance of the design in columns, 0 of any other.

@@ -65,8 +65,8 @@ pub(crate) fn places_of(
     Ok((columns, rows))
 }
 
-// The column of a pin whose instance stands so.
-fn column_of(standing: Standing, pin: InstancePin) -> u64
+/// The column of a pin whose instance stands so.
+pub(crate) fn column_of(standing: Standing, pin: InstancePin) -> u64
     ensures is { result ≡ instance_column standing pin }
     ensures far { result ≤ 2004294967295 }
 {

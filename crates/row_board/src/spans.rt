@@ -4,8 +4,7 @@ use crate::building::standings_of;
 use crate::moving::{enter_reach, exchange_seats, turn_seat};
 use crate::net_costs::NetCosts;
 use crate::row_lengths::RowLengths;
-use crate::seated::Seated;
-use crate::trial::{slack_of, total_of, trial_cost};
+use crate::trial::{is_dear, total_of};
 use crate::weights::Weights;
 use design_model::Design;
 use row_model::{PlacedRows, Rows};
@@ -124,18 +123,16 @@ impl<'d> Spans<'d> {
         if self.costs.columns_of(a) == self.costs.columns_of(b) {
             return false;
         }
-        let before = total_of(&self.costs, &self.lengths);
-        let trial = trial_cost(&mut self.costs, &self.lengths, a, b);
-        let over = trial.saturating_sub(most);
-        if over <= before {
-            return false;
-        }
+        let limit = total_of(&self.costs, &self.lengths).saturating_add(most);
         let rows = &self.rows;
-        let seated = Seated {
-            rows: rows.rows.items(),
-            costs: &self.costs,
-        };
-        over.saturating_sub(slack_of(&seated, a, b)) > before
+        is_dear(
+            &mut self.costs,
+            &self.lengths,
+            rows.rows.items(),
+            a,
+            b,
+            limit,
+        )
     }
 
     /// Two instances exchange their places, each with its mirror, exactly where the rows then cost at most so much more than before. Whether

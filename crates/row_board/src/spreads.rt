@@ -1,5 +1,6 @@
 //! Lists of numbers with how far they spread in all, which is kept as the numbers change.
 
+use crate::extreme::{Extreme, Side};
 use crate::extremes::Extremes;
 use limits::MOST_PINS;
 use std::alloc::{AllocError, Global};
@@ -29,10 +30,11 @@ impl Model for Spreads {
 
 impl Spreads {
     ghost use Rattle.row_board.specs.Cost.{spread};
+    ghost use Rattle.row_board.specs.Extreme.{extreme_of};
     ghost use Rattle.row_board.specs.Spreads.{NumberLists, number_put};
     ghost use Rattle.std.specs.List.{AllByRecursion};
     ghost use Rattle.std.specs.Option.{option_map};
-    ghost use Rattle.std.specs.Prelude.{◌≡◌, ◌≤◌, ◌<◌, ◌+◌, ◌*◌, ◌++◌, ◌∷◌, [], ℕ, length, map, slice_get, sum, IfOk};
+    ghost use Rattle.std.specs.Prelude.{◌≡◌, ◌≤◌, ◌<◌, ◌+◌, ◌*◌, ◌++◌, ◌∷◌, [], ℕ, List, Some, length, map, slice_get, sum, IfOk};
 
     /// No lists. Takes no memory.
     pub(crate) fn new(alloc: Global, most: u64) -> Spreads
@@ -88,6 +90,16 @@ impl Spreads {
         self.lists[list] = now;
         self.sum -= extremes.distance();
         self.sum += now.distance();
+    }
+
+    /// The extreme of the numbers of a list on a side, where it has any. Takes no memory.
+    pub(crate) fn extreme(&self, side: Side, list: usize) -> Extreme
+        ensures { (n : ℕ) (ns : List ℕ) → slice_get self.now.lists list ≡ Some (n ∷ ns) → result ≡ extreme_of side (n ∷ ns) }
+    {
+        match self.lists.get(list) {
+            Some(extremes) => extremes.extreme(side),
+            None => Extreme { at: 0, count: 0 },
+        }
     }
 
     /// The sum of how far each list spreads. Takes no memory.

@@ -1,76 +1,238 @@
-//! What a swap would cost if no other cell were shifted, and how much less it may cost with the shifts.
+//! Whether a swap is surely too dear: what it would cost if no other cell were shifted, and by how much the shifts may make nets shorter or surely make them longer.
 
+ghost use Rattle.row_board.specs.Board.{IsBoard};
+ghost use Rattle.row_board.specs.Cost.{cost_of, difference};
+ghost use Rattle.row_board.specs.Extreme.{across};
 ghost use Rattle.row_board.specs.NetCosts.{table_costs};
 ghost use Rattle.row_board.specs.RowLengthsView.{misses_of};
-ghost use Rattle.row_board.specs.Standings.{standing_of, traded};
-ghost use Rattle.row_board.specs.Trial.{seats_between, shifted_pins, slack};
-ghost use Rattle.std.specs.Prelude.{◌≡◌, ◌<◌, ◌+◌, ◌*◌, ◌^◌, sum};
+ghost use Rattle.row_board.specs.Trial.{ends_net, ends_net_alone, instances_instead, instead, least_cost, longer_pins, marked_in, pins_in, seats_between, shifted_from, shifted_seats, shorter_pins};
+ghost use Rattle.row_model.specs.Changes.{swapped};
+ghost use Rattle.row_model.specs.Rows.{ArePlaced};
+ghost use Rattle.row_model.specs.Widths.{columns_of};
+ghost use Rattle.std.specs.Bool.{OnTrue};
+ghost use Rattle.std.specs.Prelude.{◌≡◌, ◌≢◌, ◌<◌, ◌≤◌, ◌+◌, ◌*◌, ◌^◌, length, nat_lt, sum};
 
+use crate::extreme::Side;
 use crate::moving::moved_seats;
-use crate::net_costs::NetCosts;
+use crate::net_costs::{Ends, NetCosts};
 use crate::row_lengths::{RowLengths, difference};
-use crate::seated::Seated;
 use crate::seats::row_at;
-use crate::stretch::Stretch;
+use crate::standings::Standing;
 use geom_core::Items;
+use limits::{MOST_INSTANCES, MOST_KIND_COLUMNS};
 use row_model::Seat;
 
 /// What rows cost by their tables: the sum of what the nets cost, and the columns by which the rows miss their target as the weights tell. Takes no memory.
 pub(crate) fn total_of(costs: &NetCosts, lengths: &RowLengths) -> u64
-    ensures { result ≡ sum (table_costs costs.now.design costs.now.weights costs.now.standings) + costs.now.weights.length_cost * sum (misses_of lengths.now) }
+    ensures is { result ≡ sum (table_costs costs.now.design costs.now.weights costs.now.standings) + costs.now.weights.length_cost * sum (misses_of lengths.now) }
+    ensures small { result < 2 ^ 61 }
 {
     let length_cost = costs.weights().length_cost;
     costs.sum() + length_cost * lengths.unevenness()
 }
 
-/// What rows cost where two instances take each other's place and no other is shifted. All is as before after that.
-pub(crate) fn trial_cost(costs: &mut NetCosts, lengths: &RowLengths, a: u32, b: u32) -> u64
-    ensures is { result ≡ sum (table_costs costs.old.design costs.old.weights (traded a b costs.old.standings)) + costs.old.weights.length_cost * sum (misses_of lengths.now) }
-    ensures same { costs.new ≡ costs.old }
-{
-    let one = costs.standing(a);
-    let other = costs.standing(b);
-    costs.trade(a, b);
-    let cost = total_of(costs, lengths);
-    costs.put(a, one);
-    costs.put(b, other);
-    cost
-}
-
 // Some seats of a row: those from a place up to another.
 fn between(seats: &[Seat], from: usize, to: usize) -> &[Seat]
-    ensures { result.now ≡ seats_between from to seats.now }
+    ensures is { result.now ≡ seats_between from to seats.now }
+    ensures few { length result.now ≤ length seats.now }
 {
     let end = to.min(seats.len());
     &seats[from.min(end)..end]
 }
 
-// The number of pins that shift where an instance exchanges its place with another of another width.
-fn shifted_pins(seated: &Seated, a: u32, b: u32) -> u64
-    ensures is { result ≡ shifted_pins seated.now.table.design seated.now.rows (standing_of seated.now.table.standings a) (standing_of seated.now.table.standings b) }
+// Which instance stands where this one did once two have exchanged their places.
+fn instead(a: u32, b: u32, instance: u32) -> u32
+    ensures { result ≡ instead a b instance }
+{
+    if instance == a {
+        return b;
+    }
+    if instance == b {
+        return a;
+    }
+    instance
+}
+
+// How many pins of the instances of seats, once two have exchanged their places, end their nets on a side, and how many alone end theirs across.
+fn ends_in(costs: &NetCosts, seats: &[Seat], a: u32, b: u32, side: Side) -> Ends
+    requires { length seats.now ≤ MOST_INSTANCES }
+    ensures ends { result.ends ≡ marked_in costs.now.design (ends_net costs.now.design costs.now.standings side) (instances_instead a b seats.now) }
+    ensures alone { result.alone ≡ marked_in costs.now.design (ends_net_alone costs.now.design costs.now.standings (across side)) (instances_instead a b seats.now) }
+    ensures few { result.ends < 2 ^ 32 }
+    ensures few_alone { result.alone < 2 ^ 32 }
+{
+    let mut found = Ends { ends: 0, alone: 0 };
+    let mut rest = seats;
+    while let Some((seat, after)) = rest.split_first() {
+        let more = costs.ends(side, instead(a, b, seat.instance));
+        found.ends += more.ends;
+        found.alone += more.alone;
+        rest = after;
+    }
+    found
+}
+
+// How many pins they have.
+fn pins_in(costs: &NetCosts, seats: &[Seat], a: u32, b: u32) -> u64
+    requires { length seats.now ≤ MOST_INSTANCES }
+    ensures is { result ≡ pins_in costs.now.design (instances_instead a b seats.now) }
     ensures few { result < 2 ^ 32 }
 {
-    let costs = seated.costs();
-    let rows = seated.rows();
+    let mut pins = 0;
+    let mut rest = seats;
+    while let Some((seat, after)) = rest.split_first() {
+        pins += costs.pin_count(instead(a, b, seat.instance));
+        rest = after;
+    }
+    pins
+}
+
+// The side that the cells behind an instance are shifted away from where another takes its place.
+fn shifted_from(costs: &NetCosts, a: u32, b: u32) -> Side
+    ensures { result ≡ shifted_from (nat_lt (columns_of costs.now.design a) (columns_of costs.now.design b)) }
+{
+    if costs.columns_of(a) < costs.columns_of(b) {
+        Side::Low
+    } else {
+        Side::High
+    }
+}
+
+// By how many columns the cells behind two instances are shifted where these exchange their places.
+fn shift_of(costs: &NetCosts, a: u32, b: u32) -> u64
+    ensures is { result ≡ difference (columns_of costs.now.design a) (columns_of costs.now.design b) }
+    ensures few { result ≤ MOST_KIND_COLUMNS }
+{
+    difference(
+        u64::from(costs.columns_of(a)),
+        u64::from(costs.columns_of(b)),
+    )
+}
+
+// The seats behind an instance that a swap with another shifts.
+fn shifted_seats<'r>(
+    costs: &NetCosts,
+    rows: &'r [Items<Seat>],
+    one: Standing,
+    other: Standing,
+) -> &'r [Seat]
+    requires { ArePlaced costs.now.design rows.now }
+    ensures is { result.now ≡ shifted_seats rows.now one other }
+    ensures few { length result.now ≤ MOST_INSTANCES }
+{
+    // What every design keeps is known by this call.
+    let _design = costs.design();
+    let reach = moved_seats(rows, one, other, false);
+    between(row_at(rows, reach.row), reach.from + 1, reach.to)
+}
+
+// How many pins behind an instance that takes another's place may make their nets shorter, and how many surely make them longer. The table has both there already.
+fn shifted_ends(
+    costs: &NetCosts,
+    rows: &[Items<Seat>],
+    a: u32,
+    b: u32,
+    one: Standing,
+    other: Standing,
+) -> Ends
+    requires { ArePlaced costs.now.design rows.now }
+    ensures ends { result.ends ≡ shorter_pins costs.now.design rows.now costs.now.standings a b one other }
+    ensures alone { result.alone ≡ longer_pins costs.now.design rows.now costs.now.standings a b one other }
+    ensures few { result.ends < 2 ^ 32 }
+    ensures few_alone { result.alone < 2 ^ 32 }
+{
+    let seats = shifted_seats(costs, rows, one, other);
+    ends_in(costs, seats, a, b, shifted_from(costs, a, b))
+}
+
+// What rows cost at least after a swap, where they cost so much by a table in which both instances are at each other's place and no other is shifted.
+fn least_cost(
+    costs: &NetCosts,
+    rows: &[Items<Seat>],
+    a: u32,
+    b: u32,
+    one: Standing,
+    other: Standing,
+    cost: u64,
+) -> u64
+    requires placed { ArePlaced costs.now.design rows.now }
+    requires small { cost < 2 ^ 61 }
+    ensures { result ≡ least_cost costs.now.design rows.now costs.now.weights costs.now.standings a b one other cost }
+{
+    let first = shifted_ends(costs, rows, a, b, one, other);
+    let second = shifted_ends(costs, rows, b, a, other, one);
+    let length_cost = costs.weights().length_cost;
+    let shift = shift_of(costs, a, b);
+    let longer = shift * (first.alone + second.alone);
+    let shorter = shift * (first.ends + second.ends + 2 * length_cost);
+    (cost + longer).saturating_sub(shorter)
+}
+
+// The same or less, found by the number of shifted pins alone.
+fn rough_cost(
+    costs: &NetCosts,
+    rows: &[Items<Seat>],
+    a: u32,
+    b: u32,
+    one: Standing,
+    other: Standing,
+    cost: u64,
+) -> u64
+    requires { ArePlaced costs.now.design rows.now }
+    ensures { result ≤ least_cost costs.now.design rows.now costs.now.weights costs.now.standings a b one other cost }
+{
+    let first = pins_in(costs, shifted_seats(costs, rows, one, other), a, b);
+    let second = pins_in(costs, shifted_seats(costs, rows, other, one), b, a);
+    let length_cost = costs.weights().length_cost;
+    let shift = shift_of(costs, a, b);
+    cost.saturating_sub(shift * (first + second + 2 * length_cost))
+}
+
+// Whether they surely cost more than a limit.
+fn costs_more(
+    costs: &NetCosts,
+    rows: &[Items<Seat>],
+    a: u32,
+    b: u32,
+    one: Standing,
+    other: Standing,
+    cost: u64,
+    limit: u64,
+) -> bool
+    requires placed { ArePlaced costs.now.design rows.now }
+    requires small { cost < 2 ^ 61 }
+    ensures { OnTrue result (limit < least_cost costs.now.design rows.now costs.now.weights costs.now.standings a b one other cost) }
+{
+    if rough_cost(costs, rows, a, b, one, other, cost) > limit {
+        return true;
+    }
+    least_cost(costs, rows, a, b, one, other, cost) > limit
+}
+
+/// Whether rows surely cost more than a limit after two instances of different widths exchange their places. All is as before after that.
+pub(crate) fn is_dear(
+    costs: &mut NetCosts,
+    lengths: &RowLengths,
+    rows: &[Items<Seat>],
+    a: u32,
+    b: u32,
+    limit: u64,
+) -> bool
+    requires board { IsBoard costs.old.design rows.now costs.old.standings lengths.now }
+    requires a { a < length costs.old.design.instances }
+    requires b { b < length costs.old.design.instances }
+    requires apart { a ≢ b }
+    ensures dear { OnTrue result (limit < cost_of costs.old.design (swapped a b rows.now) costs.old.weights) }
+    ensures same { costs.new ≡ costs.old }
+{
     // What every design keeps is known by this call.
     let _design = costs.design();
     let one = costs.standing(a);
     let other = costs.standing(b);
-    let reach = moved_seats(rows, one, other, false);
-    let seats = between(row_at(rows, reach.row), reach.from, reach.to);
-    let stretch = Stretch { costs, seats };
-    stretch.pin_count()
-}
-
-/// By how much rows may cost less after a swap of two instances than where these only take each other's place.
-pub(crate) fn slack_of(seated: &Seated, a: u32, b: u32) -> u64
-    ensures { result ≡ slack seated.now.table.design seated.now.rows seated.now.table.weights seated.now.table.standings a b }
-{
-    let costs = seated.costs();
-    let width = u64::from(costs.columns_of(a));
-    let other_width = u64::from(costs.columns_of(b));
-    let pins = shifted_pins(seated, a, b);
-    let other_pins = shifted_pins(seated, b, a);
-    let length_cost = costs.weights().length_cost;
-    difference(width, other_width) * (pins + other_pins + 2 * length_cost)
+    costs.trade(a, b);
+    let cost = total_of(costs, lengths);
+    let dear = cost > limit && costs_more(costs, rows, a, b, one, other, cost, limit);
+    costs.put(a, one);
+    costs.put(b, other);
+    dear
 }

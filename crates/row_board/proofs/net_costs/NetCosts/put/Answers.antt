@@ -13,9 +13,9 @@ invariant_of-self c =
     record {
       good = c.self.invariant.good;
       weights = c.self.invariant.weights;
-      columns = columns-put i.nets i.standings.items c.args.instance c.args.standing c.of-pins.result.now i.columns c.put_columns.new.columns within c.of-pins.ensures
+      columns = columns-put i.nets i.standings.items c.args.instance c.args.standing c.of-pins.result.now i.columns c.put_columns.new.columns within c.of-pins.ensures.placed
           c.self.invariant.columns c.put_columns.ensures.most c.put_columns.ensures.lists;
       rows = rows-put i.nets i.standings.items c.args.instance c.args.standing c.index-was.result.now c.was.inside.row c.standing.inside.row c.of-pins.result.now i.rows
-          c.put_rows.new.rows was (ap (λ (s : Spot). s.row) c.was.view_is) (ap (λ (s : Spot). s.row) c.standing.view_is) c.of-pins.ensures c.self.invariant.rows
+          c.put_rows.new.rows was (ap (λ (s : Spot). s.row) c.was.view_is) (ap (λ (s : Spot). s.row) c.standing.view_is) c.of-pins.ensures.placed c.self.invariant.rows
           c.put_rows.ensures.most c.put_rows.ensures.lists;
     }
