@@ -12,6 +12,7 @@ pub mod PlaceLaws
 pub mod UseLaws
 pub mod AheadLaws
 pub mod StartLaws
+pub mod LastLaws
 -- the joins of a column
 pub mod JoinLaws
 -- sorted numbers
@@ -24,6 +25,8 @@ pub mod EndLaws
 -- the moves of a column
 pub mod AloneLaws
 pub mod MoveLaws
+pub mod SplitLaws
+pub mod StretchLaws
 pub mod WaitingLaws
 pub mod OrderLaws
 -- what the steps make

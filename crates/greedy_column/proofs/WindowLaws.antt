@@ -28,7 +28,7 @@ own_net b n m clear same = and-true b ∙ ap (λ t. b && (t || clear)) (sym (eq-
 abbrev inside : ℕ → ℕ → ℕ → Bool
 inside low high other = leb low other && leb other high
 
-abbrev clear : ℕ → ℕ → ℕ → ℕ → Bool
+abbrev pub clear : ℕ → ℕ → ℕ → ℕ → Bool
 clear line other bottom top = ltb top (min line other) || ltb (max line other) bottom
 
 module _ (low high line bottom top other : ℕ) (own : Bool) (apart : own ≡ false) where

@@ -4,7 +4,7 @@ use Rattle.std.specs.List.{list_any}
 use Rattle.std.specs.List.Sorted.{IsStrictlyIncreasing}
 use Rattle.greedy_column.specs.declared.column.Track.{Track}
 use Rattle.greedy_column.specs.declared.lines.Sought.{Sought}
-use Rattle.greedy_column.specs.declared.lines.Sought.TheVariants.{Open, Held, Own}
+use Rattle.greedy_column.specs.declared.lines.Sought.TheVariants.{Open, Own}
 use Rattle.greedy_column.specs.Tracks.{ids}
 
 -- the lines of the tracks that pass a test, the first of which stands on this line
@@ -31,7 +31,6 @@ net_on tracks line = slice_index (map (λ (t : Track). t.net) tracks) (line - 1)
 -- the tracks that are sought
 abbrev pub is_sought : Sought → Track → Bool
 is_sought (Open net) = is_open net
-is_sought Held = is_held
 is_sought (Own net) = λ t. t.net == net
 
 -- lines on which tracks stand, where these are fewer than 2^32 - 2, and not more lines than tracks

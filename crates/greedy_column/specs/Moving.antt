@@ -1,5 +1,6 @@
 -- the free lines that each kept track may go to, the order in which those move that have one, and the moves that are made
-use Rattle.std.specs.Prelude.{◌≡◌, ◌≢◌, ◌⊎◌, ◌==◌, ◌+◌, ◌-◌, ◌++◌, ◌&&◌, not, nat_le, nat_lt, Bool, ℕ, List, [], ◌∷◌, filter, length, min, max}
+use Rattle.std.specs.Prelude.{◌≡◌, ◌≢◌, ◌⊎◌, ◌<◌, ◌==◌, ◌^◌, ◌+◌, ◌-◌, ◌++◌, ◌&&◌, ◌||◌, not, nat_le, nat_lt, Bool, false, true, ℕ, List, [], ◌∷◌, filter, length, min, max}
+use Rattle.std.specs.List.{list_all, list_any}
 use Rattle.std.specs.List.Sorted.{IsNonDecreasingBy, IsStableByKey}
 use Rattle.std.specs.Ordering.{nat_cmp}
 use Rattle.choose_core.specs.declared.candidate.Candidate.{Candidate}
@@ -9,6 +10,7 @@ use Rattle.choose_core.specs.declared.plan.Manner.{Manner}
 use Rattle.choose_core.specs.declared.plan.Manner.TheVariants.{Published, LookingAhead}
 use Rattle.greedy_column.specs.declared.column.Track.{Track}
 use Rattle.greedy_column.specs.declared.span.Span.{Span}
+use Rattle.greedy_column.specs.declared.stretch.Stretch.{Stretch}
 use Rattle.greedy_column.specs.declared.window.Window.{Window}
 use Rattle.greedy_column.specs.Lines.{held_lines, id_on, net_on, own_lines}
 use Rattle.greedy_column.specs.Replay.{moved}
@@ -27,9 +29,25 @@ move_options spans net line free = filter (λ other. is_clear spans (piece_betwe
 abbrev pub is_within : Window → ℕ → Bool
 is_within window line = nat_le window.low line && nat_le line window.high
 
+-- a track of a net on a line has one of some free lines to go to
+abbrev pub has_option : List Span → List ℕ → ℕ → ℕ → Bool
+has_option spans free net line = nat_lt 0 (length (move_options spans net line free))
+
+-- a net has none of some verticals, which lie each from a lower line to one that is no lower
+abbrev pub is_apart_from : Span → ℕ → Bool
+is_apart_from s net = not (s.net == net) && nat_le s.low s.high
+
+abbrev pub is_foreign : List Span → ℕ → Bool
+is_foreign spans net = list_all (λ s. is_apart_from s net) spans
+
+-- within a stretch the tracks of all nets that have none of these verticals have a free line to go to, or none of them has one
+abbrev pub IsStretch : List Span → List ℕ → Stretch → Type 0
+IsStretch spans free stretch =
+    (net line : ℕ) → line < 2 ^ 32 → is_foreign spans net ≡ true → is_within stretch.window line ≡ true → stretch.has_free ≡ has_option spans free net line
+
 -- a kept track has a free line to go to before any move, and the lines of those that have
 abbrev pub is_movable : List Span → List ℕ → List Track → ℕ → Bool
-is_movable spans free kept line = nat_lt 0 (length (move_options spans (net_on kept line) line free))
+is_movable spans free kept line = has_option spans free (net_on kept line) line
 
 abbrev pub movable_lines : List Span → List ℕ → List Track → List ℕ
 movable_lines spans free kept = filter (is_movable spans free kept) (held_lines kept)
@@ -37,6 +55,14 @@ movable_lines spans free kept = filter (is_movable spans free kept) (held_lines 
 -- the net of a track holds others too
 abbrev pub is_split : List Track → ℕ → Bool
 is_split kept line = nat_lt 1 (length (own_lines (net_on kept line) kept))
+
+-- a net is of one of some pairs, or is none
+abbrev pub is_paired : List Span → ℕ → Bool
+is_paired pairs net = net == 0 || list_any (λ (pair : Span). pair.net == net) pairs
+
+-- no net that holds several tracks is missing in some pairs
+abbrev pub TellSplit : List Span → List Track → Type 0
+TellSplit pairs kept = (line : ℕ) → is_paired pairs (net_on kept line) ≡ false → is_split kept line ≡ false
 
 -- how much of a channel of so many tracks lies behind a line on the way to the next pins, and all of it where these lie at no one edge
 abbrev pub behind : ℕ → Next → ℕ → ℕ

@@ -1,8 +1,9 @@
--- where a net has its next pins
-use Rattle.std.specs.Prelude.{◌≡◌, ◌<◌, ◌≤◌, ◌==◌, ◌&&◌, ◌||◌, ◌++◌, ◌+◌, nat_lt, nat_le, if◌then◌else◌, Bool, Option, Some, None, [], ◌∷◌, suc, ℕ, List, length, slice_index, slice_index_or}
+-- where a net has its next pins, and its last ones
+use Rattle.std.specs.Prelude.{◌≡◌, ◌<◌, ◌≤◌, ◌==◌, ◌&&◌, ◌||◌, ◌++◌, ◌+◌, nat_lt, nat_le, if◌then◌else◌, Bool, false, Option, Some, None, [], ◌∷◌, suc, ℕ, List, length, slice_index, slice_index_or}
 use Rattle.choose_core.specs.declared.candidate.Next.{Next}
 use Rattle.choose_core.specs.declared.candidate.Next.TheVariants.{Ends, Top, Bottom, Both}
 use Rattle.greedy_column.specs.declared.uses.Use.{Use}
+use Rattle.greedy_column.specs.Entering.{is_ending}
 
 -- a use does not stand behind another one: by the net, and by the column for one net
 pub record IsBefore (u v : Use) : Type 0 where
@@ -52,3 +53,12 @@ uses_from (a ∷ top) [] column = []
 abbrev pub next_after : List Use → ℕ → ℕ → Next
 next_after [] column net = Ends
 next_after (u ∷ uses) column net = if u.net == net && nat_lt column u.column then u.next else next_after uses column net
+
+-- each use is at an edge or at both
+abbrev pub AreAtEdges : List Use → Type 0
+AreAtEdges [] = Unit {0}
+AreAtEdges (u ∷ uses) = (is_ending u.next ≡ false) × AreAtEdges uses
+
+-- the column of each net's last use, by net number: up to it the net has a later one, from it on none
+abbrev pub AreLasts : List Use → List ℕ → Type 0
+AreLasts uses lasts = (column net : ℕ) → nat_le (slice_index lasts net) column ≡ is_ending (next_after uses column net)

@@ -7,7 +7,7 @@ ghost use Rattle.greedy_column.specs.Lines.{held_lines, net_on, own_lines};
 ghost use Rattle.greedy_column.specs.Offers.{keep_question};
 ghost use Rattle.greedy_column.specs.Uses.{next_after};
 ghost use Rattle.greedy_column.specs.declared.span.Span.{Span};
-ghost use Rattle.std.specs.Prelude.{◌≡◌, ◌==◌, ◌<◌, ◌≤◌, ◌+◌, ◌++◌, ◌∷◌, ◌^◌, [], List, Contains, IfOk, OnOk, if◌then◌else◌, length, not};
+ghost use Rattle.std.specs.Prelude.{◌≡◌, ◌==◌, ◌<◌, ◌≤◌, ◌+◌, ◌++◌, ◌∷◌, ◌^◌, ◌&&◌, [], List, Contains, IfOk, OnOk, if◌then◌else◌, length, not};
 
 use crate::ahead::Ahead;
 use crate::desk::Desk;
@@ -39,11 +39,11 @@ fn keep_question(tracks: &Tracks, next: Next) -> Question
     }
 }
 
-// Whether a net gives up all its tracks, by the marks of those that have more than one group.
-fn gives_up(marks: &[u32], net: u32, next: Next) -> bool
-    ensures { result ≡ is_given_up next (is_marked marks.now net) }
+// Whether a net that has no later pins, or has some, gives up all its tracks, by the marks of those that have more than one group.
+fn gives_up(marks: &[u32], net: u32, last: bool) -> bool
+    ensures { result ≡ (last && not (is_marked marks.now net)) }
 {
-    is_ending(next) && !is_marked(marks, net)
+    last && !is_marked(marks, net)
 }
 
 impl<C: Chooses> Moment<'_, C> {
@@ -102,7 +102,7 @@ impl<C: Chooses> Moment<'_, C> {
     {
         let net = tracks.net_on(line);
         let next = self.ahead.next(net, self.column);
-        let given_up = gives_up(marks, net, next);
+        let given_up = gives_up(marks, net, is_ending(next));
         let group = chain(self.alloc, joined, line)?;
         self.ends_of(tracks, net, next, given_up, group)
     }
@@ -121,8 +121,8 @@ impl<C: Chooses> Moment<'_, C> {
             ending.new.items ≡ ending.old.items ++ (if is_given_up next (is_marked marks.now net) then line ∷ [] else [])) }
     {
         let net = tracks.net_on(line);
-        let next = self.ahead.next(net, self.column);
-        push_where(ending, gives_up(marks, net, next), line)
+        let last = self.ahead.is_last(net, self.column);
+        push_where(ending, gives_up(marks, net, last), line)
     }
 
     // Adds the lines that end of the group whose lowest line is this one, at once where no line is joined to it.

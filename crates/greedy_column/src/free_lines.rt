@@ -1,7 +1,7 @@
 //! The lines of free tracks in ascending order: which of them a track may go to, and what is left once one is taken.
 
 ghost use Rattle.greedy_column.specs.Lines.{AreAscending, free_lines};
-ghost use Rattle.greedy_column.specs.Moving.{is_within, move_options, without};
+ghost use Rattle.greedy_column.specs.Moving.{has_option, is_within, move_options, without};
 ghost use Rattle.std.specs.List.Sorted.{IsNonDecreasing, IsStrictlyIncreasing};
 ghost use Rattle.std.specs.Prelude.{◌≡◌, ◌<◌, ◌+◌, ◌^◌, IfOk, filter, length, nat_le, nat_lt};
 
@@ -58,7 +58,7 @@ impl FreeLines {
 
     // Whether there is such a line.
     pub(crate) fn has_option(&self, spans: &[Span], net: u32, line: u32) -> bool
-        ensures { result ≡ nat_lt 0 (length (move_options spans.now net line self.now)) }
+        ensures { result ≡ has_option spans.now self.now net line }
     {
         has_line_within(self.list(), lines_past(spans, net, line))
     }
@@ -80,7 +80,7 @@ fn lines_within(lines: &[u32], window: Window) -> &[u32]
 }
 
 // Whether one of ascending lines lies within a window.
-fn has_line_within(lines: &[u32], window: Window) -> bool
+pub(crate) fn has_line_within(lines: &[u32], window: Window) -> bool
     requires { IsNonDecreasing lines.now }
     ensures { result ≡ nat_lt 0 (length (filter (is_within window) lines.now)) }
 {

@@ -1,6 +1,7 @@
 //! What a column does once its pins have entered: joins, ends and moves, and the tracks after them.
 
 ghost use Rattle.greedy_column.specs.Follows.{AreEndsTold, AreJoinsTold, AreMovesTold, FollowsOn};
+ghost use Rattle.greedy_column.specs.Moving.{TellSplit};
 ghost use Rattle.greedy_column.specs.Replay.{freed, moved};
 ghost use Rattle.greedy_column.specs.Uses.{next_after};
 ghost use Rattle.std.specs.List.Sorted.{IsNonDecreasing};
@@ -57,13 +58,28 @@ impl<C: Chooses> Moment<'_, C> {
             outcome.joins outcome.ended outcome.moves) }
         ensures tracks { IfOk result (λ outcome. outcome.tracks ≡ moved outcome.moves (freed outcome.ended now.now)) }
     {
-        let drawn = self.join_and_end(desk, now, spans)?;
+        let paired = now.paired(self.alloc, desk)?;
+        self.go_on_paired(desk, &paired, spans)
+    }
+
+    // The same, from the neighbouring tracks.
+    fn go_on_paired(
+        &self,
+        desk: &mut Desk,
+        paired: &Paired,
+        spans: Vec<Span>,
+    ) -> Result<Outcome, AllocError>
+        ensures follows { IfOk result (λ outcome. FollowsOn self.now.manner (C.answers self.now.chooser.now) (next_after self.now.ahead.now.uses.items self.now.column) paired.now.tracks.now spans.items
+            outcome.joins outcome.ended outcome.moves) }
+        ensures tracks { IfOk result (λ outcome. outcome.tracks ≡ moved outcome.moves (freed outcome.ended paired.now.tracks.now)) }
+    {
+        let drawn = self.join_and_end(desk, paired, spans)?;
         let JoinsAndEnds {
             joins,
             ended,
             spans,
         } = drawn;
-        let carried = self.move_on(now, &ended, spans)?;
+        let carried = self.move_on(paired, &ended, spans)?;
         let MovedOn { moves, tracks } = carried;
         Ok(Outcome {
             joins: Items::new(joins),
@@ -75,22 +91,6 @@ impl<C: Chooses> Moment<'_, C> {
 
     // Steps 2 and 3.
     fn join_and_end(
-        &self,
-        desk: &mut Desk,
-        now: &Tracks,
-        spans: Vec<Span>,
-    ) -> Result<JoinsAndEnds, AllocError>
-        ensures joins { IfOk result (λ drawn. AreJoinsTold (C.answers self.now.chooser.now) (next_after self.now.ahead.now.uses.items self.now.column) now.now spans.items
-            drawn.spans.items drawn.joins.items) }
-        ensures ends { IfOk result (λ drawn. AreEndsTold (C.answers self.now.chooser.now) (next_after self.now.ahead.now.uses.items self.now.column) now.now drawn.spans.items
-            drawn.ended.items) }
-    {
-        let paired = now.paired(self.alloc, desk)?;
-        self.join_pairs(desk, &paired, spans)
-    }
-
-    // The same, from the neighbouring tracks.
-    fn join_pairs(
         &self,
         desk: &mut Desk,
         paired: &Paired,
@@ -139,31 +139,33 @@ impl<C: Chooses> Moment<'_, C> {
     // Step 4, over the tracks of which those of these ids are freed.
     fn move_on(
         &self,
-        now: &Tracks,
+        paired: &Paired,
         ended: &[u32],
         mut spans: Vec<Span>,
     ) -> Result<MovedOn, AllocError>
         requires { IsNonDecreasing ended.now }
-        ensures moves { IfOk result (λ carried. AreMovesTold self.now.manner (C.answers self.now.chooser.now) (next_after self.now.ahead.now.uses.items self.now.column) now.now
-            (freed ended.now now.now) spans.items carried.moves.items) }
-        ensures tracks { IfOk result (λ carried. carried.tracks ≡ moved carried.moves.items (freed ended.now now.now)) }
+        ensures moves { IfOk result (λ carried. AreMovesTold self.now.manner (C.answers self.now.chooser.now) (next_after self.now.ahead.now.uses.items self.now.column) paired.now.tracks.now
+            (freed ended.now paired.now.tracks.now) spans.items carried.moves.items) }
+        ensures tracks { IfOk result (λ carried. carried.tracks ≡ moved carried.moves.items (freed ended.now paired.now.tracks.now)) }
     {
-        let mut tracks = now.freed(self.alloc, ended)?;
-        let moves = self.moves_of(now, &mut spans, &mut tracks)?;
+        let mut tracks = paired.tracks.freed(self.alloc, ended)?;
+        let moves = self.moves_of(paired, &mut spans, &mut tracks)?;
         Ok(MovedOn { moves, tracks })
     }
 
     // The moves of the kept tracks, which become verticals, and by which these are carried along.
     fn moves_of(
         &self,
-        now: &Tracks,
+        paired: &Paired,
         spans: &mut Vec<Span>,
         kept: &mut Tracks,
     ) -> Result<Vec<(u32, u32)>, AllocError>
-        ensures moves { IfOk result (λ moves. AreMovesTold self.now.manner (C.answers self.now.chooser.now) (next_after self.now.ahead.now.uses.items self.now.column) now.now kept.old
+        requires { TellSplit paired.now.pairs kept.old }
+        ensures moves { IfOk result (λ moves. AreMovesTold self.now.manner (C.answers self.now.chooser.now) (next_after self.now.ahead.now.uses.items self.now.column) paired.now.tracks.now kept.old
             spans.old.items moves.items) }
         ensures tracks { IfOk result (λ moves. kept.new ≡ moved moves.items kept.old) }
     {
+        let now = paired.tracks;
         let free = now.free_lines(self.alloc)?;
         let lines = movable_lines(self.alloc, spans, &free, kept)?;
         let order = order_of_moves(
@@ -171,6 +173,7 @@ impl<C: Chooses> Moment<'_, C> {
             self.manner,
             self.ahead,
             self.column,
+            &paired.pairs,
             kept,
             lines,
         )?;

@@ -1,7 +1,7 @@
 //! Lists of lines: those of free tracks and of a net's own ones, and what is above, below or outside of others.
 
 ghost use Rattle.greedy_column.specs.Ending.{outside};
-ghost use Rattle.greedy_column.specs.Lines.{AreLines, above_lowest, below_line, held_lines, is_sought, lines_from, open_lines, own_lines};
+ghost use Rattle.greedy_column.specs.Lines.{AreLines, above_lowest, below_line, is_sought, lines_from, open_lines, own_lines};
 ghost use Rattle.greedy_column.specs.Moving.{without};
 ghost use Rattle.greedy_column.specs.Tracks.{ids, line_of};
 ghost use Rattle.std.specs.List.Sorted.{IsStrictlyIncreasing};
@@ -30,11 +30,10 @@ impl Model for Lines {
     ghost invariant = { λ lines. AreLines lines.list.items };
 }
 
-// Which tracks are sought: those that are free or a net's own, those that nets hold, or those that one net holds.
+// Which tracks are sought: those that are free or a net's own, or its own alone.
 #[derive(Clone, Copy, Debug)]
 pub(crate) enum Sought {
     Open(u32),
-    Held,
     Own(u32),
 }
 
@@ -45,7 +44,6 @@ impl Sought {
     {
         match self {
             Sought::Open(net) => track.net == 0 || track.net == net,
-            Sought::Held => track.net != 0,
             Sought::Own(net) => track.net == net,
         }
     }
@@ -66,13 +64,6 @@ impl Tracks {
     {
         let list = self.lines_where(alloc, Sought::Own(net))?;
         Ok(Lines { list })
-    }
-
-    // The lines of the tracks that nets hold.
-    pub(crate) fn held_lines(&self, alloc: Global) -> Result<Vec<u32>, AllocError>
-        ensures { IfOk result (λ lines. lines.items ≡ held_lines self.now) }
-    {
-        self.lines_where(alloc, Sought::Held)
     }
 
     // The lines of the tracks that are sought.

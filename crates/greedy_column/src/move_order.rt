@@ -1,6 +1,6 @@
 //! Which kept tracks may move, and in what order: from bottom to top, or split nets first and then the farthest to go.
 
-ghost use Rattle.greedy_column.specs.Moving.{AreOrdered, IsOrderAhead, IsOrderOfMoves, behind, behind_on, is_movable, is_split, movable_lines};
+ghost use Rattle.greedy_column.specs.Moving.{AreOrdered, IsOrderAhead, IsOrderOfMoves, TellSplit, behind, behind_on, is_movable, is_split, movable_lines};
 ghost use Rattle.greedy_column.specs.Uses.{next_after};
 ghost use Rattle.std.specs.List.Sorted.{IsNonDecreasingBy, IsPermutation, IsStableByKey};
 ghost use Rattle.std.specs.Ordering.{nat_cmp};
@@ -9,7 +9,9 @@ ghost use Rattle.std.specs.Prelude.{◌≡◌, ◌<◌, ◌+◌, ◌^◌, IfOk, 
 use crate::ahead::Ahead;
 use crate::free_lines::FreeLines;
 use crate::lines::push_where;
+use crate::pairs::Pairs;
 use crate::span::Span;
+use crate::stretch::Stretch;
 use crate::tracks::Tracks;
 use choose_core::{Manner, Next};
 use std::alloc::{AllocError, Global};
@@ -40,32 +42,46 @@ pub(crate) fn movable_lines(
     if free.list().is_empty() {
         return Ok(Vec::new(alloc));
     }
-    let mut lines = kept.held_lines(alloc)?;
-    lines.retain(|line| is_movable(spans, free, kept, *line));
+    movable_of(alloc, spans, free, kept)
+}
+
+// The same, track by track.
+fn movable_of(
+    alloc: Global,
+    spans: &[Span],
+    free: &FreeLines,
+    kept: &Tracks,
+) -> Result<Vec<u32>, AllocError>
+    ensures { IfOk result (λ lines. lines.items ≡ movable_lines spans.now free.now kept.now) }
+{
+    let mut lines = Vec::with_capacity(alloc, kept.list().len())?;
+    let mut stretch = Stretch::alone(false);
+    let mut line = 1u32;
+    let mut rest = kept.list();
+    while let Some((track, above)) = rest.split_first() {
+        stretch = free.push_movable(spans, kept, stretch, track.net, line, &mut lines)?;
+        line += 1;
+        rest = above;
+    }
     Ok(lines)
 }
 
-// Whether the kept track of a line has one of these free lines to go to past these verticals.
-fn is_movable(spans: &[Span], free: &FreeLines, kept: &Tracks, line: u32) -> bool
-    ensures { result ≡ is_movable spans.now free.now kept.now line }
-{
-    free.has_option(spans, kept.net_on(line), line)
-}
-
-// The order in which the kept tracks of these lines may move.
+// The order in which the kept tracks of these lines may move, by pairs that tell which nets may hold several tracks.
 pub(crate) fn order_of_moves(
     alloc: Global,
     manner: Manner,
     ahead: &Ahead,
     column: u32,
+    pairs: &Pairs,
     kept: &Tracks,
     lines: Vec<u32>,
 ) -> Result<Vec<u32>, AllocError>
+    requires { TellSplit pairs.now kept.now }
     ensures { IfOk result (λ order. IsOrderOfMoves manner (next_after ahead.now.uses.items column) kept.now lines.items order.items) }
 {
     match manner {
         Manner::Published => Ok(lines),
-        Manner::LookingAhead => order_ahead(alloc, ahead, column, kept, lines),
+        Manner::LookingAhead => order_ahead(alloc, ahead, column, pairs, kept, lines),
     }
 }
 
@@ -74,15 +90,17 @@ fn order_ahead(
     alloc: Global,
     ahead: &Ahead,
     column: u32,
+    pairs: &Pairs,
     kept: &Tracks,
     lines: Vec<u32>,
 ) -> Result<Vec<u32>, AllocError>
+    requires { TellSplit pairs.now kept.now }
     ensures { IfOk result (λ order. IsOrderAhead (next_after ahead.now.uses.items column) kept.now lines.items order.items) }
 {
     if lines.len() < 2 {
         return Ok(lines);
     }
-    let parted = parted_lines(alloc, kept, &lines)?;
+    let parted = parted_lines(alloc, pairs, kept, &lines)?;
     let Parted { split, others } = parted;
     let farthest = farthest_first(alloc, ahead, column, kept, others)?;
     let mut order = split;
@@ -91,7 +109,13 @@ fn order_ahead(
 }
 
 // Some lines, parted by whether their nets are split.
-fn parted_lines(alloc: Global, kept: &Tracks, lines: &[u32]) -> Result<Parted, AllocError>
+fn parted_lines(
+    alloc: Global,
+    pairs: &Pairs,
+    kept: &Tracks,
+    lines: &[u32],
+) -> Result<Parted, AllocError>
+    requires { TellSplit pairs.now kept.now }
     ensures split { IfOk result (λ parted. parted.split.items ≡ filter (is_split kept.now) lines.now) }
     ensures others { IfOk result (λ parted. parted.others.items ≡ filter (λ line. not (is_split kept.now line)) lines.now) }
 {
@@ -100,18 +124,23 @@ fn parted_lines(alloc: Global, kept: &Tracks, lines: &[u32]) -> Result<Parted, A
     let mut rest = lines;
     while let Some((line, later)) = rest.split_first() {
         rest = later;
-        let among = is_split(kept, *line);
+        let among = is_split(pairs, kept, *line);
         push_where(&mut split, among, *line)?;
         push_where(&mut others, !among, *line)?;
     }
     Ok(Parted { split, others })
 }
 
-// Whether the net of a line holds other tracks too.
-fn is_split(kept: &Tracks, line: u32) -> bool
+// Whether the net of a line holds other tracks too: its tracks are counted only where the net is paired.
+fn is_split(pairs: &Pairs, kept: &Tracks, line: u32) -> bool
+    requires { TellSplit pairs.now kept.now }
     ensures { result ≡ is_split kept.now line }
 {
-    kept.held(kept.net_on(line)) > 1
+    let net = kept.net_on(line);
+    if !pairs.is_paired(net) {
+        return false;
+    }
+    kept.held(net) > 1
 }
 
 // Some lines, those first that have the farthest to go.

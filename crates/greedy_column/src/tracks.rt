@@ -5,7 +5,7 @@ ghost use Rattle.greedy_column.specs.Moving.{without};
 ghost use Rattle.greedy_column.specs.Replay.{freed, moved};
 ghost use Rattle.std.specs.List.Sorted.{IsNonDecreasing};
 ghost use Rattle.std.specs.List.{count_by};
-ghost use Rattle.std.specs.Prelude.{◌≡◌, ◌==◌, ◌<◌, ◌≤◌, ◌+◌, ◌∷◌, [], true, ◌^◌, IfOk, length};
+ghost use Rattle.std.specs.Prelude.{◌≡◌, ◌==◌, ◌<◌, ◌≤◌, ◌+◌, ◌∷◌, [], true, ◌^◌, IfOk, if◌then◌else◌, length};
 
 use crate::column::Track;
 use crate::freeing::freed;
@@ -28,6 +28,13 @@ impl Model for Tracks {
     ghost view = { λ tracks. tracks.list.items };
 
     ghost invariant = { λ tracks. length tracks.list.items + 2 < 2 ^ 32 };
+}
+
+// 1 where something is so, else 0.
+fn one_where(is: bool) -> usize
+    ensures { result ≡ (if is then 1 else 0) }
+{
+    if is { 1 } else { 0 }
 }
 
 impl Tracks {
@@ -80,7 +87,13 @@ impl Tracks {
     pub(crate) fn held(&self, net: u32) -> usize
         ensures { result ≡ count_by (λ t. t.net == net) self.now }
     {
-        self.list().iter().filter(|track| track.net == net).count()
+        let mut held = 0usize;
+        let mut rest = self.list();
+        while let Some((track, above)) = rest.split_first() {
+            held += one_where(track.net == net);
+            rest = above;
+        }
+        held
     }
 
     // Whether the one track that a net holds is seen to be that on this line.

@@ -14,6 +14,13 @@ pub(crate) struct Window {
 }
 
 impl Window {
+    // Whether a line lies within this window.
+    pub(crate) fn has(self, line: u32) -> bool
+        ensures { result ≡ is_within self line }
+    {
+        self.low <= line && line <= self.high
+    }
+
     // What is left of a window for a track of a net on a line past one more vertical.
     fn narrowed(self, net: u32, line: u32, vertical: Span) -> Window
         ensures { (other : ℕ) → is_within result other ≡ (is_within self other && passes (piece_between net line other) vertical) }

@@ -10,7 +10,7 @@ pub returns-clause-moves : goal.returns-clause-moves
 returns-clause-moves g c =
     let may = g.C.Chooses.answers c.args.self.now.chooser.now in
     let next = next_after c.args.self.now.ahead.now.uses.items c.args.self.now.column in
-    let now = c.args.now.now in
+    let now = c.args.paired.now.tracks.now in
     let kept = c.args.kept.now in
     let drawn = c.args.spans.now.items in
     let order = c.deref-2.result.now in

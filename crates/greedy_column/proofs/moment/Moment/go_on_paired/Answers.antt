@@ -1,4 +1,4 @@
-use Rattle.greedy_column.proofs.moment.Moment.go_on.Goals as goal
+use Rattle.greedy_column.proofs.moment.Moment.go_on_paired.Goals as goal
 use Rattle.std.proofs.Common.{◌∙◌, subst, sym, List, ℕ}
 use Rattle.std.specs.List.Sorted.{IsNonDecreasing}
 use Rattle.greedy_column.specs.Uses.{next_after}
@@ -16,7 +16,7 @@ pub returns-clause-follows : goal.returns-clause-follows
 returns-clause-follows g c =
     let may = g.C.Chooses.answers c.args.self.now.chooser.now in
     let next = next_after c.args.self.now.ahead.now.uses.items c.args.self.now.column in
-    let now = c.args.now.now in
+    let now = c.args.paired.now.tracks.now in
     let drawn = c.in_ok-drawn.drawn.spans.items in
     FollowsOn-from_told c.args.self.now.manner may next now c.args.spans.items drawn c.new.result c.new-2.result c.new-3.result
     (subst (λ (l : List (ℕ × ℕ)). AreJoinsTold may next now c.args.spans.items drawn l) (sym c.new.ensures) c.in_ok-drawn.ensures.joins)

@@ -2,7 +2,7 @@ use Rattle.std.proofs.Common.{subst, List}
 use Rattle.greedy_column.specs.declared.span.Span.{Span}
 use Rattle.greedy_column.specs.Uses.{next_after}
 use Rattle.greedy_column.specs.Follows.{AreEndsTold}
-use Rattle.greedy_column.proofs.moment.Moment.join_pairs.Goals as goal
+use Rattle.greedy_column.proofs.moment.Moment.join_and_end.Goals as goal
 
 pub returns-clause-ends : goal.returns-clause-ends
 returns-clause-ends g c =
