@@ -50,6 +50,7 @@ apart = record {
   kinds = record {
     name = [];
     columns = 1;
+    height = 40;
     terminals = record { name = []; power = false } ∷ [];
     positions = record { terminal = 0; top = true; column = 0 } ∷ [];
   } ∷ [];

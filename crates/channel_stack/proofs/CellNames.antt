@@ -20,7 +20,7 @@ use Rattle.feed_cells.specs.Fed.{Fed, IsFed, cells_in, item_width, seats_in}
 use Rattle.feed_cells.specs.declared.fed.Item.{Item}
 use Rattle.feed_cells.specs.declared.fed.Item.TheVariants.{Cell, Feed}
 use Rattle.layout_laws.specs.Heights.{channel_height}
-use Rattle.channel_stack.proofs.Planned.{row_heights}
+use Rattle.channel_stack.proofs.Planned.{height_of_row, row_heights}
 use Rattle.channel_stack.specs.Layouts.{item_shapes, row_cells, row_shapes, stacked_cells}
 use Rattle.channel_stack.specs.declared.placed.PlacedItem.{PlacedItem}
 use Rattle.channel_stack.specs.Stack.{item_place, placed_from}
@@ -43,19 +43,19 @@ name_at d n = name_in (slice_get d.instances n)
 
 module _ (r : RuleValues) (d : Netlist) where
   -- the cells of a row have the names of their seats' instances
-  row-names : (first base left : ℕ) (items : List Item) → AllByRecursion (IsKnown d) items
-      → names_of (row_cells r d d.height first (placed_from r d base left items)) ≡ map (name_at d) (instances_in (seats_in items))
-  row-names first base left [] known = refl
-  row-names first base left (Cell s ∷ items) known =
+  row-names : (first base height left : ℕ) (items : List Item) → AllByRecursion (IsKnown d) items
+      → names_of (row_cells r d height first (placed_from r d base left items)) ≡ map (name_at d) (instances_in (seats_in items))
+  row-names first base height left [] known = refl
+  row-names first base height left (Cell s ∷ items) known =
       let place : Place = item_place r d base left (Cell s) in
       let here : KnownCell d s = known.0 in
-      let next : ℕ = first + length (item_shapes r d d.height (record { item = Cell s; place = place })) in
-      let more : List layouts.Cell = row_cells r d d.height next (placed_from r d base (left + item_width d (Cell s)) items) in
+      let next : ℕ = first + length (item_shapes r d height (record { item = Cell s; place = place })) in
+      let more : List layouts.Cell = row_cells r d height next (placed_from r d base (left + item_width d (Cell s)) items) in
       ap (λ (l : List layouts.Cell). names_of (l ++ more)) (one-cell r d first s place here)
-      ∙ ap (λ (l : List (List ℕ)). here.inst.name ∷ l) (row-names next base (left + item_width d (Cell s)) items known.1)
+      ∙ ap (λ (l : List (List ℕ)). here.inst.name ∷ l) (row-names next base height (left + item_width d (Cell s)) items known.1)
       ∙ ap (λ (o : Option Inst). name_in o ∷ map (name_at d) (instances_in (seats_in items))) (sym here.is_instance)
-  row-names first base left (Feed net ∷ items) known =
-      row-names (first + length (item_shapes r d d.height (record { item = Feed net; place = item_place r d base left (Feed net) }))) base (left + item_width d (Feed net)) items known.1
+  row-names first base height left (Feed net ∷ items) known =
+      row-names (first + length (item_shapes r d height (record { item = Feed net; place = item_place r d base left (Feed net) }))) base height (left + item_width d (Feed net)) items known.1
 
   -- the cells of all rows have the names of all seats' instances
   levels-names : (first base : ℕ) (ws : List Wiring) (rows : List (List Item)) → length ws ≡ length rows + 1 → AllByRecursion (AllByRecursion (IsKnown d)) rows
@@ -64,13 +64,14 @@ module _ (r : RuleValues) (d : Netlist) where
   levels-names first base (w ∷ ws) [] each known = refl
   levels-names first base (w ∷ ws) (items ∷ rows) each known =
       let floor : ℕ = base + channel_height r w in
-      let next : ℕ = floor + d.height in
+      let tall : ℕ = height_of_row d items in
+      let next : ℕ = floor + tall in
       let placed : List PlacedItem = placed_from r d floor 0 items in
       let second : ℕ = first + length (drawing r base w) in
-      let third : ℕ = second + length (row_shapes r d d.height placed) in
+      let third : ℕ = second + length (row_shapes r d tall placed) in
       let above : List layouts.Cell = stacked_cells r d (row_heights d rows) third (channels_on r d next ws rows) (rows_on r d next ws rows) in
-      map-append (λ (c : layouts.Cell). c.name) (row_cells r d d.height second placed) above
-      ∙ ap (λ (l : List (List ℕ)). l ++ names_of above) (row-names second floor 0 items known.0)
+      map-append (λ (c : layouts.Cell). c.name) (row_cells r d tall second placed) above
+      ∙ ap (λ (l : List (List ℕ)). l ++ names_of above) (row-names second floor tall 0 items known.0)
       ∙ ap (λ (l : List (List ℕ)). map (name_at d) (instances_in (seats_in items)) ++ l) (levels-names third next ws rows (omega arith) known.1)
       ∙ sym (map-append (name_at d) (instances_in (seats_in items)) (all_instances (cells_in rows)))
 

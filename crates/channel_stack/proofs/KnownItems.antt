@@ -1,7 +1,6 @@
 use Rattle.std.proofs.Common.{◌≡◌, ap, sym, ◌∙◌, subst, ℕ, ◌<◌, ◌≤◌, List, [], ◌∷◌, ◌++◌, length, map, Option, Some, None, Contains, arith, inl, inr}
 use Rattle.std.proofs.lemmas.List.Elements.{All-contains, All-weaker}
 use Rattle.std.proofs.lemmas.List.Sorted.{Contains-permutation, IsPermutation-sym}
-use Rattle.std.proofs.lemmas.Option.{slice_get_within}
 use Rattle.std.specs.List.{AllByRecursion, range_with_len}
 use Rattle.std.specs.Prelude.{slice_get}
 use Rattle.tech_rules.specs.Rules.{RuleValues, ValidRules}
@@ -11,16 +10,17 @@ use Rattle.design_model.specs.declared.design.CellKind.{CellKind}
 use Rattle.design_model.specs.declared.design.Inst.{Inst}
 use Rattle.design_model.specs.declared.design.Position.{Position}
 use Rattle.design_model.specs.Room.{HasRoom}
+use Rattle.design_model.proofs.RoomLaws.{kind-level, kind-room}
 use Rattle.geom_core.specs.Moving.{moved_shape, turn_at}
 use Rattle.wire_geom.specs.declared.drawn.Drawn.{Drawn}
 use Rattle.row_model.specs.Rows.{ArePlaced, all_instances, instances_in}
-use Rattle.row_model.specs.Widths.{kind_of}
+use Rattle.row_model.specs.Widths.{cell_height, height_of, kind_of}
 use Rattle.row_model.specs.declared.rows.Seat.{Seat}
 use Rattle.feed_cells.specs.Fed.{Fed, cells_in, seats_in}
 use Rattle.feed_cells.specs.declared.fed.Item.{Item}
 use Rattle.feed_cells.specs.declared.fed.Item.TheVariants.{Cell, Feed}
 use Rattle.channel_stack.specs.Layouts.{item_shapes, kind_drawing}
-use Rattle.channel_stack.proofs.Planned.{seat_drawn, seat_of}
+use Rattle.channel_stack.proofs.Planned.{item_drawn}
 use Rattle.channel_stack.specs.Stack.{item_place}
 use Rattle.channel_stack.proofs.PlacedShapes.{cell-drawn, feed-drawn}
 use Rattle.std_laws.proofs.Places.{at-place}
@@ -36,6 +36,7 @@ pub record KnownCell (d : Netlist) (s : Seat) : Type 0 where
   pub is_kind : slice_get d.kinds inst.kind ≡ Some kind
   pub is_kind_of : kind_of d s.instance ≡ Some kind
   pub good : IsKind kind
+  pub level : kind.height ≡ d.height
 
 -- an item has a drawing: a cell's instance is of the design
 abbrev pub IsKnown : Netlist → Item → Type 0
@@ -53,6 +54,7 @@ instance-known d is s inst at =
       is_kind = kind.1;
       is_kind_of = ap (λ (o : Option Inst). kind_in o) at ∙ kind.1;
       good = All-contains IsKind d.kinds kind.0 is.kinds (get-contains d.kinds inst.kind kind.0 kind.1);
+      level = kind-level d is inst.kind kind.0 kind.1;
     }
   where
     kind_in : Option Inst → Option CellKind
@@ -145,21 +147,21 @@ module _ (d : Netlist) (fed : Fed) (placed : ArePlaced d (cells_in fed.rows)) wh
       (λ k items at. every-from-get (IsKnown d) items
       (λ j item there. item-known is items (get-contains fed.rows k items at) item (get-contains items j item there)))
 
--- the drawing of a cell's kind, copied to the cell's place, is that of its seat
+-- the drawing of a cell's kind, copied to the cell's place, is that of the cell
 pub known-drawn : (r : RuleValues) → ValidRules r → (d : Netlist) → HasRoom r d → (s : Seat)
-    → (known : KnownCell d s) → (base left : ℕ)
-    → map (moved_shape (turn_at (item_place r d base left (Cell s)))) (drawing_of r d.height known.kind)
-    ≡ map (λ (a : Drawn). a.shape) (seat_drawn r base d.height left (seat_of r d (Cell s)))
-known-drawn r valid d room s known base left =
-    let some : 0 < length d.kinds = (let w = slice_get_within d.kinds known.inst.kind known.kind known.is_kind in omega arith) in
-    let high : r.grid.pin ≤ d.height = (let h = room some in omega arith) in
-    cell-drawn r valid d high s known.kind base left known.is_kind_of
+    → (known : KnownCell d s) → (base height left : ℕ)
+    → map (moved_shape (turn_at (item_place r d base left (Cell s)))) (drawing_of r known.kind)
+    ≡ map (λ (a : Drawn). a.shape) (item_drawn r d base height left (Cell s))
+known-drawn r valid d room s known base height left =
+    let same : cell_height d s.instance ≡ known.kind.height = ap height_of known.is_kind_of in
+    let high : r.grid.pin ≤ cell_height d s.instance = (let h = kind-room r d room known.inst.kind known.kind known.is_kind in omega (arith, same)) in
+    cell-drawn r valid d s high known.kind base height left known.is_kind_of
     (All-weaker (IsPosition known.kind) (λ (p : Position). p.column < known.kind.columns) (λ p is. is.column) known.kind.positions known.good.positions)
 
--- the shapes of an item are those of its seat
-pub item-drawn : (r : RuleValues) → ValidRules r → (d : Netlist) → HasRoom r d → (item : Item) → IsKnown d item → (base left : ℕ)
-    → item_shapes r d d.height (record { item = item; place = item_place r d base left item }) ≡ map (λ (a : Drawn). a.shape) (seat_drawn r base d.height left (seat_of r d item))
-item-drawn r valid d room (Cell s) known base left =
-    ap (λ (o : Option CellKind). map (moved_shape (turn_at (item_place r d base left (Cell s)))) (kind_drawing r d.height o)) known.is_kind_of
-    ∙ known-drawn r valid d room s known base left
-item-drawn r valid d room (Feed net) known base left = feed-drawn r valid d net base left
+-- the shapes of an item are those that are drawn for it
+pub item-drawn : (r : RuleValues) → ValidRules r → (d : Netlist) → HasRoom r d → (item : Item) → IsKnown d item → (base height left : ℕ)
+    → item_shapes r d height (record { item = item; place = item_place r d base left item }) ≡ map (λ (a : Drawn). a.shape) (item_drawn r d base height left item)
+item-drawn r valid d room (Cell s) known base height left =
+    ap (λ (o : Option CellKind). map (moved_shape (turn_at (item_place r d base left (Cell s)))) (kind_drawing r o)) known.is_kind_of
+    ∙ known-drawn r valid d room s known base height left
+item-drawn r valid d room (Feed net) known base height left = feed-drawn r valid d height net base left

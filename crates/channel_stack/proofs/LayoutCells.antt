@@ -23,7 +23,7 @@ use Rattle.feed_cells.specs.declared.fed.Item.TheVariants.{Cell, Feed}
 use Rattle.layout_laws.specs.Heights.{channel_height}
 use Rattle.layout_laws.proofs.Plans.{plan_drawn, row_base}
 use Rattle.channel_stack.specs.Layouts.{cell_at, channel_shapes, instance_cells, item_cells, item_shapes, kind_cells, row_cells, row_shapes, stacked_cells}
-use Rattle.channel_stack.proofs.Planned.{plan_of, row_drawn, row_heights, seat_drawn, seat_of}
+use Rattle.channel_stack.proofs.Planned.{cell_drawn, height_of_row, item_drawn, plan_of, row_drawn, row_heights}
 use Rattle.channel_stack.specs.declared.placed.PlacedItem.{PlacedItem}
 use Rattle.channel_stack.specs.Stack.{item_place, placed_from}
 use Rattle.channel_stack.proofs.KnownItems.{IsKnown, KnownCell, item-drawn, rows-known}
@@ -62,9 +62,9 @@ stood-right cells more first next drawn further cell own behind s =
 
 -- the one cell of a known seat
 pub one-cell : (r : RuleValues) (d : Netlist) (first : ℕ) (s : Seat) (place : Place) (known : KnownCell d s)
-    → item_cells r d first (Cell s) place ≡ cell_at r d.height known.inst known.kind place first ∷ []
+    → item_cells r d first (Cell s) place ≡ cell_at r known.inst known.kind place first ∷ []
 one-cell r d first s place known =
-    ap (instance_cells r d place first) known.is_instance ∙ ap (kind_cells r d.height known.inst place first) known.is_kind
+    ap (instance_cells r d place first) known.is_instance ∙ ap (kind_cells r known.inst place first) known.is_kind
 
 module _ (r : RuleValues) (valid : ValidRules r) (d : Netlist) (room : HasRoom r d) where
   -- shapes that are those of rectangles are as many
@@ -73,47 +73,40 @@ module _ (r : RuleValues) (valid : ValidRules r) (d : Netlist) (room : HasRoom r
 
   -- the cell of a known seat, and the rectangles that are drawn for it
   abbrev cell_in : ℕ → ℕ → (s : Seat) → KnownCell d s → ℕ → layouts.Cell
-  cell_in base left s known first = cell_at r d.height known.inst known.kind (item_place r d base left (Cell s)) first
+  cell_in base left s known first = cell_at r known.inst known.kind (item_place r d base left (Cell s)) first
 
   abbrev own_of : ℕ → ℕ → Seat → List Drawn
-  own_of base left s = seat_drawn r base d.height left (seat_of r d (Cell s))
-
-  -- an item is as wide as its seat
-  same_left : (item : Item) (left : ℕ) → left + item_width d item ≡ left + (seat_of r d item).width
-  same_left (Cell s) left = refl
-  same_left (Feed net) left = refl
+  own_of base left s = cell_drawn r d base left s
 
   -- the cell of a row behind these items
   row-stood : (front : List Item) (s : Seat) (back : List Item) → AllByRecursion (IsKnown d) (front ++ Cell s ∷ back) → (known : KnownCell d s)
-      → (first base left at : ℕ) → left + items_width d front ≡ at
-      → Stood (row_cells r d d.height first (placed_from r d base left (front ++ Cell s ∷ back))) first (row_drawn r base d.height left (map (seat_of r d) (front ++ Cell s ∷ back)))
+      → (first base height left at : ℕ) → left + items_width d front ≡ at
+      → Stood (row_cells r d height first (placed_from r d base left (front ++ Cell s ∷ back))) first (row_drawn r d base height left (front ++ Cell s ∷ back))
       (cell_in base at s known) (own_of base at s)
-  row-stood [] s back all known first base left at there =
-      subst (λ (n : ℕ). Stood (row_cells r d d.height first (placed_from r d base left (Cell s ∷ back))) first (row_drawn r base d.height left (map (seat_of r d) (Cell s ∷ back)))
+  row-stood [] s back all known first base height left at there =
+      subst (λ (n : ℕ). Stood (row_cells r d height first (placed_from r d base left (Cell s ∷ back))) first (row_drawn r d base height left (Cell s ∷ back))
       (cell_in base n s known) (own_of base n s)) (let e : left ≡ at = omega arith in e)
       (record {
         number = 0;
         start = 0;
         at =
-            ap (λ (l : List layouts.Cell). slice_get (l ++ row_cells r d d.height (first + length (item_shapes r d d.height (record { item = Cell s; place = item_place r d base left (Cell s) })))
+            ap (λ (l : List layouts.Cell). slice_get (l ++ row_cells r d height (first + length (item_shapes r d height (record { item = Cell s; place = item_place r d base left (Cell s) })))
             (placed_from r d base (left + item_width d (Cell s)) back)) 0) (one-cell r d first s (item_place r d base left (Cell s)) known)
             ∙ ap (λ (n : ℕ). Some (cell_in base left s known n)) (omega arith);
-        part = record { before = []; after = row_drawn r base d.height (left + item_width d (Cell s)) (map (seat_of r d) back); is = refl; at = refl };
+        part = record { before = []; after = row_drawn r d base height (left + item_width d (Cell s)) back; is = refl; at = refl };
       })
-  row-stood (item ∷ front) s back all known first base left at there =
+  row-stood (item ∷ front) s back all known first base height left at there =
       let items : List Item = front ++ Cell s ∷ back in
       let next : ℕ = left + item_width d item in
       let wide : items_width d (item ∷ front) ≡ item_width d item + items_width d front =
       sum_by-cons (λ (n : ℕ). n) (item_width d item) (map (item_width d) front) in
       let placed : PlacedItem = record { item = item; place = item_place r d base left item } in
-      let own : List Drawn = seat_drawn r base d.height left (seat_of r d item) in
-      let even : length (item_shapes r d d.height placed) ≡ length own = even-of (item_shapes r d d.height placed) own (item-drawn r valid d room item all.0 base left) in
-      let behind : ℕ = first + length (item_shapes r d d.height placed) in
-      stood-right (row_cells r d d.height behind (placed_from r d base next items)) (item_cells r d first item placed.place) first behind
-      (row_drawn r base d.height (left + (seat_of r d item).width) (map (seat_of r d) items)) own (cell_in base at s known) (own_of base at s) (omega arith)
-      (subst (λ (n : ℕ). Stood (row_cells r d d.height behind (placed_from r d base next items)) behind (row_drawn r base d.height n (map (seat_of r d) items))
-      (cell_in base at s known) (own_of base at s))
-      (same_left item left) (row-stood front s back all.1 known behind base next at (omega arith)))
+      let own : List Drawn = item_drawn r d base height left item in
+      let even : length (item_shapes r d height placed) ≡ length own = even-of (item_shapes r d height placed) own (item-drawn r valid d room item all.0 base height left) in
+      let behind : ℕ = first + length (item_shapes r d height placed) in
+      stood-right (row_cells r d height behind (placed_from r d base next items)) (item_cells r d first item placed.place) first behind
+      (row_drawn r d base height next items) own (cell_in base at s known) (own_of base at s) (omega arith)
+      (row-stood front s back all.1 known behind base height next at (omega arith))
 
   -- the cell of a seat of row k, behind these items of its row
   stack-stood : (first base : ℕ) (ws : List Wiring) (rows : List (List Item)) → length ws ≡ length rows + 1 → AllByRecursion (AllByRecursion (IsKnown d)) rows
@@ -124,33 +117,35 @@ module _ (r : RuleValues) (valid : ValidRules r) (d : Netlist) (room : HasRoom r
   stack-stood first base [] (items ∷ rows) each all k front s back at known = absurd (omega arith)
   stack-stood first base (w ∷ ws) (items ∷ rows) each all zero front s back at known =
       let floor : ℕ = base + channel_height r w in
-      let next : ℕ = floor + d.height in
+      let tall : ℕ = height_of_row d items in
+      let next : ℕ = floor + tall in
       let is : items ≡ front ++ Cell s ∷ back = same_Some items (front ++ Cell s ∷ back) at in
       let wires : List Drawn = drawing r base w in
       let placed : List PlacedItem = placed_from r d floor 0 items in
       let behind : ℕ = first + length wires in
-      let above : List layouts.Cell = stacked_cells r d (row_heights d rows) (behind + length (row_shapes r d d.height placed)) (channels_on r d next ws rows) (rows_on r d next ws rows) in
+      let above : List layouts.Cell = stacked_cells r d (row_heights d rows) (behind + length (row_shapes r d tall placed)) (channels_on r d next ws rows) (rows_on r d next ws rows) in
       let cell : ℕ → layouts.Cell = cell_in floor (items_width d front) s known in
       let own : List Drawn = own_of floor (items_width d front) s in
-      let row : Stood (row_cells r d d.height behind placed) behind (row_drawn r floor d.height 0 (map (seat_of r d) items)) cell own =
-      subst (λ (l : List Item). Stood (row_cells r d d.height behind (placed_from r d floor 0 l)) behind (row_drawn r floor d.height 0 (map (seat_of r d) l)) cell own) (sym is)
-      (row-stood front s back (subst (AllByRecursion (IsKnown d)) is all.0) known behind floor 0 (items_width d front) (omega arith)) in
-      stood-right (row_cells r d d.height behind placed ++ above) [] first behind (row_drawn r floor d.height 0 (map (seat_of r d) items) ++ levels r d next ws rows) wires cell own refl
-      (stood-left (row_cells r d d.height behind placed) above behind (row_drawn r floor d.height 0 (map (seat_of r d) items)) (levels r d next ws rows) cell own row)
+      let row : Stood (row_cells r d tall behind placed) behind (row_drawn r d floor tall 0 items) cell own =
+      subst (λ (l : List Item). Stood (row_cells r d tall behind (placed_from r d floor 0 l)) behind (row_drawn r d floor tall 0 l) cell own) (sym is)
+      (row-stood front s back (subst (AllByRecursion (IsKnown d)) is all.0) known behind floor tall 0 (items_width d front) (omega arith)) in
+      stood-right (row_cells r d tall behind placed ++ above) [] first behind (row_drawn r d floor tall 0 items ++ levels r d next ws rows) wires cell own refl
+      (stood-left (row_cells r d tall behind placed) above behind (row_drawn r d floor tall 0 items) (levels r d next ws rows) cell own row)
   stack-stood first base (w ∷ ws) (items ∷ rows) each all (suc k) front s back at known =
       let floor : ℕ = base + channel_height r w in
-      let next : ℕ = floor + d.height in
+      let tall : ℕ = height_of_row d items in
+      let next : ℕ = floor + tall in
       let wires : List Drawn = drawing r base w in
       let placed : List PlacedItem = placed_from r d floor 0 items in
-      let row : List Drawn = row_drawn r floor d.height 0 (map (seat_of r d) items) in
-      let even : length (row_shapes r d d.height placed) ≡ length row = even-of (row_shapes r d d.height placed) row (row-shapes r valid d room items all.0 floor 0) in
+      let row : List Drawn = row_drawn r d floor tall 0 items in
+      let even : length (row_shapes r d tall placed) ≡ length row = even-of (row_shapes r d tall placed) row (row-shapes r valid d room items all.0 floor tall 0) in
       let behind : ℕ = first + length wires in
-      let last : ℕ = behind + length (row_shapes r d d.height placed) in
+      let last : ℕ = behind + length (row_shapes r d tall placed) in
       let above : List layouts.Cell = stacked_cells r d (row_heights d rows) last (channels_on r d next ws rows) (rows_on r d next ws rows) in
       let cell : ℕ → layouts.Cell = cell_in (row_floor r d next ws rows k) (items_width d front) s known in
       let own : List Drawn = own_of (row_floor r d next ws rows k) (items_width d front) s in
-      stood-right (row_cells r d d.height behind placed ++ above) [] first behind (row ++ levels r d next ws rows) wires cell own refl
-      (stood-right above (row_cells r d d.height behind placed) behind last (levels r d next ws rows) row cell own (omega arith)
+      stood-right (row_cells r d tall behind placed ++ above) [] first behind (row ++ levels r d next ws rows) wires cell own refl
+      (stood-right above (row_cells r d tall behind placed) behind last (levels r d next ws rows) row cell own (omega arith)
       (stack-stood last next ws rows (omega arith) all.1 k front s back at known))
 
 -- the cell of a seat of row k behind these items: its number, the number of its first shape, and the plan's rectangles from there on
@@ -158,8 +153,8 @@ pub record CellStands (r : RuleValues) (d : Netlist) (fed : Fed) (ws : List Wiri
   pub number : ℕ
   pub first : ℕ
   pub at : slice_get (stack_layout r d fed ws).cells number
-      ≡ Some (cell_at r d.height inst kind (item_place r d (row_base r (plan_of r d fed ws) k) (items_width d front) (Cell s)) first)
-  pub part : Part (plan_drawn r (plan_of r d fed ws)) first (seat_drawn r (row_base r (plan_of r d fed ws) k) d.height (items_width d front) (seat_of r d (Cell s)))
+      ≡ Some (cell_at r inst kind (item_place r d (row_base r (plan_of r d fed ws) k) (items_width d front) (Cell s)) first)
+  pub part : Part (plan_drawn r (plan_of r d fed ws)) first (cell_drawn r d (row_base r (plan_of r d fed ws) k) (items_width d front) s)
 
 -- each seat of a row has a cell
 pub cell-stands : (r : RuleValues) → ValidRules r → (d : Netlist) → IsNetlist d → HasRoom r d
@@ -168,7 +163,7 @@ pub cell-stands : (r : RuleValues) → ValidRules r → (d : Netlist) → IsNetl
     → CellStands r d fed ws k front s known.inst known.kind
 cell-stands r valid d is room fed from ws each k front s back at known =
     let stood = stack-stood r valid d room 0 0 ws fed.rows each (rows-known d fed from.placed is) k front s back at known in
-    let cell : ℕ → layouts.Cell = cell_at r d.height known.inst known.kind (item_place r d (row_floor r d 0 ws fed.rows k) (items_width d front) (Cell s)) in
+    let cell : ℕ → layouts.Cell = cell_at r known.inst known.kind (item_place r d (row_floor r d 0 ws fed.rows k) (items_width d front) (Cell s)) in
     record {
       number = stood.number;
       first = stood.start;

@@ -15,7 +15,7 @@ use Rattle.feed_cells.specs.declared.fed.Item.{Item}
 use Rattle.feed_cells.specs.declared.fed.Item.TheVariants.{Cell}
 use Rattle.layout_laws.proofs.Plans.{plan_drawn, row_base}
 use Rattle.channel_stack.specs.Layouts.{cell_at}
-use Rattle.channel_stack.proofs.Planned.{plan_of, seat_drawn, seat_of, upright_drawn, upright_of}
+use Rattle.channel_stack.proofs.Planned.{cell_drawn, plan_of, upright_drawn, upright_of}
 use Rattle.channel_stack.proofs.Shown.{DrawsSeat, DrawsSeats}
 use Rattle.channel_stack.specs.Stack.{item_place}
 use Rattle.channel_stack.proofs.KnownItems.{KnownCell, item-known}
@@ -25,9 +25,9 @@ use Rattle.std_laws.proofs.Members.{member-head, get-contains}
 use Rattle.std_laws.proofs.Places.{map-at}
 use Rattle.std_laws.proofs.Parts.{part-get}
 
--- a position of a seat stands behind the seat's outline
+-- a pin of a cell stands behind the cell's outline
 pub upright-at : (r : RuleValues) (d : Netlist) (base left : ℕ) (s : Seat) (i : ℕ) (p : Position) → slice_get (positions_of d s.instance) i ≡ Some p
-    → slice_get (seat_drawn r base d.height left (seat_of r d (Cell s))) (suc i) ≡ Some (upright_drawn r base left (upright_of r d s p))
+    → slice_get (cell_drawn r d base left s) (suc i) ≡ Some (upright_drawn r base left (upright_of r d s p))
 upright-at r d base left s i p at =
     map-at (upright_drawn r base left) (map (upright_of r d s) (positions_of d s.instance)) i (upright_of r d s p) (map-at (upright_of r d s) (positions_of d s.instance) i p at)
 
@@ -39,7 +39,7 @@ seat-draws r d fed ws k front s known c = record {
   positions = λ i p at. record {
     shape = c.first + 1 + i;
     draws = record {
-      copy = cell_at r d.height known.inst known.kind (item_place r d (row_base r (plan_of r d fed ws) k) (items_width d front) (Cell s)) c.first;
+      copy = cell_at r known.inst known.kind (item_place r d (row_base r (plan_of r d fed ws) k) (items_width d front) (Cell s)) c.first;
       inst = known.inst;
       kind = known.kind;
       place = i;
@@ -53,7 +53,7 @@ seat-draws r d fed ws k front s known c = record {
       number = refl;
     };
     at =
-        part-get (plan_drawn r (plan_of r d fed ws)) c.first (seat_drawn r (row_base r (plan_of r d fed ws) k) d.height (items_width d front) (seat_of r d (Cell s))) c.part
+        part-get (plan_drawn r (plan_of r d fed ws)) c.first (cell_drawn r d (row_base r (plan_of r d fed ws) k) (items_width d front) s) c.part
         (suc i) (c.first + 1 + i) (upright_drawn r (row_base r (plan_of r d fed ws) k) (items_width d front) (upright_of r d s p))
         (upright-at r d (row_base r (plan_of r d fed ws) k) (items_width d front) s i p at) (omega arith);
   };

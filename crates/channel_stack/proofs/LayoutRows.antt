@@ -1,8 +1,9 @@
-use Rattle.std.proofs.Common.{◌≡◌, ◌≢◌, refl, ap, sym, ◌∙◌, subst, inl, inr, ℕ, zero, suc, ◌+◌, ◌*◌, ◌<◌, ◌≤◌, List, [], ◌∷◌, ◌++◌, length, map, Some, arith}
+use Rattle.std.proofs.Common.{◌≡◌, ◌≢◌, refl, ap, sym, ◌∙◌, subst, inl, inr, ℕ, zero, suc, ◌+◌, ◌*◌, ◌<◌, ◌≤◌, List, [], ◌∷◌, ◌++◌, length, map, Some, Contains, arith}
 use Rattle.std.proofs.Math.Nat.{mul-le-mul_right}
 use Rattle.std.proofs.lemmas.Bool.{cases_lt}
 use Rattle.std.proofs.lemmas.Int.{ints}
 use Rattle.std.proofs.lemmas.Option.{none-some, same_Some, slice_get_within}
+use Rattle.std.specs.List.{AllByRecursion}
 use Rattle.std.specs.Prelude.{pos, slice_get, ◌⊎◌, ◌≤ℤ◌}
 use Rattle.geom_core.specs.Extent.{Extent}
 use Rattle.geom_core.specs.declared.layout.Shape.{Shape}
@@ -16,13 +17,16 @@ use Rattle.channel_model.specs.declared.wiring.Wiring.{Wiring}
 use Rattle.wire_geom.specs.Drawing.{Mask, on_horizontal, on_vertical, on_cut, name_of, drawn_by, drawn_of, drawing, pieces_of}
 use Rattle.wire_geom.specs.Grid.{scaled}
 use Rattle.wire_geom.specs.declared.drawn.Drawn.{Drawn}
-use Rattle.feed_cells.specs.Fed.{Fed, IsFed}
+use Rattle.feed_cells.specs.Fed.{Fed, IsFed, item_width}
 use Rattle.feed_cells.specs.declared.fed.Item.{Item}
+use Rattle.feed_cells.specs.declared.fed.Item.TheVariants.{Cell, Feed}
 use Rattle.layout_laws.specs.Heights.{channel_height}
 use Rattle.layout_laws.proofs.Plans.{plan_drawn}
-use Rattle.layout_laws.proofs.Seats.{Seat, Upright}
-use Rattle.channel_stack.proofs.Planned.{outline_drawn, plan_of, row_drawn, seat_drawn, seat_of, upright_drawn}
+use Rattle.layout_laws.proofs.Seats.{Upright}
+use Rattle.channel_stack.proofs.Planned.{height_of_row, item_drawn, item_height, item_wires, outline_drawn, plan_of, row_drawn, upright_drawn}
+use Rattle.channel_stack.proofs.RowHeights.{cell-within}
 use Rattle.channel_stack.proofs.LayoutShapes.{levels, plan-levels, stack-shapes, stack_layout}
+use Rattle.std_laws.proofs.Every.{every-from-get}
 use Rattle.std_laws.proofs.Members.{get-contains, map-cases, Contains-flat_map_cases}
 use Rattle.std_laws.proofs.Places.{map-get, get-either}
 
@@ -37,7 +41,7 @@ IsOutline r a = a.shape.layer ≡ r.outline.layer
 
 record InRow (r : RuleValues) (base height left : ℕ) (a : Drawn) : Type 0 where
   pub low : a.shape.rect.y0 ≡ scaled r (2 * base)
-  pub high : a.shape.rect.y1 ≡ scaled r (2 * (base + height))
+  pub high : a.shape.rect.y1 ≤ℤ scaled r (2 * (base + height))
   pub from : scaled r (2 * (left * r.grid.column)) ≤ℤ a.shape.rect.x0
 
 abbrev AreInRow : RuleValues → ℕ → ℕ → ℕ → List Drawn → Type 0
@@ -92,16 +96,6 @@ module _ (r : RuleValues) (valid : ValidRules r) where
       let upright = map-get (upright_drawn r base left) uprights i a at in
       valid.layers.vertical_outline (ap (λ (x : Drawn). x.shape.layer) upright.2 ∙ out)
 
-  -- the one outline of a seat
-  seat-outline : (base height left : ℕ) (seat : Seat) (i : ℕ) (a : Drawn) → slice_get (seat_drawn r base height left seat) i ≡ Some a → IsOutline r a
-      → a ≡ outline_drawn r base height left (left + seat.width)
-  seat-outline base height left seat zero a at out = sym (same_Some _ a at)
-  seat-outline base height left seat (suc i) a at out = absurd (uprights-wires base left seat.uprights i a at out)
-
-  seat-order : (base height left : ℕ) (seat : Seat) → InOrder r (seat_drawn r base height left seat)
-  seat-order base height left seat i zero a b before at_a at_b out other = absurd (omega arith)
-  seat-order base height left seat i (suc j) a b before at_a at_b out other = absurd (uprights-wires base left seat.uprights j b at_b other)
-
   -- an outline farther to the right is one from here on
   row-nearer : (base height left right : ℕ) (a : Drawn) → left ≤ right → InRow r base height right a → InRow r base height left a
   row-nearer base height left right a le a_in =
@@ -109,40 +103,68 @@ module _ (r : RuleValues) (valid : ValidRules r) where
       let up = scaled-up r (2 * (left * r.grid.column)) (2 * (right * r.grid.column)) (omega arith) in
       record { low = a_in.low; high = a_in.high; from = (let e = a_in.from in omega (arith, ints)) }
 
-  -- the outlines of a row stand in it
-  row-in : (base height left : ℕ) (seats : List Seat) → AreInRow r base height left (row_drawn r base height left seats)
-  row-in base height left [] i a at out = absurd (none-some a at)
-  row-in base height left (seat ∷ seats) i a at out =
-      elim (get-either (seat_drawn r base height left seat) (row_drawn r base height (left + seat.width) seats) i a at) [
-        | inl here ↦ subst (InRow r base height left) (sym (seat-outline base height left seat i a here out))
-            (record { low = refl; high = refl; from = scaled-up r (2 * (left * r.grid.column)) (2 * (left * r.grid.column)) (omega arith) })
-        | inr there ↦ row-nearer base height left (left + seat.width) a (omega arith) (row-in base height (left + seat.width) seats there.0 a there.2 out)
-      ]
-
-  -- and side by side
-  row-order : (base height left : ℕ) (seats : List Seat) → InOrder r (row_drawn r base height left seats)
-  row-order base height left [] = λ i j a b before at_a at_b out other. absurd (none-some a at_a)
-  row-order base height left (seat ∷ seats) =
-      order-append r (seat_drawn r base height left seat) (row_drawn r base height (left + seat.width) seats) (seat-order base height left seat)
-      (row-order base height (left + seat.width) seats)
-      (λ i j a b at_a at_b out other.
-      let is = seat-outline base height left seat i a at_a out in
-      let next = row-in base height (left + seat.width) seats j b at_b other in
-      subst (λ (x : Drawn). Follows x.shape.rect b.shape.rect) (sym is) (beside (record { low = sym next.low; high = sym next.high }) next.from))
-
   module _ (d : Netlist) where
+    -- the one outline of an item
+    item-outline : (base height left : ℕ) (item : Item) (i : ℕ) (a : Drawn) → slice_get (item_drawn r d base height left item) i ≡ Some a → IsOutline r a
+        → a ≡ outline_drawn r base (item_height d height item) left (left + item_width d item)
+    item-outline base height left item zero a at out = sym (same_Some _ a at)
+    item-outline base height left item (suc i) a at out = absurd (uprights-wires base left (item_wires r d height item) i a at out)
+
+    item-order : (base height left : ℕ) (item : Item) → InOrder r (item_drawn r d base height left item)
+    item-order base height left item i zero a b before at_a at_b out other = absurd (omega arith)
+    item-order base height left item i (suc j) a b before at_a at_b out other = absurd (uprights-wires base left (item_wires r d height item) j b at_b other)
+
+    -- the outlines of a row stand in it
+    row-in : (base height left : ℕ) (items : List Item) → AllByRecursion (λ (item : Item). item_height d height item ≤ height) items
+        → AreInRow r base height left (row_drawn r d base height left items)
+    row-in base height left [] low i a at out = absurd (none-some a at)
+    row-in base height left (item ∷ items) low i a at out =
+        elim (get-either (item_drawn r d base height left item) (row_drawn r d base height (left + item_width d item) items) i a at) [
+          | inl here ↦ subst (InRow r base height left) (sym (item-outline base height left item i a here out))
+              (record {
+                low = refl;
+                high = scaled-up r (2 * (base + item_height d height item)) (2 * (base + height)) (omega (arith, low.0));
+                from = scaled-up r (2 * (left * r.grid.column)) (2 * (left * r.grid.column)) (omega arith);
+              })
+          | inr there ↦
+              row-nearer base height left (left + item_width d item) a (omega arith) (row-in base height (left + item_width d item) items low.1 there.0 a there.2 out)
+        ]
+
+    -- and side by side
+    row-order : (base height left : ℕ) (items : List Item) → AllByRecursion (λ (item : Item). item_height d height item ≤ height) items
+        → InOrder r (row_drawn r d base height left items)
+    row-order base height left [] low = λ i j a b before at_a at_b out other. absurd (none-some a at_a)
+    row-order base height left (item ∷ items) low =
+        order-append r (item_drawn r d base height left item) (row_drawn r d base height (left + item_width d item) items) (item-order base height left item)
+        (row-order base height (left + item_width d item) items low.1)
+        (λ i j a b at_a at_b out other.
+        let is = item-outline base height left item i a at_a out in
+        let next = row-in base height (left + item_width d item) items low.1 j b at_b other in
+        subst (λ (x : Drawn). Follows x.shape.rect b.shape.rect) (sym is) (beside (sym next.low) next.from))
+
+    -- no item of a row is higher than the row
+    items-low : (items : List Item) → AllByRecursion (λ (item : Item). item_height d (height_of_row d items) item ≤ height_of_row d items) items
+    items-low items =
+        every-from-get (λ (item : Item). item_height d (height_of_row d items) item ≤ height_of_row d items) items
+        (λ k item at. by item (get-contains items k item at))
+      where
+        by : (item : Item) → Contains items item → item_height d (height_of_row d items) item ≤ height_of_row d items
+        by (Cell s) member = cell-within d items s member
+        by (Feed net) member = omega arith
+
     -- the outlines of channels and rows lie above the lowest channel's edge
     levels-above : (base : ℕ) (ws : List Wiring) (rows : List (List Item)) → AreAbove r base (levels r d base ws rows)
     levels-above base [] rows i a at out = absurd (none-some a at)
     levels-above base (w ∷ ws) [] i a at out = absurd (drawing-wires base w i a at out)
     levels-above base (w ∷ ws) (items ∷ rows) i a at out =
         let floor : ℕ = base + channel_height r w in
-        let next : ℕ = floor + d.height in
-        let row : List Drawn = row_drawn r floor d.height 0 (map (seat_of r d) items) in
+        let tall : ℕ = height_of_row d items in
+        let next : ℕ = floor + tall in
+        let row : List Drawn = row_drawn r d floor tall 0 items in
         elim (get-either (drawing r base w) (row ++ levels r d next ws rows) i a at) [
           | inl here ↦ absurd (drawing-wires base w i a here out)
           | inr there ↦ elim (get-either row (levels r d next ws rows) there.0 a there.2) [
-            | inl low ↦ (let e = (row-in floor d.height 0 (map (seat_of r d) items) there.0 a low out).low in
+            | inl low ↦ (let e = (row-in floor tall 0 items (items-low items) there.0 a low out).low in
                 let up = scaled-up r (2 * base) (2 * floor) (omega arith) in omega (arith, ints))
             | inr high ↦ (let e = levels-above next ws rows high.0 a high.2 out in
                 let up = scaled-up r (2 * base) (2 * next) (omega arith) in omega (arith, ints))
@@ -155,13 +177,14 @@ module _ (r : RuleValues) (valid : ValidRules r) where
     levels-order base (w ∷ ws) [] = λ i j a b before at_a at_b out other. absurd (drawing-wires base w i a at_a out)
     levels-order base (w ∷ ws) (items ∷ rows) =
         let floor : ℕ = base + channel_height r w in
-        let next : ℕ = floor + d.height in
-        let row : List Drawn = row_drawn r floor d.height 0 (map (seat_of r d) items) in
+        let tall : ℕ = height_of_row d items in
+        let next : ℕ = floor + tall in
+        let row : List Drawn = row_drawn r d floor tall 0 items in
         order-append r (drawing r base w) (row ++ levels r d next ws rows)
         (λ i j a b before at_a at_b out other. absurd (drawing-wires base w i a at_a out))
-        (order-append r row (levels r d next ws rows) (row-order floor d.height 0 (map (seat_of r d) items)) (levels-order next ws rows)
+        (order-append r row (levels r d next ws rows) (row-order floor tall 0 items (items-low items)) (levels-order next ws rows)
         (λ i j a b at_a at_b out other.
-        let e = (row-in floor d.height 0 (map (seat_of r d) items) i a at_a out).high in
+        let e = (row-in floor tall 0 items (items-low items) i a at_a out).high in
         let f = levels-above next ws rows j b at_b other in
         over (omega (arith, ints))))
         (λ i j a b at_a at_b out other. absurd (drawing-wires base w i a at_a out))
@@ -177,7 +200,7 @@ follows-rows a b (beside same right) = inl same
 follows-rows a b (over high) = inr (inl high)
 
 follows-back : (a b : Extent) → Follows b a → SameRow a b ⊎ IsBelow a b ⊎ IsBelow b a
-follows-back a b (beside same right) = inl (record { low = sym same.low; high = sym same.high })
+follows-back a b (beside same right) = inl (sym same)
 follows-back a b (over high) = inr (inr high)
 
 -- they share no inner point

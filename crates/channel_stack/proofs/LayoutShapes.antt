@@ -16,7 +16,7 @@ use Rattle.feed_cells.specs.declared.fed.Item.TheVariants.{Cell, Feed}
 use Rattle.layout_laws.specs.Heights.{channel_height}
 use Rattle.layout_laws.proofs.Plans.{Plan, drawn_to, plan_drawn}
 use Rattle.channel_stack.specs.Layouts.{channel_shapes, layout_of, row_shapes, stacked_cells, stacked_shapes}
-use Rattle.channel_stack.proofs.Planned.{plan_of, row_drawn, row_heights, seat_drawn, seat_of, wiring_at}
+use Rattle.channel_stack.proofs.Planned.{height_of_row, item_drawn, plan_of, row_drawn, row_heights, wiring_at}
 use Rattle.channel_stack.specs.Stack.{channel_bases, drawings, placed_from, placed_rows, row_bases, stack_of}
 use Rattle.channel_stack.specs.declared.placed.PlacedItem.{PlacedItem}
 use Rattle.channel_stack.proofs.StackBounds.{heights-of}
@@ -49,23 +49,18 @@ abbrev pub levels : RuleValues → Netlist → ℕ → List Wiring → List (Lis
 levels r d base [] rows = []
 levels r d base (w ∷ ws) [] = drawing r base w
 levels r d base (w ∷ ws) (items ∷ rows) =
-    drawing r base w ++ (row_drawn r (base + channel_height r w) d.height 0 (map (seat_of r d) items) ++ levels r d (base + channel_height r w + d.height) ws rows)
+    drawing r base w ++ (row_drawn r d (base + channel_height r w) (height_of_row d items) 0 items ++ levels r d (base + channel_height r w + height_of_row d items) ws rows)
 
 module _ (r : RuleValues) (valid : ValidRules r) (d : Netlist) (room : HasRoom r d) where
-  -- the shapes of a row's items are those of its seats
-  pub row-shapes : (items : List Item) → AllByRecursion (IsKnown d) items → (base left : ℕ)
-      → row_shapes r d d.height (placed_from r d base left items) ≡ channel_shapes (row_drawn r base d.height left (map (seat_of r d) items))
-  row-shapes [] known base left = refl
-  row-shapes (item ∷ items) known base left =
-      let rest : List Drawn = row_drawn r base d.height (left + (seat_of r d item).width) (map (seat_of r d) items) in
-      ap (λ (l : List Shape). l ++ row_shapes r d d.height (placed_from r d base (left + item_width d item) items)) (item-drawn r valid d room item known.0 base left)
-      ∙ ap (λ (l : List Shape). channel_shapes (seat_drawn r base d.height left (seat_of r d item)) ++ l)
-      (row-shapes items known.1 base (left + item_width d item) ∙ ap (λ (n : ℕ). channel_shapes (row_drawn r base d.height n (map (seat_of r d) items))) (same_left item left))
-      ∙ sym (map-append (λ (a : Drawn). a.shape) (seat_drawn r base d.height left (seat_of r d item)) rest)
-    where
-      same_left : (one : Item) (from : ℕ) → from + item_width d one ≡ from + (seat_of r d one).width
-      same_left (Cell s) from = refl
-      same_left (Feed net) from = refl
+  -- the shapes of a row's items are those that are drawn for them
+  pub row-shapes : (items : List Item) → AllByRecursion (IsKnown d) items → (base height left : ℕ)
+      → row_shapes r d height (placed_from r d base left items) ≡ channel_shapes (row_drawn r d base height left items)
+  row-shapes [] known base height left = refl
+  row-shapes (item ∷ items) known base height left =
+      let rest : List Drawn = row_drawn r d base height (left + item_width d item) items in
+      ap (λ (l : List Shape). l ++ row_shapes r d height (placed_from r d base (left + item_width d item) items)) (item-drawn r valid d room item known.0 base height left)
+      ∙ ap (λ (l : List Shape). channel_shapes (item_drawn r d base height left item) ++ l) (row-shapes items known.1 base height (left + item_width d item))
+      ∙ sym (map-append (λ (a : Drawn). a.shape) (item_drawn r d base height left item) rest)
 
   -- the shapes of channels and rows on one another
   levels-shapes : (base : ℕ) (ws : List Wiring) (rows : List (List Item)) → AllByRecursion (AllByRecursion (IsKnown d)) rows
@@ -74,11 +69,11 @@ module _ (r : RuleValues) (valid : ValidRules r) (d : Netlist) (room : HasRoom r
   levels-shapes base (w ∷ ws) [] known = refl
   levels-shapes base (w ∷ ws) (items ∷ rows) known =
       let floor : ℕ = base + channel_height r w in
-      let next : ℕ = floor + d.height in
-      let row : List Drawn = row_drawn r floor d.height 0 (map (seat_of r d) items) in
+      let next : ℕ = floor + height_of_row d items in
+      let row : List Drawn = row_drawn r d floor (height_of_row d items) 0 items in
       let above : List Shape = stacked_shapes r d (row_heights d rows) (channels_on r d next ws rows) (rows_on r d next ws rows) in
       ap (λ (l : List Shape). channel_shapes (drawing r base w) ++ l)
-      (ap (λ (l : List Shape). l ++ above) (row-shapes items known.0 floor 0)
+      (ap (λ (l : List Shape). l ++ above) (row-shapes items known.0 floor (height_of_row d items) 0)
       ∙ ap (λ (l : List Shape). channel_shapes row ++ l) (levels-shapes next ws rows known.1)
       ∙ sym (map-append (λ (a : Drawn). a.shape) row (levels r d next ws rows)))
       ∙ sym (map-append (λ (a : Drawn). a.shape) (drawing r base w) (row ++ levels r d next ws rows))
@@ -113,7 +108,7 @@ module _ (r : RuleValues) (d : Netlist) where
   channel_at base ws rows k = drawing r (slice_index (channel_bases r (row_heights d rows) base ws) k) (wiring_at ws k)
 
   abbrev row_at : ℕ → List Wiring → List (List Item) → ℕ → List Drawn
-  row_at base ws rows k = row_drawn r (row_floor base ws rows k) d.height 0 (map (seat_of r d) (unwrap_or (slice_get rows k) []))
+  row_at base ws rows k = row_drawn r d (row_floor base ws rows k) (height_of_row d (unwrap_or (slice_get rows k) [])) 0 (unwrap_or (slice_get rows k) [])
 
   -- the levels are the channels and rows in turn
   levels-up : (base : ℕ) (ws : List Wiring) (rows : List (List Item)) → length ws ≡ length rows + 1
@@ -122,7 +117,7 @@ module _ (r : RuleValues) (d : Netlist) where
   levels-up base (w ∷ ws) [] each = refl
   levels-up base (w ∷ ws) (items ∷ rows) each =
       let floor : ℕ = base + channel_height r w in
-      ap (λ (l : List Drawn). drawing r base w ++ (row_drawn r floor d.height 0 (map (seat_of r d) items) ++ l)) (levels-up (floor + d.height) ws rows (omega arith))
+      ap (λ (l : List Drawn). drawing r base w ++ (row_drawn r d floor (height_of_row d items) 0 items ++ l)) (levels-up (floor + height_of_row d items) ws rows (omega arith))
       ∙ sym (up-from (channel_at base (w ∷ ws) (items ∷ rows)) (row_at base (w ∷ ws) (items ∷ rows)) (length rows))
 
   -- the rectangles of the plan are the levels

@@ -30,7 +30,7 @@ use Rattle.pin_assign.proofs.EdgeLaws.{EdgePosition, edge-position}
 use Rattle.layout_laws.proofs.Labels.{ShowsPins}
 use Rattle.layout_laws.proofs.Plans.{plan_drawn, row_base}
 use Rattle.channel_stack.specs.Layouts.{cell_at, channel_shapes}
-use Rattle.channel_stack.proofs.Planned.{net_at, net_found, plan_of, seat_drawn, seat_of, upright_drawn, upright_of}
+use Rattle.channel_stack.proofs.Planned.{cell_drawn, net_at, net_found, plan_of, upright_drawn, upright_of}
 use Rattle.channel_stack.proofs.Shown.{DrawsPosition, DrawsSeat}
 use Rattle.channel_stack.specs.Stack.{item_place}
 use Rattle.channel_stack.proofs.CellNames.{named-once, stack-names}
@@ -50,7 +50,7 @@ pub record IsCellOf (r : RuleValues) (d : Netlist) (fed : Fed) (ws : List Wiring
   pub known : KnownCell d seat
   pub same_inst : known.inst ≡ inst
   pub stands : CellStands r d fed ws row front seat known.inst known.kind
-  pub is : copy ≡ cell_at r d.height known.inst known.kind (item_place r d (row_base r (plan_of r d fed ws) row) (items_width d front) (Cell seat)) stands.first
+  pub is : copy ≡ cell_at r known.inst known.kind (item_place r d (row_base r (plan_of r d fed ws) row) (items_width d front) (Cell seat)) stands.first
 
 -- an instance with a kind is one of the design
 kind-instance : (d : Netlist) (instance : ℕ) (kind : CellKind) → kind_of d instance ≡ Some kind → instance < length d.instances
@@ -86,7 +86,7 @@ module _ (r : RuleValues) (valid : ValidRules r) (d : Netlist) (is : IsNetlist d
       let seat : SeatedAt fed.rows instance = seated d fed from.placed instance (slice_get_within d.instances instance inst at_instance) in
       let known : KnownCell d seat.seat = cell-known d is fed from.placed seat.row seat.front seat.seat seat.back seat.at in
       let stands = cell-stands r valid d is room fed from ws each seat.row seat.front seat.seat seat.back seat.at known in
-      let cell : layouts.Cell = cell_at r d.height known.inst known.kind (item_place r d (row_base r (plan_of r d fed ws) seat.row) (items_width d seat.front) (Cell seat.seat)) stands.first in
+      let cell : layouts.Cell = cell_at r known.inst known.kind (item_place r d (row_base r (plan_of r d fed ws) seat.row) (items_width d seat.front) (Cell seat.seat)) stands.first in
       let same : known.inst ≡ inst = same_Some known.inst inst (sym known.is_instance ∙ ap (slice_get d.instances) seat.own ∙ at_instance) in
       let one : number ≡ stands.number = named-once r d is fed from ws each number stands.number copy cell at_cell stands.at (named ∙ sym (ap (λ (i : Inst). i.name) same)) in
       record {
@@ -119,7 +119,7 @@ module _ (r : RuleValues) (valid : ValidRules r) (d : Netlist) (is : IsNetlist d
       let first : dr.copy.first ≡ c.stands.first = ap (λ (x : layouts.Cell). x.first) c.is in
       let number : i ≡ c.stands.first + suc dr.place = (let n = dr.number in omega arith) in (
         upright_drawn r base left (upright_of r d c.seat dr.position),
-        part-get (plan_drawn r (plan_of r d fed ws)) c.stands.first (seat_drawn r base d.height left (seat_of r d (Cell c.seat))) c.stands.part
+        part-get (plan_drawn r (plan_of r d fed ws)) c.stands.first (cell_drawn r d base left c.seat) c.stands.part
             (suc dr.place) i (upright_drawn r base left (upright_of r d c.seat dr.position)) (upright-at r d base left c.seat dr.place dr.position at) number,
         refl,
         ap (λ (n : ℕ). net_at d n dr.position.terminal) c.own ∙ ap (net_at d instance) dr.of_terminal,
@@ -163,15 +163,15 @@ module _ (r : RuleValues) (valid : ValidRules r) (d : Netlist) (is : IsNetlist d
 
   -- the shapes of a seat's cell are those of its kind, under the cell's turn
   cell-shapes : (k : ℕ) (front : List Item) (s : Seat) (known : KnownCell d s) → (c : CellStands r d fed ws k front s known.inst known.kind)
-      → take (length (drawing_of r d.height known.kind)) (drop c.first (stack_layout r d fed ws).shapes)
-      ≡ map (moved_shape (turn_at (item_place r d (row_base r (plan_of r d fed ws) k) (items_width d front) (Cell s)))) (drawing_of r d.height known.kind)
+      → take (length (drawing_of r known.kind)) (drop c.first (stack_layout r d fed ws).shapes)
+      ≡ map (moved_shape (turn_at (item_place r d (row_base r (plan_of r d fed ws) k) (items_width d front) (Cell s)))) (drawing_of r known.kind)
   cell-shapes k front s known c =
       let base : ℕ = row_base r (plan_of r d fed ws) k in
       let left : ℕ = items_width d front in
-      let own : List Drawn = seat_drawn r base d.height left (seat_of r d (Cell s)) in
+      let own : List Drawn = cell_drawn r d base left s in
       let turn : (Shape → Shape) = moved_shape (turn_at (item_place r d base left (Cell s))) in
-      let drawn : map turn (drawing_of r d.height known.kind) ≡ channel_shapes own = known-drawn r valid d room s known base left in
-      let many : length (drawing_of r d.height known.kind) ≡ length (channel_shapes own) = sym (length-map (drawing_of r d.height known.kind) turn) ∙ ap length drawn in
+      let drawn : map turn (drawing_of r known.kind) ≡ channel_shapes own = known-drawn r valid d room s known base 0 left in
+      let many : length (drawing_of r known.kind) ≡ length (channel_shapes own) = sym (length-map (drawing_of r known.kind) turn) ∙ ap length drawn in
       ap (λ (n : ℕ). take n (drop c.first (stack_layout r d fed ws).shapes)) many
       ∙ ap (λ (l : List Shape). take (length (channel_shapes own)) (drop c.first l)) (stack-shapes r valid d is room fed from ws each)
       ∙ part-taken (channel_shapes (plan_drawn r (plan_of r d fed ws))) c.first (channel_shapes own)
@@ -181,11 +181,11 @@ module _ (r : RuleValues) (valid : ValidRules r) (d : Netlist) (is : IsNetlist d
   -- a cell with an instance's name is a copy of the instance's kind
   stack-copy : (number instance : ℕ) (cell : layouts.Cell) (inst : Inst) (kind : CellKind) → slice_get (stack_layout r d fed ws).cells number ≡ Some cell
       → slice_get d.instances instance ≡ Some inst → cell.name ≡ inst.name → slice_get d.kinds inst.kind ≡ Some kind
-      → IsCopyOf r d.height (stack_layout r d fed ws) kind cell
+      → IsCopyOf r (stack_layout r d fed ws) kind cell
   stack-copy number instance cell inst kind at_cell at_instance named is_kind =
       let c : IsCellOf r d fed ws number instance cell inst = cell-is number instance cell inst at_cell at_instance named in
-      subst (λ (k : CellKind). IsCopyOf r d.height (stack_layout r d fed ws) k cell) (same-kind number instance cell inst kind is_kind c)
-      (subst (λ (x : layouts.Cell). IsCopyOf r d.height (stack_layout r d fed ws) c.known.kind x) (sym c.is)
+      subst (λ (k : CellKind). IsCopyOf r (stack_layout r d fed ws) k cell) (same-kind number instance cell inst kind is_kind c)
+      (subst (λ (x : layouts.Cell). IsCopyOf r (stack_layout r d fed ws) c.known.kind x) (sym c.is)
       (record { symbol = refl; upright = refl; shapes = cell-shapes c.row c.front c.seat c.known c.stands }))
 
   -- the cells have the instances' names, each once, and each is a copy of its instance's kind

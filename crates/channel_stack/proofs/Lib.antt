@@ -6,7 +6,9 @@ pub mod Heights
 pub mod PlanBases
 -- the items of a row, and the wires that are drawn for them
 pub mod RowItems
--- an item as a seat
+-- rows are as high as their highest cells
+pub mod RowHeights
+-- an item as a seat, and what it draws within that
 pub mod PlanSeats
 -- what stands on an edge of a row, as a wire that comes there
 pub mod PlanEntries
@@ -24,7 +26,7 @@ pub mod RowPins
 pub mod PlanThreads
 -- a symbol that is copied to its place
 pub mod PlacedShapes
--- where instances are seated, and that each item has a drawing, which at its place is that of its seat
+-- where instances are seated, and that each item has a drawing, which at its place is what is drawn for it
 pub mod KnownItems
 -- the shapes of a layout are the rectangles of its plan
 pub mod LayoutShapes

@@ -9,7 +9,7 @@ use Rattle.design_model.specs.Netlist.{Netlist, IsNetlist}
 use Rattle.design_model.specs.declared.design.Pin.{Pin}
 use Rattle.design_model.specs.declared.design.Position.{Position}
 use Rattle.row_model.specs.Stands.{is_on, positions_of, turned_column}
-use Rattle.row_model.specs.Widths.{columns_of}
+use Rattle.row_model.specs.Widths.{cell_height, columns_of}
 use Rattle.feed_cells.specs.Fed.{Fed, cells_in, item_width, items_width}
 use Rattle.feed_cells.specs.declared.fed.Item.{Item}
 use Rattle.feed_cells.specs.declared.fed.Item.TheVariants.{Cell, Feed}
@@ -21,8 +21,8 @@ use Rattle.pin_assign.proofs.EdgeLaws.{edge-position, position-listed}
 use Rattle.pin_assign.proofs.TableLaws.{bottom-cause, bottom-effect, top-cause, top-effect}
 use Rattle.layout_laws.proofs.Seats.{ComesToLower, ComesToUpper, LowerNet, UpperNet, Upright, UprightAt}
 use Rattle.wire_geom.specs.Edges.{bottom_entry, top_entry}
-use Rattle.channel_stack.proofs.Planned.{feed_upright, net_at, net_found, row_seats, seat_of, upright_of}
-use Rattle.channel_stack.proofs.RowItems.{row_at, row-there, upright-stands}
+use Rattle.channel_stack.proofs.Planned.{feed_upright, height_at, net_at, net_found, reach_of, row_at, row_seats, seat_of, upright_of}
+use Rattle.channel_stack.proofs.RowItems.{row-there, upright-stands}
 use Rattle.std_laws.proofs.Members.{map-member, member-head}
 
 -- a wire comes to the upper edge where `top` holds, else to the lower one
@@ -30,9 +30,14 @@ abbrev pub Comes : ℕ → Bool → Upright → Type 0
 Comes height true u = ComesToUpper height u
 Comes height false u = ComesToLower u
 
-pub position-comes : (r : RuleValues) (d : Netlist) (s : seats.Seat) (top : Bool) (p : Position) → is_on top p ≡ true → Comes d.height top (upright_of r d s p)
-position-comes r d s true p on = ap (λ (b : Bool). cond b d.height r.grid.pin) on
-position-comes r d s false p on = ap (λ (b : Bool). cond b (d.height - r.grid.pin) 0) (not-true p.top on)
+pub position-comes : (r : RuleValues) (d : Netlist) (height : ℕ) (s : seats.Seat) (top : Bool) (p : Position) → is_on top p ≡ true → Comes height top (reach_of r d height s p)
+position-comes r d height s true p on = ap (λ (b : Bool). cond b height r.grid.pin) on
+position-comes r d height s false p on = ap (λ (b : Bool). cond b (cell_height d s.instance - r.grid.pin) 0) (not-true p.top on)
+
+-- a pin comes to the edges of its own cell
+pub pin-comes : (r : RuleValues) (d : Netlist) (s : seats.Seat) (top : Bool) (p : Position) → is_on top p ≡ true → Comes (cell_height d s.instance) top (upright_of r d s p)
+pin-comes r d s true p on = ap (λ (b : Bool). cond b (cell_height d s.instance) r.grid.pin) on
+pin-comes r d s false p on = ap (λ (b : Bool). cond b (cell_height d s.instance - r.grid.pin) 0) (not-true p.top on)
 
 pub feed-comes : (height : ℕ) (top : Bool) (net : ℕ) → Comes height top (feed_upright height net)
 feed-comes height true net = refl
@@ -43,53 +48,53 @@ pub net-is : (d : Netlist) → IsNetlist d → (p : Pin) → Contains d.pins p �
 unfolding net_at
 net-is d good p listed = ap net_found (pin-found d good p listed)
 
--- the wire of a pin that stands on an edge: that of its position there
-pub record PinWire (r : RuleValues) (d : Netlist) (top : Bool) (p : Pin) (s : seats.Seat) (left column : ℕ) : Type 0 where
+-- the position of a pin that stands on an edge
+pub record PinWire (d : Netlist) (top : Bool) (p : Pin) (s : seats.Seat) (left column : ℕ) : Type 0 where
   pub position : Position
   pub listed : Contains (positions_of d s.instance) position
   pub terminal : position.terminal ≡ p.terminal
-  pub comes : Comes d.height top (upright_of r d s position)
+  pub side : is_on top position ≡ true
   pub at : column ≡ left + turned_column s.mirror (columns_of d s.instance) position.column
   pub of_net : net_at d s.instance position.terminal ≡ p.net
 
-pub pin-wire : (r : RuleValues) (d : Netlist) → IsNetlist d → (top : Bool) (p : Pin) (s : seats.Seat) (left column : ℕ) → IsPinOver d top p s left column → PinWire r d top p s left column
-pin-wire r d good top p s left column over =
+pub pin-wire : (d : Netlist) → IsNetlist d → (top : Bool) (p : Pin) (s : seats.Seat) (left column : ℕ) → IsPinOver d top p s left column → PinWire d top p s left column
+pin-wire d good top p s left column over =
     let a = edge-position d top p over.own over.edge in
     record {
       position = a.position;
       listed = subst (λ (i : ℕ). Contains (positions_of d i) a.position) over.instance (position-listed d top p over.own a);
       terminal = a.terminal;
-      comes = position-comes r d s top a.position a.side;
+      side = a.side;
       at = sym over.place ∙ ap (λ (n : ℕ). left + turned_column s.mirror (columns_of d s.instance) n) (sym a.column);
       of_net = ap (λ (i : ℕ). net_at d i a.position.terminal) (sym over.instance) ∙ ap (λ (t : ℕ). net_at d p.instance t) a.terminal ∙ net-is d good p over.listed;
     }
 
--- the wire of a cause that stands over an item
-pub record WireOf (r : RuleValues) (d : Netlist) (top : Bool) (cause : Source) (item : Item) (left column : ℕ) : Type 0 where
+-- the upright of a cause that stands over an item of a row of this height
+pub record WireOf (r : RuleValues) (d : Netlist) (height : ℕ) (top : Bool) (cause : Source) (item : Item) (left column : ℕ) : Type 0 where
   pub upright : Upright
-  pub member : Contains (seat_of r d item).uprights upright
-  pub comes : Comes d.height top upright
+  pub member : Contains (seat_of r d height item).uprights upright
+  pub comes : Comes height top upright
   pub at : column ≡ left + upright.column
   pub of_net : upright.net ≡ source_net cause
 
-wire-over : (r : RuleValues) (d : Netlist) → IsNetlist d → (top : Bool) (cause : Source) (item : Item) (left column : ℕ) → IsOver d top cause item left column
-    → WireOf r d top cause item left column
-wire-over r d good top (of_pin p) (Cell s) left column over =
-    let w = pin-wire r d good top p s left column over in
+wire-over : (r : RuleValues) (d : Netlist) → IsNetlist d → (height : ℕ) (top : Bool) (cause : Source) (item : Item) (left column : ℕ) → IsOver d top cause item left column
+    → WireOf r d height top cause item left column
+wire-over r d good height top (of_pin p) (Cell s) left column over =
+    let w = pin-wire d good top p s left column over in
     record {
-      upright = upright_of r d s w.position;
-      member = map-member (upright_of r d s) (positions_of d s.instance) w.position w.listed;
-      comes = w.comes;
+      upright = reach_of r d height s w.position;
+      member = map-member (reach_of r d height s) (positions_of d s.instance) w.position w.listed;
+      comes = position-comes r d height s top w.position w.side;
       at = w.at;
       of_net = w.of_net;
     }
-wire-over r d good top (of_pin p) (Feed own) left column over = absurd over
-wire-over r d good top (of_feed net) (Cell s) left column over = absurd over
-wire-over r d good top (of_feed net) (Feed own) left column over =
+wire-over r d good height top (of_pin p) (Feed own) left column over = absurd over
+wire-over r d good height top (of_feed net) (Cell s) left column over = absurd over
+wire-over r d good height top (of_feed net) (Feed own) left column over =
     record {
-      upright = feed_upright d.height own;
-      member = member-head (feed_upright d.height own) [];
-      comes = feed-comes d.height top own;
+      upright = feed_upright height own;
+      member = member-head (feed_upright height own) [];
+      comes = feed-comes height top own;
       at = (let place = over.1 in omega arith);
       of_net = over.0;
     }
@@ -127,23 +132,23 @@ module _ (d : Netlist) (top : Bool) (cause : Source) where
   over-along (first ∷ front) item back left from column begins over =
       later_over (over-along front item back (left + item_width d first) from column (omega (arith, begins, width-cons d first front)) over)
 
--- a wire of a row that comes to an edge in a column
-pub record EdgeWire (r : RuleValues) (d : Netlist) (top : Bool) (items : List Item) (column net : ℕ) : Type 0 where
+-- an upright of a row of this height that comes to an edge in a column
+pub record EdgeWire (r : RuleValues) (d : Netlist) (height : ℕ) (top : Bool) (items : List Item) (column net : ℕ) : Type 0 where
   pub upright : Upright
-  pub at : UprightAt upright column 0 (map (seat_of r d) items)
-  pub comes : Comes d.height top upright
+  pub at : UprightAt upright column 0 (map (seat_of r d height) items)
+  pub comes : Comes height top upright
   pub of_net : upright.net ≡ net
 
-edge-wire : (r : RuleValues) (d : Netlist) → IsNetlist d → (rows : List (List seats.Seat)) (top : Bool) (channel : ℕ) (items : List Item) (column net : ℕ)
-    → EntryIn d rows top channel (Some items) column net → EdgeWire r d top items column net
-edge-wire r d good rows top channel items column net entry =
+edge-wire : (r : RuleValues) (d : Netlist) → IsNetlist d → (height : ℕ) (rows : List (List seats.Seat)) (top : Bool) (channel : ℕ) (items : List Item) (column net : ℕ)
+    → EntryIn d rows top channel (Some items) column net → EdgeWire r d height top items column net
+edge-wire r d good height rows top channel items column net entry =
     let e = entry in
     let o = over-of d top e.cause items 0 column e.stands in
-    let w = wire-over r d good top e.cause o.item (0 + items_width d o.front) column o.over in
+    let w = wire-over r d good height top e.cause o.item (0 + items_width d o.front) column o.over in
     record {
       upright = w.upright;
-      at = subst (λ (xs : List Item). UprightAt w.upright column 0 (map (seat_of r d) xs)) (sym o.is)
-          (upright-stands r d o.front o.item o.back 0 column w.upright w.member w.at);
+      at = subst (λ (xs : List Item). UprightAt w.upright column 0 (map (seat_of r d height) xs)) (sym o.is)
+          (upright-stands r d height o.front o.item o.back 0 column w.upright w.member w.at);
       comes = w.comes;
       of_net = w.of_net ∙ e.of_net;
     }
@@ -153,15 +158,15 @@ pub lower-net : (r : RuleValues) (d : Netlist) → IsNetlist d → (fed : Fed) (
     → LowerNet (row_seats r d fed k) column net
 lower-net r d good fed k within column net entry =
     let at = top-cause d fed k column net entry.0 entry.1 in
-    let w = edge-wire r d good (cells_in fed.rows) false k (row_at fed k) column net
+    let w = edge-wire r d good (height_at d fed k) (cells_in fed.rows) false k (row_at fed k) column net
     (subst (λ (o : Option (List Item)). EntryIn d (cells_in fed.rows) false k o column net) (row-there fed k within) at) in
     record { upright = w.upright; at = w.at; comes = w.comes; of_net = w.of_net }
 
 pub upper-net : (r : RuleValues) (d : Netlist) → IsNetlist d → (fed : Fed) (k : ℕ) → k < length fed.rows → (column net : ℕ) → bottom_entry (table_of d fed (suc k)) column net
-    → UpperNet d.height (row_seats r d fed k) column net
+    → UpperNet (height_at d fed k) (row_seats r d fed k) column net
 upper-net r d good fed k within column net entry =
     let at = bottom-cause d fed (suc k) column net entry.0 entry.1 in
-    let w = edge-wire r d good (cells_in fed.rows) true (suc k) (row_at fed k) column net
+    let w = edge-wire r d good (height_at d fed k) (cells_in fed.rows) true (suc k) (row_at fed k) column net
     (subst (λ (o : Option (List Item)). EntryIn d (cells_in fed.rows) true (suc k) o column net) (row-there fed k within) at) in
     record { upright = w.upright; at = w.at; comes = w.comes; of_net = w.of_net }
 

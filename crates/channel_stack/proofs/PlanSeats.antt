@@ -1,5 +1,5 @@
 use Rattle.row_model.specs.declared.rows.Seat as seats
-use Rattle.std.proofs.Common.{◌≡◌, inl, inr, refl, sym, ap, ◌∙◌, subst, ℕ, ◌+◌, ◌-◌, ◌<◌, ◌≤◌, ◌⊎◌, [], Bool, true, false, cond, Option, Some, None, Contains, arith}
+use Rattle.std.proofs.Common.{◌≡◌, inl, inr, refl, sym, ap, ◌∙◌, subst, ℕ, ◌+◌, ◌-◌, ◌<◌, ◌≤◌, ◌⊎◌, [], ◌∷◌, Bool, true, false, cond, Option, Some, None, Contains, arith}
 use Rattle.std.proofs.lemmas.List.Elements.{All-contains}
 use Rattle.std.proofs.lemmas.Option.{same_Some}
 use Rattle.std.specs.Prelude.{slice_get}
@@ -10,13 +10,13 @@ use Rattle.design_model.specs.Netlist.{Netlist, IsNetlist, IsPosition}
 use Rattle.design_model.specs.declared.design.CellKind.{CellKind}
 use Rattle.design_model.specs.declared.design.Position.{Position}
 use Rattle.row_model.specs.Stands.{positions_in, positions_of, turned_column}
-use Rattle.row_model.specs.Widths.{columns_of, kind_of, width_of}
+use Rattle.row_model.specs.Widths.{cell_height, columns_of, kind_of, width_of}
 use Rattle.feed_cells.specs.declared.fed.Item.{Item}
 use Rattle.feed_cells.specs.declared.fed.Item.TheVariants.{Cell, Feed}
 use Rattle.pin_assign.proofs.EdgeLaws.{turned-once, turned-within}
 use Rattle.layout_laws.proofs.Seats.{AreParted, FitsRow, IsSeat, Upright}
-use Rattle.channel_stack.proofs.Planned.{feed_upright, high_of, low_of, net_at, seat_of, upright_of}
-use Rattle.std_laws.proofs.Members.{map-cases, member-cases, member-place}
+use Rattle.channel_stack.proofs.Planned.{feed_upright, high_of, item_wires, low_of, net_at, reach_of, seat_of, upright_of}
+use Rattle.std_laws.proofs.Members.{map-cases, map-member, member-cases, member-head, member-place}
 
 module _ (d : Netlist) (good : IsNetlist d) where
   -- a position lies in its cell's columns
@@ -46,85 +46,126 @@ module _ (d : Netlist) (good : IsNetlist d) where
       positions-once s.instance p q member other side
       (turned-once s.mirror (columns_of d s.instance) p.column q.column (position-within s.instance p member) (position-within s.instance q other) column)
 
--- the upright of a position fits a row that has room for pins
-position-fits : (r : RuleValues) → ValidRules r → (height : ℕ) → least_height r ≤ height → (column net : ℕ) (p : Position)
-    → FitsRow r height (record { column = column; low = low_of r height p; high = high_of r height p; net = net })
-position-fits r valid height room column net p = by p.top
+-- what a position of a cell with room for pins takes of a row that is no lower fits the row
+position-fits : (r : RuleValues) → ValidRules r → (own height : ℕ) → least_height r ≤ own → own ≤ height → (column net : ℕ) (p : Position)
+    → FitsRow r height (record { column = column; low = low_of r own p; high = high_of r height p; net = net })
+position-fits r valid own height room within column net p = by p.top
   where
-    by : (top : Bool) → FitsRow r height (record { column = column; low = cond top (height - r.grid.pin) 0; high = cond top height r.grid.pin; net = net })
+    by : (top : Bool) → FitsRow r height (record { column = column; low = cond top (own - r.grid.pin) 0; high = cond top height r.grid.pin; net = net })
     by true = record {
-      long = omega (arith, valid.pin_vertical, room);
+      long = omega (arith, valid.pin_vertical, room, within);
       within = omega arith;
       below = inr (omega (arith, room));
       above = inl refl;
     }
     by false = record {
       long = omega (arith, valid.pin_vertical);
-      within = omega (arith, room);
+      within = omega (arith, room, within);
       below = inl refl;
-      above = inr (omega (arith, room));
+      above = inr (omega (arith, room, within));
     }
 
 -- positions of two edges are parted
-sides-parted : (r : RuleValues) (height : ℕ) → least_height r ≤ height → (p q : Position)
-    → (p.top ≡ q.top) ⊎ (high_of r height p + r.vertical.space ≤ low_of r height q) ⊎ (high_of r height q + r.vertical.space ≤ low_of r height p)
-sides-parted r height room p q = by p.top q.top
+sides-parted : (r : RuleValues) (own height : ℕ) → least_height r ≤ own → (p q : Position)
+    → (p.top ≡ q.top) ⊎ (high_of r height p + r.vertical.space ≤ low_of r own q) ⊎ (high_of r height q + r.vertical.space ≤ low_of r own p)
+sides-parted r own height room p q = by p.top q.top
   where
-    by : (a b : Bool) → (a ≡ b) ⊎ (cond a height r.grid.pin + r.vertical.space ≤ cond b (height - r.grid.pin) 0)
-        ⊎ (cond b height r.grid.pin + r.vertical.space ≤ cond a (height - r.grid.pin) 0)
+    by : (a b : Bool) → (a ≡ b) ⊎ (cond a height r.grid.pin + r.vertical.space ≤ cond b (own - r.grid.pin) 0)
+        ⊎ (cond b height r.grid.pin + r.vertical.space ≤ cond a (own - r.grid.pin) 0)
     by true true = inl refl
     by false false = inl refl
     by true false = inr (inr (omega (arith, room)))
     by false true = inr (inl (omega (arith, room)))
 
--- the one upright of a feed
-pub feed-only : (r : RuleValues) (d : Netlist) (net : ℕ) (u : Upright) → Contains (seat_of r d (Feed net)).uprights u → feed_upright d.height net ≡ u
-feed-only r d net u member =
-    elim (member-cases (feed_upright d.height net) [] u member) [
+-- the one wire of a feed
+pub feed-only : (height net : ℕ) (u : Upright) → Contains (feed_upright height net ∷ []) u → feed_upright height net ≡ u
+feed-only height net u member =
+    elim (member-cases (feed_upright height net) [] u member) [
       | inl same ↦ same
       | inr none ↦ absurd (omega (arith, none.1))
     ]
 
-module _ (r : RuleValues) (valid : ValidRules r) (d : Netlist) (good : IsNetlist d) (room : least_height r ≤ d.height) where
+module _ (r : RuleValues) (valid : ValidRules r) (d : Netlist) (good : IsNetlist d) (height : ℕ) where
   -- a seated cell as a seat of its row
-  cell-seat : (s : seats.Seat) → IsSeat r d.height (seat_of r d (Cell s))
-  cell-seat s = record {
+  pub cell-seat : (s : seats.Seat) → least_height r ≤ cell_height d s.instance → cell_height d s.instance ≤ height → IsSeat r height (seat_of r d height (Cell s))
+  cell-seat s room low = record {
     fits = λ u member.
-        let found = map-cases (upright_of r d s) (positions_of d s.instance) u member in
-        subst (FitsRow r d.height) found.2
-        (position-fits r valid d.height room (turned_column s.mirror (columns_of d s.instance) found.0.column) (net_at d s.instance found.0.terminal) found.0);
+        let found = map-cases (reach_of r d height s) (positions_of d s.instance) u member in
+        subst (FitsRow r height) found.2
+        (position-fits r valid (cell_height d s.instance) height room low (turned_column s.mirror (columns_of d s.instance) found.0.column)
+        (net_at d s.instance found.0.terminal) found.0);
     within = λ u member.
-        let found = map-cases (upright_of r d s) (positions_of d s.instance) u member in
+        let found = map-cases (reach_of r d height s) (positions_of d s.instance) u member in
         subst (λ (x : Upright). x.column < columns_of d s.instance) found.2
         (turned-within s.mirror (columns_of d s.instance) found.0.column (position-within d good s.instance found.0 found.1));
     parted = λ u v in_u in_v column.
-        let a = map-cases (upright_of r d s) (positions_of d s.instance) u in_u in
-        let b = map-cases (upright_of r d s) (positions_of d s.instance) v in_v in
+        let a = map-cases (reach_of r d height s) (positions_of d s.instance) u in_u in
+        let b = map-cases (reach_of r d height s) (positions_of d s.instance) v in_v in
         subst (λ (x : Upright). AreParted r x v) a.2
-        (subst (AreParted r (upright_of r d s a.0)) b.2
+        (subst (AreParted r (reach_of r d height s a.0)) b.2
         (apart a.0 b.0 a.1 b.1 (ap (λ (x : Upright). x.column) a.2 ∙ column ∙ ap (λ (x : Upright). x.column) (sym b.2))));
   }
     where
       apart : (p q : Position) → Contains (positions_of d s.instance) p → Contains (positions_of d s.instance) q
           → turned_column s.mirror (columns_of d s.instance) p.column ≡ turned_column s.mirror (columns_of d s.instance) q.column
-          → AreParted r (upright_of r d s p) (upright_of r d s q)
+          → AreParted r (reach_of r d height s p) (reach_of r d height s q)
       apart p q in_p in_q column =
-          elim (sides-parted r d.height room p q) [
+          elim (sides-parted r (cell_height d s.instance) height room p q) [
             | inl side ↦ inl (ap (λ (x : Position). net_at d s.instance x.terminal) (cell-once d good s p q in_p in_q side column))
             | inr parted ↦ inr parted
           ]
 
   -- a feed as a seat
-  feed-seat : (net : ℕ) → IsSeat r d.height (seat_of r d (Feed net))
-  feed-seat net = record {
+  pub feed-seat : (net : ℕ) → least_height r ≤ height → IsSeat r height (seat_of r d height (Feed net))
+  feed-seat net room = record {
     fits = λ u member.
-        subst (FitsRow r d.height) (feed-only r d net u member)
+        subst (FitsRow r height) (feed-only height net u member)
         (record { long = omega (arith, valid.pin_vertical, room); within = omega arith; below = inl refl; above = inl refl });
-    within = λ u member. subst (λ (x : Upright). x.column < 1) (feed-only r d net u member) (omega arith);
-    parted = λ u v in_u in_v column. inl (ap (λ (x : Upright). x.net) (sym (feed-only r d net u in_u) ∙ feed-only r d net v in_v));
+    within = λ u member. subst (λ (x : Upright). x.column < 1) (feed-only height net u member) (omega arith);
+    parted = λ u v in_u in_v column. inl (ap (λ (x : Upright). x.net) (sym (feed-only height net u in_u) ∙ feed-only height net v in_v));
   }
 
-  -- each item is a seat of its row
-  pub item-seat : (item : Item) → IsSeat r d.height (seat_of r d item)
-  item-seat (Cell s) = cell-seat s
-  item-seat (Feed net) = feed-seat net
+-- what an item of a row draws lies within what it takes of the row
+pub record IsInReach (r : RuleValues) (d : Netlist) (height : ℕ) (item : Item) (wire : Upright) : Type 0 where
+  pub reach : Upright
+  pub member : Contains (seat_of r d height item).uprights reach
+  pub column : wire.column ≡ reach.column
+  pub from : reach.low ≤ wire.low
+  pub to : wire.high ≤ reach.high
+  pub long : wire.low + r.vertical.width ≤ wire.high
+  pub net : wire.net ≡ reach.net
+
+pub cell-reach : (r : RuleValues) → ValidRules r → (d : Netlist) (height : ℕ) (s : seats.Seat) → least_height r ≤ cell_height d s.instance → cell_height d s.instance ≤ height
+    → (wire : Upright) → Contains (item_wires r d height (Cell s)) wire → IsInReach r d height (Cell s) wire
+cell-reach r valid d height s room low wire member =
+    let found = map-cases (upright_of r d s) (positions_of d s.instance) wire member in
+    subst (IsInReach r d height (Cell s)) found.2 (record {
+      reach = reach_of r d height s found.0;
+      member = map-member (reach_of r d height s) (positions_of d s.instance) found.0 found.1;
+      column = refl;
+      from = omega arith;
+      to = upper found.0.top;
+      long = long found.0.top;
+      net = refl;
+    })
+  where
+    upper : (top : Bool) → cond top (cell_height d s.instance) r.grid.pin ≤ cond top height r.grid.pin
+    upper true = low
+    upper false = omega arith
+
+    long : (top : Bool) → cond top (cell_height d s.instance - r.grid.pin) 0 + r.vertical.width ≤ cond top (cell_height d s.instance) r.grid.pin
+    long true = omega (arith, valid.pin_vertical, room)
+    long false = omega (arith, valid.pin_vertical)
+
+pub feed-reach : (r : RuleValues) → ValidRules r → (d : Netlist) (height net : ℕ) → least_height r ≤ height
+    → (wire : Upright) → Contains (item_wires r d height (Feed net)) wire → IsInReach r d height (Feed net) wire
+feed-reach r valid d height net room wire member =
+    subst (IsInReach r d height (Feed net)) (feed-only height net wire member) (record {
+      reach = feed_upright height net;
+      member = member-head (feed_upright height net) [];
+      column = refl;
+      from = omega arith;
+      to = omega arith;
+      long = omega (arith, valid.pin_vertical, room);
+      net = refl;
+    })

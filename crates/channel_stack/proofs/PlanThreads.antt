@@ -11,6 +11,7 @@ use Rattle.design_model.specs.declared.design.Pin.{Pin}
 use Rattle.design_model.specs.declared.design.Position.{Position}
 use Rattle.channel_model.specs.declared.wiring.Wiring.{Wiring}
 use Rattle.row_model.specs.Rows.{ArePlaced}
+use Rattle.row_model.specs.Widths.{cell_height}
 use Rattle.row_model.specs.Stands.{positions_of, row_of}
 use Rattle.row_model.specs.declared.rows.Seat as seats
 use Rattle.feed_cells.specs.Channels.{first_channel}
@@ -28,18 +29,21 @@ use Rattle.feed_cells.proofs.FedLaws.{cells-fed, fed-long, fed-row}
 use Rattle.feed_cells.proofs.NetLaws.{across-stands, across-within, alone-same, fed-net, fed-stands, inside-stands}
 use Rattle.pin_assign.specs.Entering.{enters}
 use Rattle.pin_assign.proofs.EnteringLaws.{crossed-by, enters-lowest}
-use Rattle.layout_laws.proofs.Chains.{AreTogether, same}
+use Rattle.layout_laws.proofs.Chains.{AreChained, AreTogether, itself}
+use Rattle.layout_laws.proofs.ChainLaws.{AreTogether-chained}
 use Rattle.layout_laws.proofs.Plans.{Plan, plan_drawn}
 use Rattle.layout_laws.proofs.Threads.{AreThreaded, IsCrossed, Entering, EntersBelow, into_above, into_below, IsLone, Threads}
 use Rattle.wire_geom.specs.declared.drawn.Drawn.{Drawn}
-use Rattle.channel_stack.proofs.Planned.{feed_upright, net_at, plan_of, upright_of}
+use Rattle.channel_stack.proofs.Planned.{feed_upright, height_at, height_of_row, net_at, plan_of, upright_of}
 use Rattle.channel_stack.proofs.Shown.{DrawsSeats}
 use Rattle.channel_stack.proofs.PlanEntries.{net-is}
 use Rattle.channel_stack.proofs.PositionPins.{position-pin}
-use Rattle.channel_stack.proofs.RowItems.{at-split, split-at}
+use Rattle.channel_stack.proofs.RowItems.{among-split, at-split, row-is, split-at}
+use Rattle.channel_stack.proofs.RowHeights.{row-full}
 use Rattle.channel_stack.proofs.RowPins.{entry-inside, gap-feed, pin-seat}
 use Rattle.channel_stack.proofs.RowWires.{IsAt, RowWire, drawn-together, feed-above, feed-below, of_gap, of_seat, reach-above, reach-below, row-wire, wire_at}
 use Rattle.channel_stack.proofs.SeatOnce.{seat-row, seat-same}
+use Rattle.std_laws.proofs.Members.{get-contains}
 
 -- a position of a cell is of a pin, whose net its wire has
 record PositionNet (d : Netlist) (instance : ℕ) (q : Position) : Type 0 where
@@ -80,6 +84,15 @@ module _ (r : RuleValues) (d : Netlist) (good : IsNetlist d) (rows : List (List 
   fed-enters : (p : Pin) (channel : ℕ) → enters d rows p channel ≡ true → enters d (cells_in (fed_rows d rows).rows) p channel ≡ true
   fed-enters p channel entry = subst (λ (rs : List (List seats.Seat)). enters d rs p channel ≡ true) (sym (cells-fed d rows)) entry
 
+  -- every cell is as high as its row
+  cell-full : (k : ℕ) (front back : List Item) (s : seats.Seat) → k < length (fed_rows d rows).rows → IsAt r d (fed_rows d rows) ws k front (Cell s) back
+      → cell_height d s.instance ≡ height_at d (fed_rows d rows) k
+  cell-full k front back s within at =
+      let items : List Item = front ++ Cell s ∷ back in
+      let here : Contains (fed_rows d rows).rows items = get-contains (fed_rows d rows).rows k items at in
+      let own : ArePlaced d (cells_in (fed_rows d rows).rows) = subst (ArePlaced d) (sym (cells-fed d rows)) placed in
+      row-full d good (fed_rows d rows) own items here s (among-split front back (Cell s)) ∙ ap (height_of_row d) (sym (row-is (fed_rows d rows) k items at))
+
   -- the nets of a row's rectangles are numbers of nets
   wire-positive : (k : ℕ) (a : Drawn) → Wire k a → 0 < a.net
   wire-positive k a (of_seat front back s q at member drawn) =
@@ -99,10 +112,10 @@ module _ (r : RuleValues) (d : Netlist) (good : IsNetlist d) (rows : List (List 
       row : row_of d rows p.instance ≡ k
       row = ap (row_of d rows) instance ∙ seat-row d rows placed k front back s at
 
-      to : (b : Position) → Contains (positions_of d s.instance) b → b.terminal ≡ p.terminal → AreTogether d l (plan_drawn r plan) a (rectangle k front s b)
+      to : (b : Position) → Contains (positions_of d s.instance) b → b.terminal ≡ p.terminal → AreChained r d l (plan_drawn r plan) (rectangle k front s b) a
       to b in_b same_b =
-          subst (λ (x : Drawn). AreTogether d l (plan_drawn r plan) x (rectangle k front s b)) (sym drawn)
-          (drawn-together r d fed ws l draws k front back s within at q b member in_b (sym terminal ∙ sym same_b))
+          subst (λ (x : Drawn). AreChained r d l (plan_drawn r plan) (rectangle k front s b) x) (sym drawn)
+          (AreTogether-chained (drawn-together r d fed ws l draws k front back s within at q b member in_b (sym terminal ∙ sym same_b)))
 
       by : Touches d rows false p channel ⊎ Touches d rows true p channel → Entering r plan d l k a
       by (inl low) =
@@ -113,7 +126,7 @@ module _ (r : RuleValues) (d : Netlist) (good : IsNetlist d) (rows : List (List 
       by (inr high) =
           let beside = high.beside in
           let there : channel ≡ suc k = omega (arith, beside, row) in
-          let reach = reach-above r d fed ws good k front back s p at listed some instance high.edge
+          let reach = reach-above r d fed ws good k front back s p (cell-full k front back s within at) at listed some instance high.edge
           (fed-enters p (suc k) (subst (λ (c : ℕ). enters d rows p c ≡ true) there entry)) in
           into_above (rectangle k front s reach.position) (to reach.position reach.listed reach.terminal) (reach.of_net ∙ sym net) reach.enters
 
@@ -127,7 +140,7 @@ module _ (r : RuleValues) (d : Netlist) (good : IsNetlist d) (rows : List (List 
       (max (lowest d rows of_q.pin) (first_channel (crossing_of d rows of_q.pin.net))) e.entry e.touched
   wire-entering net k a within (of_gap front back own at drawn) a_net stands =
       let feed = gap-feed d good rows k own front back at in
-      into_below a same refl
+      into_below a itself refl
       (subst (λ (x : Drawn). EntersBelow r plan k x) (sym drawn) (feed-below r d fed ws good k front back own at (omega (arith, feed.some))))
 
   -- a net crosses a row by a pin
@@ -148,12 +161,12 @@ module _ (r : RuleValues) (d : Netlist) (good : IsNetlist d) (rows : List (List 
       by : (front back : List Item) (s : seats.Seat) → IsAt r d (fed_rows d rows) ws k front (Cell s) back → p.instance ≡ s.instance → IsCrossed r plan d l k net
       by front back s at instance =
           let low = reach-below r d fed ws good k front back s p at leads.under.listed some instance leads.under.touches.edge (fed-enters p k leads.under.entry) in
-          let high = reach-above r d fed ws good k front back s p at leads.under.listed some instance leads.over.touches.edge
+          let high = reach-above r d fed ws good k front back s p (cell-full k front back s within at) at leads.under.listed some instance leads.over.touches.edge
           (fed-enters p (suc k) (subst (λ (c : ℕ). enters d rows p c ≡ true) upper leads.over.entry)) in
           record {
             low = rectangle k front s low.position;
             high = rectangle k front s high.position;
-            together = drawn-together r d fed ws l draws k front back s within at low.position high.position low.listed high.listed (low.terminal ∙ sym high.terminal);
+            chained = AreTogether-chained (drawn-together r d fed ws l draws k front back s within at low.position high.position low.listed high.listed (low.terminal ∙ sym high.terminal));
             below = low.enters;
             above = high.enters;
             low_net = low.of_net ∙ leads.under.of_net;
@@ -170,9 +183,9 @@ module _ (r : RuleValues) (d : Netlist) (good : IsNetlist d) (rows : List (List 
       let there : slice_get fed.rows k ≡ Some (split.front ++ Feed net ∷ split.back) =
       at-split fed k (fed_row d rows k row) (Feed net) (fed-row d rows k ∙ ap (option_map (fed_row d rows k)) at) split in
       record {
-        low = wire_at r d fed ws k split.front (feed_upright d.height net);
-        high = wire_at r d fed ws k split.front (feed_upright d.height net);
-        together = same;
+        low = wire_at r d fed ws k split.front (feed_upright (height_at d fed k) net);
+        high = wire_at r d fed ws k split.front (feed_upright (height_at d fed k) net);
+        chained = itself;
         below = feed-below r d fed ws good k split.front split.back net there (omega (arith, feed.some));
         above = feed-above r d fed ws good k split.front split.back net there (omega (arith, feed.some));
         low_net = refl;
@@ -201,7 +214,7 @@ module _ (r : RuleValues) (d : Netlist) (good : IsNetlist d) (rows : List (List 
 
     -- the rectangles of a net that stands in no channel are of one terminal
     feed-stray : (net k : ℕ) (a : Drawn) (front back : List Item) (own : ℕ) → crossing_of d rows net ≡ Alone → IsAt r d (fed_rows d rows) ws k front (Feed own) back
-        → a ≡ wire_at r d (fed_rows d rows) ws k front (feed_upright d.height own) → a.net ≡ net → ⊥
+        → a ≡ wire_at r d (fed_rows d rows) ws k front (feed_upright (height_at d (fed_rows d rows) k) own) → a.net ≡ net → ⊥
     feed-stray net k a front back own alone at drawn of_net =
         let feed = gap-feed d good rows k own front back at in
         let same_net : own ≡ net = ap (λ (x : Drawn). x.net) (sym drawn) ∙ of_net in
@@ -234,8 +247,9 @@ module _ (r : RuleValues) (d : Netlist) (good : IsNetlist d) (rows : List (List 
     net-lone : (net : ℕ) → crossing_of d rows net ≡ Alone → IsLone r plan d l net
     net-lone net alone = record {
       none = λ k column within entry. inside-stands (crossing_of d rows net) k (entry-inside d good rows k column net entry) alone;
-      together = λ j k a b within_j within_k in_a in_b wired_a wired_b net_a net_b.
-          lone-together net j k a b alone within_j (row-wire r d fed ws valid j a within_j in_a wired_a) (row-wire r d fed ws valid k b within_k in_b wired_b) net_a net_b;
+      chained = λ j k a b within_j within_k in_a in_b wired_a wired_b net_a net_b.
+          AreTogether-chained
+          (lone-together net j k a b alone within_j (row-wire r d fed ws valid j a within_j in_a wired_a) (row-wire r d fed ws valid k b within_k in_b wired_b) net_a net_b);
     }
 
     -- the nets of a wired design thread its rows and channels

@@ -7,9 +7,9 @@ use Rattle.design_model.specs.declared.design.Pin.{Pin}
 use Rattle.design_model.specs.declared.design.Position.{Position}
 use Rattle.channel_model.specs.declared.wiring.Wiring.{Wiring}
 use Rattle.row_model.specs.Stands.{turned_column, positions_of}
-use Rattle.row_model.specs.Widths.{columns_of}
+use Rattle.row_model.specs.Widths.{cell_height, columns_of}
 use Rattle.row_model.specs.declared.rows.Seat as seats
-use Rattle.feed_cells.specs.Fed.{Fed, cells_in, heights_of}
+use Rattle.feed_cells.specs.Fed.{Fed, cells_in, heights_of, item_width, row_height, seats_in}
 use Rattle.feed_cells.specs.declared.fed.Item.{Item}
 use Rattle.feed_cells.specs.declared.fed.Item.TheVariants.{Cell, Feed}
 use Rattle.pin_assign.specs.Tables.{table_of}
@@ -28,7 +28,11 @@ net_found (Some p) = p.net
 unfoldable pub net_at : Netlist → ℕ → ℕ → ℕ
 net_at d instance terminal = net_found (find (λ (p : Pin). p.instance == instance && p.terminal == terminal) d.pins)
 
--- a position of a seated cell as an upright of its row, which has this height: as long as a pin, from its edge inward
+-- the height of a row of items
+abbrev pub height_of_row : Netlist → List Item → ℕ
+height_of_row d items = row_height d (seats_in items)
+
+-- a pin of a cell of this height: as long as a pin, from its edge inward
 abbrev pub low_of : RuleValues → ℕ → Position → ℕ
 low_of r height p = if p.top then height - r.grid.pin else 0
 
@@ -38,8 +42,17 @@ high_of r height p = if p.top then height else r.grid.pin
 abbrev pub upright_of : RuleValues → Netlist → seats.Seat → Position → Upright
 upright_of r d s p = record {
   column = turned_column s.mirror (columns_of d s.instance) p.column;
-  low = low_of r d.height p;
-  high = high_of r d.height p;
+  low = low_of r (cell_height d s.instance) p;
+  high = high_of r (cell_height d s.instance) p;
+  net = net_at d s.instance p.terminal;
+}
+
+-- what a position of a seated cell takes of a row of this height: its pin, and at the upper edge what lies between the pin and the row's edge
+abbrev pub reach_of : RuleValues → Netlist → ℕ → seats.Seat → Position → Upright
+reach_of r d height s p = record {
+  column = turned_column s.mirror (columns_of d s.instance) p.column;
+  low = low_of r (cell_height d s.instance) p;
+  high = high_of r height p;
   net = net_at d s.instance p.terminal;
 }
 
@@ -47,10 +60,19 @@ upright_of r d s p = record {
 abbrev pub feed_upright : ℕ → ℕ → Upright
 feed_upright height net = record { column = 0; low = 0; high = height; net = net }
 
--- an item as a seat of its row
-abbrev pub seat_of : RuleValues → Netlist → Item → Seat
-seat_of r d (Cell s) = record { width = columns_of d s.instance; uprights = map (upright_of r d s) (positions_of d s.instance) }
-seat_of r d (Feed net) = record { width = 1; uprights = feed_upright d.height net ∷ [] }
+-- an item as a seat of its row, which has this height
+abbrev pub seat_of : RuleValues → Netlist → ℕ → Item → Seat
+seat_of r d height (Cell s) = record { width = columns_of d s.instance; uprights = map (reach_of r d height s) (positions_of d s.instance) }
+seat_of r d height (Feed net) = record { width = 1; uprights = feed_upright height net ∷ [] }
+
+-- the height of an item of a row of this height, and the wires that it draws
+abbrev pub item_height : Netlist → ℕ → Item → ℕ
+item_height d height (Cell s) = cell_height d s.instance
+item_height d height (Feed net) = height
+
+abbrev pub item_wires : RuleValues → Netlist → ℕ → Item → List Upright
+item_wires r d height (Cell s) = map (upright_of r d s) (positions_of d s.instance)
+item_wires r d height (Feed net) = feed_upright height net ∷ []
 
 -- the outline of an item in a row
 abbrev pub outline_drawn : RuleValues → ℕ → ℕ → ℕ → ℕ → Drawn
@@ -69,21 +91,32 @@ upright_drawn r base left u = record {
   net = u.net;
 }
 
--- the rectangles of an item: its outline, and then its uprights in order
-abbrev pub seat_drawn : RuleValues → ℕ → ℕ → ℕ → Seat → List Drawn
-seat_drawn r base height left seat = outline_drawn r base height left (left + seat.width) ∷ map (upright_drawn r base left) seat.uprights
+-- the rectangles of an item of a row of this height: its outline, and then its wires in order
+abbrev pub item_drawn : RuleValues → Netlist → ℕ → ℕ → ℕ → Item → List Drawn
+item_drawn r d base height left item =
+    outline_drawn r base (item_height d height item) left (left + item_width d item) ∷ map (upright_drawn r base left) (item_wires r d height item)
 
--- the rectangles of seats side by side, the first of which begins in column `left`
-abbrev pub row_drawn : RuleValues → ℕ → ℕ → ℕ → List Seat → List Drawn
-row_drawn r base height left [] = []
-row_drawn r base height left (seat ∷ rest) = seat_drawn r base height left seat ++ row_drawn r base height (left + seat.width) rest
+-- those of a cell, whatever the height of its row
+abbrev pub cell_drawn : RuleValues → Netlist → ℕ → ℕ → seats.Seat → List Drawn
+cell_drawn r d base left s = item_drawn r d base 0 left (Cell s)
+
+-- the rectangles of items side by side, the first of which begins in column `left`
+abbrev pub row_drawn : RuleValues → Netlist → ℕ → ℕ → ℕ → List Item → List Drawn
+row_drawn r d base height left [] = []
+row_drawn r d base height left (item ∷ rest) = item_drawn r d base height left item ++ row_drawn r d base height (left + item_width d item) rest
 
 abbrev pub no_wiring : Wiring
 no_wiring = record { tracks = 0; columns = 0; segments = []; vias = [] }
 
--- row k as seats, none where there is no such row
+-- the items of row k, none where there is no such row, its height, and its items as seats
+abbrev pub row_at : Fed → ℕ → List Item
+row_at fed k = unwrap_or (slice_get fed.rows k) []
+
+abbrev pub height_at : Netlist → Fed → ℕ → ℕ
+height_at d fed k = height_of_row d (row_at fed k)
+
 abbrev pub row_seats : RuleValues → Netlist → Fed → ℕ → List Seat
-row_seats r d fed k = map (seat_of r d) (unwrap_or (slice_get fed.rows k) [])
+row_seats r d fed k = map (seat_of r d (height_at d fed k)) (row_at fed k)
 
 abbrev pub wiring_at : List Wiring → ℕ → Wiring
 wiring_at ws k = unwrap_or (slice_get ws k) no_wiring
@@ -99,10 +132,10 @@ base_at r d fed ws k = slice_index (channel_bases r (row_heights d fed.rows) 0 w
 abbrev pub plan_of : RuleValues → Netlist → Fed → List Wiring → Plan
 plan_of r d fed ws = record {
   rows = length fed.rows;
-  height = λ (k : ℕ). d.height;
+  height = height_at d fed;
   pins = table_of d fed;
   wiring = wiring_at ws;
   base = base_at r d fed ws;
   seats = row_seats r d fed;
-  row = λ (k : ℕ). row_drawn r (base_at r d fed ws k + channel_height r (wiring_at ws k)) d.height 0 (row_seats r d fed k);
+  row = λ (k : ℕ). row_drawn r d (base_at r d fed ws k + channel_height r (wiring_at ws k)) (height_at d fed k) 0 (row_at fed k);
 }

@@ -12,12 +12,8 @@ use Rattle.feed_cells.specs.declared.fed.Item.TheVariants.{Cell, Feed}
 use Rattle.layout_laws.proofs.Seats.{Upright, UprightAt, here, further}
 use Rattle.layout_laws.proofs.Uprights.{IsWired}
 use Rattle.wire_geom.specs.declared.drawn.Drawn.{Drawn}
-use Rattle.channel_stack.proofs.Planned.{outline_drawn, row_drawn, seat_drawn, seat_of, upright_drawn}
+use Rattle.channel_stack.proofs.Planned.{item_drawn, item_height, item_wires, outline_drawn, row_at, row_drawn, seat_of, upright_drawn}
 use Rattle.std_laws.proofs.Members.{map-cases, map-member, member-cases, member-head, member-tail}
-
--- the items of row k, none where there is no such row
-abbrev pub row_at : Fed → ℕ → List Item
-row_at fed k = unwrap_or (slice_get fed.rows k) []
 
 pub row-there : (fed : Fed) (k : ℕ) → k < length fed.rows → slice_get fed.rows k ≡ Some (row_at fed k)
 row-there fed k within = slice_get-get_or fed.rows k [] within ∙ ap (λ (items : List Item). Some items) (sym (unwrap_or-slice_get fed.rows k []))
@@ -58,50 +54,50 @@ seat-item (Cell t ∷ items) s member =
       | inr later ↦ member-tail (Cell t) items (Cell s) (seat-item items s later)
     ]
 
-module _ (r : RuleValues) (d : Netlist) where
+module _ (r : RuleValues) (d : Netlist) (height : ℕ) where
   -- an item is as wide as its seat
-  seat-wide : (item : Item) → (seat_of r d item).width ≡ item_width d item
+  seat-wide : (item : Item) → (seat_of r d height item).width ≡ item_width d item
   seat-wide (Cell s) = refl
   seat-wide (Feed net) = refl
 
-  further-on : (left : ℕ) (item : Item) (front : List Item) → left + (seat_of r d item).width + items_width d front ≡ left + items_width d (item ∷ front)
-  further-on left item front = omega (arith, width-cons d item front, seat-wide item)
+  further-on : (left : ℕ) (item : Item) (front : List Item) → left + item_width d item + items_width d front ≡ left + items_width d (item ∷ front)
+  further-on left item front = omega (arith, width-cons d item front)
 
   -- an upright of an item stands in its column of the row
-  pub upright-stands : (front : List Item) (item : Item) (back : List Item) (left column : ℕ) (upright : Upright) → Contains (seat_of r d item).uprights upright
-      → column ≡ left + items_width d front + upright.column → UprightAt upright column left (map (seat_of r d) (front ++ item ∷ back))
-  upright-stands [] item back left column upright member at = here (seat_of r d item) member (omega (arith, at))
+  pub upright-stands : (front : List Item) (item : Item) (back : List Item) (left column : ℕ) (upright : Upright) → Contains (seat_of r d height item).uprights upright
+      → column ≡ left + items_width d front + upright.column → UprightAt upright column left (map (seat_of r d height) (front ++ item ∷ back))
+  upright-stands [] item back left column upright member at = here (seat_of r d height item) member (omega (arith, at))
   upright-stands (first ∷ front) item back left column upright member at =
-      further (upright-stands front item back (left + (seat_of r d first).width) column upright member (omega (arith, at, further-on left first front)))
+      further (upright-stands front item back (left + (seat_of r d height first).width) column upright member (omega (arith, at, further-on left first front, seat-wide first)))
 
-  module _ (base height : ℕ) where
+  module _ (base : ℕ) where
     -- and its rectangle is one of the row
-    pub wire-listed : (front : List Item) (item : Item) (back : List Item) (left from : ℕ) (upright : Upright) → Contains (seat_of r d item).uprights upright
+    pub wire-listed : (front : List Item) (item : Item) (back : List Item) (left from : ℕ) (wire : Upright) → Contains (item_wires r d height item) wire
         → from ≡ left + items_width d front
-        → Contains (row_drawn r base height left (map (seat_of r d) (front ++ item ∷ back))) (upright_drawn r base from upright)
-    wire-listed [] item back left from upright member at =
+        → Contains (row_drawn r d base height left (front ++ item ∷ back)) (upright_drawn r base from wire)
+    wire-listed [] item back left from wire member at =
         let same : left ≡ from = omega (arith, at) in
-        subst (λ (n : ℕ). Contains (row_drawn r base height left (map (seat_of r d) (item ∷ back))) (upright_drawn r base n upright)) same
-        (Contains-append_left (seat_drawn r base height left (seat_of r d item)) (row_drawn r base height (left + (seat_of r d item).width) (map (seat_of r d) back))
-        (upright_drawn r base left upright)
-        (member-tail (outline_drawn r base height left (left + (seat_of r d item).width)) (map (upright_drawn r base left) (seat_of r d item).uprights)
-        (upright_drawn r base left upright) (map-member (upright_drawn r base left) (seat_of r d item).uprights upright member)))
-    wire-listed (first ∷ front) item back left from upright member at =
-        Contains-append_right (seat_drawn r base height left (seat_of r d first))
-        (row_drawn r base height (left + (seat_of r d first).width) (map (seat_of r d) (front ++ item ∷ back))) (upright_drawn r base from upright)
-        (wire-listed front item back (left + (seat_of r d first).width) from upright member (omega (arith, at, further-on left first front)))
+        subst (λ (n : ℕ). Contains (row_drawn r d base height left (item ∷ back)) (upright_drawn r base n wire)) same
+        (Contains-append_left (item_drawn r d base height left item) (row_drawn r d base height (left + item_width d item) back)
+        (upright_drawn r base left wire)
+        (member-tail (outline_drawn r base (item_height d height item) left (left + item_width d item)) (map (upright_drawn r base left) (item_wires r d height item))
+        (upright_drawn r base left wire) (map-member (upright_drawn r base left) (item_wires r d height item) wire member)))
+    wire-listed (first ∷ front) item back left from wire member at =
+        Contains-append_right (item_drawn r d base height left first)
+        (row_drawn r d base height (left + item_width d first) (front ++ item ∷ back)) (upright_drawn r base from wire)
+        (wire-listed front item back (left + item_width d first) from wire member (omega (arith, at, further-on left first front)))
 
-    -- a rectangle of a row is that of an upright of an item
+    -- a rectangle of a row is that of a wire of an item
     pub record IsWireOf (left : ℕ) (items : List Item) (a : Drawn) : Type 0 where
       pub front : List Item
       pub item : Item
       pub back : List Item
       pub is : items ≡ front ++ item ∷ back
-      pub upright : Upright
-      pub member : Contains (seat_of r d item).uprights upright
+      pub wire : Upright
+      pub member : Contains (item_wires r d height item) wire
       pub from : ℕ
       pub begins : from ≡ left + items_width d front
-      pub drawn : a ≡ upright_drawn r base from upright
+      pub drawn : a ≡ upright_drawn r base from wire
 
     module _ (valid : ValidRules r) where
       -- outlines are no wires
@@ -110,25 +106,25 @@ module _ (r : RuleValues) (d : Netlist) where
       outline-unwired a on (inl (inr wire)) = valid.layers.vertical_outline (sym wire ∙ on)
       outline-unwired a on (inr cut) = valid.layers.cut_outline (sym cut ∙ on)
 
-      pub wire-of : (items : List Item) (left : ℕ) (a : Drawn) → Contains (row_drawn r base height left (map (seat_of r d) items)) a → IsWired r a → IsWireOf left items a
+      pub wire-of : (items : List Item) (left : ℕ) (a : Drawn) → Contains (row_drawn r d base height left items) a → IsWired r a → IsWireOf left items a
       wire-of [] left a member wired = absurd (omega (arith, member.1))
       wire-of (first ∷ items) left a member wired =
-          elim (Contains-append_cases (seat_drawn r base height left (seat_of r d first))
-          (row_drawn r base height (left + (seat_of r d first).width) (map (seat_of r d) items)) a member) [
-            | inl own ↦ elim (member-cases (outline_drawn r base height left (left + (seat_of r d first).width)) (map (upright_drawn r base left) (seat_of r d first).uprights) a own) [
+          elim (Contains-append_cases (item_drawn r d base height left first) (row_drawn r d base height (left + item_width d first) items) a member) [
+            | inl own ↦ elim (member-cases (outline_drawn r base (item_height d height first) left (left + item_width d first))
+            (map (upright_drawn r base left) (item_wires r d height first)) a own) [
               | inl same ↦ absurd (outline-unwired a (ap (λ (x : Drawn). x.shape.layer) (sym same)) wired)
               | inr upright ↦
-                  let found = map-cases (upright_drawn r base left) (seat_of r d first).uprights a upright in
-                  record { front = []; item = first; back = items; is = refl; upright = found.0; member = found.1; from = left; begins = omega arith; drawn = sym found.2 }
+                  let found = map-cases (upright_drawn r base left) (item_wires r d height first) a upright in
+                  record { front = []; item = first; back = items; is = refl; wire = found.0; member = found.1; from = left; begins = omega arith; drawn = sym found.2 }
             ]
             | inr later ↦
-                let rest = wire-of items (left + (seat_of r d first).width) a later wired in
+                let rest = wire-of items (left + item_width d first) a later wired in
                 record {
                   front = first ∷ rest.front;
                   item = rest.item;
                   back = rest.back;
                   is = ap (λ (xs : List Item). first ∷ xs) rest.is;
-                  upright = rest.upright;
+                  wire = rest.wire;
                   member = rest.member;
                   from = rest.from;
                   begins = rest.begins ∙ further-on left first rest.front;

@@ -1,9 +1,9 @@
-use Rattle.std.proofs.Common.{◌≡◌, ℕ, suc, ◌+◌, ◌*◌, ◌<◌, ◌≤◌, max, List, [], ◌∷◌, length, map, fold, sum, Some, sym, ap, subst, ◌∙◌, refl, arith}
+use Rattle.std.proofs.Common.{◌≡◌, ℕ, zero, suc, ◌+◌, ◌*◌, ◌<◌, ◌≤◌, max, List, [], ◌∷◌, length, map, fold, sum, Some, sym, ap, subst, ◌∙◌, refl, arith}
 use Rattle.std.proofs.Math.Nat.{mul-le-mul_left, mul-le-mul_right}
 use Rattle.std.proofs.lemmas.List.{length-map}
 use Rattle.std.proofs.lemmas.List.FromFn.{length-range_with_len}
 use Rattle.std.proofs.lemmas.List.Sums.{sum_by-cons}
-use Rattle.std.proofs.lemmas.Option.{slice_get-map, slice_get_within}
+use Rattle.std.proofs.lemmas.Option.{none-some, same_Some, slice_get-map, slice_get_within}
 use Rattle.std.specs.List.{AllByRecursion, range_with_len}
 use Rattle.std.specs.Prelude.{slice_get, option_map}
 use Rattle.tech_rules.specs.Rules.{RuleValues, ValidRules}
@@ -11,7 +11,7 @@ use Rattle.design_model.specs.Netlist.{Netlist}
 use Rattle.channel_model.specs.Limits.{most_tracks}
 use Rattle.channel_model.specs.declared.wiring.Wiring.{Wiring}
 use Rattle.row_model.specs.declared.rows.Seat.{Seat}
-use Rattle.feed_cells.specs.Fed.{Fed, IsFed, cells_in, fed_rows, heights_of, items_width, nets_in, seats_in}
+use Rattle.feed_cells.specs.Fed.{Fed, IsFed, cells_in, fed_rows, heights_of, items_width, nets_in, row_height, seats_in}
 use Rattle.feed_cells.specs.declared.fed.Item.{Item}
 use Rattle.feed_cells.proofs.FedLaws.{fed-width}
 use Rattle.pin_assign.proofs.FedBounds.{sum-more}
@@ -96,9 +96,9 @@ pub heights-of : (d : Netlist) (fed : Fed) → IsFed d fed → fed.heights ≡ h
 unfolding fed_rows
 heights-of d fed is = ap (λ (f : Fed). f.heights) is.is
 
-heights-counted : (d : Netlist) (fed : Fed) → IsFed d fed → length fed.heights ≡ length fed.rows
+pub heights-counted : (d : Netlist) (fed : Fed) → IsFed d fed → length fed.heights ≡ length fed.rows
 heights-counted d fed is =
-    ap length (heights-of d fed is) ∙ length-map (cells_in fed.rows) (λ (seats : List Seat). d.height) ∙ length-map fed.rows seats_in
+    ap length (heights-of d fed is) ∙ length-map (cells_in fed.rows) (row_height d) ∙ length-map fed.rows seats_in
 
 -- there is a row
 pub some-row : (d : Netlist) (fed : Fed) → IsFed d fed → 0 < length fed.rows
@@ -222,16 +222,13 @@ width-small r d fed ws valid routed =
     units-small (fed.width * r.grid.column) r.grid.centi valid.ranges.grid.centi.0 (width-within r d fed ws routed fed.width (omega arith))
 
 -- a row is no higher than the stack
-row-within : (r : RuleValues) (d : Netlist) (rows : List (List Seat)) (ws : List Wiring) → 0 < length rows → 0 < length ws
-    → d.height ≤ stack_top r (heights_of d rows) 0 ws
-row-within r d [] ws some many = absurd (omega arith)
-row-within r d (seats ∷ rows) [] some many = absurd (omega arith)
-row-within r d (seats ∷ rows) (w ∷ ws) some many = omega (arith, base-below r (heights_of d rows) (0 + channel_height r w + d.height) ws)
-
-pub height-within : (r : RuleValues) (d : Netlist) (fed : Fed) (ws : List Wiring) → IsFed d fed → length ws ≡ length fed.rows + 1
-    → d.height ≤ stack_top r fed.heights 0 ws
-height-within r d fed ws is each =
-    subst (λ (heights : List ℕ). d.height ≤ stack_top r heights 0 ws) (sym (heights-of d fed is)) (row-within r d (cells_in fed.rows) ws is.placed.some (omega arith))
+pub row-within : (r : RuleValues) (heights : List ℕ) (base : ℕ) (ws : List Wiring) (k height : ℕ) → slice_get heights k ≡ Some height → length ws ≡ length heights + 1
+    → height ≤ stack_top r heights base ws
+row-within r [] base ws k height at each = absurd (none-some height at)
+row-within r (h ∷ heights) base [] k height at each = absurd (omega arith)
+row-within r (h ∷ heights) base (w ∷ ws) zero height at each =
+    omega (arith, same_Some h height at, base-below r heights (base + channel_height r w + h) ws)
+row-within r (h ∷ heights) base (w ∷ ws) (suc k) height at each = row-within r heights (base + channel_height r w + h) ws k height at (omega arith)
 
 -- each wiring is at most as wide as the widest
 pub columns-most : (first : ℕ) (ws : List Wiring) → AllByRecursion (λ (w : Wiring). w.columns ≤ fold max first (map (λ (v : Wiring). v.columns) ws)) ws

@@ -32,12 +32,12 @@ unfoldable pub feed_drawing : RuleValues → ℕ → List Shape
 feed_drawing r height = feed_outline r height ∷ (feed_wire r height ∷ [])
 
 -- what an item of a row of this height draws: a cell the drawing of its instance's kind, and a feed its own, as high as the row
-abbrev pub kind_drawing : RuleValues → ℕ → Option CellKind → List Shape
-kind_drawing r height None = []
-kind_drawing r height (Some kind) = drawing_of r height kind
+abbrev pub kind_drawing : RuleValues → Option CellKind → List Shape
+kind_drawing r None = []
+kind_drawing r (Some kind) = drawing_of r kind
 
 abbrev pub item_drawing : RuleValues → Netlist → ℕ → Item → List Shape
-item_drawing r d height (Cell s) = kind_drawing r d.height (kind_of d s.instance)
+item_drawing r d height (Cell s) = kind_drawing r (kind_of d s.instance)
 item_drawing r d height (Feed net) = feed_drawing r height
 
 -- the shapes of an item: what it draws, moved by its place
@@ -59,22 +59,22 @@ stacked_shapes r d [] (channel ∷ channels) (row ∷ rows) = channel_shapes cha
 stacked_shapes r d (h ∷ heights) (channel ∷ channels) (row ∷ rows) = channel_shapes channel ++ (row_shapes r d h row ++ stacked_shapes r d heights channels rows)
 
 -- the cell of an instance of a kind at a place, whose first shape has this number
-abbrev pub cell_at : RuleValues → ℕ → Inst → CellKind → Place → ℕ → layouts.Cell
-cell_at r height inst kind place first = record {
+abbrev pub cell_at : RuleValues → Inst → CellKind → Place → ℕ → layouts.Cell
+cell_at r inst kind place first = record {
   name = inst.name;
   symbol = kind.name;
   turn = turn_at place;
   first = first;
-  count = length (drawing_of r height kind);
+  count = length (drawing_of r kind);
 }
 
-abbrev pub kind_cells : RuleValues → ℕ → Inst → Place → ℕ → Option CellKind → List layouts.Cell
-kind_cells r height inst place first None = []
-kind_cells r height inst place first (Some kind) = cell_at r height inst kind place first ∷ []
+abbrev pub kind_cells : RuleValues → Inst → Place → ℕ → Option CellKind → List layouts.Cell
+kind_cells r inst place first None = []
+kind_cells r inst place first (Some kind) = cell_at r inst kind place first ∷ []
 
 abbrev pub instance_cells : RuleValues → Netlist → Place → ℕ → Option Inst → List layouts.Cell
 instance_cells r d place first None = []
-instance_cells r d place first (Some inst) = kind_cells r d.height inst place first (slice_get d.kinds inst.kind)
+instance_cells r d place first (Some inst) = kind_cells r inst place first (slice_get d.kinds inst.kind)
 
 -- the cell of an item whose first shape has this number: a feed is none
 abbrev pub item_cells : RuleValues → Netlist → ℕ → Item → Place → List layouts.Cell

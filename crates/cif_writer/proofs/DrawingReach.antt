@@ -22,8 +22,8 @@ column-near column columns pitch within few fine =
     let near : column ≤ 100000000 = omega arith in
     let product : column * pitch ≤ 100000000 * 1000 = mul-le-mul near fine in omega arith
 
-module _ (r : RuleValues) (height : ℕ) (k : CellKind) (valid : ValidRules r) (low : height ≤ 200000000) (is : IsKind k) where
-  outline-in-reach : IsShapeInReach (outline_shape r height k)
+module _ (r : RuleValues) (k : CellKind) (valid : ValidRules r) (is : IsKind k) where
+  outline-in-reach : IsShapeInReach (outline_shape r k)
   unfolding outline_shape
   outline-in-reach =
       let columns : k.columns * r.grid.column ≤ 100000000000 = column-near k.columns k.columns r.grid.column (omega arith) is.few valid.ranges.grid.column.1 in
@@ -32,18 +32,18 @@ module _ (r : RuleValues) (height : ℕ) (k : CellKind) (valid : ValidRules r) (
         x0 = scaled-in-reach 0 r.grid.centi (omega arith) fine;
         y0 = scaled-in-reach 0 r.grid.centi (omega arith) fine;
         x1 = scaled-in-reach (2 * (k.columns * r.grid.column)) r.grid.centi (omega arith) fine;
-        y1 = scaled-in-reach (2 * height) r.grid.centi (omega arith) fine;
+        y1 = scaled-in-reach (2 * k.height) r.grid.centi (omega (arith, is.low)) fine;
       }
 
-  pin_low-near : (top : Bool) → pin_low r.grid.pin height top ≤ 1000000000000
-  pin_low-near true = omega arith
+  pin_low-near : (top : Bool) → pin_low r.grid.pin k.height top ≤ 1000000000000
+  pin_low-near true = omega (arith, is.low)
   pin_low-near false = omega arith
 
-  pin_high-near : (top : Bool) → pin_high r.grid.pin height top ≤ 1000000000000
-  pin_high-near true = omega arith
+  pin_high-near : (top : Bool) → pin_high r.grid.pin k.height top ≤ 1000000000000
+  pin_high-near true = omega (arith, is.low)
   pin_high-near false = let pin : r.grid.pin ≤ 1000 = valid.ranges.grid.pin.1 in omega arith
 
-  position-in-reach : (p : Position) → IsPosition k p → IsShapeInReach (position_shape r height p)
+  position-in-reach : (p : Position) → IsPosition k p → IsShapeInReach (position_shape r k.height p)
   unfolding position_shape
   position-in-reach p at =
       let within : p.column ≤ k.columns = omega (arith, at.column) in
@@ -53,15 +53,15 @@ module _ (r : RuleValues) (height : ℕ) (k : CellKind) (valid : ValidRules r) (
       let fine : r.grid.centi ≤ 1000 = valid.ranges.grid.centi.1 in
       record {
         x0 = scaled-in-reach (middle_of r.grid.column p.column - r.vertical.width) r.grid.centi (omega arith) fine;
-        y0 = scaled-in-reach (pin_low r.grid.pin height p.top) r.grid.centi (pin_low-near p.top) fine;
+        y0 = scaled-in-reach (pin_low r.grid.pin k.height p.top) r.grid.centi (pin_low-near p.top) fine;
         x1 = scaled-in-reach (middle_of r.grid.column p.column + r.vertical.width) r.grid.centi (omega arith) fine;
-        y1 = scaled-in-reach (pin_high r.grid.pin height p.top) r.grid.centi (pin_high-near p.top) fine;
+        y1 = scaled-in-reach (pin_high r.grid.pin k.height p.top) r.grid.centi (pin_high-near p.top) fine;
       }
 
-  positions-in-reach : (ps : List Position) → AllByRecursion (IsPosition k) ps → AllByRecursion IsShapeInReach (map (position_shape r height) ps)
+  positions-in-reach : (ps : List Position) → AllByRecursion (IsPosition k) ps → AllByRecursion IsShapeInReach (map (position_shape r k.height) ps)
   positions-in-reach [] all = tt
   positions-in-reach (p ∷ ps) all = (position-in-reach p all.0, positions-in-reach ps all.1)
 
   -- a kind's drawing lies within reach
-  pub drawing-in-reach : AllByRecursion IsShapeInReach (drawing_of r height k)
+  pub drawing-in-reach : AllByRecursion IsShapeInReach (drawing_of r k)
   drawing-in-reach = (outline-in-reach, positions-in-reach k.positions (recursion_from_All (IsPosition k) k.positions is.positions))

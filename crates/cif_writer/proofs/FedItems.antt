@@ -3,7 +3,7 @@ use Rattle.std.proofs.lemmas.Bool.{both_ways, or_left, or_right}
 use Rattle.std.proofs.lemmas.Bool.Decides.{nat_tests}
 use Rattle.std.proofs.lemmas.List.Elements.{Contains-append_right, recursion_from_All}
 use Rattle.std.proofs.lemmas.List.Sums.{get_or-le-sum_by}
-use Rattle.std.proofs.lemmas.Option.{slice_get_within}
+use Rattle.std.proofs.lemmas.Option.{get_or_from_slice_get, slice_get_within}
 use Rattle.std.specs.List.{AllByRecursion, list_any}
 use Rattle.std.specs.Prelude.{◌==◌, slice_get, slice_index, option_map}
 use Rattle.std.specs.Option.{option_and_then}
@@ -23,7 +23,7 @@ use Rattle.feed_cells.proofs.Standing.{Stands, seated, feeding}
 use Rattle.feed_cells.specs.declared.fed.Item.{Item}
 use Rattle.feed_cells.specs.declared.fed.Item.TheVariants.{Cell, Feed}
 use Rattle.feed_cells.proofs.FedLaws.{fed-row, fed-row-some, fed-width, item-stands, seat-stands}
-use Rattle.channel_stack.proofs.StackBounds.{heights-of}
+use Rattle.channel_stack.proofs.RowHeights.{first-level}
 use Rattle.cif_writer.specs.Symbols.{feed_height, is_feed, has_feed}
 use Rattle.std_laws.proofs.Members.{find-member, map-member, member-head, member-place}
 use Rattle.std_laws.proofs.Places.{at-place}
@@ -98,12 +98,8 @@ feed-kind d fed good is any =
     of item test row seats (feeding net feed same) = net-kind d good net feed.some feed.few
 
 -- feeds are as high as the design's rows
-pub feed-high : (d : Netlist) (fed : Fed) → IsFed d fed → feed_height fed ≡ d.height
-feed-high d fed is = ap (λ (heights : List ℕ). slice_index heights 0) (heights-of d fed is) ∙ first (cells_in fed.rows) is.placed.some
-  where
-    first : (rows : List (List Seat)) → 0 < length rows → slice_index (heights_of d rows) 0 ≡ d.height
-    first [] some = absurd (omega arith)
-    first (seats ∷ rows) some = refl
+pub feed-high : (d : Netlist) → IsNetlist d → (fed : Fed) → IsFed d fed → feed_height fed ≡ d.height
+feed-high d good fed is = get_or_from_slice_get fed.heights 0 d.height 0 (first-level d good fed is)
 
 -- an item of rows of a design: a cell's instance is one of the design's, and a feed stands where there are feeds
 abbrev pub IsThere : Netlist → Bool → Item → Type 0

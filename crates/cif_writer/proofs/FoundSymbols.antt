@@ -29,16 +29,16 @@ module _ (r : RuleValues) (d : Netlist) (fed : Fed) where
 
   -- the symbol of a kind has the number behind the kind's
   pub kind-found : (k : ℕ) (kind : CellKind) → slice_get d.kinds k ≡ Some kind
-      → symbol_of (k + 1) (symbols_in r d fed) ≡ Some (symbol_at (k + 1) (symbol_for r d.height kind))
+      → symbol_of (k + 1) (symbols_in r d fed) ≡ Some (symbol_at (k + 1) (symbol_for r kind))
   kind-found k kind at =
-      numbered k (symbol_for r d.height kind)
-      (get-before (map (symbol_for r d.height) d.kinds) (feed_symbol r (feed_height fed) (has_feed fed.rows)) k (symbol_for r d.height kind)
-      (map-at (symbol_for r d.height) d.kinds k kind at))
+      numbered k (symbol_for r kind)
+      (get-before (map (symbol_for r) d.kinds) (feed_symbol r (feed_height fed) (has_feed fed.rows)) k (symbol_for r kind)
+      (map-at (symbol_for r) d.kinds k kind at))
 
   -- the symbol of feeds stands behind those of the kinds
   pub feed-found : has_feed fed.rows ≡ true → symbol_of (length d.kinds + 1) (symbols_in r d fed) ≡ Some (symbol_at (length d.kinds + 1) (feeds_symbol r fed))
   feed-found has =
       numbered (length d.kinds) (feeds_symbol r fed)
-      (get-behind (map (symbol_for r d.height) d.kinds) (feed_symbol r (feed_height fed) (has_feed fed.rows)) (length d.kinds) 0
-      (let e = length-map d.kinds (symbol_for r d.height) in omega arith)
+      (get-behind (map (symbol_for r) d.kinds) (feed_symbol r (feed_height fed) (has_feed fed.rows)) (length d.kinds) 0
+      (let e = length-map d.kinds (symbol_for r) in omega arith)
       ∙ ap (λ (b : Bool). slice_get (feed_symbol r (feed_height fed) b) 0) has)

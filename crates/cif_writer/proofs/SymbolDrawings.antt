@@ -18,35 +18,35 @@ use Rattle.cif_writer.specs.Symbols.{feed_height, feed_symbol, has_feed, items_o
 use Rattle.cif_writer.proofs.LayoutLines.{layout-text}
 
 -- the drawings of kinds
-kinds-drawn : (r : RuleValues) (height : ℕ) (kinds : List CellKind)
-    → map (λ (s : written.WrittenSymbol). s.shapes) (map (symbol_for r height) kinds) ≡ map (drawing_of r height) kinds
-kinds-drawn r height [] = refl
-kinds-drawn r height (k ∷ kinds) = ap (λ (l : List (List Shape)). drawing_of r height k ∷ l) (kinds-drawn r height kinds)
+kinds-drawn : (r : RuleValues) (kinds : List CellKind)
+    → map (λ (s : written.WrittenSymbol). s.shapes) (map (symbol_for r) kinds) ≡ map (drawing_of r) kinds
+kinds-drawn r [] = refl
+kinds-drawn r (k ∷ kinds) = ap (λ (l : List (List Shape)). drawing_of r k ∷ l) (kinds-drawn r kinds)
 
 -- the drawings of symbols, where there is a feed and where there is none
 pub parted : (r : RuleValues) (d : Netlist) (fed : Fed) (feeds : Bool) → has_feed fed.rows ≡ feeds → symbol_drawings r d fed
-    ≡ map (drawing_of r d.height) d.kinds ++ map (λ (s : written.WrittenSymbol). s.shapes) (feed_symbol r (feed_height fed) feeds)
+    ≡ map (drawing_of r) d.kinds ++ map (λ (s : written.WrittenSymbol). s.shapes) (feed_symbol r (feed_height fed) feeds)
 parted r d fed feeds is =
-    map-append (λ (s : written.WrittenSymbol). s.shapes) (map (symbol_for r d.height) d.kinds) (feed_symbol r (feed_height fed) (has_feed fed.rows))
-    ∙ ap₂ (λ (l : List (List Shape)) (b : Bool). l ++ map (λ (s : written.WrittenSymbol). s.shapes) (feed_symbol r (feed_height fed) b)) (kinds-drawn r d.height d.kinds) is
+    map-append (λ (s : written.WrittenSymbol). s.shapes) (map (symbol_for r) d.kinds) (feed_symbol r (feed_height fed) (has_feed fed.rows))
+    ∙ ap₂ (λ (l : List (List Shape)) (b : Bool). l ++ map (λ (s : written.WrittenSymbol). s.shapes) (feed_symbol r (feed_height fed) b)) (kinds-drawn r d.kinds) is
 
 pub drawings-fed : (r : RuleValues) (d : Netlist) (fed : Fed) → has_feed fed.rows ≡ true
-    → symbol_drawings r d fed ≡ map (drawing_of r d.height) d.kinds ++ feed_drawing r (feed_height fed) ∷ []
+    → symbol_drawings r d fed ≡ map (drawing_of r) d.kinds ++ feed_drawing r (feed_height fed) ∷ []
 drawings-fed r d fed is = parted r d fed true is
 
-pub drawings-unfed : (r : RuleValues) (d : Netlist) (fed : Fed) → has_feed fed.rows ≡ false → symbol_drawings r d fed ≡ map (drawing_of r d.height) d.kinds
-drawings-unfed r d fed is = parted r d fed false is ∙ append-nil (map (drawing_of r d.height) d.kinds)
+pub drawings-unfed : (r : RuleValues) (d : Netlist) (fed : Fed) → has_feed fed.rows ≡ false → symbol_drawings r d fed ≡ map (drawing_of r) d.kinds
+drawings-unfed r d fed is = parted r d fed false is ∙ append-nil (map (drawing_of r) d.kinds)
 
 -- symbols from their drawings: those of kinds, of which so many stand before, and those behind all kinds
 with-kinds : (r : RuleValues) (d : Netlist) (n : ℕ) (kinds : List CellKind) (behind : List (List Shape))
     → ((k : ℕ) → slice_get d.kinds (n + k) ≡ slice_get kinds k)
-    → symbols_with d n (map (drawing_of r d.height) kinds ++ behind) ≡ map (symbol_for r d.height) kinds ++ symbols_with d (length kinds + n) behind
+    → symbols_with d n (map (drawing_of r) kinds ++ behind) ≡ map (symbol_for r) kinds ++ symbols_with d (length kinds + n) behind
 with-kinds r d n [] behind at = ap (λ (m : ℕ). symbols_with d m behind) (omega arith)
 with-kinds r d n (k ∷ kinds) behind at =
-    ap₂ (λ (name : Option (List ℕ)) (l : List written.WrittenSymbol). record { name = name; shapes = drawing_of r d.height k } ∷ l)
+    ap₂ (λ (name : Option (List ℕ)) (l : List written.WrittenSymbol). record { name = name; shapes = drawing_of r k } ∷ l)
     (ap (λ (m : ℕ). kind_name d m) (omega arith) ∙ ap (option_map (λ (c : CellKind). c.name)) (at 0))
     (with-kinds r d (suc n) kinds behind (λ j. ap (slice_get d.kinds) (omega arith) ∙ at (suc j))
-    ∙ ap (λ (m : ℕ). map (symbol_for r d.height) kinds ++ symbols_with d m behind) (omega arith))
+    ∙ ap (λ (m : ℕ). map (symbol_for r) kinds ++ symbols_with d m behind) (omega arith))
 
 -- a drawing behind those of all kinds has no name
 with-feed : (r : RuleValues) (d : Netlist) (height : ℕ) (feeds : Bool)
@@ -61,7 +61,7 @@ pub symbols-drawn : (r : RuleValues) (d : Netlist) (fed : Fed) → symbols_with 
 symbols-drawn r d fed =
     ap (symbols_with d 0) (parted r d fed (has_feed fed.rows) refl)
     ∙ with-kinds r d 0 d.kinds (map (λ (s : written.WrittenSymbol). s.shapes) (feed_symbol r (feed_height fed) (has_feed fed.rows))) (λ k. ap (slice_get d.kinds) (omega arith))
-    ∙ ap (λ (l : List written.WrittenSymbol). map (symbol_for r d.height) d.kinds ++ l) (with-feed r d (feed_height fed) (has_feed fed.rows))
+    ∙ ap (λ (l : List written.WrittenSymbol). map (symbol_for r) d.kinds ++ l) (with-feed r d (feed_height fed) (has_feed fed.rows))
 
 -- the whole text of a stack, by the drawings of its symbols and where its channels and rows lie
 pub whole-text : (r : RuleValues) (d : Netlist) (fed : Fed) (ws : List Wiring) (drawn : List (List Shape)) (laid : LaidOut)

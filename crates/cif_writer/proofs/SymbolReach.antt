@@ -20,10 +20,9 @@ use Rattle.std_laws.proofs.Every.{every-append}
 abbrev pub AreInReach : List (List Shape) → Type 0
 AreInReach drawings = AllByRecursion (λ (shapes : List Shape). AllByRecursion IsShapeInReach shapes) drawings
 
-kinds-reach : (r : RuleValues) (height : ℕ) → ValidRules r → height ≤ 200000000 → (kinds : List CellKind) → AllByRecursion IsKind kinds
-    → AreInReach (map (drawing_of r height) kinds)
-kinds-reach r height valid low [] are = tt
-kinds-reach r height valid low (k ∷ kinds) are = (drawing-in-reach r height k valid low are.0, kinds-reach r height valid low kinds are.1)
+kinds-reach : (r : RuleValues) → ValidRules r → (kinds : List CellKind) → AllByRecursion IsKind kinds → AreInReach (map (drawing_of r) kinds)
+kinds-reach r valid [] are = tt
+kinds-reach r valid (k ∷ kinds) are = (drawing-in-reach r k valid are.0, kinds-reach r valid kinds are.1)
 
 feed-reach : (r : RuleValues) (height : ℕ) → ValidRules r → height ≤ 200000000 → AllByRecursion IsShapeInReach (feed_drawing r height)
 unfolding feed_drawing
@@ -56,8 +55,8 @@ feeds-reach r height valid low false = tt
 -- the drawings of the symbols of a layout are in reach
 pub symbols-reach : (r : RuleValues) (d : Netlist) (fed : Fed) → ValidRules r → IsNetlist d → IsFed d fed → AreInReach (symbol_drawings r d fed)
 symbols-reach r d fed valid is from =
-    let high = feed-high d fed from in
+    let high = feed-high d is fed from in
     subst AreInReach (sym (parted r d fed (has_feed fed.rows) refl))
-    (every-append (λ (shapes : List Shape). AllByRecursion IsShapeInReach shapes) (map (drawing_of r d.height) d.kinds)
+    (every-append (λ (shapes : List Shape). AllByRecursion IsShapeInReach shapes) (map (drawing_of r) d.kinds)
     (map (λ (s : written.WrittenSymbol). s.shapes) (feed_symbol r (feed_height fed) (has_feed fed.rows)))
-    (kinds-reach r d.height valid is.low d.kinds (recursion_from_All IsKind d.kinds is.kinds)) (feeds-reach r (feed_height fed) valid (omega (arith, is.low)) (has_feed fed.rows)))
+    (kinds-reach r valid d.kinds (recursion_from_All IsKind d.kinds is.kinds)) (feeds-reach r (feed_height fed) valid (omega (arith, is.low)) (has_feed fed.rows)))

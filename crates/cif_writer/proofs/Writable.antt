@@ -1,12 +1,14 @@
 use Rattle.std.proofs.Common.{◌≡◌, ℕ, ◌+◌, ◌*◌, ◌<◌, ◌≤◌, List, [], ◌∷◌, length, map, All, Bool, true, false, arith, length-append, subst, sym}
 use Rattle.std.proofs.Math.Nat.{mul-le-mul_right}
 use Rattle.std.proofs.lemmas.List.{length-map}
-use Rattle.std.proofs.lemmas.List.Elements.{recursion_from_All}
+use Rattle.std.proofs.lemmas.List.Elements.{All-weaker, recursion_from_All}
 use Rattle.std.specs.List.{AllByRecursion}
 use Rattle.tech_rules.specs.Rules.{RuleValues, ValidRules}
 use Rattle.geom_core.specs.Reach.{IsShapeInReach}
 use Rattle.design_model.specs.Netlist.{Netlist, IsNetlist, IsKind}
 use Rattle.design_model.specs.Room.{HasRoom, least_height}
+use Rattle.design_model.specs.declared.design.CellKind.{CellKind}
+use Rattle.design_model.proofs.RoomLaws.{design-room}
 use Rattle.channel_model.specs.Elements.{elements}
 use Rattle.channel_model.specs.Wired.{IsOnGrid}
 use Rattle.channel_model.specs.declared.wiring.Wiring.{Wiring}
@@ -20,7 +22,8 @@ use Rattle.cif_writer.specs.Symbols.{symbol_for, feed_height, feed_symbol, has_f
 use Rattle.channel_stack.specs.Routed.{IsRouted}
 use Rattle.channel_stack.specs.Stack.{channel_bases, stack_top, most_columns, drawings, stack_of}
 use Rattle.cif_writer.proofs.FedItems.{IsThere, feed-high, feed-kind, items-there, kinds-narrow}
-use Rattle.channel_stack.proofs.StackBounds.{IsBounded, bases-within, channel-below, columns-most, height-within}
+use Rattle.channel_stack.proofs.RowHeights.{height-within}
+use Rattle.channel_stack.proofs.StackBounds.{IsBounded, bases-within, channel-below, columns-most}
 use Rattle.cif_writer.proofs.WritableItems.{IsLaid, IsRow, items-are}
 use Rattle.cif_writer.proofs.WritableSymbols.{feed-are, kinds-are}
 use Rattle.cif_writer.proofs.WritableWires.{IsWire, drawing-is}
@@ -51,8 +54,8 @@ feed-few r height true = omega arith
 pub feed-room : (r : RuleValues) (d : Netlist) (fed : Fed) → ValidRules r → IsNetlist d → IsFed d fed → HasRoom r d → has_feed fed.rows ≡ true → 0 < feed_height fed
 feed-room r d fed valid good is tall some =
     let pin : 1 ≤ r.grid.pin = valid.ranges.grid.pin.0 in
-    let high : feed_height fed ≡ d.height = feed-high d fed is in
-    let room : least_height r ≤ d.height = tall (feed-kind d fed good is some) in
+    let high : feed_height fed ≡ d.height = feed-high d good fed is in
+    let room : least_height r ≤ d.height = design-room r d good tall (feed-kind d fed good is some) in
     omega arith
 
 -- the symbols of a routed design can be written
@@ -61,9 +64,12 @@ symbols-are : (r : RuleValues) (d : Netlist) (fed : Fed) → ValidRules r → Is
     → fed.width * r.grid.column * r.grid.centi ≤ 1000000000 → d.height * r.grid.centi ≤ 1000000000
     → AllByRecursion IsDrawn (symbols_of r d fed)
 symbols-are r d fed valid good is tall across up =
-    every-append IsDrawn (map (symbol_for r d.height) d.kinds) (feed_symbol r (feed_height fed) (has_feed fed.rows))
-    (kinds-are r d.height fed.width valid across up d.kinds (kinds-narrow d fed good is) (recursion_from_All IsKind d.kinds good.kinds) tall)
-    (feed-are r (feed_height fed) valid (subst (λ (n : ℕ). n * r.grid.centi ≤ 1000000000) (sym (feed-high d fed is)) up) (has_feed fed.rows) (feed-room r d fed valid good is tall))
+    every-append IsDrawn (map (symbol_for r) d.kinds) (feed_symbol r (feed_height fed) (has_feed fed.rows))
+    (kinds-are r d.height fed.width valid across up d.kinds (kinds-narrow d fed good is) (recursion_from_All IsKind d.kinds good.kinds)
+    (recursion_from_All (λ (k : CellKind). least_height r ≤ k.height) d.kinds tall)
+    (recursion_from_All (λ (k : CellKind). k.height ≤ d.height) d.kinds
+    (All-weaker (λ (k : CellKind). k.height ≡ d.height) (λ (k : CellKind). k.height ≤ d.height) (λ k level. omega (arith, level)) d.kinds good.level)))
+    (feed-are r (feed_height fed) valid (subst (λ (n : ℕ). n * r.grid.centi ≤ 1000000000) (sym (feed-high d good fed is)) up) (has_feed fed.rows) (feed-room r d fed valid good is tall))
 
 -- the layout of a routed design can be written
 pub stack-writable : (r : RuleValues) (d : Netlist) (fed : Fed) (ws : List Wiring) → ValidRules r → IsNetlist d → IsFed d fed
@@ -72,13 +78,13 @@ pub stack-writable : (r : RuleValues) (d : Netlist) (fed : Fed) (ws : List Wirin
 unfolding stack_of
 stack-writable r d fed ws valid good is tall routed =
     let bounds : IsBounded r d fed ws = bases-within r d fed ws is routed in
-    let row : d.height * r.grid.centi ≤ stack_top r fed.heights 0 ws * r.grid.centi = mul-le-mul_right r.grid.centi (height-within r d fed ws is routed.each) in
+    let row : d.height * r.grid.centi ≤ stack_top r fed.heights 0 ws * r.grid.centi = mul-le-mul_right r.grid.centi (height-within r d good fed ws is routed.each) in
     let low : d.height * r.grid.centi ≤ 1000000000 = omega (arith, bounds.height) in
     let few : length d.kinds < 4294967296 = good.few_kinds in
-    let kinds : length (map (symbol_for r d.height) d.kinds) ≡ length d.kinds = length-map d.kinds (symbol_for r d.height) in
+    let kinds : length (map (symbol_for r) d.kinds) ≡ length d.kinds = length-map d.kinds (symbol_for r) in
     let one : length (feed_symbol r (feed_height fed) (has_feed fed.rows)) ≤ 1 = feed-few r (feed_height fed) (has_feed fed.rows) in
-    let count : length (symbols_of r d fed) ≡ length (map (symbol_for r d.height) d.kinds) + length (feed_symbol r (feed_height fed) (has_feed fed.rows)) =
-    length-append (map (symbol_for r d.height) d.kinds) (feed_symbol r (feed_height fed) (has_feed fed.rows)) in
+    let count : length (symbols_of r d fed) ≡ length (map (symbol_for r) d.kinds) + length (feed_symbol r (feed_height fed) (has_feed fed.rows)) =
+    length-append (map (symbol_for r) d.kinds) (feed_symbol r (feed_height fed) (has_feed fed.rows)) in
     record {
       few = omega arith;
       symbols = symbols-are r d fed valid good is tall bounds.width low;

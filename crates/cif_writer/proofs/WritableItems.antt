@@ -61,7 +61,7 @@ others-fit left w ws total wide parted room = omega arith
 module _ (r : RuleValues) (d : Netlist) (height : ℕ) (feeds : Bool) (valid : ValidRules r) (good : IsNetlist d) (wide high : ℕ)
     (across : wide * r.grid.column * r.grid.centi ≤ 1000000000) (up : high * r.grid.centi ≤ 1000000000) where
   abbrev symbols : List written.WrittenSymbol
-  symbols = map (symbol_for r d.height) d.kinds ++ feed_symbol r height feeds
+  symbols = map (symbol_for r) d.kinds ++ feed_symbol r height feeds
 
   -- the place of an item is whole in centimicrons
   place-whole : (base : ℕ) (mirror : Bool) (column : ℕ) → base ≤ high → column ≤ wide → IsWhole (place_at r base mirror column)
@@ -83,16 +83,16 @@ module _ (r : RuleValues) (d : Netlist) (height : ℕ) (feeds : Bool) (valid : V
       → IsCopy (symbols_from 1 symbols) (Some i.name) (i.kind + 1) place
   copy-is i place inside named whole =
       let found : (k : CellKind) × (slice_get d.kinds i.kind ≡ Some k) = at-place d.kinds i.kind inside in
-      let drawn : slice_get (map (symbol_for r d.height) d.kinds) i.kind ≡ Some (symbol_for r d.height found.0) =
-      slice_get-map (symbol_for r d.height) d.kinds i.kind ∙ ap (option_map (symbol_for r d.height)) found.1 in
-      let among : slice_get symbols i.kind ≡ Some (symbol_for r d.height found.0) =
-      get-before (map (symbol_for r d.height) d.kinds) (feed_symbol r height feeds) i.kind (symbol_for r d.height found.0) drawn in
+      let drawn : slice_get (map (symbol_for r) d.kinds) i.kind ≡ Some (symbol_for r found.0) =
+      slice_get-map (symbol_for r) d.kinds i.kind ∙ ap (option_map (symbol_for r)) found.1 in
+      let among : slice_get symbols i.kind ≡ Some (symbol_for r found.0) =
+      get-before (map (symbol_for r) d.kinds) (feed_symbol r height feeds) i.kind (symbol_for r found.0) drawn in
       let few : length d.kinds < 4294967296 = good.few_kinds in
       record {
         number = record { high = omega arith };
-        symbol = symbol_at (suc i.kind) (symbol_for r d.height found.0);
+        symbol = symbol_at (suc i.kind) (symbol_for r found.0);
         found = ap (λ (m : ℕ). symbol_of m (symbols_from 1 symbols)) (add-one i.kind)
-            ∙ symbol_of-written i.kind symbols (symbol_for r d.height found.0) among;
+            ∙ symbol_of-written i.kind symbols (symbol_for r found.0) among;
         named = name-is i.name named;
         kind = refl;
         whole = whole;
@@ -113,9 +113,9 @@ module _ (r : RuleValues) (d : Netlist) (height : ℕ) (feeds : Bool) (valid : V
   -- a feed at a whole place is a copy of the feeds' symbol, which is the last
   feed-is : (place : Place) → feeds ≡ true → IsWhole place → IsCopy (symbols_from 1 symbols) None (length d.kinds + 1) place
   feed-is place some whole =
-      let kinds : List written.WrittenSymbol = map (symbol_for r d.height) d.kinds in
+      let kinds : List written.WrittenSymbol = map (symbol_for r) d.kinds in
       let feed : written.WrittenSymbol = record { name = None; shapes = feed_drawing r height } in
-      let count : length kinds ≡ length d.kinds = length-map d.kinds (symbol_for r d.height) in
+      let count : length kinds ≡ length d.kinds = length-map d.kinds (symbol_for r) in
       let last : slice_get symbols (length d.kinds) ≡ Some feed =
       ap (λ (b : Bool). slice_get (kinds ++ feed_symbol r height b) (length d.kinds)) some
       ∙ get-behind kinds (feed ∷ []) (length d.kinds) 0 (omega arith) in

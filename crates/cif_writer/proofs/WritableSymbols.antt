@@ -59,9 +59,9 @@ wire-narrow r valid =
 module _ (r : RuleValues) (height wide : ℕ) (valid : ValidRules r)
     (across : wide * r.grid.column * r.grid.centi ≤ 1000000000) (up : height * r.grid.centi ≤ 1000000000) where
   -- the outline of a kind of a design within the limits is a shape that can be written
-  outline-is : (k : CellKind) → IsKind k → k.columns ≤ wide → least_height r ≤ height → IsShape (outline_shape r height k)
+  outline-is : (k : CellKind) → IsKind k → k.columns ≤ wide → least_height r ≤ k.height → k.height ≤ height → IsShape (outline_shape r k)
   unfolding outline_shape
-  outline-is k is within tall =
+  outline-is k is within tall low =
       let some : 0 < k.columns = is.some in
       let pitch : 2 ≤ r.grid.column = valid.ranges.grid.column.0 in
       let pin : 1 ≤ r.grid.pin = valid.ranges.grid.pin.0 in
@@ -69,17 +69,17 @@ module _ (r : RuleValues) (height wide : ℕ) (valid : ValidRules r)
       let inside : k.columns * r.grid.column ≤ wide * r.grid.column = mul-le-mul_right r.grid.column within in
       record {
         layer = valid.ranges.outline.layer;
-        box = box-whole r.grid.centi 0 0 (2 * (k.columns * r.grid.column)) (2 * height) valid.whole_centi valid.ranges.grid.centi.0
+        box = box-whole r.grid.centi 0 0 (2 * (k.columns * r.grid.column)) (2 * k.height) valid.whole_centi valid.ranges.grid.centi.0
             (omega arith) (omega arith)
             (halves-near (wide * r.grid.column) r.grid.centi (2 * (k.columns * r.grid.column)) across (omega arith))
-            (halves-near height r.grid.centi (2 * height) up (omega arith));
+            (halves-near height r.grid.centi (2 * k.height) up (omega (arith, low)));
       }
 
   -- so is a pin
-  position-is : (k : CellKind) (p : Position) → IsPosition k p → k.columns ≤ wide → least_height r ≤ height
-      → IsShape (position_shape r height p)
+  position-is : (k : CellKind) (p : Position) → IsPosition k p → k.columns ≤ wide → least_height r ≤ k.height → k.height ≤ height
+      → IsShape (position_shape r k.height p)
   unfolding position_shape
-  position-is k p at within tall =
+  position-is k p at within tall low =
       let narrow : r.vertical.width ≤ r.grid.column = wire-narrow r valid in
       let some : 1 ≤ r.vertical.width = valid.ranges.vertical.width.0 in
       let inside : k.columns * r.grid.column ≤ wide * r.grid.column = mul-le-mul_right r.grid.column within in
@@ -89,31 +89,31 @@ module _ (r : RuleValues) (height wide : ℕ) (valid : ValidRules r)
       record {
         layer = valid.ranges.vertical.layer;
         box = box-whole r.grid.centi
-            (middle_of r.grid.column p.column - r.vertical.width) (pin_low r.grid.pin height p.top)
-            (middle_of r.grid.column p.column + r.vertical.width) (pin_high r.grid.pin height p.top) valid.whole_centi valid.ranges.grid.centi.0
-            (omega arith) (pin-rises r.grid.pin r.vertical.space height p.top valid.ranges.grid.pin.0 tall)
+            (middle_of r.grid.column p.column - r.vertical.width) (pin_low r.grid.pin k.height p.top)
+            (middle_of r.grid.column p.column + r.vertical.width) (pin_high r.grid.pin k.height p.top) valid.whole_centi valid.ranges.grid.centi.0
+            (omega arith) (pin-rises r.grid.pin r.vertical.space k.height p.top valid.ranges.grid.pin.0 tall)
             (halves-near (wide * r.grid.column) r.grid.centi (middle_of r.grid.column p.column + r.vertical.width) across reach)
-            (halves-near height r.grid.centi (pin_high r.grid.pin height p.top) up (pin-low-enough r.grid.pin r.vertical.space height p.top tall));
+            (halves-near height r.grid.centi (pin_high r.grid.pin k.height p.top) up
+            (let own = pin-low-enough r.grid.pin r.vertical.space k.height p.top tall in omega (arith, low)));
       }
 
-  positions-are : (k : CellKind) → k.columns ≤ wide → least_height r ≤ height
-      → (ps : List Position) → AllByRecursion (IsPosition k) ps → AllByRecursion IsShape (map (position_shape r height) ps)
-  positions-are k within tall [] all = tt
-  positions-are k within tall (p ∷ ps) all = (position-is k p all.0 within tall, positions-are k within tall ps all.1)
+  positions-are : (k : CellKind) → k.columns ≤ wide → least_height r ≤ k.height → k.height ≤ height
+      → (ps : List Position) → AllByRecursion (IsPosition k) ps → AllByRecursion IsShape (map (position_shape r k.height) ps)
+  positions-are k within tall low [] all = tt
+  positions-are k within tall low (p ∷ ps) all = (position-is k p all.0 within tall low, positions-are k within tall low ps all.1)
 
   -- so are a kind's symbol, and those of all kinds
-  symbol-is : (k : CellKind) → IsKind k → k.columns ≤ wide → least_height r ≤ height → IsDrawn (symbol_for r height k)
-  symbol-is k is within tall = record {
+  symbol-is : (k : CellKind) → IsKind k → k.columns ≤ wide → least_height r ≤ k.height → k.height ≤ height → IsDrawn (symbol_for r k)
+  symbol-is k is within tall low = record {
     name = name-is k.name is.name;
-    shapes = (outline-is k is within tall, positions-are k within tall k.positions (recursion_from_All (IsPosition k) k.positions is.positions));
+    shapes = (outline-is k is within tall low, positions-are k within tall low k.positions (recursion_from_All (IsPosition k) k.positions is.positions));
   }
 
   pub kinds-are : (ks : List CellKind) → AllByRecursion (λ (k : CellKind). k.columns ≤ wide) ks → AllByRecursion IsKind ks
-      → (0 < length ks → least_height r ≤ height) → AllByRecursion IsDrawn (map (symbol_for r height) ks)
-  kinds-are [] within all tall = tt
-  kinds-are (k ∷ ks) within all tall =
-      let high : least_height r ≤ height = tall (omega arith) in
-      (symbol-is k all.0 within.0 high, kinds-are ks within.1 all.1 (λ (some : 0 < length ks). high))
+      → AllByRecursion (λ (k : CellKind). least_height r ≤ k.height) ks → AllByRecursion (λ (k : CellKind). k.height ≤ height) ks
+      → AllByRecursion IsDrawn (map (symbol_for r) ks)
+  kinds-are [] within all tall low = tt
+  kinds-are (k ∷ ks) within all tall low = (symbol-is k all.0 within.0 tall.0 low.0, kinds-are ks within.1 all.1 tall.1 low.1)
 
 module _ (r : RuleValues) (height : ℕ) (valid : ValidRules r) (up : height * r.grid.centi ≤ 1000000000) where
   -- one column is narrow

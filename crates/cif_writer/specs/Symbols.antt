@@ -18,8 +18,8 @@ use Rattle.channel_stack.specs.Stack.{Stacked}
 use Rattle.channel_stack.specs.declared.placed.PlacedItem.{PlacedItem}
 
 -- a kind as a symbol: its name and its drawing
-abbrev pub symbol_for : RuleValues → ℕ → CellKind → written.WrittenSymbol
-symbol_for r height kind = record { name = Some kind.name; shapes = drawing_of r height kind }
+abbrev pub symbol_for : RuleValues → CellKind → written.WrittenSymbol
+symbol_for r kind = record { name = Some kind.name; shapes = drawing_of r kind }
 
 -- whether an item is a feed, and whether there is one in these rows
 abbrev pub is_feed : Item → Bool
@@ -40,7 +40,7 @@ feed_symbol r height true = record { name = None; shapes = feed_drawing r height
 
 -- the symbols of a layout: the kinds in their order, numbered from 1, and behind them that of feeds
 abbrev pub symbols_of : RuleValues → Netlist → Fed → List written.WrittenSymbol
-symbols_of r d fed = map (symbol_for r d.height) d.kinds ++ feed_symbol r (feed_height fed) (has_feed fed.rows)
+symbols_of r d fed = map (symbol_for r) d.kinds ++ feed_symbol r (feed_height fed) (has_feed fed.rows)
 
 -- an instance's name and the number of its symbol
 abbrev pub name_of : Option Inst → Option (List ℕ)

@@ -116,7 +116,7 @@ fn kind_drawings(
 ) -> Result<Vec<Items<Shape>>, AllocError>
     requires valid { ValidRules rules.now }
     requires high { HasRoom rules.now design.now }
-    ensures { IfOk result (λ drawings. drawings.items ≡ map (drawing_of rules.now design.now.height) design.now.kinds) }
+    ensures { IfOk result (λ drawings. drawings.items ≡ map (drawing_of rules.now) design.now.kinds) }
 {
     let mut drawings = Vec::new(alloc);
     for n in 0..design.kinds.items().len() {

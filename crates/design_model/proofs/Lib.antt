@@ -4,3 +4,5 @@ pub mod PairOrder
 pub mod PinsInOrder
 -- each pin is of an instance and is its terminal, and there are no more nets than pins
 pub mod DesignPins
+-- the heights of kinds, and the room that they have
+pub mod RoomLaws

@@ -17,10 +17,10 @@ shapes_of l cell = take cell.count (drop cell.first l.shapes)
 
 -- a cell is a copy of a kind: it has the kind's name as its symbol's, it stands upright, mirrored perhaps, and its shapes are the kind's
 -- drawing under its turn
-pub record IsCopyOf (r : RuleValues) (height : ℕ) (l : Layout) (kind : CellKind) (cell : Cell) : Type 0 where
+pub record IsCopyOf (r : RuleValues) (l : Layout) (kind : CellKind) (cell : Cell) : Type 0 where
   pub symbol : cell.symbol ≡ kind.name
   pub upright : cell.turn.quarters ≡ 0
-  pub shapes : shapes_of l cell ≡ map (moved_shape cell.turn) (drawing_of r height kind)
+  pub shapes : shapes_of l cell ≡ map (moved_shape cell.turn) (drawing_of r kind)
 
 abbrev pub cell_names : Layout → List (List ℕ)
 cell_names l = map (λ (c : Cell). c.name) l.cells
@@ -32,4 +32,4 @@ instance_names d = map (λ (i : Inst). i.name) d.instances
 pub record CellsMatch (r : RuleValues) (d : Netlist) (l : Layout) : Type 0 where
   pub names : IsPermutation (instance_names d) (cell_names l)
   pub copies : (cell : Cell) (i : Inst) (kind : CellKind) → Contains l.cells cell → Contains d.instances i → cell.name ≡ i.name
-      → slice_get d.kinds i.kind ≡ Some kind → IsCopyOf r d.height l kind cell
+      → slice_get d.kinds i.kind ≡ Some kind → IsCopyOf r l kind cell

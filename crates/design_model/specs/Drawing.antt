@@ -16,10 +16,10 @@ abbrev pub middle_of : ℕ → ℕ → ℕ
 middle_of pitch column = 2 * (column * pitch) + pitch
 
 -- the outline of a kind, from its lower left corner on
-unfoldable pub outline_shape : RuleValues → ℕ → CellKind → Shape
-outline_shape rules height kind = record {
+unfoldable pub outline_shape : RuleValues → CellKind → Shape
+outline_shape rules kind = record {
   layer = rules.outline.layer;
-  rect = extent_of rules.grid.centi 0 0 (2 * (kind.columns * rules.grid.column)) (2 * height);
+  rect = extent_of rules.grid.centi 0 0 (2 * (kind.columns * rules.grid.column)) (2 * kind.height);
 }
 
 -- the lower and the upper end of a pin of this length, in half units
@@ -29,7 +29,7 @@ pin_low pin height top = if top then 2 * (height - pin) else 0
 abbrev pub pin_high : ℕ → ℕ → Bool → ℕ
 pin_high pin height top = if top then 2 * height else 2 * pin
 
--- a pin: of the vertical width, in the middle of its column, reaching inward from its edge
+-- a pin of a kind of this height: of the vertical width, in the middle of its column, reaching inward from its edge
 unfoldable pub position_shape : RuleValues → ℕ → Position → Shape
 position_shape rules height p = record {
   layer = rules.vertical.layer;
@@ -39,5 +39,5 @@ position_shape rules height p = record {
 }
 
 -- the drawing of a kind: its outline, and then its pins in order
-abbrev pub drawing_of : RuleValues → ℕ → CellKind → List Shape
-drawing_of rules height kind = outline_shape rules height kind ∷ map (position_shape rules height) kind.positions
+abbrev pub drawing_of : RuleValues → CellKind → List Shape
+drawing_of rules kind = outline_shape rules kind ∷ map (position_shape rules kind.height) kind.positions

@@ -24,12 +24,13 @@ pub record IsPosition (k : CellKind) (p : Position) : Type 0 where
   pub terminal : (t : Terminal) → slice_get k.terminals p.terminal ≡ Some t → t.power ≡ false
   pub within : p.terminal < length k.terminals
 
--- a kind of 1 to 100,000,000 columns, with each position in its columns, no two positions at one place, and a position
+-- a kind of 1 to 100,000,000 columns, at most 200,000,000 units high, with each position in its columns, no two positions at one place, and a position
 -- for each terminal that is no power terminal
 pub record IsKind (k : CellKind) : Type 0 where
   pub name : IsName k.name
   pub some : 0 < k.columns
   pub few : k.columns ≤ MOST_KIND_COLUMNS
+  pub low : k.height ≤ MOST_HEIGHT
   pub positions : All (IsPosition k) k.positions
   pub apart : (i j : ℕ) (p q : Position) → slice_get k.positions i ≡ Some p → slice_get k.positions j ≡ Some q
       → p.top ≡ q.top → p.column ≡ q.column → i ≡ j
@@ -62,6 +63,7 @@ pub record IsNetlist (d : Netlist) : Type 0 where
   pub few_instances : length d.instances ≤ MOST_INSTANCES
   pub few_pins : length d.pins ≤ MOST_PINS
   pub low : d.height ≤ MOST_HEIGHT
+  pub level : All (λ (k : CellKind). k.height ≡ d.height) d.kinds
   pub kinds : All IsKind d.kinds
   pub instances : All (λ (i : Inst). i.kind < length d.kinds) d.instances
   pub instance_names : All (λ (i : Inst). IsName i.name) d.instances

@@ -20,13 +20,14 @@ pub struct Terminal {
     pub power: bool,
 }
 
-/// A kind of cell: a used module, with its width in columns, its terminals and their positions. In a `Design` the width is 1 to
-/// 100,000,000, each position's column is below it and no two positions have one side and column; the terminals with
-/// positions are just those that are no power terminals.
+/// A kind of cell: a used module, with its width in columns, its height in units, its terminals and their positions. In a `Design` the
+/// width is 1 to 100,000,000 and the height at most 200,000,000, each position's column is below the width and no two positions have one
+/// side and column; the terminals with positions are just those that are no power terminals.
 #[derive(Debug, Drop)]
 pub struct CellKind {
     pub name: Name,
     pub columns: u32,
+    pub height: u32,
     pub terminals: Items<Terminal>,
     pub positions: Items<Position>,
 }

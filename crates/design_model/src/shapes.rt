@@ -4,7 +4,7 @@ ghost use Rattle.design_model.specs.Drawing.{drawing_of, extent_of, middle_of, o
 ghost use Rattle.design_model.specs.Netlist.{IsKind};
 ghost use Rattle.design_model.specs.declared.design.CellKind.{CellKind as Kind};
 ghost use Rattle.design_model.specs.Room.{least_height};
-ghost use Rattle.std.specs.Prelude.{◌≡◌, ◌<◌, ◌≤◌, ◌+◌, ◌*◌, length, slice_get, IfOk};
+ghost use Rattle.std.specs.Prelude.{◌≡◌, ◌<◌, ◌≤◌, ◌+◌, ◌*◌, length, slice_get, IfOk, IfSome};
 
 use crate::design::{CellKind, Design, Position};
 use geom_core::{Rect, Shape};
@@ -22,44 +22,33 @@ pub fn drawing(
     kind: u32,
 ) -> Result<Vec<Shape>, AllocError>
     requires kind { kind < length design.now.kinds }
-    requires high { least_height rules.now ≤ design.now.height }
-    ensures { IfOk result (λ shapes. (k : Kind) → slice_get design.now.kinds kind ≡ Some k → shapes.items ≡ drawing_of rules.now design.now.height k) }
+    requires high { IfSome (slice_get design.now.kinds kind) (λ k. least_height rules.now ≤ k.height) }
+    ensures { IfOk result (λ shapes. (k : Kind) → slice_get design.now.kinds kind ≡ Some k → shapes.items ≡ drawing_of rules.now k) }
 {
-    shapes_of(
-        alloc,
-        rules,
-        design.height,
-        &design.kinds.items()[kind as usize],
-    )
+    shapes_of(alloc, rules, &design.kinds.items()[kind as usize])
 }
 
-// The drawing of a kind of this height.
-fn shapes_of(
-    alloc: Global,
-    rules: &Rules,
-    height: u32,
-    kind: &CellKind,
-) -> Result<Vec<Shape>, AllocError>
+// The drawing of a kind.
+fn shapes_of(alloc: Global, rules: &Rules, kind: &CellKind) -> Result<Vec<Shape>, AllocError>
     requires kind { IsKind kind.now }
-    requires high { least_height rules.now ≤ height }
-    requires low { height ≤ MOST_HEIGHT }
-    ensures { IfOk result (λ shapes. shapes.items ≡ drawing_of rules.now height kind.now) }
+    requires high { least_height rules.now ≤ kind.now.height }
+    ensures { IfOk result (λ shapes. shapes.items ≡ drawing_of rules.now kind.now) }
 {
     let mut shapes = Vec::new(alloc);
-    shapes.push(outline_shape(rules, height, kind))?;
+    shapes.push(outline_shape(rules, kind))?;
     for position in kind.positions.items() {
-        shapes.push(position_shape(rules, height, *position))?;
+        shapes.push(position_shape(rules, kind.height, *position))?;
     }
     Ok(shapes)
 }
 
 #[tactic(auto, unfolding(crate::specs::Drawing::outline_shape))]
-fn outline_shape(rules: &Rules, height: u32, kind: &CellKind) -> Shape
+fn outline_shape(rules: &Rules, kind: &CellKind) -> Shape
     requires some { 0 < kind.now.columns }
     requires few { kind.now.columns ≤ MOST_KIND_COLUMNS }
-    requires high { least_height rules.now ≤ height }
-    requires low { height ≤ MOST_HEIGHT }
-    ensures { result ≡ outline_shape rules.now height kind.now }
+    requires high { least_height rules.now ≤ kind.now.height }
+    requires low { kind.now.height ≤ MOST_HEIGHT }
+    ensures { result ≡ outline_shape rules.now kind.now }
 {
     let width = u64::from(kind.columns) * u64::from(rules.grid.column);
     Shape {
@@ -69,7 +58,7 @@ fn outline_shape(rules: &Rules, height: u32, kind: &CellKind) -> Shape
             0,
             0,
             2 * width,
-            2 * u64::from(height),
+            2 * u64::from(kind.height),
         ),
     }
 }

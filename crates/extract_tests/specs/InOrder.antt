@@ -11,7 +11,7 @@ use Rattle.design_model.specs.declared.design.Inst.{Inst}
 -- a cell has the name of an instance, and is a copy of its kind
 pub record IsCellOf (r : RuleValues) (d : Netlist) (l : Layout) (i : Inst) (c : Cell) : Type 0 where
   pub named : c.name ≡ i.name
-  pub copy : (kind : CellKind) → slice_get d.kinds i.kind ≡ Some kind → IsCopyOf r d.height l kind c
+  pub copy : (kind : CellKind) → slice_get d.kinds i.kind ≡ Some kind → IsCopyOf r l kind c
 
 -- the cells are those of the instances, in their order
 pub record AreInOrder (r : RuleValues) (d : Netlist) (l : Layout) : Type 0 where

@@ -1,7 +1,6 @@
 //! Whether the cells of a layout are those of a design, in the order of the instances.
 
 ghost use Rattle.design_model.specs.CellsMatch.{CellsMatch, shapes_of};
-ghost use Rattle.design_model.specs.Room.{least_height};
 ghost use Rattle.extract_tests.specs.InOrder.{AreInOrder, IsCellOf};
 ghost use Rattle.geom_core.specs.Moving.{moved_shape};
 ghost use Rattle.geom_core.specs.Reach.{IsExtentInReach, IsInReach};
@@ -100,14 +99,17 @@ fn is_cell_of(
     cell: &Cell,
 ) -> Result<bool, AllocError>
     requires kind { inst.now.kind < length design.now.kinds }
-    requires high { least_height rules.now ≤ design.now.height }
     ensures { IfOk result (λ b. OnTrue b (IsCellOf rules.now design.now layout.now inst.now cell.now)) }
 {
+    let kind = &design.kinds.items()[inst.kind as usize];
+    if kind.height < 2 * rules.grid.pin + rules.vertical.space {
+        return Ok(false);
+    }
     let drawn = drawing(alloc, design, rules, inst.kind)?;
     if cell.name != inst.name {
         return Ok(false);
     }
-    if cell.symbol != design.kinds.items()[inst.kind as usize].name || cell.turn.quarters != 0 {
+    if cell.symbol != kind.name || cell.turn.quarters != 0 {
         return Ok(false);
     }
     Ok(has_shapes(layout, cell, drawn.as_slice()))
@@ -120,7 +122,6 @@ fn are_in_order(
     design: &Design,
     rules: &Rules,
 ) -> Result<bool, AllocError>
-    requires { least_height rules.now ≤ design.now.height }
     ensures { IfOk result (λ b. OnTrue b (AreInOrder rules.now design.now layout.now)) }
 {
     let cells = layout.cells.items();
@@ -145,8 +146,5 @@ pub(crate) fn cells_match(
 ) -> Result<bool, AllocError>
     ensures { IfOk result (λ b. OnTrue b (CellsMatch rules.now design.now layout.now)) }
 {
-    if design.height < 2 * rules.grid.pin + rules.vertical.space {
-        return Ok(false);
-    }
     are_in_order(alloc, layout, design, rules)
 }

@@ -3,7 +3,7 @@ use Rattle.std.specs.Prelude.{◌≡◌, ◌==◌, ℕ, ◌+◌, List, [], ◌�
 use Rattle.std.specs.List.{filter_map, range_with_len}
 use Rattle.design_model.specs.Netlist.{Netlist}
 use Rattle.row_model.specs.Rows.{ArePlaced}
-use Rattle.row_model.specs.Widths.{columns_of}
+use Rattle.row_model.specs.Widths.{cell_height, columns_of}
 use Rattle.row_model.specs.declared.rows.Seat.{Seat}
 use Rattle.feed_cells.specs.Crossings.{all_nets, crossing_of, is_in}
 use Rattle.feed_cells.specs.Feeds.{is_fed, feed_place}
@@ -40,9 +40,14 @@ items_width d items = sum (map (item_width d) items)
 abbrev pub nets_in : Netlist → List (List Seat) → ℕ → List ℕ
 nets_in d rows channel = filter (λ (net : ℕ). is_in (crossing_of d rows net) channel) (all_nets d)
 
--- the heights of rows in units: each is the design's
+-- the height of a row in units: that of its highest cell, or where no cell stands in it that of the highest kind
+abbrev pub row_height : Netlist → List Seat → ℕ
+row_height d [] = d.height
+row_height d (s ∷ seats) = fold max (cell_height d s.instance) (map (λ (t : Seat). cell_height d t.instance) seats)
+
+-- the heights of rows
 abbrev pub heights_of : Netlist → List (List Seat) → List ℕ
-heights_of d rows = map (λ (seats : List Seat). d.height) rows
+heights_of d rows = map (row_height d) rows
 
 -- rows with feeds, their heights, the width of the widest, and how many nets stand in each channel
 pub record Fed : Type 0 where

@@ -9,6 +9,7 @@ use crate::fed::FedRows;
 use crate::fed_rows::fed_rows;
 use crate::placement::Placement;
 use crate::row_feeds::feeds_by_row;
+use crate::heights::heights_of;
 use crate::totals::{counts_in, greatest_width};
 use design_model::Design;
 use geom_core::Items;
@@ -31,8 +32,10 @@ pub fn insert_feeds(
     ensures fed { IfOk result (λ fed. IsFed design.now fed) }
     ensures cells { IfOk result (λ fed. cells_in fed.rows ≡ rows.now) }
 {
+    // The bounds of the design's type are known once a field is read.
+    let _pins = &design.pins;
     let rows = rows.rows.items();
-    let heights = vec![in alloc; design.height; rows.len()]?;
+    let heights = heights_of(alloc, design, rows)?;
     let nets = placement.nets.items();
     let feeds = feeds_by_row(alloc, rows.len(), nets)?;
     let fed = fed_rows(alloc, design, rows, &feeds, nets)?;

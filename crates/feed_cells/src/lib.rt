@@ -5,6 +5,7 @@ mod crossing;
 mod fed;
 mod fed_rows;
 mod feeding;
+mod heights;
 mod net_places;
 mod net_spans;
 mod placement;

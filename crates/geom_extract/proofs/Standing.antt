@@ -94,11 +94,11 @@ pub start-room : (r : RuleValues) (d : Netlist) (l : Layout) (n : ℕ) (i : Inst
     → slice_get d.instances n ≡ Some i → slice_get d.kinds i.kind ≡ Some kind → Stands l i.name start
     → start + length kind.positions ≤ length l.shapes
 start-room r d l n i kind start cells is is_kind here =
-    let copied : IsCopyOf r d.height l kind here.copy =
+    let copied : IsCopyOf r l kind here.copy =
     cells.copies here.copy i kind (get-contains l.cells here.cell here.copy here.is_cell) (get-contains d.instances n i is) here.named is_kind in
-    let drawn : length (shapes_of l here.copy) ≡ length (drawing_of r d.height kind) =
-    ap (λ (s : List Shape). length s) copied.shapes ∙ length-map (drawing_of r d.height kind) (moved_shape here.copy.turn) in
-    let places : length (map (position_shape r d.height) kind.positions) ≡ length kind.positions = length-map kind.positions (position_shape r d.height) in
+    let drawn : length (shapes_of l here.copy) ≡ length (drawing_of r kind) =
+    ap (λ (s : List Shape). length s) copied.shapes ∙ length-map (drawing_of r kind) (moved_shape here.copy.turn) in
+    let places : length (map (position_shape r kind.height) kind.positions) ≡ length kind.positions = length-map kind.positions (position_shape r kind.height) in
     let taken : length (shapes_of l here.copy) ≡ min here.copy.count (length l.shapes - here.copy.first) =
     length-take here.copy.count (drop here.copy.first l.shapes) ∙ ap (min here.copy.count) (length-drop here.copy.first l.shapes) in
     let room : here.copy.first + 1 + length kind.positions ≤ length l.shapes =

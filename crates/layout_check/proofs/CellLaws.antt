@@ -78,20 +78,20 @@ own-shapes [] = refl
 own-shapes (s ∷ ss) = and_from _ _ (own-shape s) (own-shapes ss)
 
 -- whether a cell is a copy of a kind
-true-copy : (r : RuleValues) (height : ℕ) (l : Layout) (kind : CellKind) (cell : Cell) → is_copy_of r height l kind cell ≡ true
-    → IsCopyOf r height l kind cell
-true-copy r height l kind cell is =
-    let both = and_parts _ (are_shapes (shapes_of l cell) (map (moved_shape cell.turn) (drawing_of r height kind))) is in
+true-copy : (r : RuleValues) (l : Layout) (kind : CellKind) (cell : Cell) → is_copy_of r l kind cell ≡ true
+    → IsCopyOf r l kind cell
+true-copy r l kind cell is =
+    let both = and_parts _ (are_shapes (shapes_of l cell) (map (moved_shape cell.turn) (drawing_of r kind))) is in
     let named = and_parts (bytes_eq cell.symbol kind.name) _ both.0 in
     record {
       symbol = bytes_one cell.symbol kind.name named.0;
       upright = eqb-true cell.turn.quarters 0 named.1;
-      shapes = true-shapes (shapes_of l cell) (map (moved_shape cell.turn) (drawing_of r height kind)) both.1;
+      shapes = true-shapes (shapes_of l cell) (map (moved_shape cell.turn) (drawing_of r kind)) both.1;
     }
 
-copy-true : (r : RuleValues) (height : ℕ) (l : Layout) (kind : CellKind) (cell : Cell) → IsCopyOf r height l kind cell
-    → is_copy_of r height l kind cell ≡ true
-copy-true r height l kind cell copy =
+copy-true : (r : RuleValues) (l : Layout) (kind : CellKind) (cell : Cell) → IsCopyOf r l kind cell
+    → is_copy_of r l kind cell ≡ true
+copy-true r l kind cell copy =
     and_from _ _
     (and_from _ _ (subst (λ (name : List ℕ). bytes_eq cell.symbol name ≡ true) copy.symbol (bytes_same cell.symbol)) (eq-eqb cell.turn.quarters 0 copy.upright))
     (subst (λ (shapes : List Shape). are_shapes (shapes_of l cell) shapes ≡ true) copy.shapes (own-shapes (shapes_of l cell)))
@@ -117,14 +117,14 @@ find-one d i name good among named =
 -- no cell is drawn otherwise just where each is a copy
 abbrev pub AreCopies : RuleValues → Netlist → Layout → Type 0
 AreCopies r d l = (cell : Cell) (i : Inst) (kind : CellKind) → Contains l.cells cell → Contains d.instances i → cell.name ≡ i.name
-    → slice_get d.kinds i.kind ≡ Some kind → IsCopyOf r d.height l kind cell
+    → slice_get d.kinds i.kind ≡ Some kind → IsCopyOf r l kind cell
 
 none-misdrawn : (r : RuleValues) (d : Netlist) (l : Layout) → IsNetlist d → misdrawn r d l ≡ [] → AreCopies r d l
 none-misdrawn r d l good none cell i kind in_cells in_instances named is_kind =
     let does : not (is_copy_for r d l (find (λ (j : Inst). bytes_eq j.name cell.name) d.instances) cell) ≡ false =
     (failing-none (λ (c : Cell). not (is_copy_for r d l (find (λ (j : Inst). bytes_eq j.name c.name) d.instances) c)) l.cells).0 none
     in_cells.0 cell (contains-get l.cells cell in_cells) in
-    true-copy r d.height l kind cell
+    true-copy r l kind cell
     (sym (ap (λ (o : Option Inst). is_copy_for r d l o cell) (find-one d i cell.name good in_instances named) ∙ ap (λ (o : Option CellKind). is_copy_of_kind r d l o cell) is_kind)
     ∙ not-false _ does)
 
@@ -136,7 +136,7 @@ copies-none r d l copies =
     by_kind : (cell : Cell) (i : Inst) → Contains l.cells cell → Contains d.instances i → cell.name ≡ i.name → (o : Option CellKind)
         → slice_get d.kinds i.kind ≡ o → is_copy_of_kind r d l o cell ≡ true
     by_kind cell i in_cells in_instances named None is = refl
-    by_kind cell i in_cells in_instances named (Some kind) is = copy-true r d.height l kind cell (copies cell i kind in_cells in_instances named is)
+    by_kind cell i in_cells in_instances named (Some kind) is = copy-true r l kind cell (copies cell i kind in_cells in_instances named is)
 
     by : (cell : Cell) → Contains l.cells cell → (o : Option Inst) → find (λ (j : Inst). bytes_eq j.name cell.name) d.instances ≡ o
         → is_copy_for r d l o cell ≡ true

@@ -24,11 +24,11 @@ extent-reach : (centi x0 y0 x1 y1 : ℕ) → centi ≤ 1000 → x0 ≤ 300000000
 extent-reach centi x0 y0 x1 y1 small x0_few y0_few x1_few y1_few =
     record { x0 = in-reach x0 centi x0_few small; y0 = in-reach y0 centi y0_few small; x1 = in-reach x1 centi x1_few small; y1 = in-reach y1 centi y1_few small }
 
-outline-reach : (r : RuleValues) (height : ℕ) (kind : CellKind) → ValidRules r → height ≤ 200000000 → IsKind kind → IsShapeInReach (outline_shape r height kind)
+outline-reach : (r : RuleValues) (kind : CellKind) → ValidRules r → IsKind kind → IsShapeInReach (outline_shape r kind)
 unfolding outline_shape
-outline-reach r height kind valid low good =
+outline-reach r kind valid good =
     let wide : kind.columns * r.grid.column ≤ 100000000 * 1000 = mul-le-mul good.few valid.ranges.grid.column.1 in
-    extent-reach r.grid.centi 0 0 (2 * (kind.columns * r.grid.column)) (2 * height) valid.ranges.grid.centi.1 (omega arith) (omega arith) (omega arith) (omega arith)
+    extent-reach r.grid.centi 0 0 (2 * (kind.columns * r.grid.column)) (2 * kind.height) valid.ranges.grid.centi.1 (omega arith) (omega arith) (omega arith) (omega arith)
 
 position-reach : (r : RuleValues) (height : ℕ) (kind : CellKind) (p : Position) → ValidRules r → height ≤ 200000000 → IsKind kind → IsPosition kind p
     → IsShapeInReach (position_shape r height p)
@@ -51,16 +51,16 @@ position-reach r height kind p valid low good at =
     high-end true pin = omega arith
     high-end false pin = omega arith
 
-drawing-reach : (r : RuleValues) (height : ℕ) (kind : CellKind) → ValidRules r → height ≤ 200000000 → IsKind kind → All IsShapeInReach (drawing_of r height kind)
-drawing-reach r height kind valid low good =
-    All-cons IsShapeInReach (outline_shape r height kind) (map (position_shape r height) kind.positions) (outline-reach r height kind valid low good)
-    (All-map IsShapeInReach (position_shape r height) kind.positions
-    (All-weaker (IsPosition kind) (λ (p : Position). IsShapeInReach (position_shape r height p)) (λ p at. position-reach r height kind p valid low good at) kind.positions good.positions))
+drawing-reach : (r : RuleValues) (kind : CellKind) → ValidRules r → IsKind kind → All IsShapeInReach (drawing_of r kind)
+drawing-reach r kind valid good =
+    All-cons IsShapeInReach (outline_shape r kind) (map (position_shape r kind.height) kind.positions) (outline-reach r kind valid good)
+    (All-map IsShapeInReach (position_shape r kind.height) kind.positions
+    (All-weaker (IsPosition kind) (λ (p : Position). IsShapeInReach (position_shape r kind.height p)) (λ p at. position-reach r kind.height kind p valid good.low good at) kind.positions good.positions))
 
 -- the drawings of all kinds
 pub drawings-reach : (r : RuleValues) (d : Netlist) → ValidRules r → IsNetlist d → AreForKinds d (drawings_of r d)
 drawings-reach r d valid good = record {
-  each = length-map d.kinds (drawing_of r d.height);
-  reach = All-map (λ (drawing : List Shape). All IsShapeInReach drawing) (drawing_of r d.height) d.kinds
-      (All-weaker IsKind (λ (kind : CellKind). All IsShapeInReach (drawing_of r d.height kind)) (λ kind is. drawing-reach r d.height kind valid good.low is) d.kinds good.kinds);
+  each = length-map d.kinds (drawing_of r);
+  reach = All-map (λ (drawing : List Shape). All IsShapeInReach drawing) (drawing_of r) d.kinds
+      (All-weaker IsKind (λ (kind : CellKind). All IsShapeInReach (drawing_of r kind)) (λ kind is. drawing-reach r kind valid is) d.kinds good.kinds);
 }

@@ -44,15 +44,15 @@ are_shapes (s ∷ ss) [] = false
 are_shapes (s ∷ ss) (t ∷ ts) = is_shape s t && are_shapes ss ts
 
 -- whether a cell is a copy of a kind: by its symbol's name, upright, mirrored perhaps, with the kind's drawing under its turn as its shapes
-abbrev pub is_copy_of : RuleValues → ℕ → Layout → CellKind → Cell → Bool
-is_copy_of r height l kind cell =
+abbrev pub is_copy_of : RuleValues → Layout → CellKind → Cell → Bool
+is_copy_of r l kind cell =
     (bytes_eq cell.symbol kind.name && cell.turn.quarters == 0)
-    && are_shapes (shapes_of l cell) (map (moved_shape cell.turn) (drawing_of r height kind))
+    && are_shapes (shapes_of l cell) (map (moved_shape cell.turn) (drawing_of r kind))
 
 -- of the kind with this number, if there is one
 abbrev pub is_copy_of_kind : RuleValues → Netlist → Layout → Option CellKind → Cell → Bool
 is_copy_of_kind r d l None cell = true
-is_copy_of_kind r d l (Some kind) cell = is_copy_of r d.height l kind cell
+is_copy_of_kind r d l (Some kind) cell = is_copy_of r l kind cell
 
 -- of the kind of this instance, if there is one
 abbrev pub is_copy_for : RuleValues → Netlist → Layout → Option Inst → Cell → Bool

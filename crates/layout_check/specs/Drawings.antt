@@ -14,7 +14,7 @@ use Rattle.layout_check.specs.CellFaults.{are_shapes}
 
 -- the drawings of the kinds of a design
 abbrev pub drawings_of : RuleValues → Netlist → List (List Shape)
-drawings_of r d = map (drawing_of r d.height) d.kinds
+drawings_of r d = map (drawing_of r) d.kinds
 
 -- a list of shapes within reach for each kind of a design
 pub record AreForKinds (d : Netlist) (drawings : List (List Shape)) : Type 0 where

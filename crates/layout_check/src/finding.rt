@@ -15,7 +15,7 @@ pub enum Finding {
     Drawing(u32),
     /// Two outlines that share an inner point.
     Overlap(u32, u32),
-    /// Two outlines that begin or end at different heights and share an inner height.
+    /// Two outlines that stand at different heights and share an inner height.
     OutOfRow(u32, u32),
     /// A wire with a side below its layer's width, or a cut that is no square of the cut's size.
     Narrow(u32),

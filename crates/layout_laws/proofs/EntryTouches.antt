@@ -11,7 +11,6 @@ use Rattle.wire_geom.proofs.DrawingLaws.{drawing_wide, drawing_entries}
 use Rattle.wire_geom.proofs.ScaleLaws.{scaled-order}
 use Rattle.layout_laws.proofs.Plans.{Plan, row_base, channel_drawn, IsPlan}
 use Rattle.layout_laws.proofs.Threads.{EntersBelow, EntersAbove}
-use Rattle.layout_laws.proofs.SeatLaws.{upright-fits}
 
 -- the sides of a wire in a column are in order
 column-wide : (r : RuleValues) (column : ℕ) → scaled r (centre r column - r.vertical.width) ≤ℤ scaled r (centre r column + r.vertical.width)
@@ -50,9 +49,8 @@ module _ (r : RuleValues) (valid : ValidRules r) (plan : Plan) (is : IsPlan r pl
       let low = ap (λ (e : Extent). e.y0) it.rect in
       let high = ap (λ (e : Extent). e.y1) it.rect in
       let base : ℕ = row_base r plan k in
-      let fits = upright-fits r valid (plan.height k) (plan.seats k) (is.seated k within) 0 it.column it.upright it.at in
-      let up = scaled-order r (2 * (base + it.upright.low)) (2 * (base + it.upright.high)) (omega (arith, fits.long)) in
-      subst (λ (x : ℤ). x ≤ℤ a.shape.rect.y1) (sym low) (subst (λ (x : ℤ). scaled r (2 * (base + it.upright.low)) ≤ℤ x) (sym high) up)
+      let up = scaled-order r (2 * (base + it.low)) (2 * (base + it.high)) (omega (arith, it.long)) in
+      subst (λ (x : ℤ). x ≤ℤ a.shape.rect.y1) (sym low) (subst (λ (x : ℤ). scaled r (2 * (base + it.low)) ≤ℤ x) (sym high) up)
 
   -- what enters the channel below touches a wire of its net there
   pub touch_below : (k : ℕ) → k < plan.rows → (a : Drawn) → EntersBelow r plan k a

@@ -1,4 +1,4 @@
-use Rattle.std.proofs.Common.{◌≡◌, ◌≢◌, ◌⊎◌, inl, inr, sym, subst, ap, ◌∙◌, ℕ, ◌+◌, ◌*◌, ◌-◌, List, Contains, arith}
+use Rattle.std.proofs.Common.{◌≡◌, ◌≢◌, ◌≤◌, ◌⊎◌, inl, inr, sym, subst, ap, ◌∙◌, ℕ, ◌+◌, ◌*◌, ◌-◌, List, Contains, arith}
 use Rattle.geom_core.specs.Extent.{Extent}
 use Rattle.geom_core.specs.Rectangles.{HasSides, Apart, under, above as higher}
 use Rattle.tech_rules.specs.Lengths.{length_in}
@@ -11,7 +11,7 @@ use Rattle.wire_geom.specs.declared.drawn.Drawn.{Drawn}
 use Rattle.wire_geom.proofs.ScaleLaws.{scaled-order, scaled-gap}
 use Rattle.layout_laws.proofs.Seats.{AreParted, FitsRow, IsSeat, LowerNet, Seat, UpperNet, Upright, UprightAt}
 use Rattle.layout_laws.proofs.Strips.{Stays, Stay, Strip}
-use Rattle.layout_laws.proofs.Uprights.{DrawsUpright, DrawUprights, upright_rect}
+use Rattle.layout_laws.proofs.Uprights.{DrawsUpright, DrawUprights, wire_rect}
 use Rattle.layout_laws.proofs.SeatLaws.{upright-fits, uprights-parted}
 use Rattle.layout_laws.proofs.StripLaws.{columns-apart}
 
@@ -24,20 +24,22 @@ drawn-stands r base seats a it = record {
 }
 
 module _ (r : RuleValues) (valid : ValidRules r) (base height : ℕ) where
-  -- an upright that fits its row is as wide and as long as its layer's rule says
-  upright-wide : (u : Upright) → FitsRow r height u → (column : ℕ) → HasSides (length_in r r.vertical.width) (upright_rect r base u column)
-  upright-wide u fits column = record {
+  -- a wire that is long enough is as wide and as long as its layer's rule says
+  wire-wide : (low high column : ℕ) → low + r.vertical.width ≤ high → HasSides (length_in r r.vertical.width) (wire_rect r base low high column)
+  wire-wide low high column long = record {
     across = scaled-gap r (centre r column - r.vertical.width) r.vertical.width (centre r column + r.vertical.width)
         (omega (arith, valid.pad_vertical, valid.column_vertical));
-    up = scaled-gap r (2 * (base + u.low)) r.vertical.width (2 * (base + u.high)) (omega (arith, fits.long));
+    up = scaled-gap r (2 * (base + low)) r.vertical.width (2 * (base + high)) (omega (arith, long));
   }
 
-  -- two uprights that are parted in a column are of one net, or their rectangles keep their space
-  rects-apart : (u v : Upright) (column : ℕ) → AreParted r u v
-      → (u.net ≡ v.net) ⊎ Apart (length_in r r.vertical.space) (upright_rect r base u column) (upright_rect r base v column)
-  rects-apart u v column (inl same) = inl same
-  rects-apart u v column (inr (inl below)) = inr (under (scaled-gap r (2 * (base + u.high)) r.vertical.space (2 * (base + v.low)) (omega (arith, below))))
-  rects-apart u v column (inr (inr over)) = inr (higher (scaled-gap r (2 * (base + v.high)) r.vertical.space (2 * (base + u.low)) (omega (arith, over))))
+  -- two uprights that are parted in a column are of one net, or wires within them keep their space
+  rects-apart : (u v : Upright) (column a b c e : ℕ) → b ≤ u.high → u.low ≤ a → e ≤ v.high → v.low ≤ c → AreParted r u v
+      → (u.net ≡ v.net) ⊎ Apart (length_in r r.vertical.space) (wire_rect r base a b column) (wire_rect r base c e column)
+  rects-apart u v column a b c e to_u from_u to_v from_v (inl same) = inl same
+  rects-apart u v column a b c e to_u from_u to_v from_v (inr (inl below)) =
+      inr (under (scaled-gap r (2 * (base + b)) r.vertical.space (2 * (base + c)) (omega (arith, below, to_u, from_v))))
+  rects-apart u v column a b c e to_u from_u to_v from_v (inr (inr over)) =
+      inr (higher (scaled-gap r (2 * (base + e)) r.vertical.space (2 * (base + a)) (omega (arith, over, to_v, from_u))))
 
   module _ (seats : List Seat) (are : (seat : Seat) → Contains seats seat → IsSeat r height seat) where
     fits-of : (a : Drawn) (it : DrawsUpright r base seats a) → FitsRow r height it.upright
@@ -50,12 +52,13 @@ module _ (r : RuleValues) (valid : ValidRules r) (base height : ℕ) where
           | inr apart ↦ apart
           | inl same ↦
               let here = subst (λ (c : ℕ). UprightAt other.upright c 0 seats) (sym same) other.at in
-              elim (rects-apart it.upright other.upright it.column (uprights-parted r valid height seats are 0 it.column it.upright other.upright it.at here)) [
+              elim (rects-apart it.upright other.upright it.column it.low it.high other.low other.high it.to it.from other.to other.from
+              (uprights-parted r valid height seats are 0 it.column it.upright other.upright it.at here)) [
                 | inl one ↦ absurd (differ (it.net ∙ one ∙ sym other.net))
                 | inr apart ↦
                     subst (λ (e : Extent). Apart (length_in r r.vertical.space) e b.shape.rect) (sym it.rect)
-                    (subst (λ (e : Extent). Apart (length_in r r.vertical.space) (upright_rect r base it.upright it.column) e)
-                    (ap (λ (c : ℕ). upright_rect r base other.upright c) same ∙ sym other.rect) apart)
+                    (subst (λ (e : Extent). Apart (length_in r r.vertical.space) (wire_rect r base it.low it.high it.column) e)
+                    (ap (λ (c : ℕ). wire_rect r base other.low other.high c) same ∙ sym other.rect) apart)
               ]
         ]
 
@@ -68,15 +71,15 @@ module _ (r : RuleValues) (valid : ValidRules r) (base height : ℕ) where
         let u = it.upright in
         let fits = fits-of a it in
         record {
-          from = rw low (scaled-order r (2 * base) (2 * (base + u.low)) (omega arith));
-          to = rw high (scaled-order r (2 * (base + u.high)) (2 * (base + height)) (omega (arith, fits.within)));
+          from = rw low (scaled-order r (2 * base) (2 * (base + it.low)) (omega arith));
+          to = rw high (scaled-order r (2 * (base + it.high)) (2 * (base + height)) (omega (arith, fits.within, it.to)));
           below = elim fits.below [
             | inl at_lower ↦ inr (record {
               column = it.column;
               stands = drawn-stands r base seats a it;
               has_entry = record { upright = u; at = it.at; comes = at_lower; of_net = sym it.net };
             })
-            | inr far ↦ inl (rw low (scaled-gap r (2 * base) r.vertical.space (2 * (base + u.low)) (omega (arith, far))))
+            | inr far ↦ inl (rw low (scaled-gap r (2 * base) r.vertical.space (2 * (base + it.low)) (omega (arith, far, it.from))))
           ];
           above = elim fits.above [
             | inl at_upper ↦ inr (record {
@@ -84,7 +87,7 @@ module _ (r : RuleValues) (valid : ValidRules r) (base height : ℕ) where
               stands = drawn-stands r base seats a it;
               has_entry = record { upright = u; at = it.at; comes = at_upper; of_net = sym it.net };
             })
-            | inr far ↦ inl (rw high (scaled-gap r (2 * (base + u.high)) r.vertical.space (2 * (base + height)) (omega (arith, far))))
+            | inr far ↦ inl (rw high (scaled-gap r (2 * (base + it.high)) r.vertical.space (2 * (base + height)) (omega (arith, far, it.to))))
           ];
         }
 
@@ -101,7 +104,7 @@ module _ (r : RuleValues) (valid : ValidRules r) (base height : ℕ) where
         horizontal = λ a member on. absurd (no_horizontal a member on);
         vertical = λ a member on.
             let it = drawn a member (inl (inr on)) in
-            subst (HasSides (length_in r r.vertical.width)) (sym it.rect) (upright-wide it.upright (fits-of a it) it.column);
+            subst (HasSides (length_in r r.vertical.width)) (sym it.rect) (wire-wide it.low it.high it.column it.long);
         cut = λ a member on. absurd (no_cut a member on);
         in_horizontal = λ a member on. absurd (no_cut a member on);
         in_vertical = λ a member on. absurd (no_cut a member on);

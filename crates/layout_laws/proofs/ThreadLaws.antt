@@ -11,7 +11,7 @@ use Rattle.layout_laws.proofs.Chains.{AreChained, itself}
 use Rattle.layout_laws.proofs.Plans.{Plan, channel_drawn, plan_drawn, IsPlan}
 use Rattle.layout_laws.proofs.Threads.{Entering, into_below, into_above, Threads, IsLone, AreThreaded}
 use Rattle.layout_laws.proofs.Uprights.{IsWired}
-use Rattle.layout_laws.proofs.ChainLaws.{Touch-sym, AreChained-trans, AreChained-sym, touch-chained, AreTogether-chained}
+use Rattle.layout_laws.proofs.ChainLaws.{Touch-sym, AreChained-trans, AreChained-sym, touch-chained}
 use Rattle.layout_laws.proofs.ChannelChains.{channel_chained}
 use Rattle.layout_laws.proofs.EntryTouches.{touch_below, touch_above}
 use Rattle.layout_laws.proofs.PlanPlaces.{Place, in_channel, in_row, place_of, channel_among, row_among}
@@ -81,7 +81,7 @@ module _ (r : RuleValues) (valid : ValidRules r) (d : Netlist) (l : Layout) (pla
       let above_among = channel_among r plan plan.rows (suc (j + n)) (omega (arith, within)) above.0 above.1 in
       AreChained-trans (climb net low high threads n j from (omega (arith, to)) a below.0 in_a below.1 net_a (below.2 ∙ crossed.low_net))
       (AreChained-trans (touch-chained low_among below.3)
-      (AreChained-trans (AreTogether-chained crossed.together)
+      (AreChained-trans crossed.chained
       (AreChained-trans (touch-chained above_among above.3)
       (channel_net_chained (suc (j + n)) (omega (arith, within)) above.0 b above.1 (subst (λ (k : ℕ). InChannel k b) upper in_b)
       (above.2 ∙ crossed.high_net ∙ sym net_b)))))
@@ -89,7 +89,7 @@ module _ (r : RuleValues) (valid : ValidRules r) (d : Netlist) (l : Layout) (pla
   -- what enters a channel hangs on it
   entered : (net low high : ℕ) → Threads r plan d l net low high → (k : ℕ) → k < plan.rows → (a : Drawn) → a.net ≡ net → Entering r plan d l k a
       → Hangs r plan d l net low high a
-  entered net low high threads k within a net_a (into_below b together one_net enters) =
+  entered net low high threads k within a net_a (into_below b chain one_net enters) =
       let touch = touch_below r valid plan is k within b enters in
       let net_b : b.net ≡ net = one_net ∙ net_a in
       let below : k ≤ plan.rows = omega (arith, within) in
@@ -101,9 +101,9 @@ module _ (r : RuleValues) (valid : ValidRules r) (d : Netlist) (l : Layout) (pla
         to = between.1;
         listed = touch.1;
         of_net = touch.2 ∙ net_b;
-        chain = AreChained-trans (AreTogether-chained together) (touch-chained (channel_among r plan plan.rows k below touch.0 touch.1) (Touch-sym touch.3));
+        chain = AreChained-trans chain (touch-chained (channel_among r plan plan.rows k below touch.0 touch.1) (Touch-sym touch.3));
       }
-  entered net low high threads k within a net_a (into_above b together one_net enters) =
+  entered net low high threads k within a net_a (into_above b chain one_net enters) =
       let touch = touch_above r valid plan is k within b enters in
       let net_b : b.net ≡ net = one_net ∙ net_a in
       let above : suc k ≤ plan.rows = omega (arith, within) in
@@ -115,7 +115,7 @@ module _ (r : RuleValues) (valid : ValidRules r) (d : Netlist) (l : Layout) (pla
         to = between.1;
         listed = touch.1;
         of_net = touch.2 ∙ net_b;
-        chain = AreChained-trans (AreTogether-chained together) (touch-chained (channel_among r plan plan.rows (suc k) above touch.0 touch.1) touch.3);
+        chain = AreChained-trans chain (touch-chained (channel_among r plan plan.rows (suc k) above touch.0 touch.1) touch.3);
       }
 
   -- each rectangle of the net hangs on one of its channels
@@ -161,7 +161,7 @@ module _ (r : RuleValues) (valid : ValidRules r) (d : Netlist) (l : Layout) (pla
   lone_chained net lone a b (in_channel k within member) place_b wired_a wired_b net_a net_b = absurd (stray net lone k within a member net_a)
   lone_chained net lone a b (in_row j within member) (in_channel k within_b member_b) wired_a wired_b net_a net_b = absurd (stray net lone k within_b b member_b net_b)
   lone_chained net lone a b (in_row j within member) (in_row k within_b member_b) wired_a wired_b net_a net_b =
-      AreTogether-chained (lone.together j k a b within within_b member member_b wired_a wired_b net_a net_b)
+      lone.chained j k a b within within_b member member_b wired_a wired_b net_a net_b
 
   -- wires and cuts of a plan have nets
   positive : AreThreaded r plan d l → (a : Drawn) → Place r plan plan.rows a → IsWired r a → 0 < a.net

@@ -16,6 +16,7 @@ abbrev buffer : CellKind
 buffer = record {
   name = codes "BUF";
   columns = 2;
+  height = 40;
   terminals = record { name = codes "a"; power = false } ∷ (record { name = codes "y"; power = false } ∷ []);
   positions = record { terminal = 0; top = true; column = 0 } ∷ (record { terminal = 1; top = true; column = 1 } ∷ []);
 }

@@ -22,7 +22,7 @@ use Rattle.design_model.specs.declared.design.Inst.{Inst}
 use Rattle.design_model.specs.declared.design.Pin.{Pin}
 use Rattle.netlist_core.specs.declared.fault.DesignFault.{DesignFault}
 use Rattle.netlist_core.proofs.EachLaws.{each-zip}
-use Rattle.netlist_core.proofs.KindLaws.{kind-good, kind-low, kind-terminals}
+use Rattle.netlist_core.proofs.KindLaws.{kind-good, kind-level, kind-low, kind-terminals}
 use Rattle.netlist_core.proofs.NetLaws.{nets-range, nets-used}
 use Rattle.netlist_core.proofs.PinPlaces.{pins-used, zip-terminals}
 use Rattle.std_laws.proofs.Distinct.{distinct-none}
@@ -32,6 +32,7 @@ use Rattle.std_laws.proofs.Every.{every-map, every-weaker, all-zip-length, all-z
 record Suits (height : ℕ) (m : ℕ × Module) (k : CellKind) : Type 0 where
   good : IsKeptModule m.1 → is_standard m.1.kind ≡ true → IsKind k
   low : IsKeptModule m.1 → height ≤ 200000000
+  level : k.height ≡ height
   terminals : k.terminals ≡ terminals_of m.1.lines
 
 suits : (rules : RuleValues) → ValidRules rules → (used : List (ℕ × Module)) (kinds : List CellKind) → kinds_for rules used ≡ Ok kinds
@@ -41,6 +42,7 @@ suits rules valid used kinds is =
     each-zip (kind_for rules (height_of used)) (Suits (height_of used)) (λ m k at. record {
       good = λ kept standard. kind-good rules (height_of used) m.0 m.1 k valid kept standard at;
       low = λ kept. kind-low rules (height_of used) m.0 m.1 k kept at;
+      level = kind-level rules (height_of used) m.0 m.1 k at;
       terminals = kind-terminals rules (height_of used) m.0 m.1 k at;
     }) used kinds is
 
@@ -50,6 +52,13 @@ good-kinds height [] [] h kept standard = tt
 good-kinds height [] (k ∷ ks) h kept standard = absurd h
 good-kinds height (m ∷ ms) [] h kept standard = tt
 good-kinds height (m ∷ ms) (k ∷ ks) h kept standard = (h.0.good kept.0 standard.0, good-kinds height ms ks h.1 kept.1 standard.1)
+
+level-kinds : (height : ℕ) (used : List (ℕ × Module)) (kinds : List CellKind) → AllZip (Suits height) used kinds
+    → AllByRecursion (λ (k : CellKind). k.height ≡ height) kinds
+level-kinds height [] [] h = tt
+level-kinds height [] (k ∷ ks) h = absurd h
+level-kinds height (m ∷ ms) [] h = tt
+level-kinds height (m ∷ ms) (k ∷ ks) h = (h.0.level, level-kinds height ms ks h.1)
 
 low-height : (used : List (ℕ × Module)) (kinds : List CellKind) → AllZip (Suits (height_of used)) used kinds
     → AllByRecursion (λ (m : ℕ × Module). IsKeptModule m.1) used → height_of used ≤ 200000000
@@ -82,6 +91,7 @@ good-netlist rules valid used signals calls kinds checked is =
       few_instances = subst (λ n. n ≤ 20000) (sym (length-map calls (inst_in (used_names used)))) checked.read.few;
       few_pins = subst (λ n. n ≤ 200000) (sym (length-map signals (pin_in (nets_of signals)))) checked.few_signals;
       low = low-height used kinds suit checked.kept;
+      level = All-from_recursion (λ (k : CellKind). k.height ≡ height_of used) kinds (level-kinds (height_of used) used kinds suit);
       kinds = All-from_recursion IsKind kinds (good-kinds (height_of used) used kinds suit checked.kept checked.standard);
       instances = All-from_recursion (λ (i : Inst). i.kind < length kinds) (map (inst_in (used_names used)) calls)
           (every-map (λ (i : Inst). i.kind < length kinds) (inst_in (used_names used)) calls

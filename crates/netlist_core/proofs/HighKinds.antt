@@ -1,5 +1,6 @@
-use Rattle.std.proofs.Common.{◌≡◌, ◌<◌, ◌≤◌, ℕ, List, [], ◌∷◌, length, Option, Some, None, Result, Ok, Err, refl, subst, arith}
-use Rattle.std.specs.List.{AllZip, filter}
+use Rattle.std.proofs.Common.{◌≡◌, ◌≤◌, ℕ, List, [], ◌∷◌, length, Option, Some, None, Result, Ok, Err, refl, subst}
+use Rattle.std.specs.List.{AllByRecursion, AllZip, filter}
+use Rattle.std.proofs.lemmas.List.Elements.{All-from_recursion}
 use Rattle.std.specs.Result.{IfOk}
 use Rattle.tech_rules.specs.Rules.{RuleValues}
 use Rattle.yal_reader.specs.declared.file.Call.{Call}
@@ -20,13 +21,13 @@ use Rattle.netlist_core.proofs.KindLaws.{kind-high}
 no-answer : {A : Type 0} (fault : DesignFault) (a : A) → ◌≡◌ {A = Result A DesignFault} (Err fault) (Ok a) → ⊥
 no-answer fault a e = cc
 
-first-high : (rules : RuleValues) (height : ℕ) (used : List (ℕ × Module)) (kinds : List CellKind)
-    → AllZip (λ (m : ℕ × Module) (k : CellKind). least_height rules ≤ height) used kinds → 0 < length kinds
-    → least_height rules ≤ height
-first-high rules height [] [] h some = absurd (omega (arith, some))
-first-high rules height [] (k ∷ ks) h some = absurd h
-first-high rules height (m ∷ ms) [] h some = absurd h
-first-high rules height (m ∷ ms) (k ∷ ks) h some = h.0
+each-high : (rules : RuleValues) (used : List (ℕ × Module)) (kinds : List CellKind)
+    → AllZip (λ (m : ℕ × Module) (k : CellKind). least_height rules ≤ k.height) used kinds
+    → AllByRecursion (λ (k : CellKind). least_height rules ≤ k.height) kinds
+each-high rules [] [] h = tt
+each-high rules [] (k ∷ ks) h = absurd h
+each-high rules (m ∷ ms) [] h = tt
+each-high rules (m ∷ ms) (k ∷ ks) h = (h.0, each-high rules ms ks h.1)
 
 used-high : (rules : RuleValues) (used : List (ℕ × Module)) (signals : List PinWord) (calls : List Call) (d : Netlist)
     → used_design rules used signals calls ≡ Ok d → HasRoom rules d
@@ -36,9 +37,10 @@ used-high rules used signals calls d is = by (kinds_for rules used) refl is
     by : (all : Result (List CellKind) DesignFault) → kinds_for rules used ≡ all → (all >>= (λ kinds. Ok (design_of used signals calls kinds))) ≡ Ok d → HasRoom rules d
     by (Err fault) good e = absurd (no-answer fault d e)
     by (Ok kinds) good e = subst (λ (d : Netlist). HasRoom rules d) (same e)
-        (first-high rules (height_of used) used kinds
-        (each-zip (kind_for rules (height_of used)) (λ m k. least_height rules ≤ height_of used)
-        (λ m k at. kind-high rules (height_of used) m.0 m.1 k at) used kinds good))
+        (All-from_recursion (λ (k : CellKind). least_height rules ≤ k.height) kinds
+        (each-high rules used kinds
+        (each-zip (kind_for rules (height_of used)) (λ m k. least_height rules ≤ k.height)
+        (λ m k at. kind-high rules (height_of used) m.0 m.1 k at) used kinds good)))
       where
         same : ◌≡◌ {A = Result Netlist DesignFault} (Ok (design_of used signals calls kinds)) (Ok d) → design_of used signals calls kinds ≡ d
         same e = cc

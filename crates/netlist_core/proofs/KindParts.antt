@@ -22,7 +22,7 @@ pub record IsMade (rules : RuleValues) (height n : ℕ) (m : Module) (k : CellKi
   pub outline : outline_of m.corners ≡ Some box
   pub grid : grid_positions rules.grid.column box (spots_of m.lines) ≡ Some positions
   pub fault : kind_fault rules height n box (spots_of m.lines) positions ≡ None
-  pub kind : kind_at m (grid_at rules box positions) ≡ k
+  pub kind : kind_at m height (grid_at rules box positions) ≡ k
 
 ok-one : {X : Type 0} {x y : X} → (let r : Result X DesignFault = Ok x in r) ≡ Ok y → x ≡ y
 ok-one h = cc
@@ -30,7 +30,7 @@ ok-one h = cc
 made-kind : (rules : RuleValues) (height n : ℕ) (m : Module) (k : CellKind) (box : Outline) (ps : List Position)
     → outline_of m.corners ≡ Some box → grid_positions rules.grid.column box (spots_of m.lines) ≡ Some ps
     → (fault : Option DesignFault) → kind_fault rules height n box (spots_of m.lines) ps ≡ fault
-    → (unless fault (Ok (grid_at rules box ps)) >>= λ (grid : ℕ × List Position). Ok (kind_at m grid)) ≡ Ok k → IsMade rules height n m k
+    → (unless fault (Ok (grid_at rules box ps)) >>= λ (grid : ℕ × List Position). Ok (kind_at m height grid)) ≡ Ok k → IsMade rules height n m k
 made-kind rules height n m k box ps outline grid None none h =
     record { box = box; positions = ps; outline = outline; grid = grid; fault = none; kind = ok-one h }
 made-kind rules height n m k box ps outline grid (Some fault) some h = cc
@@ -38,7 +38,7 @@ made-kind rules height n m k box ps outline grid (Some fault) some h = cc
 made-grid : (rules : RuleValues) (height n : ℕ) (m : Module) (k : CellKind) (box : Outline) → outline_of m.corners ≡ Some box
     → (ps : Option (List Position)) → grid_positions rules.grid.column box (spots_of m.lines) ≡ ps
     → ((found (faults.OffGrid n) ps >>= λ positions. unless (kind_fault rules height n box (spots_of m.lines) positions) (Ok (grid_at rules box positions)))
-    >>= λ (grid : ℕ × List Position). Ok (kind_at m grid)) ≡ Ok k
+    >>= λ (grid : ℕ × List Position). Ok (kind_at m height grid)) ≡ Ok k
     → IsMade rules height n m k
 made-grid rules height n m k box outline None grid h = cc
 made-grid rules height n m k box outline (Some ps) grid h =
@@ -52,7 +52,7 @@ kind-made rules height n m k = by (outline_of m.corners) refl
     by : (o : Option Outline) → outline_of m.corners ≡ o
         → ((found (faults.NoShape n) o >>= λ box. found (faults.OffGrid n) (grid_positions rules.grid.column box (spots_of m.lines)) >>= λ positions.
         unless (kind_fault rules height n box (spots_of m.lines) positions) (Ok (grid_at rules box positions)))
-        >>= λ (grid : ℕ × List Position). Ok (kind_at m grid)) ≡ Ok k
+        >>= λ (grid : ℕ × List Position). Ok (kind_at m height grid)) ≡ Ok k
         → IsMade rules height n m k
     by None outline h = cc
     by (Some box) outline h = made-grid rules height n m k box outline (grid_positions rules.grid.column box (spots_of m.lines)) refl h

@@ -128,12 +128,12 @@ grid_of rules height n corners spots = do
   positions ← found (faults.OffGrid n) (grid_positions rules.grid.column box spots)
   unless (kind_fault rules height n box spots positions) (Ok (grid_at rules box positions))
 
--- a module as a kind with this width and these positions
-abbrev pub kind_at : Module → ℕ × List Position → CellKind
-kind_at m grid = record { name = m.name; columns = grid.0; terminals = terminals_of m.lines; positions = grid.1 }
+-- a module as a kind of this height with this width and these positions
+abbrev pub kind_at : Module → ℕ → ℕ × List Position → CellKind
+kind_at m height grid = record { name = m.name; columns = grid.0; height = height; terminals = terminals_of m.lines; positions = grid.1 }
 
 -- the kind of the module with number n in the file, where all used modules have this height
 unfoldable pub kind_of : RuleValues → ℕ → ℕ → Module → Result CellKind DesignFault
 kind_of rules height n m = do
   grid ← grid_of rules height n m.corners (spots_of m.lines)
-  Ok (kind_at m grid)
+  Ok (kind_at m height grid)

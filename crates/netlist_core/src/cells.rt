@@ -46,6 +46,7 @@ pub(crate) fn kind_of(
     Ok(CellKind {
         name: module.name.copied(alloc)?,
         columns: grid.columns,
+        height,
         terminals: Items::new(list),
         positions: grid.positions,
     })

@@ -11,7 +11,7 @@ use Rattle.row_model.specs.Rows.{ArePlaced}
 use Rattle.row_model.specs.declared.rows.Seat.{Seat}
 use Rattle.row_model.proofs.PlacedLaws.{IsWithin, rows-within}
 use Rattle.feed_cells.specs.Crossings.{all_nets, crossing_of, is_in}
-use Rattle.feed_cells.specs.Fed.{Fed, IsFed, cells_in, fed_from, fed_row, fed_rows, items_width, nets_in}
+use Rattle.feed_cells.specs.Fed.{Fed, IsFed, cells_in, fed_from, fed_row, fed_rows, items_width, nets_in, row_height}
 use Rattle.feed_cells.proofs.FedLaws.{fed-long}
 use Rattle.feed_cells.proofs.FedWidths.{row-narrow}
 use Rattle.pin_assign.specs.Bounds.{channels_height}
@@ -48,7 +48,7 @@ module _ (d : Netlist) (good : IsNetlist d) (rows : List (List Seat)) where
   rows-bounded placed =
       record {
         rows = omega (arith, fed-long d rows, placed.few);
-        heights = omega (arith, length-map rows (λ (seats : List Seat). d.height), placed.few);
+        heights = omega (arith, length-map rows (row_height d), placed.few);
         columns = widest 0 0 rows (omega arith) (rows-within d rows good placed);
         channels = omega (arith, length-map (range_with_len 0 (length rows + 1)) (λ (c : ℕ). length (nets_in d rows c)), length-range_with_len 0 (length rows + 1), placed.few);
         nets = few-from 0 (length rows + 1);

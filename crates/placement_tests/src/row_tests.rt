@@ -5,7 +5,8 @@ ghost use Rattle.row_model.specs.Rows.{ArePlaced};
 use design_model::Design;
 use row_board::Weights;
 use row_model::{
-    PinPlace, Rows, Seat, column_of, columns_of, default_rows, pin_place, pin_places, start,
+    PinPlace, Rows, Seat, cell_height, column_of, columns_of, default_rows, pin_place, pin_places,
+    start,
 };
 use samples::{CELLS, designed, sample_rules};
 use std::alloc::{AllocError, Global};
@@ -239,13 +240,16 @@ fn at_most_512_rows(rt: HostRuntime) -> Result<(), Fail> {
     Ok(())
 }
 
-/// Whether a design has four instances, of 2, 1, 1 and 2 columns.
+/// Whether a design has four instances, of 2, 1, 1 and 2 columns, 40 units high, and no fifth.
 fn have_widths(design: &Design) -> bool {
     design.instances.items().len() == 4
         && columns_of(design, 0) == 2
         && columns_of(design, 1) == 1
         && columns_of(design, 2) == 1
         && columns_of(design, 3) == 2
+        && cell_height(design, 0) == 40
+        && cell_height(design, 3) == 40
+        && cell_height(design, 4) == 0
 }
 
 /// Whether weights are those that they are made of.

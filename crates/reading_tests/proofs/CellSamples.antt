@@ -76,6 +76,7 @@ buffer-kind : CellKind
 buffer-kind = record {
   name = codes "BUF";
   columns = 1;
+  height = 40;
   terminals = record { name = codes "A"; power = false } ∷ record { name = codes "VDD"; power = true } ∷ [];
   positions = record { terminal = 0; top = true; column = 0 } ∷ [];
 }
@@ -101,7 +102,7 @@ box : List ℕ → ℕ → ℕ → ℕ → ℕ → Shape
 box layer x0 y0 x1 y1 = record { layer = layer; rect = record { x0 = pos x0; y0 = pos y0; x1 = pos x1; y1 = pos y1 } }
 
 -- the buffer's outline and its pin at the top
-buffer-drawn : drawing_of sample 40 buffer-kind ≡ box (codes "XP") 0 0 1600 8000 ∷ box (codes "NP") 500 7200 1100 8000 ∷ []
+buffer-drawn : drawing_of sample buffer-kind ≡ box (codes "XP") 0 0 1600 8000 ∷ box (codes "NP") 500 7200 1100 8000 ∷ []
 unfolding outline_shape position_shape buffer-kind box
 buffer-drawn = refl
 
@@ -110,10 +111,11 @@ inverter-kind : CellKind
 inverter-kind = record {
   name = codes "INV";
   columns = 1;
+  height = 40;
   terminals = record { name = codes "A"; power = false } ∷ [];
   positions = record { terminal = 0; top = false; column = 0 } ∷ [];
 }
 
-inverter-drawn : drawing_of sample 40 inverter-kind ≡ box (codes "XP") 0 0 1600 8000 ∷ box (codes "NP") 500 0 1100 800 ∷ []
+inverter-drawn : drawing_of sample inverter-kind ≡ box (codes "XP") 0 0 1600 8000 ∷ box (codes "NP") 500 0 1100 800 ∷ []
 unfolding outline_shape position_shape inverter-kind box
 inverter-drawn = refl

@@ -42,6 +42,7 @@ ring = record {
   kinds = record {
     name = codes "BUF";
     columns = 2;
+    height = 40;
     terminals = record { name = codes "VDD"; power = true } ∷ record { name = codes "a"; power = false } ∷ record { name = codes "y"; power = false } ∷ [];
     positions = record { terminal = 1; top = false; column = 0 } ∷ record { terminal = 2; top = true; column = 1 } ∷ [];
   } ∷ [];

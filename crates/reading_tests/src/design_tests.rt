@@ -126,7 +126,7 @@ fn count_shapes(alloc: Global, design: &Design, kind: u32) -> Result<usize, Allo
     if kind as usize >= design.kinds.items().len() {
         return Ok(0);
     }
-    if 2 * rules.grid.pin + rules.vertical.space > design.height {
+    if 2 * rules.grid.pin + rules.vertical.space > design.kinds.items()[kind as usize].height {
         return Ok(0);
     }
     Ok(drawing(alloc, design, &rules, kind)?.len())

@@ -78,6 +78,7 @@ fn has_one_kind(design: &Design) -> bool {
         return false;
     };
     design.height == 40
+        && kind.height == 40
         && kind.columns == 2
         && position.terminal == 0
         && position.top

@@ -16,6 +16,7 @@ abbrev cell : ℕ → CellKind
 cell columns = record {
   name = [];
   columns = columns;
+  height = 40;
   terminals = record { name = []; power = false } ∷ [];
   positions = record { terminal = 0; top = true; column = 0 } ∷ [];
 }

@@ -1,4 +1,4 @@
--- the widths of instances and rows in columns
+-- the widths of instances and rows in columns, and the heights of instances in units
 use Rattle.std.specs.Prelude.{ℕ, List, map, sum, length, Option, None, Some, slice_get}
 use Rattle.std.specs.List.{range_with_len}
 use Rattle.std.specs.Option.{option_and_then}
@@ -19,6 +19,15 @@ width_of (Some kind) = kind.columns
 -- the width of an instance in columns
 abbrev pub columns_of : Netlist → ℕ → ℕ
 columns_of d instance = width_of (kind_of d instance)
+
+-- the height of a kind in units, or 0 where there is no kind
+abbrev pub height_of : Option CellKind → ℕ
+height_of None = 0
+height_of (Some kind) = kind.height
+
+-- the height of an instance in units
+abbrev pub cell_height : Netlist → ℕ → ℕ
+cell_height d instance = height_of (kind_of d instance)
 
 -- the width of seats side by side in columns
 abbrev pub row_width : Netlist → List Seat → ℕ

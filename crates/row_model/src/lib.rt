@@ -16,4 +16,4 @@ pub use placed::PlacedRows;
 pub use places::{PinPlace, column_of, pin_place, pin_places, turned_column};
 pub use rows::{Rows, Seat};
 pub use starting::{default_rows, start};
-pub use widths::{all_columns, columns_of, kind_of};
+pub use widths::{all_columns, cell_height, columns_of, kind_of};

@@ -1,11 +1,11 @@
-//! The kind of an instance, its width in columns, and the width of all instances together.
+//! The kind of an instance, its width in columns and its height, and the width of all instances together.
 
-ghost use Rattle.row_model.specs.Widths.{all_columns, columns_of, kind_of};
+ghost use Rattle.row_model.specs.Widths.{all_columns, cell_height, columns_of, kind_of};
 ghost use Rattle.std.specs.Option.{option_map};
 ghost use Rattle.std.specs.Prelude.{◌≡◌, ◌≤◌};
 
 use design_model::{CellKind, Design};
-use limits::MOST_KIND_COLUMNS;
+use limits::{MOST_HEIGHT, MOST_KIND_COLUMNS};
 
 /// The kind of the instance with this number, if there is one. Takes no memory.
 pub fn kind_of<'d>(design: &'d Design, instance: u32) -> Option<&'d CellKind>
@@ -24,6 +24,19 @@ pub fn columns_of(design: &Design, instance: u32) -> u32
     let _instances = &design.instances;
     match kind_of(design, instance) {
         Some(kind) => kind.columns,
+        None => 0,
+    }
+}
+
+/// The height of the instance with this number in units, at most 200,000,000; 0 where there is none. Takes no memory.
+pub fn cell_height(design: &Design, instance: u32) -> u32
+    ensures height { result ≡ cell_height design.now instance }
+    ensures low { result ≤ MOST_HEIGHT }
+{
+    // The bounds of the design's type are known once a field is read.
+    let _instances = &design.instances;
+    match kind_of(design, instance) {
+        Some(kind) => kind.height,
         None => 0,
     }
 }

@@ -6,7 +6,7 @@ pub mod Holding
 pub mod Crowding
 -- wires and cuts, each layer in a plane of its own
 pub mod Layers
--- numbers of rows, by their heights
+-- numbers of rows, by the heights at which they stand
 pub mod RowNumbers
 -- outlines that overlap or are out of row
 pub mod OutlineLaws

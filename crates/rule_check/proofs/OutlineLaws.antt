@@ -3,7 +3,7 @@ use Rattle.std.specs.Prelude.{All, int_lt}
 use Rattle.std.specs.List.{slice_get, slice_index, zip}
 use Rattle.std.specs.Ordering.{int_eq}
 use Rattle.std.proofs.lemmas.List.{get_or_append_left, get_or_push}
-use Rattle.std.proofs.lemmas.Bool.{cases_lt, and_from, and_parts, eqb-false, eqb-true, false_from_ne_true, ne_eqb}
+use Rattle.std.proofs.lemmas.Bool.{cases_lt, eqb-false, eqb-true, false_from_ne_true, ne_eqb}
 use Rattle.std.proofs.lemmas.Bool.Decides.{Decides-int_eq}
 use Rattle.std.proofs.lemmas.Int.{ints}
 use Rattle.std.proofs.lemmas.Option.{get_or_from_slice_get}
@@ -17,7 +17,7 @@ use Rattle.close_rects.specs.declared.member.Member.{Member}
 use Rattle.tech_rules.specs.Rules.{RuleValues}
 use Rattle.rule_check.specs.Crowded.{are_out_of_row, do_overlap}
 use Rattle.rule_check.specs.Failing.{failing_from, failing_pairs, failing_pairs_from}
-use Rattle.rule_check.specs.Heights.{AreNumbersOf, heights_of}
+use Rattle.rule_check.specs.Rows.{AreNumbersOf}
 use Rattle.rule_check.specs.Members.{flat, members_from, outline_member, row_member}
 use Rattle.rule_check.specs.Narrow.{is_on}
 use Rattle.rule_check.proofs.Crowding.{crowds-failing, do_crowd, members-reach}
@@ -83,41 +83,28 @@ pub overlap-reach : (r : RuleValues) (shapes : List Shape) → All IsShapeInReac
 overlap-reach r shapes reach =
     members-reach (outline_member r) 0 shapes (λ k x a x_is is. outline-reach r (0 + k) x a (all-get IsShapeInReach shapes k x reach x_is) is)
 
--- whether two rectangles begin and end at the same heights
-abbrev pub are_level : Extent → Extent → Bool
-are_level a b = int_eq a.y0 b.y0 && int_eq a.y1 b.y1
-
-pub level-heights : (a b : Extent) → are_level a b ≡ true → heights_of a ≡ heights_of b
-level-heights a b level =
-    let both : (int_eq a.y0 b.y0 ≡ true) × (int_eq a.y1 b.y1 ≡ true) = and_parts _ _ level in
-    ap (λ y. (y, a.y1)) ((Decides-int_eq a.y0 b.y0).0 both.0) ∙ ap (λ y. (b.y0, y)) ((Decides-int_eq a.y1 b.y1).0 both.1)
-
-heights-level : (a b : Extent) → heights_of a ≡ heights_of b → are_level a b ≡ true
-heights-level a b same =
-    and_from _ _ ((Decides-int_eq a.y0 b.y0).1 (ap (λ (h : ℤ × ℤ). h.0) same)) ((Decides-int_eq a.y1 b.y1).1 (ap (λ (h : ℤ × ℤ). h.1) same))
-
--- rows whose numbers are equal just where the heights are
-level-numbers : (a b : Extent) (n m : ℕ) → ((n ≡ m) ↔ (heights_of a ≡ heights_of b)) → are_level a b ≡ eqb n m
+-- rows whose numbers are equal just where their heights are
+level-numbers : (a b : Extent) (n m : ℕ) → ((n ≡ m) ↔ (a.y0 ≡ b.y0)) → int_eq a.y0 b.y0 ≡ eqb n m
 level-numbers a b n m exact = go (eqb n m) refl
   where
-    go : (t : Bool) → eqb n m ≡ t → are_level a b ≡ t
-    go true same = heights-level a b (exact.0 (eqb-true n m same))
-    go false apart = false_from_ne_true (are_level a b) (λ level. eqb-false n m apart (exact.1 (level-heights a b level)))
+    go : (t : Bool) → eqb n m ≡ t → int_eq a.y0 b.y0 ≡ t
+    go true same = (Decides-int_eq a.y0 b.y0).1 (exact.0 (eqb-true n m same))
+    go false apart = false_from_ne_true (int_eq a.y0 b.y0) (λ level. eqb-false n m apart (exact.1 ((Decides-int_eq a.y0 b.y0).0 level)))
 
 -- two outlines are out of row exactly where their heights crowd
 row-members : (r : RuleValues) (n m : ℕ) (a b : ℕ × Shape)
-    → (is_on r.outline.layer a.1 ≡ true → is_on r.outline.layer b.1 ≡ true → (a.0 ≡ b.0) ↔ (heights_of a.1.rect ≡ heights_of b.1.rect))
+    → (is_on r.outline.layer a.1 ≡ true → is_on r.outline.layer b.1 ≡ true → (a.0 ≡ b.0) ↔ (a.1.rect.y0 ≡ b.1.rect.y0))
     → are_out_of_row r a.1 b.1 ≡ do_crowd (row_member r n a) (row_member r m b)
 row-members r n m a b exact = cases (is_on r.outline.layer a.1) refl (is_on r.outline.layer b.1) refl
   where
     cases : (p : Bool) → is_on r.outline.layer a.1 ≡ p → (q : Bool) → is_on r.outline.layer b.1 ≡ q
-        → ((p && q) && (not (are_level a.1.rect b.1.rect) && int_lt (gap a.1.rect b.1.rect).1 (pos 0)))
+        → ((p && q) && (not (int_eq a.1.rect.y0 b.1.rect.y0) && int_lt (gap a.1.rect b.1.rect).1 (pos 0)))
         ≡ do_crowd (if p then Some (record { number = n; class = a.0; rect = flat a.1.rect; reach = pos 0 }) else None)
         (if q then Some (record { number = m; class = b.0; rect = flat b.1.rect; reach = pos 0 }) else None)
     cases false first q second = refl
     cases true first false second = refl
     cases true first true second =
-        not-and (are_level a.1.rect b.1.rect) (int_lt (gap a.1.rect b.1.rect).1 (pos 0))
+        not-and (int_eq a.1.rect.y0 b.1.rect.y0) (int_lt (gap a.1.rect b.1.rect).1 (pos 0))
         ∙ ap (λ t. if t then false else int_lt (gap a.1.rect b.1.rect).1 (pos 0)) (level-numbers a.1.rect b.1.rect a.0 b.0 (exact first second))
 
 row-own : (r : RuleValues) (n : ℕ) (a : ℕ × Shape) (member : Member) → row_member r n a ≡ Some member → member.number ≡ n
@@ -183,13 +170,13 @@ row-failing r shapes numbers are =
     ∙ failing_pairs-zip (are_out_of_row r) 0 numbers shapes are.each
   where
     exact : (i j : ℕ) (x y : ℕ × Shape) → slice_get (zip numbers shapes) i ≡ Some x → slice_get (zip numbers shapes) j ≡ Some y
-        → is_on r.outline.layer x.1 ≡ true → is_on r.outline.layer y.1 ≡ true → (x.0 ≡ y.0) ↔ (heights_of x.1.rect ≡ heights_of y.1.rect)
+        → is_on r.outline.layer x.1 ≡ true → is_on r.outline.layer y.1 ≡ true → (x.0 ≡ y.0) ↔ (x.1.rect.y0 ≡ y.1.rect.y0)
     exact i j x y x_is y_is first second =
         let x_at : (slice_get numbers i ≡ Some x.0) × (slice_get shapes i ≡ Some x.1) = at-zip numbers shapes i x x_is in
         let y_at : (slice_get numbers j ≡ Some y.0) × (slice_get shapes j ≡ Some y.1) = at-zip numbers shapes j y y_is in
         let x_number : slice_index numbers i ≡ x.0 = get_or_from_slice_get numbers i x.0 0 x_at.0 in
         let y_number : slice_index numbers j ≡ y.0 = get_or_from_slice_get numbers j y.0 0 y_at.0 in
-        let told : (slice_index numbers i ≡ slice_index numbers j) ↔ (heights_of x.1.rect ≡ heights_of y.1.rect) =
+        let told : (slice_index numbers i ≡ slice_index numbers j) ↔ (x.1.rect.y0 ≡ y.1.rect.y0) =
         are.same i j x.1 y.1 x_at.1 y_at.1 first second in (
           λ same. told.0 (x_number ∙ same ∙ sym y_number),
           λ level. sym x_number ∙ told.1 level ∙ y_number,

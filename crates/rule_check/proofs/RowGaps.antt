@@ -1,7 +1,7 @@
-use Rattle.std.proofs.Common.{◌≡◌, ◌⊎◌, ◌≤ℤ◌, ◌<ℤ◌, ℤ, pos, true, false, ◌&&◌, not, ap, sym, inl, inr, arith}
+use Rattle.std.proofs.Common.{◌≡◌, ◌⊎◌, ◌≤ℤ◌, ◌<ℤ◌, ℤ, pos, false, ◌&&◌, not, ap, sym, inl, inr, arith}
 use Rattle.std.specs.Prelude.{int_lt}
 use Rattle.std.specs.Ordering.{int_eq}
-use Rattle.std.proofs.lemmas.Bool.{and_cases, and_left, and_right, and_from, and_parts, not-false}
+use Rattle.std.proofs.lemmas.Bool.{and_cases, and_left, and_right, not-false}
 use Rattle.std.proofs.lemmas.Bool.Decides.{Decides-int_eq}
 use Rattle.std.proofs.lemmas.Int.{by_lt_z, ints}
 use Rattle.geom_core.specs.Extent.{Extent}
@@ -56,22 +56,20 @@ abbrev pub AreRows : Extent → Extent → Type 0
 AreRows a b = SameRow a b ⊎ IsBelow a b ⊎ IsBelow b a
 
 pub rows-back : (a b : Extent) → AreRows a b → AreRows b a
-rows-back a b (inl same) = inl (record { low = sym same.low; high = sym same.high })
+rows-back a b (inl same) = inl (sym same)
 rows-back a b (inr (inl below)) = inr (inr below)
 rows-back a b (inr (inr over)) = inr (inl over)
 
 -- rectangles of one row, or of rows apart, are not out of row
-pub rows-level : (a b : Extent) → AreRows a b → (not (int_eq a.y0 b.y0 && int_eq a.y1 b.y1) && int_lt (gap a b).1 (pos 0)) ≡ false
+pub rows-level : (a b : Extent) → AreRows a b → (not (int_eq a.y0 b.y0) && int_lt (gap a b).1 (pos 0)) ≡ false
 rows-level a b (inl same) =
-    and_left _ _ (ap not (and_from _ _ ((Decides-int_eq a.y0 b.y0).1 same.low) ((Decides-int_eq a.y1 b.y1).1 same.high)))
+    and_left _ _ (ap not ((Decides-int_eq a.y0 b.y0).1 same))
 rows-level a b (inr (inl below)) = and_right _ _ (apart-gap a.y0 a.y1 b.y0 b.y1 below)
 rows-level a b (inr (inr over)) = and_right _ _ (apart-gap-below a.y0 a.y1 b.y0 b.y1 over)
 
-pub level-rows : (a b : Extent) → HasInside a → HasInside b → (not (int_eq a.y0 b.y0 && int_eq a.y1 b.y1) && int_lt (gap a b).1 (pos 0)) ≡ false
+pub level-rows : (a b : Extent) → HasInside a → HasInside b → (not (int_eq a.y0 b.y0) && int_lt (gap a b).1 (pos 0)) ≡ false
     → AreRows a b
 level-rows a b first second far = elim (and_cases _ _ far) [
-  | inl level ↦
-      let both : (int_eq a.y0 b.y0 ≡ true) × (int_eq a.y1 b.y1 ≡ true) = and_parts _ _ (not-false _ level) in
-      inl (record { low = (Decides-int_eq a.y0 b.y0).0 both.0; high = (Decides-int_eq a.y1 b.y1).0 both.1 })
+  | inl level ↦ inl ((Decides-int_eq a.y0 b.y0).0 (not-false _ level))
   | inr apart ↦ elim (gap-apart a.y0 a.y1 b.y0 b.y1 first.up second.up apart) [ inl low ↦ inr (inl low) | inr high ↦ inr (inr high) ]
 ]

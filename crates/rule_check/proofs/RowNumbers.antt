@@ -1,55 +1,47 @@
 use Rattle.std.proofs.Common.{◌≡◌, ◌+◌, ◌<◌, ℕ, ℤ, Bool, true, false, cond, Some, None, Ordering, refl, ap, sym, ◌∙◌, arith}
 use Rattle.std.specs.BTreeMap.{btree_map_len}
-use Rattle.std.specs.Ordering.{int_cmp, is_eq, ordering_then}
+use Rattle.std.specs.Ordering.{int_cmp, is_eq}
 use Rattle.std.specs.declared.cmp.Ordering.TheVariants.{Less, Equal, Greater}
-use Rattle.rule_check.specs.Heights.{AreRows, Rows, row_at}
+use Rattle.rule_check.specs.Rows.{AreRows, Rows, row_at}
 use Rattle.std_laws.proofs.Integers.{int_equal, int_same}
 
-abbrev pub heights_cmp : ℤ × ℤ → ℤ × ℤ → Ordering
-heights_cmp x y = ordering_then (int_cmp x.0 y.0) (int_cmp x.1 y.1)
-
 -- heights that compare as equal are equal
-pub heights-equal : (g h : ℤ × ℤ) → is_eq (heights_cmp g h) ≡ true → g ≡ h
-heights-equal g h is = go (int_cmp g.0 h.0) (int_cmp g.1 h.1) refl refl is
+pub bases-equal : (g h : ℤ) → is_eq (int_cmp g h) ≡ true → g ≡ h
+bases-equal g h is = go (int_cmp g h) refl is
   where
-    go : (r s : Ordering) → int_cmp g.0 h.0 ≡ r → int_cmp g.1 h.1 ≡ s → is_eq (ordering_then r s) ≡ true → g ≡ h
-    go Less s first second is = let never : ⊥ = cc in absurd never
-    go Greater s first second is = let never : ⊥ = cc in absurd never
-    go Equal Less first second is = let never : ⊥ = cc in absurd never
-    go Equal Greater first second is = let never : ⊥ = cc in absurd never
-    go Equal Equal first second is =
-        let low : g.0 ≡ h.0 = int_equal g.0 h.0 first in
-        let high : g.1 ≡ h.1 = int_equal g.1 h.1 second in
-        ap (λ x. (x, g.1)) low ∙ ap (λ y. (h.0, y)) high
+    go : (r : Ordering) → int_cmp g h ≡ r → is_eq r ≡ true → g ≡ h
+    go Less compared is = let never : ⊥ = cc in absurd never
+    go Greater compared is = let never : ⊥ = cc in absurd never
+    go Equal compared is = int_equal g h compared
 
-pub heights-same : (h : ℤ × ℤ) → is_eq (heights_cmp h h) ≡ true
-heights-same h = ap (λ r. is_eq (ordering_then r (int_cmp h.1 h.1))) (int_same h.0) ∙ ap is_eq (int_same h.1)
+pub bases-same : (h : ℤ) → is_eq (int_cmp h h) ≡ true
+bases-same h = ap is_eq (int_same h)
 
 -- what a row that is put in tells
-pub record IsPut (rows put : Rows) (heights : ℤ × ℤ) (number : ℕ) : Type 0 where
-  pub new : row_at rows heights ≡ None
+pub record IsPut (rows put : Rows) (base : ℤ) (number : ℕ) : Type 0 where
+  pub new : row_at rows base ≡ None
   pub next : number ≡ btree_map_len rows
   pub len : btree_map_len put ≡ btree_map_len rows + 1
-  pub at : (q : ℤ × ℤ) → row_at put q ≡ cond (is_eq (heights_cmp heights q)) (Some number) (row_at rows q)
+  pub at : (q : ℤ) → row_at put q ≡ cond (is_eq (int_cmp base q)) (Some number) (row_at rows q)
 
-module _ (rows put : Rows) (heights : ℤ × ℤ) (number : ℕ) (is : IsPut rows put heights number) where
-  pub put-told : row_at put heights ≡ Some number
-  put-told = is.at heights ∙ ap (λ t. cond t (Some number) (row_at rows heights)) (heights-same heights)
+module _ (rows put : Rows) (base : ℤ) (number : ℕ) (is : IsPut rows put base number) where
+  pub put-told : row_at put base ≡ Some number
+  put-told = is.at base ∙ ap (λ t. cond t (Some number) (row_at rows base)) (bases-same base)
 
   -- a row is the new one, or one that there was
-  put-cases : {P : Type 0} (q : ℤ × ℤ) (n : ℕ) → row_at put q ≡ Some n → (heights ≡ q → number ≡ n → P) → (row_at rows q ≡ Some n → P) → P
-  put-cases {P} q n told here there = go (is_eq (heights_cmp heights q)) refl (sym (is.at q) ∙ told)
+  put-cases : {P : Type 0} (q : ℤ) (n : ℕ) → row_at put q ≡ Some n → (base ≡ q → number ≡ n → P) → (row_at rows q ≡ Some n → P) → P
+  put-cases {P} q n told here there = go (is_eq (int_cmp base q)) refl (sym (is.at q) ∙ told)
     where
-      go : (t : Bool) → is_eq (heights_cmp heights q) ≡ t → cond t (Some number) (row_at rows q) ≡ Some n → P
-      go true same told = here (heights-equal heights q same) cc
+      go : (t : Bool) → is_eq (int_cmp base q) ≡ t → cond t (Some number) (row_at rows q) ≡ Some n → P
+      go true same told = here (bases-equal base q same) cc
       go false apart told = there told
 
-  pub put-kept : (q : ℤ × ℤ) (n : ℕ) → row_at rows q ≡ Some n → row_at put q ≡ Some n
-  put-kept q n told = go (is_eq (heights_cmp heights q)) refl
+  pub put-kept : (q : ℤ) (n : ℕ) → row_at rows q ≡ Some n → row_at put q ≡ Some n
+  put-kept q n told = go (is_eq (int_cmp base q)) refl
     where
-      go : (t : Bool) → is_eq (heights_cmp heights q) ≡ t → row_at put q ≡ Some n
+      go : (t : Bool) → is_eq (int_cmp base q) ≡ t → row_at put q ≡ Some n
       go true same =
-          let one : heights ≡ q = heights-equal heights q same in
+          let one : base ≡ q = bases-equal base q same in
           let none : row_at rows q ≡ None = ap (row_at rows) (sym one) ∙ is.new in
           let never : ⊥ = cc in
           absurd never

@@ -26,7 +26,7 @@ are_outlines r s t = is_on r.outline.layer s && is_on r.outline.layer t
 abbrev pub do_overlap : RuleValues → Shape → Shape → Bool
 do_overlap r s t = are_outlines r s t && is_close (pos 0) s.rect t.rect
 
--- two outlines begin or end at different heights and share an inner height
+-- two outlines stand at different heights and share an inner height
 abbrev pub are_out_of_row : RuleValues → Shape → Shape → Bool
 are_out_of_row r s t = are_outlines r s t
-    && (not (int_eq s.rect.y0 t.rect.y0 && int_eq s.rect.y1 t.rect.y1) && int_lt (gap s.rect t.rect).1 (pos 0))
+    && (not (int_eq s.rect.y0 t.rect.y0) && int_lt (gap s.rect t.rect).1 (pos 0))

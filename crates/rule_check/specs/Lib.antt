@@ -8,5 +8,5 @@ pub mod Crowded
 pub mod Covers
 -- shapes and outlines as members that keep their distance
 pub mod Members
--- rows by the heights at which they begin and end
-pub mod Heights
+-- rows by the height at which they stand
+pub mod Rows

@@ -50,7 +50,7 @@ outline_member r n s = if is_on r.outline.layer s then Some (record { number = n
 abbrev pub flat : Extent → Extent
 flat e = record { x0 = pos 0; y0 = e.y0; x1 = pos 1; y1 = e.y1 }
 
--- the heights of an outline, of a class for each two heights
+-- the heights of an outline, of a class for each height at which one stands
 abbrev pub row_member : RuleValues → ℕ → ℕ × Shape → Option Member
 row_member r n a =
     if is_on r.outline.layer a.1 then Some (record { number = n; class = a.0; rect = flat a.1.rect; reach = pos 0 }) else None

@@ -3,10 +3,10 @@
 
 mod close;
 mod covers;
-mod heights;
 mod measures;
 mod outlines;
 mod pairs;
+mod rows;
 mod shapes;
 mod wires;
 

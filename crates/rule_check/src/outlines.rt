@@ -3,16 +3,16 @@
 ghost use Rattle.geom_core.specs.declared.layout.Shape.{Shape};
 ghost use Rattle.rule_check.specs.Crowded.{are_out_of_row, do_overlap};
 ghost use Rattle.rule_check.specs.Failing.{failing_pairs, AreFirstOf};
-ghost use Rattle.rule_check.specs.Heights.{AreNumbersOf, AreRows, heights_of, row_at};
 ghost use Rattle.rule_check.specs.Members.{flat, members_from, outline_member, row_member};
 ghost use Rattle.rule_check.specs.Narrow.{is_on};
+ghost use Rattle.rule_check.specs.Rows.{AreNumbersOf, AreRows, row_at};
 ghost use Rattle.std.specs.BTreeMap.{btree_map_len};
 ghost use Rattle.std.specs.List.{zip};
 ghost use Rattle.std.specs.Prelude.{◌≡◌, ◌+◌, ◌<◌, ◌≤◌, ◌^◌, ℕ, ℤ, length, true, All, IfOk, Some};
 
-use crate::heights::{Rows, heights_of, row_of};
 use crate::measures::is_on;
 use crate::pairs::{Pairs, crowded, push_made};
+use crate::rows::{Rows, row_of};
 use close_rects::Member;
 use geom_core::{Rect, Shape, ShapesInReach};
 use std::alloc::{AllocError, Global};
@@ -31,7 +31,7 @@ pub fn overlaps(alloc: Global, judged: &ShapesInReach, rules: &Rules) -> Result<
     crowded(alloc, members.as_slice())
 }
 
-/// The pairs of outlines that begin or end at different heights and share an inner height. The one error is want of memory.
+/// The pairs of outlines that stand at different heights and share an inner height. The one error is want of memory.
 pub fn out_of_row(alloc: Global, judged: &ShapesInReach, rules: &Rules) -> Result<Pairs, AllocError>
     ensures { IfOk result (AreFirstOf (failing_pairs (are_out_of_row rules.now) judged.now)) }
 {
@@ -117,7 +117,7 @@ fn flat(rect: &Rect) -> Rect
     }
 }
 
-// A number for each shape: of outlines, equal ones exactly for those of the same heights.
+// A number for each shape: of outlines, equal ones exactly for those that stand at the same height.
 fn row_numbers(alloc: Global, judged: &ShapesInReach, rules: &Rules) -> Result<Vec<u32>, AllocError>
     ensures { IfOk result (λ v. AreNumbersOf rules.now.outline.layer judged.now v.items) }
 {
@@ -136,12 +136,12 @@ fn number_of(rows: &mut Rows, rules: &Rules, shape: &Shape) -> Result<u32, Alloc
     requires few { btree_map_len rows.old < 2 ^ 32 }
     requires numbered { AreRows rows.old }
     ensures numbered { AreRows rows.new }
-    ensures told { IfOk result (λ n. is_on rules.now.outline.layer shape.now ≡ true → row_at rows.new (heights_of shape.now.rect) ≡ Some n) }
-    ensures kept { (h : ℤ × ℤ) (n : ℕ) → row_at rows.old h ≡ Some n → row_at rows.new h ≡ Some n }
+    ensures told { IfOk result (λ n. is_on rules.now.outline.layer shape.now ≡ true → row_at rows.new shape.now.rect.y0 ≡ Some n) }
+    ensures kept { (h : ℤ) (n : ℕ) → row_at rows.old h ≡ Some n → row_at rows.new h ≡ Some n }
     ensures len { btree_map_len rows.new ≤ btree_map_len rows.old + 1 }
 {
     if is_on(&rules.outline.layer, shape) {
-        row_of(rows, heights_of(&shape.rect))
+        row_of(rows, shape.rect.y0)
     } else {
         Ok(0)
     }

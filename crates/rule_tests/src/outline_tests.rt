@@ -68,7 +68,7 @@ fn are_out_of_row(
     Ok(pairs.whole && pairs.list.as_slice() == want)
 }
 
-const ROWS: [Paired; 2] = [
+const ROWS: [Paired; 3] = [
     (
         &[
             (On::Outline, 0, 0, 10, 10),
@@ -85,7 +85,15 @@ const ROWS: [Paired; 2] = [
             (On::Outline, 900, 10, 10, 10),
             (On::Outline, 0, 0, 10, 10),
         ],
-        &[(0, 1), (1, 2), (1, 3)],
+        &[(1, 2)],
+    ),
+    (
+        &[
+            (On::Outline, 0, 0, 10, 10),
+            (On::Outline, 500, 3, 10, 7),
+            (On::Outline, 900, 3, 10, 9),
+        ],
+        &[(0, 1), (0, 2)],
     ),
 ];
 

@@ -6,10 +6,9 @@ use Rattle.geom_core.specs.Extent.{Extent}
 use Rattle.geom_core.specs.Rectangles.{Apart}
 use Rattle.tech_rules.specs.Rules.{RuleValues}
 
--- two rectangles are of one row: they begin and end at the same heights
-pub record SameRow (a b : Extent) : Type 0 where
-  pub low : a.y0 ≡ b.y0
-  pub high : a.y1 ≡ b.y1
+-- two rectangles are of one row: they stand at the same height, however high they are
+abbrev pub SameRow : Extent → Extent → Type 0
+SameRow a b = a.y0 ≡ b.y0
 
 -- one rectangle ends where the other begins, or below
 abbrev pub IsBelow : Extent → Extent → Type 0

@@ -12,9 +12,9 @@ loop-n-preserved c =
     let kinds : List CellKind = c.args.design.now.kinds in
     let same : c.items-n-end.result.now ≡ kinds = search rules in
     let within : c.loop-n.n < length kinds = rw (← same) c.loop-n-test.true in
-    let kind : CellKind = get_or kinds c.loop-n.n (record { name = []; columns = 0; terminals = []; positions = [] }) in
-    let at = slice_get-get_or kinds c.loop-n.n (record { name = []; columns = 0; terminals = []; positions = [] }) within in
+    let kind : CellKind = get_or kinds c.loop-n.n (record { name = []; columns = 0; height = 0; terminals = []; positions = [] }) in
+    let at = slice_get-get_or kinds c.loop-n.n (record { name = []; columns = 0; height = 0; terminals = []; positions = [] }) within in
     c.in_ok-push.ensures.items
     ∙ ap₂ (λ (l : List (List Shape)) (x : List Shape). l ++ x ∷ []) c.loop-n.invariant (c.new.ensures ∙ c.in_ok-drawing.ensures kind at)
-    ∙ sym (ap (map (drawing_of c.args.rules.now c.args.design.now.height)) (take-here kinds c.loop-n.n kind at)
-    ∙ map-append (drawing_of c.args.rules.now c.args.design.now.height) (take c.loop-n.n kinds) (kind ∷ []))
+    ∙ sym (ap (map (drawing_of c.args.rules.now)) (take-here kinds c.loop-n.n kind at)
+    ∙ map-append (drawing_of c.args.rules.now) (take c.loop-n.n kinds) (kind ∷ []))

@@ -17,7 +17,7 @@ feed_drawing-requires-clause-some c =
 pub feed_drawing-requires-clause-low : goal.feed_drawing-requires-clause-low
 feed_drawing-requires-clause-low c =
     let netlist : IsNetlist c.args.design.now = subst IsNetlist c.design.view_is c.design.invariant.netlist in
-    let high = feed-high c.args.design.now c.args.fed.now c.requires.fed in
+    let high = feed-high c.args.design.now netlist c.args.fed.now c.requires.fed in
     omega (arith, netlist.low, c.feed_height.ensures)
 
 pub returns-then-not-has_feed : goal.returns-then-not-has_feed

@@ -4,5 +4,5 @@ use Rattle.design_model.proofs.shapes.shapes_of.Given as goal
 
 abbrev pub invariant-loop-position : goal.invariant-loop-position
 invariant-loop-position l =
-    l.shapes.items ++ map (position_shape l.rules l.height) (drop l.position-index l.kind.positions)
-    ≡ drawing_of l.rules l.height l.kind
+    l.shapes.items ++ map (position_shape l.rules l.kind.height) (drop l.position-index l.kind.positions)
+    ≡ drawing_of l.rules l.kind

@@ -1,6 +1,5 @@
 -- The rows of a design are short and its nets are few, so that each part can be counted, and the parts are those of the definition.
 use Rattle.std.proofs.Common.{rules, ◌≡◌, arith, length, map, refl, ap, ◌∙◌}
-use Rattle.std.proofs.lemmas.Simd.{splat_is_map}
 use Rattle.row_model.proofs.PlacedLaws.{placed-short}
 use Rattle.feed_cells.specs.Crossings.{all_nets}
 use Rattle.feed_cells.specs.Fed.{Fed, cells_in, fed_from, fed_rows, heights_of}
@@ -24,7 +23,7 @@ returns-clause-is c =
     let feeds : AreFeeds d rows c.items-nets.result.now c.in_ok-feeds.feeds = record { nets = nets; each = λ row within. grind (arith, nets-fed d rows row) } in
     let fed : c.as_slice.result.now ≡ fed_from d rows 0 rows = c.as_slice.ensures.value ∙ c.in_ok-fed.ensures feeds in
     let width = c.greatest_width-width.ensures (rw fed (fed-narrow d rows (search rules) (rw same (placed-short d c.args.rows.now (search rules) c.requires.placed)))) in
-    let heights : c.in_ok-heights.heights.items ≡ heights_of d rows = grind (arith, splat_is_map rows (length rows) d.height refl) in
+    let heights : c.in_ok-heights.heights.items ≡ heights_of d rows = c.in_ok-heights.ensures in
     grind (arith, fed, heights, width, nets, counts-nets d rows)
 
 pub returns-clause-fed : goal.returns-clause-fed

@@ -53,11 +53,11 @@ returns c =
     let drawn_is : slice_get c.args.drawn.now.drawings.now c.in-Some.inst.now.kind ≡ Some c.index-drawings-kind.result =
     slice_get_read c.args.drawn.now.drawings.now (length c.args.drawn.now.drawings.now) c.in-Some.inst.now.kind c.index-drawings-kind.result refl
     (subst (λ (n : ℕ). c.in-Some.inst.now.kind < n) (sym long) below) c.index-drawings-kind.is in
-    let drawing : c.index-drawings-kind.result ≡ drawing_of r d.height c.index-items-kind.result =
-    same_Some c.index-drawings-kind.result (drawing_of r d.height c.index-items-kind.result)
+    let drawing : c.index-drawings-kind.result ≡ drawing_of r c.index-items-kind.result =
+    same_Some c.index-drawings-kind.result (drawing_of r c.index-items-kind.result)
     (sym drawn_is ∙ ap (λ (ss : List (List Shape)). slice_get ss c.in-Some.inst.now.kind) c.args.drawn.now.are
-    ∙ slice_get-map (drawing_of r d.height) d.kinds c.in-Some.inst.now.kind
-    ∙ ap (option_map (drawing_of r d.height)) kind_is) in
+    ∙ slice_get-map (drawing_of r) d.kinds c.in-Some.inst.now.kind
+    ∙ ap (option_map (drawing_of r)) kind_is) in
     c.is_copy_with.ensures
     ∙ ap₂ (λ (kind : CellKind) (shapes : List Shape). is_copy_with l kind.name shapes c.args.cell.now) (sym c.index-items-kind.is) (c.items-4.ensures ∙ drawing)
     ∙ sym (ap (λ (o : Option Inst). is_copy_for r d l o c.args.cell.now)
