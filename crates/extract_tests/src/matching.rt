@@ -146,5 +146,7 @@ pub(crate) fn cells_match(
 ) -> Result<bool, AllocError>
     ensures { IfOk result (λ b. OnTrue b (CellsMatch rules.now design.now layout.now)) }
 {
+    // What every design keeps is known once a field is read.
+    let _pins = &design.pins;
     are_in_order(alloc, layout, design, rules)
 }
