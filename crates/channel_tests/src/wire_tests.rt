@@ -71,6 +71,7 @@ fn tight_rules(alloc: Global) -> Result<Rules, AllocError> {
     Ok(Rules {
         version: 1,
         yal: Name::new(b"POLY".to_vec(alloc)?),
+        decimals: 0,
         grid: Grid {
             column: 8,
             track: 8,

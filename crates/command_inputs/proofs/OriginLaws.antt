@@ -2,6 +2,7 @@ use Rattle.std.proofs.Common.{◌≡◌, ℕ, List, Option, Some, Result, Ok, Er
 use Rattle.tech_rules.specs.Rules.{RuleValues}
 use Rattle.tech_rules.specs.RulesOf.{rules_of}
 use Rattle.tech_rules.specs.declared.fault.RulesFault.{RulesFault}
+use Rattle.yal_reader.specs.Numbers.{numbers_of}
 use Rattle.yal_reader.specs.YalReads.{yal_reads}
 use Rattle.yal_reader.specs.declared.fault.YalKind.{YalKind}
 use Rattle.yal_reader.specs.declared.file.YalFile.{YalFile}
@@ -35,9 +36,9 @@ states-rules bytes values is = stated (rules_of bytes) (within-next _ _ bytes st
     stated (Ok rules) is = cc
     stated (Err fault) is = cc
 
-reads-file : (rules : RuleValues) (bytes : List ℕ) (read : ReadDesign) → design_verdict rules bytes ≡ Ok read → yal_reads bytes ≡ Ok read.file
+reads-file : (rules : RuleValues) (bytes : List ℕ) (read : ReadDesign) → design_verdict rules bytes ≡ Ok read → yal_reads bytes (numbers_of rules.version rules.decimals) ≡ Ok read.file
 unfolding design_verdict stated_design
-reads-file rules bytes read is = by (yal_reads bytes) (within-next _ _ bytes (stated_design rules) read is)
+reads-file rules bytes read is = by (yal_reads bytes (numbers_of rules.version rules.decimals)) (within-next _ _ bytes (stated_design rules) read is)
   where
     kept : (file : YalFile) (found : Result Netlist DesignFault) → design_said file found ≡ Ok read → file ≡ read.file
     kept file (Ok design) is = cc

@@ -2,6 +2,7 @@
 use Rattle.std.specs.Prelude.{◌≡◌, ℕ, List, Ok, Option, Some}
 use Rattle.tech_rules.specs.Rules.{RuleValues}
 use Rattle.tech_rules.specs.RulesOf.{rules_of}
+use Rattle.yal_reader.specs.Numbers.{numbers_of}
 use Rattle.yal_reader.specs.YalReads.{yal_reads}
 use Rattle.yal_reader.specs.declared.file.YalFile.{YalFile}
 use Rattle.design_model.specs.Netlist.{Netlist}
@@ -28,7 +29,7 @@ IsSourceText (from_seed seed count) told stated bytes = (rules : RuleValues) →
 -- rules, a file and a design are what the bytes of a rules file and of a design's file say
 pub record AreInputsFrom (stated bytes : List ℕ) (inputs : Inputs) : Type 0 where
   pub states : rules_of stated ≡ Ok inputs.rules
-  pub read : yal_reads bytes ≡ Ok inputs.file
+  pub read : yal_reads bytes (numbers_of inputs.rules.version inputs.rules.decimals) ≡ Ok inputs.file
   pub is : IsDesignFor inputs.rules inputs.file inputs.design
 
 -- rules, a file and a design are what files say, as far as they are told: the rules file, and that of the design's source

@@ -5,6 +5,7 @@ use Rattle.tech_rules.specs.Rules.{RuleValues}
 use Rattle.tech_rules.specs.RulesOf.{rules_of}
 use Rattle.tech_rules.specs.declared.fault.RulesFault.{RulesFault}
 use Rattle.tech_rules.specs.declared.fault.RulesFault.TheVariants as rules_faults
+use Rattle.yal_reader.specs.Numbers.{numbers_of}
 use Rattle.yal_reader.specs.YalReads.{yal_reads}
 use Rattle.yal_reader.specs.declared.fault.YalKind.{YalKind}
 use Rattle.yal_reader.specs.declared.file.YalFile.{YalFile}
@@ -64,7 +65,7 @@ rules_verdict bytes = do
 -- the file that a text of YAL is, and the design that it says
 unfoldable pub stated_design : RuleValues → List ℕ → Result ReadDesign Refusal
 stated_design rules bytes = do
-  file ← yal_said (yal_reads bytes)
+  file ← yal_said (yal_reads bytes (numbers_of rules.version rules.decimals))
   design_said file (on_grid rules file)
 
 -- those that the bytes of a design's file state

@@ -14,7 +14,7 @@ use limits::MOST_DESIGN_BYTES;
 use netlist_core::{Count, DesignFault, to_design};
 use std::alloc::Global;
 use tech_rules::{Rules, RulesFault, read_rules};
-use yal_reader::{YalFault, YalFile, read_yal};
+use yal_reader::{YalFault, YalFile, numbers_of, read_yal};
 
 /// The rules that a text states.
 pub(crate) fn stated_rules(alloc: Global, bytes: &[u8]) -> Result<Rules, Refusal>
@@ -64,7 +64,8 @@ pub(crate) fn stated_design(
     ensures says { Says (λ read. read) result (stated_design rules.now bytes.now) }
     ensures is { IfOk result (λ read. IsDesignFor rules.now read.file read.design) }
 {
-    let file = match read_yal(alloc, bytes) {
+    let numbers = numbers_of(rules.version, rules.decimals);
+    let file = match read_yal(alloc, bytes, numbers) {
         Ok(file) => file,
         Err(YalFault::Memory) => return Err(Refusal::Memory),
         Err(YalFault::Bad { kind, at }) => return Err(Refusal::Yal(kind, at)),

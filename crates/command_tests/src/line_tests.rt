@@ -16,6 +16,8 @@ Tight 10: centi = 100 => centi = 6|\
 Missing yal: yal = \"POLY\"\n => |\
 Missing anneal.row_cost: row_cost = 4\n => |\
 Toml: version = 1 => version 1|\
+Missing decimals: version = 1 => version = 2|\
+Range decimals: version = 1 => version = 2\ndecimals = 5|\
 Tight 12: \"NM\" => \"NP\"";
 
 /// Whether rules with a piece replaced are refused so.
@@ -184,7 +186,7 @@ fn is_first(
 /// Bad rules go before a design that is not there, and a rules file that is not there before a bad design.
 #[test]
 fn the_first_cause_is_said(rt: HostRuntime) -> Result<(), Fail> {
-    assert!(rt; is_first(rt.alloc(), "r", "version = 2", 4, "rules Range version\n")?);
+    assert!(rt; is_first(rt.alloc(), "r", "version = 3", 4, "rules Range version\n")?);
     assert!(rt; is_first(rt.alloc(), "d", "MODULE ;", 8, "read fault\n")?);
     assert!(rt; is_first(rt.alloc(), "r", RULES, 8, "read fault\n")?);
     Ok(())

@@ -2,6 +2,7 @@
 use Rattle.std.specs.Prelude.{◌≡◌, ℕ, List, Ok}
 use Rattle.tech_rules.specs.Rules.{RuleValues}
 use Rattle.tech_rules.specs.RulesOf.{rules_of}
+use Rattle.yal_reader.specs.Numbers.{numbers_of}
 use Rattle.yal_reader.specs.YalReads.{yal_reads}
 use Rattle.yal_reader.specs.declared.file.YalFile.{YalFile}
 use Rattle.design_model.specs.Netlist.{Netlist}
@@ -20,7 +21,7 @@ pub record IsGoodFor (rules : RuleValues) (file : YalFile) (text : List ℕ) : T
 -- a text is a good layout of what a text of YAL says
 pub record IsGoodOf (rules : RuleValues) (bytes text : List ℕ) : Type 0 where
   pub file : YalFile
-  pub read : yal_reads bytes ≡ Ok file
+  pub read : yal_reads bytes (numbers_of rules.version rules.decimals) ≡ Ok file
   pub good : IsGoodFor rules file text
 
 -- the headline: the bytes of the rules file state rules, those of the design's file are a design, and the text is a good layout of it

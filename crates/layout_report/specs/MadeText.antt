@@ -1,5 +1,5 @@
 -- the YAL text of a design made from a number: five cell kinds, and instances on nets drawn from a seed
-use Rattle.std.specs.Prelude.{ℕ, zero, suc, ◌+◌, ◌*◌, ◌/◌, ◌%◌, ◌==◌, List, [], ◌∷◌, ◌++◌, codes, if◌then◌else◌}
+use Rattle.std.specs.Prelude.{ℕ, zero, suc, ◌+◌, ◌*◌, ◌/◌, ◌%◌, ◌^◌, ◌==◌, ◌||◌, List, [], ◌∷◌, ◌++◌, codes, if◌then◌else◌}
 use Rattle.std.specs.Fmt.{decimal}
 use Rattle.tech_rules.specs.Rules.{RuleValues}
 use Rattle.layout_report.specs.Words.{word}
@@ -21,16 +21,26 @@ middle r column = column * r.grid.column + r.grid.column / 2
 unfoldable pub made_height : RuleValues → ℕ
 made_height r = 2 * r.grid.pin + r.vertical.space
 
+-- the last so many digits of a number
+unfoldable pub last_digits : ℕ → ℕ → List ℕ
+last_digits zero n = []
+last_digits (suc k) n = last_digits k (n / 10) ++ (48 + n % 10) ∷ []
+
+-- a length in units as a number with so many decimals: a point stands before the last digits, if there are any; 0 is 0
+unfoldable pub length_text : ℕ → ℕ → List ℕ
+length_text decimals units =
+    if decimals == 0 || units == 0 then decimal units else decimal (units / 10 ^ decimals) ++ codes "." ++ last_digits decimals units
+
 -- the line of a position of a terminal
 unfoldable pub position_text : RuleValues → List ℕ → ℕ → ℕ → List ℕ
 position_text r name_and_flow column height =
-    statement (name_and_flow ∷ decimal (middle r column) ∷ decimal height ∷ decimal r.vertical.width ∷ r.yal ∷ [])
+    statement (name_and_flow ∷ length_text r.decimals (middle r column) ∷ length_text r.decimals height ∷ decimal r.vertical.width ∷ r.yal ∷ [])
 
 -- the outline of cells of so many columns
 unfoldable pub outline_text : RuleValues → ℕ → List ℕ
 outline_text r columns =
-    statement (codes "DIMENSIONS" ∷ codes "0" ∷ codes "0" ∷ decimal (columns * r.grid.column) ∷ codes "0"
-    ∷ decimal (columns * r.grid.column) ∷ decimal (made_height r) ∷ codes "0" ∷ decimal (made_height r) ∷ [])
+    statement (codes "DIMENSIONS" ∷ codes "0" ∷ codes "0" ∷ length_text r.decimals (columns * r.grid.column) ∷ codes "0"
+    ∷ length_text r.decimals (columns * r.grid.column) ∷ length_text r.decimals (made_height r) ∷ codes "0" ∷ length_text r.decimals (made_height r) ∷ [])
 
 -- kind j of the five, of j + 2 columns: two pins below and two above, and in the last kind one of the upper ones is below too
 unfoldable pub positions_text : RuleValues → ℕ → List ℕ

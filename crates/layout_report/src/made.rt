@@ -1,12 +1,12 @@
 //! Designs that are made from a number.
 
-ghost use Rattle.layout_report.specs.MadeText.{call_text, calls_text, kind_text, kinds_text, made_height, made_text, middle, outline_text, position_text, positions_text};
+ghost use Rattle.layout_report.specs.MadeText.{call_text, calls_text, kind_text, kinds_text, last_digits, length_text, made_height, made_text, middle, outline_text, position_text, positions_text};
 ghost use Rattle.std.specs.Fmt.{decimal};
-ghost use Rattle.std.specs.Prelude.{◌≡◌, ◌+◌, ◌*◌, ◌<◌, ◌≤◌, ◌++◌, codes, OnOk, IfOk};
+ghost use Rattle.std.specs.Prelude.{◌≡◌, ◌+◌, ◌*◌, ◌^◌, ◌<◌, ◌≤◌, ◌++◌, codes, OnOk, IfOk};
 
 use crate::words::Words;
 use itoa::Buffer;
-use limits::MOST_INSTANCES;
+use limits::{MOST_DECIMALS, MOST_INSTANCES};
 use std::alloc::{AllocError, Global};
 use tech_rules::Rules;
 
@@ -31,6 +31,48 @@ fn put_next(text: &mut Vec<u8>, n: u64) -> Result<(), AllocError>
 {
     put(text, b" ")?;
     put_number(text, n)
+}
+
+// Puts the last so many digits of a number.
+#[tactic(auto, unfolding(crate::specs::MadeText::last_digits))]
+fn put_last_digits(text: &mut Vec<u8>, digits: u32, n: u64) -> Result<(), AllocError>
+    ensures { OnOk result (text.new.items ≡ text.old.items ++ last_digits digits n) }
+{
+    if digits == 0 {
+        return Ok(());
+    }
+    put_last_digits(text, digits - 1, n / 10)?;
+    put(text, &[b'0' + (n % 10) as u8])
+}
+
+// So many times 10, one by the other.
+fn power_of_ten(decimals: u32) -> u64
+    requires { decimals ≤ MOST_DECIMALS }
+    ensures { result ≡ 10 ^ decimals }
+{
+    10u64.pow(decimals)
+}
+
+// Puts a length in units as a number with so many decimals.
+#[tactic(auto, unfolding(crate::specs::MadeText::length_text))]
+fn put_length(text: &mut Vec<u8>, decimals: u32, units: u64) -> Result<(), AllocError>
+    requires { decimals ≤ MOST_DECIMALS }
+    ensures { OnOk result (text.new.items ≡ text.old.items ++ length_text decimals units) }
+{
+    if decimals == 0 || units == 0 {
+        return put_number(text, units);
+    }
+    put_number(text, units / power_of_ten(decimals))?;
+    put(text, b".")?;
+    put_last_digits(text, decimals, units)
+}
+
+// Puts a blank and a length in units.
+fn put_next_length(text: &mut Vec<u8>, rules: &Rules, units: u64) -> Result<(), AllocError>
+    ensures { OnOk result (text.new.items ≡ text.old.items ++ codes " " ++ length_text rules.now.decimals units) }
+{
+    put(text, b" ")?;
+    put_length(text, rules.decimals, units)
 }
 
 // The middle of a column in units.
@@ -78,8 +120,8 @@ fn put_position(
     ensures { OnOk result (text.new.items ≡ text.old.items ++ position_text rules.now name_and_flow.now column height) }
 {
     put(text, name_and_flow)?;
-    put_next(text, middle(rules, column))?;
-    put_next(text, height)?;
+    put_next_length(text, rules, middle(rules, column))?;
+    put_next_length(text, rules, height)?;
     put_next(text, pin_width(rules))?;
     put_layer(text, rules)?;
     put(text, b";\n")
@@ -100,12 +142,12 @@ fn put_outline(text: &mut Vec<u8>, rules: &Rules, columns: u64) -> Result<(), Al
     ensures { OnOk result (text.new.items ≡ text.old.items ++ outline_text rules.now columns) }
 {
     put(text, b"DIMENSIONS 0 0")?;
-    put_next(text, width(rules, columns))?;
+    put_next_length(text, rules, width(rules, columns))?;
     put(text, b" 0")?;
-    put_next(text, width(rules, columns))?;
-    put_next(text, height(rules))?;
+    put_next_length(text, rules, width(rules, columns))?;
+    put_next_length(text, rules, height(rules))?;
     put(text, b" 0")?;
-    put_next(text, height(rules))?;
+    put_next_length(text, rules, height(rules))?;
     put(text, b";\n")
 }
 
@@ -198,7 +240,7 @@ fn put_calls(text: &mut Vec<u8>, seed: u64, n: u32) -> Result<(), AllocError>
 }
 
 /// A design of n instances, 1 to 20,000, that is made from a seed, as a text of YAL whose cells are on the grid of the rules and of their least
-/// height: five kinds of 2 to 6 columns in turn; the first two pins of an instance are on nets that are drawn from the random words of the
+/// height, and whose lengths have the decimals of the rules: five kinds of 2 to 6 columns in turn; the first two pins of an instance are on nets that are drawn from the random words of the
 /// seed (PCG's 32-bit generator, stream 55), the third on a net of its own number, and four instances in a row share the net of the last. The one
 /// error is want of memory.
 #[tactic(auto, unfolding(crate::specs::MadeText::made_text, crate::specs::MadeText::network_text, crate::specs::MadeText::last_text))]

@@ -23,6 +23,9 @@ pub const MOST_LENGTH: u32 = 1000;
 /// The letters that the word of the vertical layer may have in YAL.
 pub const MOST_WORD: usize = 32;
 
+/// The decimals that the numbers of a design may have.
+pub const MOST_DECIMALS: u32 = 4;
+
 /// The greatest temperature at which annealing may begin.
 pub const MOST_TEMPERATURE: u32 = 1_000_000_000;
 

@@ -4,5 +4,5 @@
 mod digits;
 mod stop;
 
-pub use digits::number_within;
+pub use digits::{number_behind, number_within};
 pub use stop::{Flaw, Stop};

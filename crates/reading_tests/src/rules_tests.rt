@@ -8,7 +8,19 @@ use tech_rules::{Key, Rules, read_rules};
 /// Cases with a stroke behind each: the fault that comes of it, a piece of the sample text, and what stands in its place.
 const CASES: &str = "\
 Missing(Version): version = 1\n => |\
-Range(Version): version = 1 => version = 2|\
+Range(Version): version = 1 => version = 0|\
+Range(Version): version = 1 => version = 3|\
+Missing(Decimals): version = 1 => version = 2|\
+Missing(Decimals): version = 1\nyal = \"POLY\"\n[grid]\ncolumn = 8\n => version = 2\nyal = \"POLY\"\n[grid]\n|\
+Missing(Decimals): version = 1\nyal = \"POLY\"\n[grid]\n => version = 2\nyal = \"POLY\"\n[grid]\ndecimals = 2\n|\
+Range(Yal): version = 1\nyal = \"POLY\" => version = 2\nyal = 3|\
+good: version = 1 => version = 2\ndecimals = 0|\
+good: version = 1 => version = 2\ndecimals = 4|\
+Range(Decimals): version = 1 => version = 2\ndecimals = 5|\
+Range(Decimals): version = 1 => version = 2\ndecimals = -1|\
+Range(Decimals): version = 1 => version = 2\ndecimals = \"2\"|\
+good: version = 1 => version = 1\ndecimals = 9|\
+good: version = 1 => version = 1\ndecimals = \"x\"|\
 Range(Version): version = 1 => version = \"1\"|\
 Toml: version = 1\n => [grid]\nversion = 1\n|\
 Range(Yal): \"POLY\" => \"\"|\
@@ -124,8 +136,25 @@ fn the_sample_text_reads_as_the_sample(rt: HostRuntime) -> Result<(), Fail> {
     Ok(())
 }
 
+/// The decimals of the sample rules with this in place of their first line.
+fn decimals_of(alloc: Global, front: &str) -> Result<u32, Fail> {
+    let (_, rest) = RULES.split_once("version = 1\n").unwrap_or((RULES, ""));
+    let text = format!(in alloc; "{front}{rest}")?;
+    Ok(read_rules(alloc, text.as_bytes())?.decimals)
+}
+
+#[test]
+fn decimals_are_those_of_version_two(rt: HostRuntime) -> Result<(), Fail> {
+    assert_eq!(rt; decimals_of(rt.alloc(), "version = 1\n")?, 0);
+    assert_eq!(rt; decimals_of(rt.alloc(), "version = 1\ndecimals = 3\n")?, 0);
+    assert_eq!(rt; decimals_of(rt.alloc(), "version = 2\ndecimals = 0\n")?, 0);
+    assert_eq!(rt; decimals_of(rt.alloc(), "version = 2\ndecimals = 3\n")?, 3);
+    Ok(())
+}
+
 #[test]
 fn a_key_has_its_text(rt: HostRuntime) {
     assert!(rt; Key::Version.name() == "version");
+    assert!(rt; Key::Decimals.name() == "decimals");
     assert!(rt; Key::AnnealRowCost.name() == "anneal.row_cost");
 }

@@ -1,8 +1,10 @@
 //! Designs made from a number.
 
 use layout_report::make_design;
-use samples::sample_rules;
+use samples::{RULES, sample_rules};
+use std::alloc::Global;
 use std::test::Fail;
+use tech_rules::read_rules;
 
 // The design of six instances of seed 7 under the sample rules, as another program with that generator made it.
 const SIX_OF_SEVEN: &str = "/* made design */
@@ -102,5 +104,45 @@ fn the_most_instances(rt: HostRuntime) -> Result<(), Fail> {
     let rules = sample_rules(alloc)?;
     let text = make_design(alloc, &rules, 1, 20_000)?;
     assert_eq!(rt; text.len(), 872273);
+    Ok(())
+}
+
+// For so many decimals: a width of 16 units, a height of 11, and the middles of columns at 4 and at 12.
+const LENGTHS: [(u32, &str, &str, &str, &str); 4] = [
+    (0, "16", "11", "4", "12"),
+    (1, "1.6", "1.1", "0.4", "1.2"),
+    (2, "0.16", "0.11", "0.04", "0.12"),
+    (4, "0.0016", "0.0011", "0.0004", "0.0012"),
+];
+
+// Whether the text of six instances of seed 7 under rules with so many decimals begins with a module of these lengths, and ends as without.
+fn has_lengths(
+    alloc: Global,
+    decimals: u32,
+    lengths: (&str, &str, &str, &str),
+) -> Result<bool, Fail> {
+    let (width, height, first, second) = lengths;
+    let (_, rest) = RULES.split_once("version = 1\n").unwrap_or((RULES, ""));
+    let stated = format!(in alloc; "version = 2\ndecimals = {decimals}\n{rest}")?;
+    let rules = read_rules(alloc, stated.as_bytes())?;
+    let text = make_design(alloc, &rules, 7, 6)?;
+    let module = format!(in alloc;
+        "/* made design */\nMODULE M0;\nTYPE STANDARD;\nDIMENSIONS 0 0 {width} 0 {width} {height} 0 {height};\nIOLIST;\na I {first} 0 3 POLY;\nb I {second} 0 3 POLY;\ny O {first} {height} 3 POLY;\nz B {second} {height} 3 POLY;\nvdd PWR;\n"
+    )?;
+    let network = SIX_OF_SEVEN
+        .split_once("MODULE made;")
+        .unwrap_or(("", ""))
+        .1;
+    Ok(text.starts_with(module.as_bytes()) && text.ends_with(network.as_bytes()))
+}
+
+#[test]
+fn lengths_have_decimals(rt: HostRuntime) -> Result<(), Fail> {
+    for (decimals, width, height, first, second) in LENGTHS {
+        assert!(rt;
+            has_lengths(rt.alloc(), decimals, (width, height, first, second))?,
+            "{decimals}"
+        );
+    }
     Ok(())
 }

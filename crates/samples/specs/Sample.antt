@@ -8,6 +8,7 @@ abbrev pub sample : RuleValues
 sample = record {
   version = 1;
   yal = codes "POLY";
+  decimals = 0;
   grid = record { column = 8; track = 8; centi = 100; pin = 4 };
   horizontal = record { layer = codes "NM"; width = 3; space = 3 };
   vertical = record { layer = codes "NP"; width = 3; space = 3 };

@@ -8,7 +8,7 @@ use crate::rules::sample_rules;
 use design_model::Design;
 use netlist_core::{DesignFault, to_design};
 use std::alloc::{AllocError, Global};
-use yal_reader::{YalFault, read_yal};
+use yal_reader::{YalFault, numbers_of, read_yal};
 
 /// What stands before the calls of a PARENT.
 pub const HEAD: &str =
@@ -59,7 +59,11 @@ pub fn design_of(alloc: Global, text: &str) -> Result<Design, SampleFault>
         return Err(SampleFault::TooLong);
     }
     let rules = sample_rules(alloc)?;
-    let file = match read_yal(alloc, text.as_bytes()) {
+    let file = match read_yal(
+        alloc,
+        text.as_bytes(),
+        numbers_of(rules.version, rules.decimals),
+    ) {
         Ok(file) => file,
         Err(fault) => return Err(SampleFault::Yal(fault)),
     };

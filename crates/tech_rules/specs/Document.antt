@@ -3,13 +3,14 @@ use Rattle.std.specs.Prelude.{codes, ℕ, pos, List, length, Bool, ◌&&◌, ◌
 use Rattle.std.specs.Option.{option_and_then}
 use Rattle.std.specs.Str.{bytes_eq}
 use Rattle.std.specs.Str.Lossy.{utf8_valid_len}
+use Rattle.limits.specs.declared.TheConstants.{MOST_DECIMALS}
 use Rattle.toml.specs.Data.{Data, Members, integer, string, as_table, get_member}
 use Rattle.toml.specs.Parse.{parse_document}
 use Rattle.tech_rules.specs.Keys.{section_of, word_of}
 use Rattle.tech_rules.specs.declared.fault.RulesFault.{RulesFault}
 use Rattle.tech_rules.specs.declared.fault.RulesFault.TheVariants.{Missing, Range}
 use Rattle.tech_rules.specs.declared.key.Key.{Key}
-use Rattle.tech_rules.specs.declared.key.Key.TheVariants.{AnnealStart}
+use Rattle.tech_rules.specs.declared.key.Key.TheVariants.{AnnealStart, Decimals}
 use Rattle.tech_rules.specs.declared.sections.StartBy.{StartBy}
 use Rattle.tech_rules.specs.declared.sections.StartBy.TheVariants.{Width, Count}
 
@@ -47,6 +48,10 @@ or_missing key value_of None = Err (Missing key)
 -- the number at a key
 unfoldable pub number_of : Members → Key → ℕ → ℕ → Result ℕ RulesFault
 number_of document key low high = or_missing key (number_within low high) (data_of document key)
+
+-- how many decimals the numbers of a design have: the number at its key from version 2 on, and none before
+unfoldable pub decimals_of : Members → ℕ → Result ℕ RulesFault
+decimals_of document version = if version == 1 then Ok 0 else number_of document Decimals 0 MOST_DECIMALS
 
 -- the text at a key
 unfoldable pub string_of : Members → Key → (List ℕ → Bool) → Result (List ℕ) RulesFault

@@ -1,12 +1,13 @@
 -- the rules file: its keys, what stands at them, and the rules of its bytes
 use Rattle.std.specs.Prelude.{codes, ℕ, List, ◌++◌, Option, Some, None}
 use Rattle.tech_rules.specs.declared.key.Key.{Key}
-use Rattle.tech_rules.specs.declared.key.Key.TheVariants.{Version, Yal, GridColumn, GridTrack, GridCenti, GridPin, HorizontalLayer, HorizontalWidth, HorizontalSpace, VerticalLayer, VerticalWidth, VerticalSpace, CutLayer, CutSize, CutEnclose, CutSpace, OutlineLayer, AnnealTemperature, AnnealStages, AnnealMoves, AnnealRowCost, AnnealLengthCost, AnnealStart}
+use Rattle.tech_rules.specs.declared.key.Key.TheVariants.{Version, Yal, Decimals, GridColumn, GridTrack, GridCenti, GridPin, HorizontalLayer, HorizontalWidth, HorizontalSpace, VerticalLayer, VerticalWidth, VerticalSpace, CutLayer, CutSize, CutEnclose, CutSpace, OutlineLayer, AnnealTemperature, AnnealStages, AnnealMoves, AnnealRowCost, AnnealLengthCost, AnnealStart}
 
 -- the table that a key stands in, or none for a key at the top of the file
 abbrev pub section_of : Key → Option (List ℕ)
 section_of Version = None
 section_of Yal = None
+section_of Decimals = None
 section_of GridColumn = Some (codes "grid")
 section_of GridTrack = Some (codes "grid")
 section_of GridCenti = Some (codes "grid")
@@ -33,6 +34,7 @@ section_of AnnealStart = Some (codes "anneal")
 abbrev pub word_of : Key → List ℕ
 word_of Version = codes "version"
 word_of Yal = codes "yal"
+word_of Decimals = codes "decimals"
 word_of GridColumn = codes "column"
 word_of GridTrack = codes "track"
 word_of GridCenti = codes "centi"

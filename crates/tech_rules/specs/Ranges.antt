@@ -1,7 +1,7 @@
 -- the ranges of the keys
 use Rattle.std.specs.Prelude.{◌≡◌, ◌≤◌, ℕ, true}
 use Rattle.geom_core.specs.LayerText.{is_layer_text}
-use Rattle.limits.specs.declared.TheConstants.{MOST_LENGTH, MOST_MOVES, MOST_STAGES, MOST_TEMPERATURE, MOST_WEIGHT}
+use Rattle.limits.specs.declared.TheConstants.{MOST_DECIMALS, MOST_LENGTH, MOST_MOVES, MOST_STAGES, MOST_TEMPERATURE, MOST_WEIGHT}
 use Rattle.tech_rules.specs.declared.sections.Annealing.{Annealing}
 use Rattle.tech_rules.specs.declared.sections.Cut.{Cut}
 use Rattle.tech_rules.specs.declared.sections.Grid.{Grid}
@@ -10,6 +10,11 @@ use Rattle.tech_rules.specs.declared.sections.Wires.{Wires}
 
 abbrev pub IsWithin : ℕ → ℕ → ℕ → Type 0
 IsWithin low high n = (low ≤ n) × (n ≤ high)
+
+-- rules of this version may have so many decimals: none in version 1
+pub record AreDecimals (version decimals : ℕ) : Type 0 where
+  pub few : decimals ≤ MOST_DECIMALS
+  pub whole : version ≡ 1 → decimals ≡ 0
 
 -- the values of a section lie in the ranges of their keys
 pub record IsGridInRange (g : Grid) : Type 0 where

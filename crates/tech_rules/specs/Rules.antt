@@ -3,7 +3,7 @@ use Rattle.std.specs.Prelude.{◌≡◌, ◌≢◌, ◌≤◌, ℕ, ◌+◌, ◌
 use Rattle.std.specs.Char.{is_ascii_alphanumeric}
 use Rattle.std.specs.List.{list_all}
 use Rattle.limits.specs.declared.TheConstants.{MOST_WORD}
-use Rattle.tech_rules.specs.Ranges.{IsAnnealingInRange, IsCutInRange, IsGridInRange, IsOutlineInRange, AreWiresInRange}
+use Rattle.tech_rules.specs.Ranges.{AreDecimals, IsAnnealingInRange, IsCutInRange, IsGridInRange, IsOutlineInRange, IsWithin, AreWiresInRange}
 use Rattle.tech_rules.specs.declared.sections.Annealing.{Annealing}
 use Rattle.tech_rules.specs.declared.sections.Cut.{Cut}
 use Rattle.tech_rules.specs.declared.sections.Grid.{Grid}
@@ -14,6 +14,7 @@ use Rattle.tech_rules.specs.declared.sections.Wires.{Wires}
 pub record RuleValues : Type 0 where
   pub version : ℕ
   pub yal : List ℕ
+  pub decimals : ℕ
   pub grid : Grid
   pub horizontal : Wires
   pub vertical : Wires
@@ -35,8 +36,9 @@ is_yal_word text = nat_le 1 (length text) && nat_le (length text) MOST_WORD && l
 
 -- every value lies in its key's range
 pub record InRanges (r : RuleValues) : Type 0 where
-  pub version : r.version ≡ 1
+  pub version : IsWithin 1 2 r.version
   pub yal : is_yal_word r.yal ≡ true
+  pub decimals : AreDecimals r.version r.decimals
   pub grid : IsGridInRange r.grid
   pub horizontal : AreWiresInRange r.horizontal
   pub vertical : AreWiresInRange r.vertical

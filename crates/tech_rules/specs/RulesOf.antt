@@ -2,7 +2,7 @@
 use Rattle.std.specs.Prelude.{ℕ, ◌+◌, ◌%◌, List, Bool, not, ◌&&◌, ◌==◌, nat_le, if◌then◌else◌, Option, Some, None, Result, Ok, Err}
 use Rattle.std.specs.Str.{bytes_eq}
 use Rattle.toml.specs.Data.{Members}
-use Rattle.tech_rules.specs.Document.{document_of, number_of, string_of}
+use Rattle.tech_rules.specs.Document.{decimals_of, document_of, number_of, string_of}
 use Rattle.tech_rules.specs.Rules.{RuleValues, pad, is_yal_word}
 use Rattle.tech_rules.specs.Sections.{and_then, annealing_in, cut_in, grid_in, outline_in, wires_in}
 use Rattle.tech_rules.specs.declared.fault.RulesFault.{RulesFault}
@@ -12,8 +12,9 @@ use Rattle.tech_rules.specs.declared.key.Key.TheVariants.{Version, Yal, Horizont
 -- the values that a document states, each in its range, or the fault of the first key that has one
 abbrev pub values_in : Members → Result RuleValues RulesFault
 values_in document =
-    and_then (number_of document Version 1 1) (λ version.
+    and_then (number_of document Version 1 2) (λ version.
     and_then (string_of document Yal is_yal_word) (λ yal.
+    and_then (decimals_of document version) (λ decimals.
     and_then (grid_in document) (λ grid.
     and_then (wires_in document HorizontalLayer HorizontalWidth HorizontalSpace) (λ horizontal.
     and_then (wires_in document VerticalLayer VerticalWidth VerticalSpace) (λ vertical.
@@ -23,13 +24,14 @@ values_in document =
     Ok (record {
       version = version;
       yal = yal;
+      decimals = decimals;
       grid = grid;
       horizontal = horizontal;
       vertical = vertical;
       cut = cut;
       outline = outline;
       annealing = annealing;
-    })))))))))
+    }))))))))))
 
 -- whether the four layers have different names
 abbrev pub are_different : RuleValues → Bool

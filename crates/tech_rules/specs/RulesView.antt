@@ -7,6 +7,7 @@ abbrev pub values_of : Inside → RuleValues
 values_of a = record {
   version = a.version;
   yal = a.yal;
+  decimals = a.decimals;
   grid = a.grid;
   horizontal = a.horizontal;
   vertical = a.vertical;

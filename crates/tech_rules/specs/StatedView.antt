@@ -7,6 +7,7 @@ abbrev pub stated_values : Inside → RuleValues
 stated_values a = record {
   version = a.version;
   yal = a.yal.now;
+  decimals = a.decimals;
   grid = a.grid;
   horizontal = a.horizontal;
   vertical = a.vertical;

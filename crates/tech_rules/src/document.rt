@@ -4,15 +4,15 @@ ghost use Rattle.std.specs.List.{list_all};
 ghost use Rattle.std.specs.Option.{option_copied, option_map};
 ghost use Rattle.std.specs.Prelude.{◌≡◌, true, IfOk, IfSome};
 ghost use Rattle.std.specs.Result.{result_map_both};
-ghost use Rattle.tech_rules.specs.Document.{data_of, document_of, number_of, number_within, start_in, start_named, start_of, string_of, text_where};
+ghost use Rattle.tech_rules.specs.Document.{data_of, decimals_of, document_of, number_of, number_within, start_in, start_named, start_of, string_of, text_where};
 ghost use Rattle.tech_rules.specs.Rules.{is_yal_code, is_yal_word};
-ghost use Rattle.tech_rules.specs.Ranges.{IsWithin};
+ghost use Rattle.tech_rules.specs.Ranges.{AreDecimals, IsWithin};
 ghost use Rattle.toml.specs.Data.{get_member};
 ghost use Rattle.toml.specs.View.{table_view, view};
 
 use crate::{Key, RulesFault, StartBy};
 use geom_core::LayerName;
-use limits::MOST_WORD;
+use limits::{MOST_DECIMALS, MOST_WORD};
 use std::alloc::{AllocError, Global};
 use toml::{Table, Value};
 
@@ -47,6 +47,18 @@ pub(crate) fn number(table: &Table, key: Key, low: u32, high: u32) -> Result<u32
         },
         None => Err(RulesFault::Missing(key)),
     }
+}
+
+/// How many decimals the numbers of a design have: the number at its key from version 2 on, and none before. Takes no memory.
+#[tactic(auto, unfolding(crate::specs::Document::decimals_of))]
+pub(crate) fn decimals(table: &Table, version: u32) -> Result<u32, RulesFault>
+    ensures value { result ≡ decimals_of (table_view table.now) version }
+    ensures within { IfOk result (AreDecimals version) }
+{
+    if version == 1 {
+        return Ok(0);
+    }
+    number(table, Key::Decimals, 0, MOST_DECIMALS)
 }
 
 /// The layer at a key, if its text is a layer's name. Takes no memory.

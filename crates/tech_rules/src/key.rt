@@ -11,6 +11,8 @@ pub enum Key {
     Version,
     /// `yal`
     Yal,
+    /// `decimals`, which is a key from version 2 on
+    Decimals,
     /// `grid.column`
     GridColumn,
     /// `grid.track`
@@ -61,7 +63,7 @@ impl Key {
         ensures { option_copied result ≡ section_of self }
     {
         match self {
-            Key::Version | Key::Yal => None,
+            Key::Version | Key::Yal | Key::Decimals => None,
             Key::GridColumn | Key::GridTrack | Key::GridCenti | Key::GridPin => Some("grid"),
             Key::HorizontalLayer | Key::HorizontalWidth | Key::HorizontalSpace => Some(
                 "horizontal",
@@ -85,6 +87,7 @@ impl Key {
         match self {
             Key::Version => "version",
             Key::Yal => "yal",
+            Key::Decimals => "decimals",
             Key::GridColumn => "column",
             Key::GridTrack => "track",
             Key::GridCenti => "centi",
@@ -111,6 +114,7 @@ impl Key {
         match self {
             Key::Version => "version",
             Key::Yal => "yal",
+            Key::Decimals => "decimals",
             Key::GridColumn => "grid.column",
             Key::GridTrack => "grid.track",
             Key::GridCenti => "grid.centi",

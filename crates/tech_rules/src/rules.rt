@@ -8,13 +8,16 @@ use geom_core::Name;
 use std::marker::Model;
 
 /// The rules of a process, by the sections of a rules file. Every value keeps the ranges that the fields of its sections name, and the
-/// twelve rules of `docs/RULES.md`. Lengths are in units, a unit being one step of a YAL coordinate, if nothing else is said.
+/// twelve rules of `docs/RULES.md`. Lengths are in units, if nothing else is said;
+/// what a unit is in a design, `decimals` says.
 #[derive(Debug, Drop)]
 pub struct Rules {
-    /// The version of the rules' format: 1.
+    /// The version of the rules' format: 1 or 2.
     pub version: u32,
     /// The word that YAL has for the vertical layer: 1 to 32 ASCII letters, digits or `_`.
     pub yal: Name,
+    /// How many decimals the numbers of a design have, 0 to 4: 10 to this power units are one in a design. 0 in version 1.
+    pub decimals: u32,
     /// The grid of columns, tracks and units.
     pub grid: Grid,
     /// The horizontal wires.

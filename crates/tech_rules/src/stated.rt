@@ -5,7 +5,7 @@ ghost use Rattle.tech_rules.specs.Rules.{AreDifferent, ValidRules};
 ghost use Rattle.tech_rules.specs.RulesOf.{are_different, broken_rule, values_in};
 ghost use Rattle.toml.specs.View.{table_view};
 
-use crate::document::{number, word};
+use crate::document::{decimals, number, word};
 use crate::sections::{
     Annealing, Cut, Grid, Outline, Wires, annealing_in, cut_in, grid_in, outline_in, wires_in,
 };
@@ -20,6 +20,7 @@ use toml::Table;
 pub(crate) struct Stated<'t> {
     version: u32,
     yal: &'t [u8],
+    decimals: u32,
     grid: Grid,
     horizontal: Wires,
     vertical: Wires,
@@ -44,9 +45,11 @@ impl<'t> Model for Stated<'t> {
 pub(crate) fn values_in(table: &Table) -> Result<Stated, RulesFault>
     ensures { result ≡ values_in (table_view table.now) }
 {
+    let version = number(table, Key::Version, 1, 2)?;
     Ok(Stated {
-        version: number(table, Key::Version, 1, 1)?,
+        version,
         yal: word(table, Key::Yal)?,
+        decimals: decimals(table, version)?,
         grid: grid_in(table)?,
         horizontal: wires_in(
             table,
@@ -133,6 +136,7 @@ impl<'t> Stated<'t> {
         Ok(Rules {
             version: self.version,
             yal: Name::new(self.yal.to_vec(alloc)?),
+            decimals: self.decimals,
             grid: self.grid,
             horizontal: self.horizontal,
             vertical: self.vertical,

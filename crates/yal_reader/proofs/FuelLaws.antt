@@ -10,6 +10,7 @@ use Rattle.yal_reader.specs.YalReads.{a_module, modules}
 use Rattle.yal_reader.specs.declared.file.Call.{Call}
 use Rattle.yal_reader.specs.declared.file.Kind.{Kind}
 use Rattle.yal_reader.specs.declared.file.Module.{Module}
+use Rattle.yal_reader.specs.declared.notation.Numbers.{Numbers}
 use Rattle.yal_reader.specs.declared.parts.Parts.{Parts}
 use Rattle.yal_reader.specs.Flaws.{Stop}
 use Rattle.read_base.specs.declared.stop.Stop.TheVariants.{At, Memory}
@@ -75,87 +76,87 @@ pub module_names-push : (modules : List Module) (m : Module) → module_names (m
 module_names-push modules m = map-append (λ (c : Module). c.name) modules (m ∷ [])
 
 -- the sections of a module: no word, the last keyword without and with its semicolon, a section that fails, one more section
-pub sections-ends : (kind : Kind) (parts : Parts) (ts : List Token) (e : Flaw) (left : ℕ) (total : Result (Parts × List Token) Flaw)
-    → a_word (statement ts) ≡ Err e → GoesOn left (λ m. sections m kind parts ts) total → total ≡ Err e
+pub sections-ends : (numbers : Numbers) (kind : Kind) (parts : Parts) (ts : List Token) (e : Flaw) (left : ℕ) (total : Result (Parts × List Token) Flaw)
+    → a_word (statement ts) ≡ Err e → GoesOn left (λ m. sections numbers m kind parts ts) total → total ≡ Err e
 unfolding sections
-sections-ends kind parts ts e left total h so_far = step so_far.steps so_far.enough so_far.same
+sections-ends numbers kind parts ts e left total h so_far = step so_far.steps so_far.enough so_far.same
   where
-    step : (m : ℕ) → left < m → sections m kind parts ts ≡ total → total ≡ Err e
+    step : (m : ℕ) → left < m → sections numbers m kind parts ts ≡ total → total ≡ Err e
     step zero lt same = absurd (omega (arith, lt))
     step (suc m) lt same = sym same ∙ rw h refl
 
 -- the last keyword without its semicolon
-pub sections-open : (kind : Kind) (parts : Parts) (ts mid : List Token) (w : Spelled) (e : Flaw) (left : ℕ) (total : Result (Parts × List Token) Flaw)
-    → a_word (statement ts) ≡ Ok (w, mid) → is_word (codes "ENDMODULE") w ≡ true → an_end mid ≡ Err e → GoesOn left (λ m. sections m kind parts ts) total → total ≡ Err e
+pub sections-open : (numbers : Numbers) (kind : Kind) (parts : Parts) (ts mid : List Token) (w : Spelled) (e : Flaw) (left : ℕ) (total : Result (Parts × List Token) Flaw)
+    → a_word (statement ts) ≡ Ok (w, mid) → is_word (codes "ENDMODULE") w ≡ true → an_end mid ≡ Err e → GoesOn left (λ m. sections numbers m kind parts ts) total → total ≡ Err e
 unfolding sections
-sections-open kind parts ts mid w e left total h is bad so_far = step so_far.steps so_far.enough so_far.same
+sections-open numbers kind parts ts mid w e left total h is bad so_far = step so_far.steps so_far.enough so_far.same
   where
-    step : (m : ℕ) → left < m → sections m kind parts ts ≡ total → total ≡ Err e
+    step : (m : ℕ) → left < m → sections numbers m kind parts ts ≡ total → total ≡ Err e
     step zero lt same = absurd (omega (arith, lt))
     step (suc m) lt same = sym same ∙ rw (h, is, bad) refl
 
 -- the last keyword with its semicolon
-pub sections-here : (kind : Kind) (parts : Parts) (ts mid rest : List Token) (w : Spelled) (left : ℕ) (total : Result (Parts × List Token) Flaw)
-    → a_word (statement ts) ≡ Ok (w, mid) → is_word (codes "ENDMODULE") w ≡ true → an_end mid ≡ Ok rest → GoesOn left (λ m. sections m kind parts ts) total → total ≡ Ok (parts, rest)
+pub sections-here : (numbers : Numbers) (kind : Kind) (parts : Parts) (ts mid rest : List Token) (w : Spelled) (left : ℕ) (total : Result (Parts × List Token) Flaw)
+    → a_word (statement ts) ≡ Ok (w, mid) → is_word (codes "ENDMODULE") w ≡ true → an_end mid ≡ Ok rest → GoesOn left (λ m. sections numbers m kind parts ts) total → total ≡ Ok (parts, rest)
 unfolding sections
-sections-here kind parts ts mid rest w left total h is found so_far = step so_far.steps so_far.enough so_far.same
+sections-here numbers kind parts ts mid rest w left total h is found so_far = step so_far.steps so_far.enough so_far.same
   where
-    step : (m : ℕ) → left < m → sections m kind parts ts ≡ total → total ≡ Ok (parts, rest)
+    step : (m : ℕ) → left < m → sections numbers m kind parts ts ≡ total → total ≡ Ok (parts, rest)
     step zero lt same = absurd (omega (arith, lt))
     step (suc m) lt same = sym same ∙ rw (h, is, found) refl
 
 -- a section that fails
-pub sections-fails : (stop : Stop) (kind : Kind) (parts : Parts) (ts mid : List Token) (w : Spelled) (less left : ℕ) (total : Result (Parts × List Token) Flaw)
-    → a_word (statement ts) ≡ Ok (w, mid) → is_word (codes "ENDMODULE") w ≡ false → less < left → ((n : ℕ) → less < n → Fails flaw_of stop (section_after n kind parts w mid))
-    → GoesOn left (λ m. sections m kind parts ts) total → Fails flaw_of stop total
+pub sections-fails : (numbers : Numbers) (stop : Stop) (kind : Kind) (parts : Parts) (ts mid : List Token) (w : Spelled) (less left : ℕ) (total : Result (Parts × List Token) Flaw)
+    → a_word (statement ts) ≡ Ok (w, mid) → is_word (codes "ENDMODULE") w ≡ false → less < left → ((n : ℕ) → less < n → Fails flaw_of stop (section_after numbers n kind parts w mid))
+    → GoesOn left (λ m. sections numbers m kind parts ts) total → Fails flaw_of stop total
 unfolding sections
-sections-fails Memory kind parts ts mid w less left total h is lt bad so_far = tt
-sections-fails (At e) kind parts ts mid w less left total h is lt bad so_far = step so_far.steps so_far.enough so_far.same
+sections-fails numbers Memory kind parts ts mid w less left total h is lt bad so_far = tt
+sections-fails numbers (At e) kind parts ts mid w less left total h is lt bad so_far = step so_far.steps so_far.enough so_far.same
   where
-    step : (m : ℕ) → left < m → sections m kind parts ts ≡ total → total ≡ Err e
+    step : (m : ℕ) → left < m → sections numbers m kind parts ts ≡ total → total ≡ Err e
     step zero le same = absurd (omega (arith, le))
     step (suc m) le same = let wrong = bad m (omega (arith, lt, le)) in sym same ∙ rw (h, is, wrong) refl
 
 -- one more section
-pub sections-on : (kind : Kind) (parts onward : Parts) (ts mid rest : List Token) (w : Spelled) (less mids left : ℕ) (total : Result (Parts × List Token) Flaw)
-    → a_word (statement ts) ≡ Ok (w, mid) → is_word (codes "ENDMODULE") w ≡ false → mids < left → less < mids → ((n : ℕ) → mids < n → section_after n kind parts w mid ≡ Ok (onward, rest))
-    → GoesOn left (λ m. sections m kind parts ts) total → GoesOn less (λ m. sections m kind onward rest) total
+pub sections-on : (numbers : Numbers) (kind : Kind) (parts onward : Parts) (ts mid rest : List Token) (w : Spelled) (less mids left : ℕ) (total : Result (Parts × List Token) Flaw)
+    → a_word (statement ts) ≡ Ok (w, mid) → is_word (codes "ENDMODULE") w ≡ false → mids < left → less < mids → ((n : ℕ) → mids < n → section_after numbers n kind parts w mid ≡ Ok (onward, rest))
+    → GoesOn left (λ m. sections numbers m kind parts ts) total → GoesOn less (λ m. sections numbers m kind onward rest) total
 unfolding sections
-sections-on kind parts onward ts mid rest w less mids left total h is lt smaller found so_far = step so_far.steps so_far.enough so_far.same
+sections-on numbers kind parts onward ts mid rest w less mids left total h is lt smaller found so_far = step so_far.steps so_far.enough so_far.same
   where
-    step : (m : ℕ) → left < m → sections m kind parts ts ≡ total → GoesOn less (λ m. sections m kind onward rest) total
+    step : (m : ℕ) → left < m → sections numbers m kind parts ts ≡ total → GoesOn less (λ m. sections numbers m kind onward rest) total
     step zero le same = absurd (omega (arith, le))
     step (suc m) le same = let right = found m (omega (arith, lt, le)) in record { steps = m; enough = omega (arith, lt, smaller, le); same = sym (rw (h, is, right) refl) ∙ same }
 
 -- the modules of a file: the end of the text, a module that fails, one more module
-pub modules-end : (before : List Module) (ts : List Token) (left : ℕ) (total : Result (List Module) Flaw)
-    → is_empty (statement ts) ≡ true → GoesOn left (λ m. modules m before ts) total → total ≡ Ok before
+pub modules-end : (numbers : Numbers) (before : List Module) (ts : List Token) (left : ℕ) (total : Result (List Module) Flaw)
+    → is_empty (statement ts) ≡ true → GoesOn left (λ m. modules numbers m before ts) total → total ≡ Ok before
 unfolding modules
-modules-end before ts left total is so_far = step so_far.steps so_far.enough so_far.same
+modules-end numbers before ts left total is so_far = step so_far.steps so_far.enough so_far.same
   where
-    step : (m : ℕ) → left < m → modules m before ts ≡ total → total ≡ Ok before
+    step : (m : ℕ) → left < m → modules numbers m before ts ≡ total → total ≡ Ok before
     step zero lt same = absurd (omega (arith, lt))
     step (suc m) lt same = sym same ∙ rw is refl
 
 -- a module that fails
-pub modules-fails : (stop : Stop) (before : List Module) (ts : List Token) (less left : ℕ) (total : Result (List Module) Flaw)
-    → is_empty (statement ts) ≡ false → less ≤ left → ((n : ℕ) → less < n → Fails flaw_of stop (a_module n (module_names before) (statement ts)))
-    → GoesOn left (λ m. modules m before ts) total → Fails flaw_of stop total
+pub modules-fails : (numbers : Numbers) (stop : Stop) (before : List Module) (ts : List Token) (less left : ℕ) (total : Result (List Module) Flaw)
+    → is_empty (statement ts) ≡ false → less ≤ left → ((n : ℕ) → less < n → Fails flaw_of stop (a_module numbers n (module_names before) (statement ts)))
+    → GoesOn left (λ m. modules numbers m before ts) total → Fails flaw_of stop total
 unfolding modules
-modules-fails Memory before ts less left total is lt bad so_far = tt
-modules-fails (At e) before ts less left total is lt bad so_far = step so_far.steps so_far.enough so_far.same
+modules-fails numbers Memory before ts less left total is lt bad so_far = tt
+modules-fails numbers (At e) before ts less left total is lt bad so_far = step so_far.steps so_far.enough so_far.same
   where
-    step : (m : ℕ) → left < m → modules m before ts ≡ total → total ≡ Err e
+    step : (m : ℕ) → left < m → modules numbers m before ts ≡ total → total ≡ Err e
     step zero le same = absurd (omega (arith, le))
     step (suc m) le same = let wrong = bad (suc m) (omega (arith, lt, le)) in sym same ∙ rw (is, wrong) refl
 
 -- one more module
-pub modules-on : (before : List Module) (x : Module) (ts rest : List Token) (less mids left : ℕ) (total : Result (List Module) Flaw)
-    → is_empty (statement ts) ≡ false → mids ≤ left → less < mids → ((n : ℕ) → mids < n → a_module n (module_names before) (statement ts) ≡ Ok (x, rest))
-    → GoesOn left (λ m. modules m before ts) total → GoesOn less (λ m. modules m (before ++ x ∷ []) rest) total
+pub modules-on : (numbers : Numbers) (before : List Module) (x : Module) (ts rest : List Token) (less mids left : ℕ) (total : Result (List Module) Flaw)
+    → is_empty (statement ts) ≡ false → mids ≤ left → less < mids → ((n : ℕ) → mids < n → a_module numbers n (module_names before) (statement ts) ≡ Ok (x, rest))
+    → GoesOn left (λ m. modules numbers m before ts) total → GoesOn less (λ m. modules numbers m (before ++ x ∷ []) rest) total
 unfolding modules
-modules-on before x ts rest less mids left total is lt smaller found so_far = step so_far.steps so_far.enough so_far.same
+modules-on numbers before x ts rest less mids left total is lt smaller found so_far = step so_far.steps so_far.enough so_far.same
   where
-    step : (m : ℕ) → left < m → modules m before ts ≡ total → GoesOn less (λ m. modules m (before ++ x ∷ []) rest) total
+    step : (m : ℕ) → left < m → modules numbers m before ts ≡ total → GoesOn less (λ m. modules numbers m (before ++ x ∷ []) rest) total
     step zero le same = absurd (omega (arith, le))
     step (suc m) le same = let right = found (suc m) (omega (arith, lt, le)) in record { steps = m; enough = omega (arith, lt, smaller, le); same = sym (rw (is, right) refl) ∙ same }

@@ -19,6 +19,7 @@ use Rattle.yal_reader.specs.declared.file.Line.{Line}
 use Rattle.yal_reader.specs.declared.file.Module.{Module}
 use Rattle.yal_reader.specs.declared.file.YalFile.{YalFile}
 use Rattle.yal_reader.specs.declared.parts.Parts.{Parts}
+use Rattle.yal_reader.specs.declared.notation.Numbers.{Numbers}
 use Rattle.yal_reader.specs.Flaws.{Flaw}
 use Rattle.std_laws.proofs.Every.{every-push}
 
@@ -29,9 +30,9 @@ pub record IsParts (most : ℕ) (kind : Kind) (parts : Parts) : Type 0 where
   pub calls : IsCalls most (items_of parts.calls)
 
 -- corners are near
-kept-dimensions : (kind : Kind) (ts : List Token) → Named ts → Keeps (λ x. AllByRecursion IsCoordinate x.0 × Named x.1) (dimensions kind ts)
+kept-dimensions : (numbers : Numbers) (kind : Kind) (ts : List Token) → Named ts → Keeps (λ x. AllByRecursion IsCoordinate x.0 × Named x.1) (dimensions numbers kind ts)
 unfolding dimensions
-kept-dimensions kind ts h = either (is_standard kind) _ _ (λ _. kept-numbers ts h) (λ _. next (past_words ts) _ (kept-past ts h) (λ rest k. ok ([], rest) (tt, k)))
+kept-dimensions numbers kind ts h = either (is_standard kind) _ _ (λ _. kept-numbers numbers ts h) (λ _. next (past_words ts) _ (kept-past ts h) (λ rest k. ok ([], rest) (tt, k)))
 
 -- a greater bound holds as well
 lines-more : (n most : ℕ) (kind : Kind) (lines : List _) → n ≤ most → IsLines n kind lines → IsLines most kind lines
@@ -42,18 +43,18 @@ calls-more : (n most : ℕ) (calls : List _) → n ≤ most → IsCalls n calls 
 calls-more n most calls le h = record { are = h.are; few = omega (arith, le, h.few) }
 
 -- parts with new corners
-kept-corners : (most : ℕ) (kind : Kind) (parts : Parts) (w : Spelled) (ts : List Token) → IsParts most kind parts → Named ts → Keeps (λ x. IsParts most kind x.0 × Named x.1) (corners_after kind parts w ts)
+kept-corners : (numbers : Numbers) (most : ℕ) (kind : Kind) (parts : Parts) (w : Spelled) (ts : List Token) → IsParts most kind parts → Named ts → Keeps (λ x. IsParts most kind x.0 × Named x.1) (corners_after numbers kind parts w ts)
 unfolding corners_after
-kept-corners most kind parts w ts p h = either (is_some parts.corners) _ _ (λ _. err _) (λ _.
-    next (dimensions kind ts) _ (kept-dimensions kind ts h) (λ x k.
+kept-corners numbers most kind parts w ts p h = either (is_some parts.corners) _ _ (λ _. err _) (λ _.
+    next (dimensions numbers kind ts) _ (kept-dimensions numbers kind ts h) (λ x k.
     ok (record parts { corners = Some x.0 }, x.1) (record { corners = k.0; lines = p.lines; calls = p.calls }, k.1)))
 
 -- parts with new lines
-kept-lines : (n most : ℕ) (kind : Kind) (parts : Parts) (w : Spelled) (ts : List Token) → n ≤ most → IsParts most kind parts → Named ts
-    → Keeps (λ x. IsParts most kind x.0 × Named x.1) (lines_after n kind parts w ts)
+kept-lines : (numbers : Numbers) (n most : ℕ) (kind : Kind) (parts : Parts) (w : Spelled) (ts : List Token) → n ≤ most → IsParts most kind parts → Named ts
+    → Keeps (λ x. IsParts most kind x.0 × Named x.1) (lines_after numbers n kind parts w ts)
 unfolding lines_after
-kept-lines n most kind parts w ts le p h = either (is_some parts.lines) _ _ (λ _. err _) (λ _.
-    next (io_list n kind ts) _ (kept-io_list n kind ts h) (λ x k.
+kept-lines numbers n most kind parts w ts le p h = either (is_some parts.lines) _ _ (λ _. err _) (λ _.
+    next (io_list numbers n kind ts) _ (kept-io_list numbers n kind ts h) (λ x k.
     ok (record parts { lines = Some x.0 }, x.1) (record { corners = p.corners; lines = lines-more n most kind x.0 le k.0; calls = p.calls }, k.1)))
 
 -- parts with new calls
@@ -81,26 +82,26 @@ kept-passed w ts h =
     either (is_word (codes "CRITICALNETS") w) _ _ (λ _. kept-until (codes "ENDCRITICALNETS") ts h) (λ _. err _)))
 
 -- one section
-kept-section : (n most : ℕ) (kind : Kind) (parts : Parts) (w : Spelled) (ts : List Token) → n ≤ most → IsParts most kind parts → Named ts
-    → Keeps (λ x. IsParts most kind x.0 × Named x.1) (section_after n kind parts w ts)
+kept-section : (numbers : Numbers) (n most : ℕ) (kind : Kind) (parts : Parts) (w : Spelled) (ts : List Token) → n ≤ most → IsParts most kind parts → Named ts
+    → Keeps (λ x. IsParts most kind x.0 × Named x.1) (section_after numbers n kind parts w ts)
 unfolding section_after
-kept-section n most kind parts w ts le p h =
-    either (is_word (codes "DIMENSIONS") w) _ _ (λ _. kept-corners most kind parts w ts p h) (λ _.
-    either (is_word (codes "IOLIST") w) _ _ (λ _. kept-lines n most kind parts w ts le p h) (λ _.
+kept-section numbers n most kind parts w ts le p h =
+    either (is_word (codes "DIMENSIONS") w) _ _ (λ _. kept-corners numbers most kind parts w ts p h) (λ _.
+    either (is_word (codes "IOLIST") w) _ _ (λ _. kept-lines numbers n most kind parts w ts le p h) (λ _.
     either (is_word (codes "NETWORK") w) _ _ (λ _. kept-calls n most kind parts w ts le p h) (λ _.
     next (passed_after w ts) _ (kept-passed w ts h) (λ rest k. ok (parts, rest) (p, k)))))
 
 -- all sections of a module; the last of the n is its end
-kept-sections : (n most : ℕ) (kind : Kind) (parts : Parts) (ts : List Token) → n ≤ suc most → IsParts most kind parts → Named ts
-    → Keeps (λ x. IsParts most kind x.0 × Named x.1) (sections n kind parts ts)
+kept-sections : (numbers : Numbers) (n most : ℕ) (kind : Kind) (parts : Parts) (ts : List Token) → n ≤ suc most → IsParts most kind parts → Named ts
+    → Keeps (λ x. IsParts most kind x.0 × Named x.1) (sections numbers n kind parts ts)
 unfolding sections
-kept-sections zero most kind parts ts le p h = err _
-kept-sections (suc n) most kind parts ts le p h =
+kept-sections numbers zero most kind parts ts le p h = err _
+kept-sections numbers (suc n) most kind parts ts le p h =
     next (a_word (statement ts)) _ (kept-word (statement ts) (kept-statement ts h)) (λ first k.
     either (is_word (codes "ENDMODULE") first.0) _ _
     (λ _. next (an_end first.1) _ (kept-end first.1 k.1) (λ rest kr. ok (parts, rest) (p, kr)))
-    (λ _. next (section_after n kind parts first.0 first.1) _ (kept-section n most kind parts first.0 first.1 (omega (arith, le)) p k.1) (λ onward j.
-    kept-sections n most kind onward.0 onward.1 (omega (arith, le)) j.0 j.1)))
+    (λ _. next (section_after numbers n kind parts first.0 first.1) _ (kept-section numbers n most kind parts first.0 first.1 (omega (arith, le)) p k.1) (λ onward j.
+    kept-sections numbers n most kind onward.0 onward.1 (omega (arith, le)) j.0 j.1)))
 
 -- a module without sections
 parts-none : (most : ℕ) (kind : Kind) → IsParts most kind no_parts
@@ -146,12 +147,12 @@ module-read most name kind parts is p = record {
 }
 
 -- one module, whose name is new
-kept-module : (n most : ℕ) (names : List (List ℕ)) (ts : List Token) → n ≤ suc most → Named ts
-    → Keeps (λ x. IsRead most x.0 × (is_among names x.0.name ≡ false) × Named x.1) (a_module n names ts)
+kept-module : (numbers : Numbers) (n most : ℕ) (names : List (List ℕ)) (ts : List Token) → n ≤ suc most → Named ts
+    → Keeps (λ x. IsRead most x.0 × (is_among names x.0.name ≡ false) × Named x.1) (a_module numbers n names ts)
 unfolding a_module
-kept-module n most names ts le h =
+kept-module numbers n most names ts le h =
     next (heading names ts) _ (kept-heading names ts h) (λ head kh.
-    next (sections n head.0.1 no_parts head.1) _ (kept-sections n most head.0.1 no_parts head.1 le (parts-none most head.0.1) kh.2) (λ parts kp.
+    next (sections numbers n head.0.1 no_parts head.1) _ (kept-sections numbers n most head.0.1 no_parts head.1 le (parts-none most head.0.1) kh.2) (λ parts kp.
     ok (module_of head.0.0.text head.0.1 parts.0, parts.1) (module-read most head.0.0.text head.0.1 parts.0 kh.0 kp.0, kh.1, kp.1)))
 
 -- modules whose names are all different
@@ -167,15 +168,15 @@ modules-push most before m h is free = record {
 }
 
 -- all modules of a file; the last of the n is its end
-kept-modules : (n most : ℕ) (before : List Module) (ts : List Token) → n ≤ suc most → AreModules most before → Named ts
-    → Keeps (λ found. AreModules most found × (length found < length before + n)) (modules n before ts)
+kept-modules : (numbers : Numbers) (n most : ℕ) (before : List Module) (ts : List Token) → n ≤ suc most → AreModules most before → Named ts
+    → Keeps (λ found. AreModules most found × (length found < length before + n)) (modules numbers n before ts)
 unfolding modules
-kept-modules zero most before ts le are h = err _
-kept-modules (suc n) most before ts le are h =
+kept-modules numbers zero most before ts le are h = err _
+kept-modules numbers (suc n) most before ts le are h =
     either (is_empty (statement ts)) _ _ (λ _. ok before (are, omega arith)) (λ _.
-    next (a_module (suc n) (module_names before) (statement ts)) _ (kept-module (suc n) most (module_names before) (statement ts) le (kept-statement ts h)) (λ one k.
-    weaker (modules n (before ++ one.0 ∷ []) one.1)
-    (kept-modules n most (before ++ one.0 ∷ []) one.1 (omega (arith, le)) (modules-push most before one.0 are k.0 k.1) k.2)
+    next (a_module numbers (suc n) (module_names before) (statement ts)) _ (kept-module numbers (suc n) most (module_names before) (statement ts) le (kept-statement ts h)) (λ one k.
+    weaker (modules numbers n (before ++ one.0 ∷ []) one.1)
+    (kept-modules numbers n most (before ++ one.0 ∷ []) one.1 (omega (arith, le)) (modules-push most before one.0 are k.0 k.1) k.2)
     (λ found i. (i.0, omega (arith, i.1, length-append before (one.0 ∷ []))))))
 
 -- the first part of what each module has
@@ -211,13 +212,13 @@ file-kept most found are few = (
 )
 
 -- what a text gives
-kept-file_of : (bytes : List ℕ) → Keeps (IsReadFile (length bytes)) (file_of bytes)
+kept-file_of : (bytes : List ℕ) (numbers : Numbers) → Keeps (IsReadFile (length bytes)) (file_of bytes numbers)
 unfolding file_of
-kept-file_of bytes =
+kept-file_of bytes numbers =
     next (ascii bytes) _ (ascii-plain bytes) (λ _ plain.
     next (uncommented None bytes) _ (uncommented-kept None bytes plain) (λ text k.
-    next (modules (suc (length text)) [] (tokens text)) _
-    (kept-modules (suc (length text)) (length bytes) [] (tokens text) (omega (arith, k.1)) (no-modules (length bytes)) (tokens-named text k.0)) (λ found j.
+    next (modules numbers (suc (length text)) [] (tokens text)) _
+    (kept-modules numbers (suc (length text)) (length bytes) [] (tokens text) (omega (arith, k.1)) (no-modules (length bytes)) (tokens-named text k.0)) (λ found j.
     ok (record { modules = found }) (file-kept (length bytes) found j.0 (omega (arith, k.1, j.1))))))
 
 -- what a reading gives has what the reading keeps
@@ -229,5 +230,5 @@ kept-value P (Err e) file h is = absurd (apart is)
     apart is = cc
 
 -- what a text reads as keeps what every file has
-pub reads-kept : (bytes : List ℕ) (file : YalFile) → file_of bytes ≡ Ok file → IsReadFile (length bytes) file
-reads-kept bytes file is = kept-value (IsReadFile (length bytes)) (file_of bytes) file (kept-file_of bytes) is
+pub reads-kept : (bytes : List ℕ) (numbers : Numbers) (file : YalFile) → file_of bytes numbers ≡ Ok file → IsReadFile (length bytes) file
+reads-kept bytes numbers file is = kept-value (IsReadFile (length bytes)) (file_of bytes numbers) file (kept-file_of bytes numbers) is

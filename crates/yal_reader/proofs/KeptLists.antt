@@ -15,6 +15,7 @@ use Rattle.yal_reader.specs.declared.file.Call.{Call}
 use Rattle.yal_reader.specs.declared.file.Flow.{Flow}
 use Rattle.yal_reader.specs.declared.file.Kind.{Kind}
 use Rattle.yal_reader.specs.declared.file.Line.{Line}
+use Rattle.yal_reader.specs.declared.notation.Numbers.{Numbers}
 use Rattle.yal_reader.specs.Flaws.{Flaw}
 use Rattle.std_laws.proofs.Every.{every-push}
 
@@ -32,21 +33,21 @@ kept-items P keyword item keeps (suc n) before ts h named =
     (λ x i. (i.0, omega (arith, i.1, length-append before (one.0 ∷ [])), i.2)))))
 
 -- a spot is near, and its layer is a name
-pub kept-spot : (ts : List Token) → Named ts → Keeps (λ x. IsKeptSpot x.0 × Named x.1) (a_spot ts)
+pub kept-spot : (numbers : Numbers) (ts : List Token) → Named ts → Keeps (λ x. IsKeptSpot x.0 × Named x.1) (a_spot numbers ts)
 unfolding a_spot
-kept-spot ts h =
-    next (a_number ts) _ (kept-number ts h) (λ x kx.
-    next (a_number x.1) _ (kept-number x.1 kx.1) (λ y ky.
+kept-spot numbers ts h =
+    next (a_number numbers ts) _ (kept-number numbers ts h) (λ x kx.
+    next (a_number numbers x.1) _ (kept-number numbers x.1 kx.1) (λ y ky.
     next (a_word y.1) _ (kept-word y.1 ky.1) (λ width kw.
     next (a_word width.1) _ (kept-word width.1 kw.1) (λ layer kl.
     ok (record { x = x.0; y = y.0; layer = layer.0.text }, layer.1) (record { x = kx.0; y = ky.0; layer = kl.0 }, kl.1)))))
 
 -- a line's spot stands just where it is due
-pub kept-spot_after : (kind : Kind) (flow : Flow) (ts : List Token) → Named ts
-    → Keeps (λ x. (is_some x.0 ≡ has_spot kind flow) × IfSome x.0 IsKeptSpot × Named x.1) (spot_after kind flow ts)
+pub kept-spot_after : (numbers : Numbers) (kind : Kind) (flow : Flow) (ts : List Token) → Named ts
+    → Keeps (λ x. (is_some x.0 ≡ has_spot kind flow) × IfSome x.0 IsKeptSpot × Named x.1) (spot_after numbers kind flow ts)
 unfolding spot_after
-kept-spot_after kind flow ts h = either (has_spot kind flow) _ _
-    (λ is. next (a_spot ts) _ (kept-spot ts h) (λ x k. ok (Some x.0, x.1) (sym is, k.0, k.1)))
+kept-spot_after numbers kind flow ts h = either (has_spot kind flow) _ _
+    (λ is. next (a_spot numbers ts) _ (kept-spot numbers ts h) (λ x k. ok (Some x.0, x.1) (sym is, k.0, k.1)))
     (λ is. ok (None, ts) (sym is, tt, h))
 
 -- a line that was read
@@ -59,11 +60,11 @@ line-read : (kind : Kind) (l : Line) → IsName l.name → is_some l.spot ≡ ha
 line-read kind l is due near = record { kept = record { name = is; has = λ there. due ∙ there; spot = near }; spot = record { due = due } }
 
 -- a line is of its kind
-pub kept-line : (kind : Kind) (name : Spelled) (ts : List Token) → IsName name.text → Named ts → Keeps (λ x. IsLine kind x.0 × Named x.1) (line_after kind name ts)
+pub kept-line : (numbers : Numbers) (kind : Kind) (name : Spelled) (ts : List Token) → IsName name.text → Named ts → Keeps (λ x. IsLine kind x.0 × Named x.1) (line_after numbers kind name ts)
 unfolding line_after
-kept-line kind name ts is h =
+kept-line numbers kind name ts is h =
     next (a_flow ts) _ (kept-flow ts h) (λ flow kf.
-    next (spot_after kind flow.0 flow.1) _ (kept-spot_after kind flow.0 flow.1 kf) (λ spot ks.
+    next (spot_after numbers kind flow.0 flow.1) _ (kept-spot_after numbers kind flow.0 flow.1 kf) (λ spot ks.
     next (past_words spot.1) _ (kept-past spot.1 ks.2) (λ rest kr.
     ok (record { name = name.text; flow = flow.0; spot = spot.0 }, rest) (line-read kind (record { name = name.text; flow = flow.0; spot = spot.0 }) is ks.0 ks.1, kr))))
 
@@ -73,25 +74,25 @@ pub record IsLines (most : ℕ) (kind : Kind) (lines : List Line) : Type 0 where
   pub few : length lines ≤ most
 
 -- the lines of a list
-pub kept-lines_until : (n : ℕ) (kind : Kind) (ts : List Token) → Named ts → Keeps (λ x. IsLines n kind x.0 × Named x.1) (lines_until kind n [] ts)
-kept-lines_until n kind ts h =
-    weaker (lines_until kind n [] ts)
-    (kept-items (AllByRecursion (IsLine kind)) (codes "ENDIOLIST") (λ _. line_after kind)
-    (λ before w rest each is named. weaker (line_after kind w rest) (kept-line kind w rest is named) (λ x k. (every-push (IsLine kind) before x.0 each k.0, k.1))) n [] ts tt h)
+pub kept-lines_until : (numbers : Numbers) (n : ℕ) (kind : Kind) (ts : List Token) → Named ts → Keeps (λ x. IsLines n kind x.0 × Named x.1) (lines_until numbers kind n [] ts)
+kept-lines_until numbers n kind ts h =
+    weaker (lines_until numbers kind n [] ts)
+    (kept-items (AllByRecursion (IsLine kind)) (codes "ENDIOLIST") (λ _. line_after numbers kind)
+    (λ before w rest each is named. weaker (line_after numbers kind w rest) (kept-line numbers kind w rest is named) (λ x k. (every-push (IsLine kind) before x.0 each k.0, k.1))) n [] ts tt h)
     (λ x k. (record { each = k.0; few = omega (arith, k.1) }, k.2))
 
 -- the lines of a list, or none
-pub kept-lines_of : (n : ℕ) (kind : Kind) (ts : List Token) → Named ts → Keeps (λ x. IsLines n kind x.0 × Named x.1) (lines_of n kind ts)
+pub kept-lines_of : (numbers : Numbers) (n : ℕ) (kind : Kind) (ts : List Token) → Named ts → Keeps (λ x. IsLines n kind x.0 × Named x.1) (lines_of numbers n kind ts)
 unfolding lines_of
-kept-lines_of n kind ts h = either (keeps_lines kind) _ _ (λ _. kept-lines_until n kind ts h)
+kept-lines_of numbers n kind ts h = either (keeps_lines kind) _ _ (λ _. kept-lines_until numbers n kind ts h)
     (λ _. next (after_stop (codes "ENDIOLIST") true ts) _ (kept-stop (codes "ENDIOLIST") true ts h) (λ rest k. ok ([], rest) (record { each = tt; few = omega arith }, k)))
 
 -- the lines of an IOLIST
-pub kept-io_list : (n : ℕ) (kind : Kind) (ts : List Token) → Named ts → Keeps (λ x. IsLines n kind x.0 × Named x.1) (io_list n kind ts)
+pub kept-io_list : (numbers : Numbers) (n : ℕ) (kind : Kind) (ts : List Token) → Named ts → Keeps (λ x. IsLines n kind x.0 × Named x.1) (io_list numbers n kind ts)
 unfolding io_list
-kept-io_list n kind ts h =
+kept-io_list numbers n kind ts h =
     next (an_end ts) _ (kept-end ts h) (λ opened ko.
-    next (lines_of n kind opened) _ (kept-lines_of n kind opened ko) (λ found kf.
+    next (lines_of numbers n kind opened) _ (kept-lines_of numbers n kind opened ko) (λ found kf.
     next (an_end found.1) _ (kept-end found.1 kf.1) (λ rest kr.
     ok (found.0, rest) (kf.0, kr))))
 

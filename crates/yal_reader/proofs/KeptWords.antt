@@ -1,19 +1,21 @@
 use Rattle.yal_reader.specs.declared.fault.YalKind.TheVariants as faults
-use Rattle.std.proofs.Common.{◌≡◌, ℕ, zero, suc, ◌≤◌, pos, neg_ℤ, Bool, true, false, cond, List, [], ◌∷◌, length, refl, Option, None, Some, IfSome, Result, Ok, Err, IfOk, inl, inr, arith, nat_lt, nat_le, ◌==◌, ◌&&◌}
+use Rattle.std.proofs.Common.{◌≡◌, ℕ, zero, suc, ◌≤◌, pos, neg_ℤ, Bool, true, false, cond, List, [], ◌∷◌, ◌++◌, length, take, drop, refl, Option, None, Some, IfSome, Result, Ok, Err, IfOk, inl, inr, arith, nat_lt, nat_le, ◌==◌, ◌&&◌, if◌then◌else◌}
 use Rattle.std.proofs.lemmas.Bool.{and_from, and_parts, cases_Bool}
 use borrow.Author.Tests.{le-leb}
 use Rattle.std.proofs.lemmas.Bool.Decides.{nat_tests}
 use Rattle.std.proofs.lemmas.Int.{ints}
-use Rattle.std.specs.List.{AllByRecursion}
+use Rattle.std.specs.List.{AllByRecursion, list_all, prefix_len}
 use Rattle.yal_reader.proofs.Lexing.{word_byte-from}
 use Rattle.geom_core.specs.Names.{IsName, is_name_byte}
 use Rattle.yal_reader.specs.Kept.{IsCoordinate}
-use Rattle.yal_reader.specs.Numbers.{a_number, magnitude, number, numbers}
+use Rattle.yal_reader.specs.Numbers.{a_number, in_units, is_no_point, is_zero, magnitude, number, number_run, places, pointed, whole_number}
 use Rattle.read_base.specs.Steps.{◌>>=◌}
 use Rattle.yal_reader.specs.Text.{ascii, onto, uncommented}
 use Rattle.yal_reader.specs.Tokens.{Spelled, Token, goes_on, is_blank, is_word_byte, onto_word, semicolon, token_onto, tokens, word}
 use Rattle.yal_reader.specs.Words.{a_flow, a_kind, a_word, after_stop, an_end, flow_of, is_word, kind_of, or_bad, past_words, statement, the_word, words}
 use Rattle.yal_reader.specs.declared.fault.YalKind.{YalKind}
+use Rattle.yal_reader.specs.declared.notation.Numbers.{Numbers}
+use Rattle.yal_reader.specs.declared.notation.Numbers.TheVariants.{Whole, Decimal}
 use Rattle.yal_reader.specs.Flaws.{Flaw}
 use Rattle.read_base.proofs.DigitsLaws.{within-most}
 use Rattle.read_base.specs.Digits.{number_within}
@@ -185,8 +187,30 @@ unfolding a_flow
 kept-flow ts h = next (a_word ts) _ (kept-word ts h) (λ first k. next (or_bad faults.Word first.0 (flow_of first.0.text)) _ (some_or {P = λ _. Unit {0}} faults.Word first.0 (flow_of first.0.text) (some_anything (flow_of first.0.text))) (λ flow _. ok (flow, first.1) k.1))
 
 -- digits make at most 100,000,000
-magnitude-near : (digits : List ℕ) → IfSome (magnitude digits) (λ m. m ≤ 100000000)
-magnitude-near digits = some_unless (λ m. m ≤ 100000000) (length digits == 0) (number_within 100000000 digits) (within-most 100000000 digits)
+whole-near : (digits : List ℕ) → IfSome (whole_number digits) (λ m. m ≤ 100000000)
+whole-near digits = some_unless (λ m. m ≤ 100000000) (length digits == 0) (number_within 100000000 digits) (within-most 100000000 digits)
+
+-- with a fraction too
+units-near : (decimals : ℕ) (whole fraction : List ℕ) → IfSome (in_units decimals whole fraction) (λ m. m ≤ 100000000)
+unfolding in_units
+units-near decimals whole fraction =
+    some_unless (λ m. m ≤ 100000000) (length whole == 0) _ (some-when _ (list_all is_zero (drop decimals fraction)) (within-most 100000000 (whole ++ places decimals fraction)))
+  where
+    some-when : (x : Option ℕ) (b : Bool) → IfSome x (λ m. m ≤ 100000000) → IfSome (if b then x else None) (λ m. m ≤ 100000000)
+    some-when x true near = near
+    some-when x false near = tt
+
+pub pointed-near : (decimals : ℕ) (whole behind : List ℕ) → IfSome (pointed decimals whole behind) (λ m. m ≤ 100000000)
+unfolding pointed
+pointed-near decimals whole [] = units-near decimals whole []
+pointed-near decimals whole (point ∷ []) = tt
+pointed-near decimals whole (point ∷ c ∷ cs) = units-near decimals whole (c ∷ cs)
+
+-- in every way of writing
+pub magnitude-near : (numbers : Numbers) (text : List ℕ) → IfSome (magnitude numbers text) (λ m. m ≤ 100000000)
+unfolding magnitude
+magnitude-near Whole text = whole-near text
+magnitude-near (Decimal decimals) text = pointed-near decimals (take (prefix_len is_no_point text) text) (drop (prefix_len is_no_point text) text)
 
 -- a number from 0 on
 near-above : (n : ℕ) → n ≤ 100000000 → IsCoordinate (pos n)
@@ -198,27 +222,27 @@ near-below zero le = record { low = omega (arith, ints); high = omega (arith, in
 near-below (suc n) le = record { low = omega (arith, ints, le); high = omega (arith, ints, le) }
 
 -- a number has a magnitude of at most 100,000,000
-pub number-near : (text : List ℕ) → IfSome (number text) IsCoordinate
+pub number-near : (numbers : Numbers) (text : List ℕ) → IfSome (number numbers text) IsCoordinate
 unfolding number
-number-near [] = tt
-number-near (c ∷ cs) = elim (cases_Bool (c == 45)) [
-  | inl is ↦ rw is (some_mapped (λ m. m ≤ 100000000) IsCoordinate (λ n. neg_ℤ (pos n)) (magnitude cs) near-below (magnitude-near cs))
-  | inr is ↦ rw is (some_mapped (λ m. m ≤ 100000000) IsCoordinate (λ n. pos n) (magnitude (c ∷ cs)) near-above (magnitude-near (c ∷ cs)))
+number-near numbers [] = tt
+number-near numbers (c ∷ cs) = elim (cases_Bool (c == 45)) [
+  | inl is ↦ rw is (some_mapped (λ m. m ≤ 100000000) IsCoordinate (λ n. neg_ℤ (pos n)) (magnitude numbers cs) near-below (magnitude-near numbers cs))
+  | inr is ↦ rw is (some_mapped (λ m. m ≤ 100000000) IsCoordinate (λ n. pos n) (magnitude numbers (c ∷ cs)) near-above (magnitude-near numbers (c ∷ cs)))
 ]
 
 -- a number that was read is near
-pub kept-number : (ts : List Token) → Named ts → Keeps (λ x. IsCoordinate x.0 × Named x.1) (a_number ts)
+pub kept-number : (numbers : Numbers) (ts : List Token) → Named ts → Keeps (λ x. IsCoordinate x.0 × Named x.1) (a_number numbers ts)
 unfolding a_number
-kept-number ts h = next (a_word ts) _ (kept-word ts h) (λ first k.
-    next (or_bad faults.Number first.0 (number first.0.text)) _ (some_or {P = IsCoordinate} faults.Number first.0 (number first.0.text) (number-near first.0.text)) (λ n near.
+kept-number numbers ts h = next (a_word ts) _ (kept-word ts h) (λ first k.
+    next (or_bad faults.Number first.0 (number numbers first.0.text)) _ (some_or {P = IsCoordinate} faults.Number first.0 (number numbers first.0.text) (number-near numbers first.0.text)) (λ n near.
     ok (n, first.1) (near, k.1)))
 
 -- a run of numbers is near
-pub kept-numbers : (ts : List Token) → Named ts → Keeps (λ x. AllByRecursion IsCoordinate x.0 × Named x.1) (numbers ts)
-unfolding numbers
-kept-numbers [] h = err _
-kept-numbers (semicolon left ∷ ts) h = ok ([], ts) (tt, record { each = h.each.1 })
-kept-numbers (word w ∷ ts) h =
-    next (or_bad faults.Number w (number w.text)) _ (some_or {P = IsCoordinate} faults.Number w (number w.text) (number-near w.text)) (λ n near.
-    next (numbers ts) _ (kept-numbers ts (record { each = h.each.1 })) (λ others k.
+pub kept-numbers : (numbers : Numbers) (ts : List Token) → Named ts → Keeps (λ x. AllByRecursion IsCoordinate x.0 × Named x.1) (number_run numbers ts)
+unfolding number_run
+kept-numbers numbers [] h = err _
+kept-numbers numbers (semicolon left ∷ ts) h = ok ([], ts) (tt, record { each = h.each.1 })
+kept-numbers numbers (word w ∷ ts) h =
+    next (or_bad faults.Number w (number numbers w.text)) _ (some_or {P = IsCoordinate} faults.Number w (number numbers w.text) (number-near numbers w.text)) (λ n near.
+    next (number_run numbers ts) _ (kept-numbers numbers ts (record { each = h.each.1 })) (λ others k.
     ok (n ∷ others.0, others.1) ((near, k.0), k.1)))

@@ -3,6 +3,7 @@ pub mod Lexing
 pub mod PlainLaws
 pub mod RunLaws
 pub mod FuelLaws
+pub mod PlacesLaws
 pub mod KeptWords
 pub mod KeptLists
 pub mod KeptFile

@@ -1,9 +1,10 @@
 use Rattle.std.proofs.Common.{◌≡◌, ℕ, ℤ, true, false, List, [], ◌∷◌, ◌++◌, refl, sym, ap, ◌∙◌, append_assoc, append-nil, None, Some, Result, Ok, Err, if◌then◌else◌}
-use Rattle.yal_reader.specs.Numbers.{number, numbers}
+use Rattle.yal_reader.specs.Numbers.{number, number_run}
 use Rattle.read_base.specs.Steps.{◌>>=◌}
 use Rattle.yal_reader.specs.Tokens.{Spelled, Token, word, semicolon}
 use Rattle.yal_reader.specs.Words.{a_word, after_stop, an_end, bad, is_word, past_words, statement, words}
 use Rattle.yal_reader.specs.declared.fault.YalKind.TheVariants as faults
+use Rattle.yal_reader.specs.declared.notation.Numbers.{Numbers}
 use Rattle.yal_reader.specs.Flaws.{Flaw}
 
 -- a run with these items in front
@@ -45,25 +46,25 @@ words-on (semicolon left ∷ ts) rest w h = cc
 words-on (word v ∷ ts) rest w h = let p = ok_pair v w ts rest h in rw (p.0, p.1) refl
 
 -- the same of numbers
-pub numbers-end : (ts : List Token) (e : Flaw) → a_word ts ≡ Err e → numbers ts ≡ (an_end ts >>= λ rest. Ok ([], rest))
-unfolding numbers
-numbers-end [] e h = refl
-numbers-end (semicolon left ∷ ts) e h = refl
-numbers-end (word w ∷ ts) e h = cc
+pub numbers-end : (numbers : Numbers) (ts : List Token) (e : Flaw) → a_word ts ≡ Err e → number_run numbers ts ≡ (an_end ts >>= λ rest. Ok ([], rest))
+unfolding number_run
+numbers-end numbers [] e h = refl
+numbers-end numbers (semicolon left ∷ ts) e h = refl
+numbers-end numbers (word w ∷ ts) e h = cc
 
 -- one more number
-pub numbers-on : (ts rest : List Token) (w : Spelled) (n : ℤ) → a_word ts ≡ Ok (w, rest) → number w.text ≡ Some n → numbers ts ≡ more n (numbers rest)
-unfolding numbers
-numbers-on [] rest w n h is = cc
-numbers-on (semicolon left ∷ ts) rest w n h is = cc
-numbers-on (word v ∷ ts) rest w n h is = let p = ok_pair v w ts rest h in rw (p.0, p.1, is) refl
+pub numbers-on : (numbers : Numbers) (ts rest : List Token) (w : Spelled) (n : ℤ) → a_word ts ≡ Ok (w, rest) → number numbers w.text ≡ Some n → number_run numbers ts ≡ more n (number_run numbers rest)
+unfolding number_run
+numbers-on numbers [] rest w n h is = cc
+numbers-on numbers (semicolon left ∷ ts) rest w n h is = cc
+numbers-on numbers (word v ∷ ts) rest w n h is = let p = ok_pair v w ts rest h in rw (p.0, p.1, is) refl
 
 -- a word that is no number
-pub numbers-fails : (ts rest : List Token) (w : Spelled) → a_word ts ≡ Ok (w, rest) → number w.text ≡ None → numbers ts ≡ bad faults.Number w
-unfolding numbers
-numbers-fails [] rest w h is = cc
-numbers-fails (semicolon left ∷ ts) rest w h is = cc
-numbers-fails (word v ∷ ts) rest w h is = let p = ok_pair v w ts rest h in rw (p.0, is) refl
+pub numbers-fails : (numbers : Numbers) (ts rest : List Token) (w : Spelled) → a_word ts ≡ Ok (w, rest) → number numbers w.text ≡ None → number_run numbers ts ≡ bad faults.Number w
+unfolding number_run
+numbers-fails numbers [] rest w h is = cc
+numbers-fails numbers (semicolon left ∷ ts) rest w h is = cc
+numbers-fails numbers (word v ∷ ts) rest w h is = let p = ok_pair v w ts rest h in rw (p.0, is) refl
 
 -- the end of a run, behind what was found before
 pub front-ends : {A : Type 0} (front : List A) (run total : Result (List A × List Token) Flaw) (end : Result (List Token) Flaw) (rest : List Token)

@@ -9,6 +9,7 @@ use Rattle.yal_reader.specs.Tokens.{Spelled, Token}
 use Rattle.yal_reader.specs.Words.{a_word, an_end, a_flow, after_stop, bad, is_word, past_words, statement, fails, words}
 use Rattle.yal_reader.specs.declared.fault.YalKind.TheVariants as faults
 use Rattle.yal_reader.specs.declared.file.Kind.{Kind}
+use Rattle.yal_reader.specs.declared.notation.Numbers.{Numbers}
 use Rattle.yal_reader.specs.declared.file.Flow.{Flow}
 use Rattle.yal_reader.specs.declared.file.Spot.{Spot}
 use Rattle.yal_reader.specs.declared.file.Line.{Line}
@@ -29,43 +30,43 @@ abbrev pub without_items : {A : Type 0} → Result (List Token) Flaw → Result 
 without_items passed = passed >>= λ rest. Ok ([], rest)
 
 -- x and y, a width that is any word, and the layer's word
-unfoldable pub a_spot : List Token → Result (Spot × List Token) Flaw
-a_spot ts = do
-  x ← a_number ts
-  y ← a_number x.1
+unfoldable pub a_spot : Numbers → List Token → Result (Spot × List Token) Flaw
+a_spot numbers ts = do
+  x ← a_number numbers ts
+  y ← a_number numbers x.1
   width ← a_word y.1
   layer ← a_word width.1
   Ok (record { x = x.0; y = y.0; layer = layer.0.text }, layer.1)
 
 -- a spot stands in the lines of STANDARD modules whose flow is no power
-unfoldable pub spot_after : Kind → Flow → List Token → Result (Option Spot × List Token) Flaw
-spot_after kind flow ts = if has_spot kind flow then (a_spot ts >>= λ x. Ok (Some x.0, x.1)) else Ok (None, ts)
+unfoldable pub spot_after : Numbers → Kind → Flow → List Token → Result (Option Spot × List Token) Flaw
+spot_after numbers kind flow ts = if has_spot kind flow then (a_spot numbers ts >>= λ x. Ok (Some x.0, x.1)) else Ok (None, ts)
 
 -- a terminal's line behind its name; further words are passed over
-unfoldable pub line_after : Kind → Spelled → List Token → Result (Line × List Token) Flaw
-line_after kind name ts = do
+unfoldable pub line_after : Numbers → Kind → Spelled → List Token → Result (Line × List Token) Flaw
+line_after numbers kind name ts = do
   flow ← a_flow ts
-  spot ← spot_after kind flow.0 flow.1
+  spot ← spot_after numbers kind flow.0 flow.1
   rest ← past_words spot.1
   Ok (record { name = name.text; flow = flow.0; spot = spot.0 }, rest)
 
 -- the lines up to ENDIOLIST
-abbrev pub lines_until : Kind → ℕ → List Line → List Token → Result (List Line × List Token) Flaw
-lines_until kind = items_until (codes "ENDIOLIST") (λ _. line_after kind)
+abbrev pub lines_until : Numbers → Kind → ℕ → List Line → List Token → Result (List Line × List Token) Flaw
+lines_until numbers kind = items_until (codes "ENDIOLIST") (λ _. line_after numbers kind)
 
 -- lines are kept in STANDARD and PARENT modules
 abbrev pub keeps_lines : Kind → Bool
 keeps_lines kind = is_standard kind || is_parent kind
 
 -- the lines up to ENDIOLIST where they are kept
-unfoldable pub lines_of : ℕ → Kind → List Token → Result (List Line × List Token) Flaw
-lines_of n kind ts = if keeps_lines kind then lines_until kind n [] ts else without_items (after_stop (codes "ENDIOLIST") true ts)
+unfoldable pub lines_of : Numbers → ℕ → Kind → List Token → Result (List Line × List Token) Flaw
+lines_of numbers n kind ts = if keeps_lines kind then lines_until numbers kind n [] ts else without_items (after_stop (codes "ENDIOLIST") true ts)
 
 -- IOLIST behind its keyword
-unfoldable pub io_list : ℕ → Kind → List Token → Result (List Line × List Token) Flaw
-io_list n kind ts = do
+unfoldable pub io_list : Numbers → ℕ → Kind → List Token → Result (List Line × List Token) Flaw
+io_list numbers n kind ts = do
   opened ← an_end ts
-  found ← lines_of n kind opened
+  found ← lines_of numbers n kind opened
   rest ← an_end found.1
   Ok (found.0, rest)
 

@@ -2,12 +2,13 @@
 use Rattle.std.specs.Prelude.{ℕ, zero, suc, ℤ, Bool, List, [], Option, None, Some, Result, Ok, is_some, codes, true, if◌then◌else◌}
 use Rattle.yal_reader.specs.Kept.{is_standard}
 use Rattle.yal_reader.specs.Lists.{io_list, network, without_items}
-use Rattle.yal_reader.specs.Numbers.{numbers}
+use Rattle.yal_reader.specs.Numbers.{number_run}
 use Rattle.read_base.specs.Steps.{◌>>=◌}
 use Rattle.yal_reader.specs.Tokens.{Spelled, Token}
 use Rattle.yal_reader.specs.Words.{a_word, an_end, after_stop, bad, is_word, past_words, spells, statement, fails}
 use Rattle.yal_reader.specs.declared.fault.YalKind.TheVariants as faults
 use Rattle.yal_reader.specs.declared.file.Kind.{Kind}
+use Rattle.yal_reader.specs.declared.notation.Numbers.{Numbers}
 use Rattle.yal_reader.specs.declared.parts.Parts.{Parts}
 use Rattle.yal_reader.specs.Flaws.{Flaw}
 
@@ -16,16 +17,16 @@ abbrev pub once : {A B : Type 0} → Option A → Spelled → Result B Flaw → 
 once there w read = if is_some there then bad faults.Twice w else read
 
 -- DIMENSIONS behind its keyword: numbers in a STANDARD module, in the others any words
-unfoldable pub dimensions : Kind → List Token → Result (List ℤ × List Token) Flaw
-dimensions kind ts = if is_standard kind then numbers ts else without_items (past_words ts)
+unfoldable pub dimensions : Numbers → Kind → List Token → Result (List ℤ × List Token) Flaw
+dimensions numbers kind ts = if is_standard kind then number_run numbers ts else without_items (past_words ts)
 
 -- the parts with the corners of this section
-unfoldable pub corners_after : Kind → Parts → Spelled → List Token → Result (Parts × List Token) Flaw
-corners_after kind parts w ts = once parts.corners w (dimensions kind ts >>= λ x. Ok (record parts { corners = Some x.0 }, x.1))
+unfoldable pub corners_after : Numbers → Kind → Parts → Spelled → List Token → Result (Parts × List Token) Flaw
+corners_after numbers kind parts w ts = once parts.corners w (dimensions numbers kind ts >>= λ x. Ok (record parts { corners = Some x.0 }, x.1))
 
 -- the parts with the lines of this section
-unfoldable pub lines_after : ℕ → Kind → Parts → Spelled → List Token → Result (Parts × List Token) Flaw
-lines_after n kind parts w ts = once parts.lines w (io_list n kind ts >>= λ x. Ok (record parts { lines = Some x.0 }, x.1))
+unfoldable pub lines_after : Numbers → ℕ → Kind → Parts → Spelled → List Token → Result (Parts × List Token) Flaw
+lines_after numbers n kind parts w ts = once parts.lines w (io_list numbers n kind ts >>= λ x. Ok (record parts { lines = Some x.0 }, x.1))
 
 -- the parts with the calls of this section
 unfoldable pub calls_after : ℕ → Kind → Parts → Spelled → List Token → Result (Parts × List Token) Flaw
@@ -51,21 +52,21 @@ passed_after w ts =
     bad faults.Word w
 
 -- the section that this word begins
-unfoldable pub section_after : ℕ → Kind → Parts → Spelled → List Token → Result (Parts × List Token) Flaw
-section_after n kind parts w ts =
-    if is_word (codes "DIMENSIONS") w then corners_after kind parts w ts else
-    if is_word (codes "IOLIST") w then lines_after n kind parts w ts else
+unfoldable pub section_after : Numbers → ℕ → Kind → Parts → Spelled → List Token → Result (Parts × List Token) Flaw
+section_after numbers n kind parts w ts =
+    if is_word (codes "DIMENSIONS") w then corners_after numbers kind parts w ts else
+    if is_word (codes "IOLIST") w then lines_after numbers n kind parts w ts else
     if is_word (codes "NETWORK") w then calls_after n kind parts w ts else
     passed_after w ts >>= λ rest. Ok (parts, rest)
 
 -- the sections in any order, at most n of them, up to ENDMODULE and its semicolon
-unfoldable pub sections : ℕ → Kind → Parts → List Token → Result (Parts × List Token) Flaw
-sections zero kind parts ts = fails []
-sections (suc n) kind parts ts = do
+unfoldable pub sections : Numbers → ℕ → Kind → Parts → List Token → Result (Parts × List Token) Flaw
+sections numbers zero kind parts ts = fails []
+sections numbers (suc n) kind parts ts = do
   first ← a_word (statement ts)
   if is_word (codes "ENDMODULE") first.0 then (an_end first.1 >>= λ rest. Ok (parts, rest)) else do
-    more ← section_after n kind parts first.0 first.1
-    sections n kind more.0 more.1
+    more ← section_after numbers n kind parts first.0 first.1
+    sections numbers n kind more.0 more.1
 
 -- a module before its first section
 abbrev pub no_parts : Parts

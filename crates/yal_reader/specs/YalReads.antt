@@ -1,5 +1,5 @@
 -- what a YAL text is read as, from its bytes to its file
-use Rattle.std.specs.Prelude.{ℕ, zero, suc, List, [], ◌∷◌, ◌++◌, length, Option, None, Some, Result, Ok, Err, codes, if◌then◌else◌}
+use Rattle.std.specs.Prelude.{ℕ, zero, suc, List, [], ◌∷◌, ◌++◌, length, Option, None, Some, Result, Ok, codes, if◌then◌else◌}
 use Rattle.yal_reader.specs.Kept.{module_names}
 use Rattle.yal_reader.specs.Lists.{unless_taken}
 use Rattle.read_base.specs.Placed.{placed}
@@ -14,6 +14,7 @@ use Rattle.yal_reader.specs.declared.fault.YalKind.{YalKind}
 use Rattle.yal_reader.specs.declared.file.Kind.{Kind}
 use Rattle.yal_reader.specs.declared.file.Module.{Module}
 use Rattle.yal_reader.specs.declared.file.YalFile.{YalFile}
+use Rattle.yal_reader.specs.declared.notation.Numbers.{Numbers}
 use Rattle.yal_reader.specs.declared.parts.Parts.{Parts}
 use Rattle.yal_reader.specs.Flaws.{Flaw}
 
@@ -34,31 +35,31 @@ module_of name kind parts =
     record { name = name; kind = kind; corners = items_of parts.corners; lines = items_of parts.lines; calls = items_of parts.calls }
 
 -- a module, and what follows it
-unfoldable pub a_module : ℕ → List (List ℕ) → List Token → Result (Module × List Token) Flaw
-a_module n names ts = do
+unfoldable pub a_module : Numbers → ℕ → List (List ℕ) → List Token → Result (Module × List Token) Flaw
+a_module numbers n names ts = do
   head ← heading names ts
-  parts ← sections n head.0.1 no_parts head.1
+  parts ← sections numbers n head.0.1 no_parts head.1
   Ok (module_of head.0.0.text head.0.1 parts.0, parts.1)
 
 -- the modules to the end of the text, at most n of them, behind those found before
-unfoldable pub modules : ℕ → List Module → List Token → Result (List Module) Flaw
-modules zero before ts = fails []
-modules (suc n) before ts =
+unfoldable pub modules : Numbers → ℕ → List Module → List Token → Result (List Module) Flaw
+modules numbers zero before ts = fails []
+modules numbers (suc n) before ts =
     if is_empty (statement ts) then Ok before else do
-      one ← a_module (suc n) (module_names before) (statement ts)
-      modules n (before ++ one.0 ∷ []) one.1
+      one ← a_module numbers (suc n) (module_names before) (statement ts)
+      modules numbers n (before ++ one.0 ∷ []) one.1
 
 -- the ASCII test, then the comments, then the grammar
-unfoldable pub file_of : List ℕ → Result YalFile Flaw
-file_of bytes = do
+unfoldable pub file_of : List ℕ → Numbers → Result YalFile Flaw
+file_of bytes numbers = do
   checked ← ascii bytes
   text ← uncommented None bytes
-  found ← modules (suc (length text)) [] (tokens text)
+  found ← modules numbers (suc (length text)) [] (tokens text)
   Ok (record { modules = found })
 
--- the file that a text is, or the kind and the place of its first fault
-unfoldable pub yal_reads : List ℕ → Result YalFile (YalKind × ℕ)
-yal_reads bytes = placed (length bytes) (file_of bytes)
+-- the file that a text is, whose numbers are written so, or the kind and the place of its first fault
+unfoldable pub yal_reads : List ℕ → Numbers → Result YalFile (YalKind × ℕ)
+yal_reads bytes numbers = placed (length bytes) (file_of bytes numbers)
 
 -- what a fault tells, and nothing for want of memory
 abbrev pub told_of : YalFault → Option (YalKind × ℕ)

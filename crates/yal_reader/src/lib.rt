@@ -5,11 +5,12 @@
 //! the number of bytes that are left from it on.
 #![tactic(auto)]
 
+mod coordinates;
 mod fault;
 mod file;
 mod lists;
 mod modules;
-mod numbers;
+mod notation;
 mod parts;
 mod plain;
 mod sections;
@@ -20,3 +21,4 @@ mod words;
 pub use fault::{YalFault, YalKind};
 pub use file::{Call, Flow, Kind, Line, Module, Spot, YalFile};
 pub use modules::read_yal;
+pub use notation::{Numbers, numbers_of};

@@ -8,9 +8,10 @@ ghost use Rattle.read_base.specs.Answers.{Answers};
 ghost use Rattle.yal_reader.specs.Seen.{seen};
 ghost use Rattle.yal_reader.specs.Tokens.{tokens};
 
+use crate::coordinates::number_at;
 use crate::fault::{Stop, YalKind};
 use crate::file::{Call, Flow, Kind, Line, Spot};
-use crate::numbers::number_at;
+use crate::notation::Numbers;
 use crate::tokens::{bad, end_at, statement_at, word_at};
 use crate::word::Word;
 use crate::words::{after_stop_at, flow_at, is_word, name_of, past_words_at, words_at};
@@ -56,12 +57,12 @@ fn is_parent(kind: Kind) -> bool
 
 /// The spot that comes next: x and y, a width that is any word, and the layer's word.
 #[tactic(auto, unfolding(crate::specs::Lists::a_spot))]
-fn spot_at(alloc: Global, bytes: &[u8]) -> Result<(Spot, &[u8]), Stop>
-    ensures gives { Answers (λ x. (x.0, tokens x.1.now)) result (a_spot (tokens bytes.now)) }
+fn spot_at(alloc: Global, numbers: Numbers, bytes: &[u8]) -> Result<(Spot, &[u8]), Stop>
+    ensures gives { Answers (λ x. (x.0, tokens x.1.now)) result (a_spot numbers (tokens bytes.now)) }
     ensures shorter { IfOk result (λ x. length x.1.now < length bytes.now) }
 {
-    let (x, rest) = number_at(bytes)?;
-    let (y, rest) = number_at(rest)?;
+    let (x, rest) = number_at(numbers, bytes)?;
+    let (y, rest) = number_at(numbers, rest)?;
     let (_, rest) = word_at(rest)?;
     let (layer, rest) = word_at(rest)?;
     let layer = name_of(alloc, layer)?;
@@ -72,17 +73,18 @@ fn spot_at(alloc: Global, bytes: &[u8]) -> Result<(Spot, &[u8]), Stop>
 #[tactic(auto, unfolding(crate::specs::Lists::spot_after))]
 fn spot_where_due(
     alloc: Global,
+    numbers: Numbers,
     kind: Kind,
     flow: Flow,
     bytes: &[u8],
 ) -> Result<(Option<Spot>, &[u8]), Stop>
-    ensures gives { Answers (λ x. (x.0, tokens x.1.now)) result (spot_after kind flow (tokens bytes.now)) }
+    ensures gives { Answers (λ x. (x.0, tokens x.1.now)) result (spot_after numbers kind flow (tokens bytes.now)) }
     ensures shorter { IfOk result (λ x. length x.1.now ≤ length bytes.now) }
 {
     if !has_spot(kind, flow) {
         return Ok((None, bytes));
     }
-    let (spot, rest) = spot_at(alloc, bytes)?;
+    let (spot, rest) = spot_at(alloc, numbers, bytes)?;
     Ok((Some(spot), rest))
 }
 
@@ -90,23 +92,29 @@ fn spot_where_due(
 #[tactic(auto, unfolding(crate::specs::Lists::line_after))]
 fn line_at<'a>(
     alloc: Global,
+    numbers: Numbers,
     kind: Kind,
     name: Word<'a>,
     bytes: &'a [u8],
 ) -> Result<(Line, &'a [u8]), Stop>
-    ensures gives { Answers (λ x. (x.0, tokens x.1.now)) result (line_after kind (seen name.entry) (tokens bytes.entry.now)) }
+    ensures gives { Answers (λ x. (x.0, tokens x.1.now)) result (line_after numbers kind (seen name.entry) (tokens bytes.entry.now)) }
     ensures shorter { IfOk result (λ x. length x.1.now < length bytes.entry.now) }
 {
     let (flow, rest) = flow_at(bytes)?;
-    let (spot, rest) = spot_where_due(alloc, kind, flow, rest)?;
+    let (spot, rest) = spot_where_due(alloc, numbers, kind, flow, rest)?;
     let rest = past_words_at(rest)?;
     let name = name_of(alloc, name)?;
     Ok((Line { name, flow, spot }, rest))
 }
 
 /// The lines up to ENDIOLIST, and the text behind that word.
-fn lines_at(alloc: Global, kind: Kind, bytes: &[u8]) -> Result<(Vec<Line>, &[u8]), Stop>
-    ensures gives { (n : ℕ) → length bytes.now < n → Answers (λ x. (x.0.items, tokens x.1.now)) result (lines_until kind n [] (tokens bytes.now)) }
+fn lines_at(
+    alloc: Global,
+    numbers: Numbers,
+    kind: Kind,
+    bytes: &[u8],
+) -> Result<(Vec<Line>, &[u8]), Stop>
+    ensures gives { (n : ℕ) → length bytes.now < n → Answers (λ x. (x.0.items, tokens x.1.now)) result (lines_until numbers kind n [] (tokens bytes.now)) }
     ensures shorter { IfOk result (λ x. length x.1.now < length bytes.now) }
 {
     let mut found = Vec::new(alloc);
@@ -116,7 +124,7 @@ fn lines_at(alloc: Global, kind: Kind, bytes: &[u8]) -> Result<(Vec<Line>, &[u8]
         if is_word(first.text, b"ENDIOLIST") {
             return Ok((found, after));
         }
-        let (line, after) = line_at(alloc, kind, first, after)?;
+        let (line, after) = line_at(alloc, numbers, kind, first, after)?;
         found.push(line)?;
         rest = after;
     }
@@ -124,12 +132,17 @@ fn lines_at(alloc: Global, kind: Kind, bytes: &[u8]) -> Result<(Vec<Line>, &[u8]
 
 /// The lines of an IOLIST that are kept, and the text behind ENDIOLIST.
 #[tactic(auto, unfolding(crate::specs::Lists::lines_of))]
-fn lines_or_none(alloc: Global, kind: Kind, bytes: &[u8]) -> Result<(Vec<Line>, &[u8]), Stop>
-    ensures gives { (n : ℕ) → length bytes.now < n → Answers (λ x. (x.0.items, tokens x.1.now)) result (lines_of n kind (tokens bytes.now)) }
+fn lines_or_none(
+    alloc: Global,
+    numbers: Numbers,
+    kind: Kind,
+    bytes: &[u8],
+) -> Result<(Vec<Line>, &[u8]), Stop>
+    ensures gives { (n : ℕ) → length bytes.now < n → Answers (λ x. (x.0.items, tokens x.1.now)) result (lines_of numbers n kind (tokens bytes.now)) }
     ensures shorter { IfOk result (λ x. length x.1.now < length bytes.now) }
 {
     if keeps_lines(kind) {
-        return lines_at(alloc, kind, bytes);
+        return lines_at(alloc, numbers, kind, bytes);
     }
     let rest = after_stop_at(b"ENDIOLIST", bytes)?;
     Ok((Vec::new(alloc), rest))
@@ -139,14 +152,15 @@ fn lines_or_none(alloc: Global, kind: Kind, bytes: &[u8]) -> Result<(Vec<Line>, 
 #[tactic(auto, unfolding(crate::specs::Lists::io_list))]
 pub(crate) fn io_list_at(
     alloc: Global,
+    numbers: Numbers,
     kind: Kind,
     bytes: &[u8],
 ) -> Result<(Vec<Line>, &[u8]), Stop>
-    ensures gives { (n : ℕ) → length bytes.now < n → Answers (λ x. (x.0.items, tokens x.1.now)) result (io_list n kind (tokens bytes.now)) }
+    ensures gives { (n : ℕ) → length bytes.now < n → Answers (λ x. (x.0.items, tokens x.1.now)) result (io_list numbers n kind (tokens bytes.now)) }
     ensures shorter { IfOk result (λ x. length x.1.now < length bytes.now) }
 {
     let rest = end_at(bytes)?;
-    let (lines, rest) = lines_or_none(alloc, kind, rest)?;
+    let (lines, rest) = lines_or_none(alloc, numbers, kind, rest)?;
     let rest = end_at(rest)?;
     Ok((lines, rest))
 }

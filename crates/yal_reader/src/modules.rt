@@ -11,6 +11,7 @@ ghost use Rattle.yal_reader.specs.YalReads.{a_module, file_of, heading, module_o
 
 use crate::fault::{Stop, YalFault, YalKind};
 use crate::file::{Kind, Module, YalFile};
+use crate::notation::Numbers;
 use crate::parts::Parts;
 use crate::plain::{check_ascii, without_comments};
 use crate::sections::sections_at;
@@ -76,22 +77,23 @@ fn module_with(alloc: Global, name: Name, kind: Kind, parts: Parts) -> Module
 #[tactic(auto, unfolding(crate::specs::YalReads::a_module))]
 fn module_at<'a>(
     alloc: Global,
+    numbers: Numbers,
     names: &mut IndexSet<&'a [u8]>,
     bytes: &'a [u8],
 ) -> Result<(Module, &'a [u8]), Stop>
-    ensures gives { (n : ℕ) → length bytes.entry.now < n → Answers (λ x. (x.0, tokens x.1.now)) result (a_module n (texts names.old.keys) (tokens bytes.entry.now)) }
+    ensures gives { (n : ℕ) → length bytes.entry.now < n → Answers (λ x. (x.0, tokens x.1.now)) result (a_module numbers n (texts names.old.keys) (tokens bytes.entry.now)) }
     ensures grown { IfOk result (λ x. texts names.new.keys ≡ texts names.old.keys ++ x.0.name ∷ []) }
     ensures shorter { IfOk result (λ x. length x.1.now < length bytes.entry.now) }
 {
     let ((name, kind), rest) = heading_at(names, bytes)?;
-    let (parts, rest) = sections_at(alloc, kind, rest)?;
+    let (parts, rest) = sections_at(alloc, numbers, kind, rest)?;
     let name = name_of(alloc, name)?;
     Ok((module_with(alloc, name, kind, parts), rest))
 }
 
 /// The modules to the end of the text.
-fn modules_at(alloc: Global, bytes: &[u8]) -> Result<Vec<Module>, Stop>
-    ensures { (n : ℕ) → length bytes.now < n → Answers (λ found. found.items) result (modules n [] (tokens bytes.now)) }
+fn modules_at(alloc: Global, numbers: Numbers, bytes: &[u8]) -> Result<Vec<Module>, Stop>
+    ensures { (n : ℕ) → length bytes.now < n → Answers (λ found. found.items) result (modules numbers n [] (tokens bytes.now)) }
 {
     let mut found = Vec::new(alloc);
     let mut names = IndexSet::new(alloc);
@@ -101,7 +103,7 @@ fn modules_at(alloc: Global, bytes: &[u8]) -> Result<Vec<Module>, Stop>
         if is_at_end(start) {
             return Ok(found);
         }
-        let (module, after) = module_at(alloc, &mut names, start)?;
+        let (module, after) = module_at(alloc, numbers, &mut names, start)?;
         found.push(module)?;
         rest = after;
     }
@@ -109,27 +111,27 @@ fn modules_at(alloc: Global, bytes: &[u8]) -> Result<Vec<Module>, Stop>
 
 /// The file that a text is, or where it stops being one.
 #[tactic(auto, unfolding(crate::specs::YalReads::file_of))]
-fn file_at(alloc: Global, bytes: &[u8]) -> Result<YalFile, Stop>
-    ensures { Answers (λ file. file) result (file_of bytes.now) }
+fn file_at(alloc: Global, bytes: &[u8], numbers: Numbers) -> Result<YalFile, Stop>
+    ensures { Answers (λ file. file) result (file_of bytes.now numbers) }
 {
     check_ascii(bytes)?;
     let text = without_comments(alloc, bytes)?;
-    let modules = modules_at(alloc, text.as_slice())?;
+    let modules = modules_at(alloc, numbers, text.as_slice())?;
     Ok(YalFile {
         modules: Items::new(modules),
     })
 }
 
-/// Reads a YAL text: a file exactly where the bytes are one, else the kind and the place of the first fault, or want of memory.
+/// Reads a YAL text whose numbers are written so: a file exactly where the bytes are one, else the kind and the place of the first fault, or want of memory.
 /// A file has no more modules than the text has bytes, and no module more lines or calls. Source: MCNC YAL.
 #[tactic(auto, unfolding(crate::specs::YalReads::yal_reads))]
-pub fn read_yal(alloc: Global, bytes: &[u8]) -> Result<YalFile, YalFault>
-    ensures reads { AnswersAs (λ file. file) told_of result (yal_reads bytes.now) }
+pub fn read_yal(alloc: Global, bytes: &[u8], numbers: Numbers) -> Result<YalFile, YalFault>
+    ensures reads { AnswersAs (λ file. file) told_of result (yal_reads bytes.now numbers) }
     ensures kept { IfOk result (λ file. IsKept file) }
     ensures spots { IfOk result (λ file. HasSpots file) }
     ensures short { IfOk result (λ file. HasAtMost (length bytes.now) file) }
 {
-    match file_at(alloc, bytes) {
+    match file_at(alloc, bytes, numbers) {
         Ok(file) => Ok(file),
         Err(Stop::At(flaw)) => Err(YalFault::Bad {
             kind: flaw.kind,

@@ -10,6 +10,7 @@ ghost use Rattle.yal_reader.specs.Tokens.{tokens};
 use crate::fault::{Flaw, Stop, YalKind};
 use crate::file::Kind;
 use crate::lists::{io_list_at, network_at};
+use crate::notation::Numbers;
 use crate::parts::Parts;
 use crate::tokens::{bad, end_at, statement_at, word_at};
 use crate::word::Word;
@@ -29,12 +30,17 @@ fn is_standard(kind: Kind) -> bool
 
 /// DIMENSIONS behind its keyword: its numbers in a STANDARD module, and the text behind it.
 #[tactic(auto, unfolding(crate::specs::Sections::dimensions))]
-fn dimensions_at(alloc: Global, kind: Kind, bytes: &[u8]) -> Result<(Vec<i64>, &[u8]), Stop>
-    ensures gives { Answers (λ x. (x.0.items, tokens x.1.now)) result (dimensions kind (tokens bytes.now)) }
+fn dimensions_at(
+    alloc: Global,
+    numbers: Numbers,
+    kind: Kind,
+    bytes: &[u8],
+) -> Result<(Vec<i64>, &[u8]), Stop>
+    ensures gives { Answers (λ x. (x.0.items, tokens x.1.now)) result (dimensions numbers kind (tokens bytes.now)) }
     ensures shorter { IfOk result (λ x. length x.1.now < length bytes.now) }
 {
     if is_standard(kind) {
-        return numbers_at(alloc, bytes);
+        return numbers_at(alloc, numbers, bytes);
     }
     let rest = past_words_at(bytes)?;
     Ok((Vec::new(alloc), rest))
@@ -44,18 +50,19 @@ fn dimensions_at(alloc: Global, kind: Kind, bytes: &[u8]) -> Result<(Vec<i64>, &
 #[tactic(auto, unfolding(crate::specs::Sections::corners_after))]
 fn with_corners<'a>(
     alloc: Global,
+    numbers: Numbers,
     kind: Kind,
     parts: Parts,
     word: Word<'a>,
     bytes: &'a [u8],
 ) -> Result<(Parts, &'a [u8]), Stop>
-    ensures gives { Answers (λ x. (x.0, tokens x.1.now)) result (corners_after kind parts (seen word.entry) (tokens bytes.entry.now)) }
+    ensures gives { Answers (λ x. (x.0, tokens x.1.now)) result (corners_after numbers kind parts (seen word.entry) (tokens bytes.entry.now)) }
     ensures shorter { IfOk result (λ x. length x.1.now < length bytes.entry.now) }
 {
     if parts.corners.is_some() {
         return Err(Stop::At(bad(YalKind::Twice, word)));
     }
-    let (corners, rest) = dimensions_at(alloc, kind, bytes)?;
+    let (corners, rest) = dimensions_at(alloc, numbers, kind, bytes)?;
     let corners = Some(Items::new(corners));
     let Parts {
         corners: _,
@@ -76,18 +83,19 @@ fn with_corners<'a>(
 #[tactic(auto, unfolding(crate::specs::Sections::lines_after))]
 fn with_lines<'a>(
     alloc: Global,
+    numbers: Numbers,
     kind: Kind,
     parts: Parts,
     word: Word<'a>,
     bytes: &'a [u8],
 ) -> Result<(Parts, &'a [u8]), Stop>
-    ensures gives { (n : ℕ) → length bytes.entry.now < n → Answers (λ x. (x.0, tokens x.1.now)) result (lines_after n kind parts (seen word.entry) (tokens bytes.entry.now)) }
+    ensures gives { (n : ℕ) → length bytes.entry.now < n → Answers (λ x. (x.0, tokens x.1.now)) result (lines_after numbers n kind parts (seen word.entry) (tokens bytes.entry.now)) }
     ensures shorter { IfOk result (λ x. length x.1.now < length bytes.entry.now) }
 {
     if parts.lines.is_some() {
         return Err(Stop::At(bad(YalKind::Twice, word)));
     }
-    let (lines, rest) = io_list_at(alloc, kind, bytes)?;
+    let (lines, rest) = io_list_at(alloc, numbers, kind, bytes)?;
     let lines = Some(Items::new(lines));
     let Parts {
         corners,
@@ -182,19 +190,20 @@ fn past_section<'a>(word: Word<'a>, bytes: &'a [u8]) -> Result<&'a [u8], Flaw>
 #[tactic(auto, unfolding(crate::specs::Sections::section_after))]
 fn section_at<'a>(
     alloc: Global,
+    numbers: Numbers,
     kind: Kind,
     parts: Parts,
     word: Word<'a>,
     bytes: &'a [u8],
 ) -> Result<(Parts, &'a [u8]), Stop>
-    ensures gives { (n : ℕ) → length bytes.entry.now < n → Answers (λ x. (x.0, tokens x.1.now)) result (section_after n kind parts (seen word.entry) (tokens bytes.entry.now)) }
+    ensures gives { (n : ℕ) → length bytes.entry.now < n → Answers (λ x. (x.0, tokens x.1.now)) result (section_after numbers n kind parts (seen word.entry) (tokens bytes.entry.now)) }
     ensures shorter { IfOk result (λ x. length x.1.now < length bytes.entry.now) }
 {
     if is_word(word.text, b"DIMENSIONS") {
-        return with_corners(alloc, kind, parts, word, bytes);
+        return with_corners(alloc, numbers, kind, parts, word, bytes);
     }
     if is_word(word.text, b"IOLIST") {
-        return with_lines(alloc, kind, parts, word, bytes);
+        return with_lines(alloc, numbers, kind, parts, word, bytes);
     }
     if is_word(word.text, b"NETWORK") {
         return with_calls(alloc, kind, parts, word, bytes);
@@ -204,8 +213,13 @@ fn section_at<'a>(
 }
 
 /// The parts of a module, and the text behind ENDMODULE and its semicolon.
-pub(crate) fn sections_at(alloc: Global, kind: Kind, bytes: &[u8]) -> Result<(Parts, &[u8]), Stop>
-    ensures gives { (n : ℕ) → length bytes.now < n → Answers (λ x. (x.0, tokens x.1.now)) result (sections n kind no_parts (tokens bytes.now)) }
+pub(crate) fn sections_at(
+    alloc: Global,
+    numbers: Numbers,
+    kind: Kind,
+    bytes: &[u8],
+) -> Result<(Parts, &[u8]), Stop>
+    ensures gives { (n : ℕ) → length bytes.now < n → Answers (λ x. (x.0, tokens x.1.now)) result (sections numbers n kind no_parts (tokens bytes.now)) }
     ensures shorter { IfOk result (λ x. length x.1.now < length bytes.now) }
 {
     let mut parts = Parts {
@@ -220,7 +234,7 @@ pub(crate) fn sections_at(alloc: Global, kind: Kind, bytes: &[u8]) -> Result<(Pa
             let after = end_at(after)?;
             return Ok((parts, after));
         }
-        let (more, after) = section_at(alloc, kind, parts, first, after)?;
+        let (more, after) = section_at(alloc, numbers, kind, parts, first, after)?;
         parts = more;
         rest = after;
     }

@@ -1,15 +1,16 @@
 //! Keywords, types of modules and flows of terminals, and words or numbers up to a semicolon.
 
 ghost use Rattle.std.specs.Prelude.{◌≡◌, ◌<◌, true, length, IfOk};
-ghost use Rattle.yal_reader.specs.Numbers.{numbers};
+ghost use Rattle.yal_reader.specs.Numbers.{number_run};
 ghost use Rattle.read_base.specs.Answers.{Answers, AnswersAs};
 ghost use Rattle.yal_reader.specs.Seen.{seen};
 ghost use Rattle.yal_reader.specs.Tokens.{tokens};
 ghost use Rattle.yal_reader.specs.Words.{a_flow, a_kind, after_stop, flow_of, kind_of, past_words, spells, the_word, words};
 
+use crate::coordinates::number_of;
 use crate::fault::{Flaw, Stop, YalKind};
 use crate::file::{Flow, Kind};
-use crate::numbers::number_of;
+use crate::notation::Numbers;
 use crate::tokens::{bad, end_at, statement_at, word_at};
 use crate::word::Word;
 use geom_core::Name;
@@ -137,14 +138,18 @@ pub(crate) fn words_at(alloc: Global, bytes: &[u8]) -> Result<(Vec<Name>, &[u8])
 }
 
 /// The numbers up to the next semicolon, and the text behind it.
-pub(crate) fn numbers_at(alloc: Global, bytes: &[u8]) -> Result<(Vec<i64>, &[u8]), Stop>
-    ensures gives { Answers (λ x. (x.0.items, tokens x.1.now)) result (numbers (tokens bytes.now)) }
+pub(crate) fn numbers_at(
+    alloc: Global,
+    numbers: Numbers,
+    bytes: &[u8],
+) -> Result<(Vec<i64>, &[u8]), Stop>
+    ensures gives { Answers (λ x. (x.0.items, tokens x.1.now)) result (number_run numbers (tokens bytes.now)) }
     ensures shorter { IfOk result (λ x. length x.1.now < length bytes.now) }
 {
     let mut found = Vec::new(alloc);
     let mut rest = bytes;
     while let Ok((word, after)) = word_at(rest) {
-        let Some(n) = number_of(word.text) else {
+        let Some(n) = number_of(numbers, word.text) else {
             return Err(Stop::At(bad(YalKind::Number, word)));
         };
         found.push(n)?;

@@ -15,5 +15,5 @@ joined t a b c d e f g h width height one two three four five six seven eight =
 pub returns : goal.returns
 unfolding outline_text
 returns c =
-    on_ok_weaker c.put-4.result (joined _ _ _ _ _ _ _ _ _ _ _ c.in_ok-put.ensures (rw c.width.ensures.is at c.in_ok-put_next.ensures) c.in_ok-put-2.ensures (rw c.width-2.ensures.is at c.in_ok-put_next-2.ensures)
-    (rw c.height.ensures.is at c.in_ok-put_next-3.ensures) c.in_ok-put-3.ensures (rw c.height-2.ensures.is at c.in_ok-put_next-4.ensures)) c.put-4.ensures
+    on_ok_weaker c.put-4.result (joined _ _ _ _ _ _ _ _ _ _ _ c.in_ok-put.ensures (rw c.width.ensures.is at c.in_ok-put_next_length.ensures) c.in_ok-put-2.ensures (rw c.width-2.ensures.is at c.in_ok-put_next_length-2.ensures)
+    (rw c.height.ensures.is at c.in_ok-put_next_length-3.ensures) c.in_ok-put-3.ensures (rw c.height-2.ensures.is at c.in_ok-put_next_length-4.ensures)) c.put-4.ensures

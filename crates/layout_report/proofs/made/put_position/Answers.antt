@@ -15,5 +15,5 @@ joined t a b c d e f name across up width layer one two three four five six =
 pub returns : goal.returns
 unfolding position_text
 returns c =
-    on_ok_weaker c.put-2.result (joined _ _ _ _ _ _ _ _ _ _ _ _ c.in_ok-put.ensures (rw c.middle.ensures.is at c.in_ok-put_next.ensures)
-    c.in_ok-put_next-2.ensures (rw c.pin_width.ensures.is at c.in_ok-put_next-3.ensures) c.in_ok-put_layer.ensures) c.put-2.ensures
+    on_ok_weaker c.put-2.result (joined _ _ _ _ _ _ _ _ _ _ _ _ c.in_ok-put.ensures (rw c.middle.ensures.is at c.in_ok-put_next_length.ensures)
+    c.in_ok-put_next_length-2.ensures (rw c.pin_width.ensures.is at c.in_ok-put_next.ensures) c.in_ok-put_layer.ensures) c.put-2.ensures

@@ -6,7 +6,7 @@ use Rattle.yal_reader.proofs.lists.lines_at.Given as goal
 
 abbrev pub invariant-loop-found : goal.invariant-loop-found
 invariant-loop-found l =
-    ((n : ℕ) → length l.bytes < n → GoesOn (length l.rest) (λ m. lines_until l.kind m l.found.items (tokens l.rest)) (lines_until l.kind n [] (tokens l.bytes)))
+    ((n : ℕ) → length l.bytes < n → GoesOn (length l.rest) (λ m. lines_until l.numbers l.kind m l.found.items (tokens l.rest)) (lines_until l.numbers l.kind n [] (tokens l.bytes)))
     × (length l.rest ≤ length l.bytes)
 
 abbrev pub decreases-loop-found : goal.decreases-loop-found

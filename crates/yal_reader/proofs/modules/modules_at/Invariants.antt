@@ -8,7 +8,7 @@ use Rattle.yal_reader.proofs.modules.modules_at.Given as goal
 
 abbrev pub invariant-loop-start : goal.invariant-loop-start
 invariant-loop-start l =
-    ((n : ℕ) → length l.bytes < n → GoesOn (length l.rest) (λ m. modules m l.found.items (tokens l.rest)) (modules n [] (tokens l.bytes)))
+    ((n : ℕ) → length l.bytes < n → GoesOn (length l.rest) (λ m. modules l.numbers m l.found.items (tokens l.rest)) (modules l.numbers n [] (tokens l.bytes)))
     × (length l.rest ≤ length l.bytes) × (texts l.names.keys ≡ module_names l.found.items)
 
 abbrev pub decreases-loop-start : goal.decreases-loop-start

@@ -1,11 +1,9 @@
-use Rattle.std.proofs.Common.{refl, arith, sym, ◌∙◌}
-use Rattle.read_base.proofs.DigitsLaws.{behind-over}
-use Rattle.read_base.specs.Digits.{number_within}
-use Rattle.read_base.proofs.digits.number_within.Goals as goal
+use Rattle.std.proofs.Common.{sym, ◌∙◌}
+use Rattle.read_base.proofs.DigitsLaws.{behind-great, behind-over}
+use Rattle.read_base.proofs.digits.number_behind.Goals as goal
 
-pub loop-byte-init : goal.loop-byte-init
-unfolding number_within
-loop-byte-init c = (refl, omega arith)
+pub returns-then-before-most-clause-is : goal.returns-then-before-most-clause-is
+returns-then-before-most-clause-is c = sym (behind-great c.args.most c.args.before c.args.digits.now c.if-before-most.true)
 
 pub returns-in_default-with_digit-clause-is : goal.returns-in_default-with_digit-clause-is
 returns-in_default-with_digit-clause-is c =
