@@ -4,6 +4,8 @@
 #[cfg(test)]
 mod check_tests;
 #[cfg(test)]
+mod decimal_tests;
+#[cfg(test)]
 mod edge_tests;
 #[cfg(test)]
 mod limit_tests;
