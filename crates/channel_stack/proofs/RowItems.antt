@@ -111,12 +111,12 @@ module _ (r : RuleValues) (d : Netlist) (height : ℕ) where
       wire-of (first ∷ items) left a member wired =
           elim (Contains-append_cases (item_drawn r d base height left first) (row_drawn r d base height (left + item_width d first) items) a member) [
             | inl own ↦ elim (member-cases (outline_drawn r base (item_height d height first) left (left + item_width d first))
-            (map (upright_drawn r base left) (item_wires r d height first)) a own) [
-              | inl same ↦ absurd (outline-unwired a (ap (λ (x : Drawn). x.shape.layer) (sym same)) wired)
-              | inr upright ↦
-                  let found = map-cases (upright_drawn r base left) (item_wires r d height first) a upright in
-                  record { front = []; item = first; back = items; is = refl; wire = found.0; member = found.1; from = left; begins = omega arith; drawn = sym found.2 }
-            ]
+                (map (upright_drawn r base left) (item_wires r d height first)) a own) [
+                  | inl same ↦ absurd (outline-unwired a (ap (λ (x : Drawn). x.shape.layer) (sym same)) wired)
+                  | inr upright ↦
+                      let found = map-cases (upright_drawn r base left) (item_wires r d height first) a upright in
+                      record { front = []; item = first; back = items; is = refl; wire = found.0; member = found.1; from = left; begins = omega arith; drawn = sym found.2 }
+                ]
             | inr later ↦
                 let rest = wire-of items (left + item_width d first) a later wired in
                 record {

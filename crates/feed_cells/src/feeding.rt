@@ -7,9 +7,9 @@ ghost use Rattle.std.specs.Prelude.{◌≡◌, IfOk};
 
 use crate::fed::FedRows;
 use crate::fed_rows::fed_rows;
+use crate::heights::heights_of;
 use crate::placement::Placement;
 use crate::row_feeds::feeds_by_row;
-use crate::heights::heights_of;
 use crate::totals::{counts_in, greatest_width};
 use design_model::Design;
 use geom_core::Items;
