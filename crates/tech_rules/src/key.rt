@@ -53,7 +53,7 @@ pub enum Key {
     AnnealRowCost,
     /// `anneal.length_cost`
     AnnealLengthCost,
-    /// `anneal.start`, which alone may be absent
+    /// `anneal.start`, which may be absent
     AnnealStart,
 }
 
