@@ -10,6 +10,8 @@ use Rattle.command_inputs.specs.Origin.{AreInputsFrom}
 use Rattle.command_inputs.specs.declared.stages.Inputs.{Inputs}
 use Rattle.command_jobs.specs.Written.{IsGoodText}
 use Rattle.commands.specs.Headline.{Headline}
+use Rattle.yal_reader.specs.Numbers.{numbers_of}
+use Rattle.yal_reader.specs.YalReads.{yal_reads}
 use Rattle.std_laws.proofs.Options.{ok-same}
 
 -- of what the bytes of a rules file and of a design's file say
@@ -31,7 +33,9 @@ module _ (stated bytes text : List ℕ) (inputs : Inputs) (from : AreInputsFrom 
   good-of layout reads headline =
       let h = headline.good.good in
       let rules : headline.rules ≡ inputs.rules = ok-same _ headline.rules inputs.rules headline.states from.states in
-      let file : headline.good.file ≡ inputs.file = ok-same _ headline.good.file inputs.file headline.good.read from.read in
+      let file : headline.good.file ≡ inputs.file =
+      ok-same _ headline.good.file inputs.file headline.good.read
+      (ap (λ (r : RuleValues). yal_reads bytes (numbers_of r.version r.decimals)) rules ∙ from.read) in
       let checked : on_grid inputs.rules inputs.file ≡ Ok h.design =
       ap (λ (r : RuleValues). on_grid r inputs.file) (sym rules) ∙ ap (on_grid headline.rules) (sym file) ∙ h.checked in
       let design : h.design ≡ inputs.design = ok-same _ h.design inputs.design checked from.is.checked in
