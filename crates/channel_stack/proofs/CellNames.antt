@@ -20,13 +20,14 @@ use Rattle.feed_cells.specs.Fed.{Fed, IsFed, cells_in, item_width, seats_in}
 use Rattle.feed_cells.specs.declared.fed.Item.{Item}
 use Rattle.feed_cells.specs.declared.fed.Item.TheVariants.{Cell, Feed}
 use Rattle.layout_laws.specs.Heights.{channel_height}
-use Rattle.channel_stack.proofs.Planned.{height_of_row, row_heights}
+use Rattle.channel_stack.proofs.Planned.{height_of_row, risers_in, row_heights}
+use Rattle.wire_geom.specs.declared.drawn.Drawn.{Drawn}
 use Rattle.channel_stack.specs.Layouts.{item_shapes, row_cells, row_shapes, stacked_cells}
 use Rattle.channel_stack.specs.declared.placed.PlacedItem.{PlacedItem}
 use Rattle.channel_stack.specs.Stack.{item_place, placed_from}
 use Rattle.channel_stack.proofs.KnownItems.{IsKnown, KnownCell, rows-known}
 use Rattle.channel_stack.proofs.LayoutCells.{one-cell}
-use Rattle.channel_stack.proofs.LayoutShapes.{channels_on, rows_on, stack-rows, stack_layout}
+use Rattle.channel_stack.proofs.LayoutShapes.{channels_on, risers-each, rows_on, stack-rows, stack_layout}
 use Rattle.std_laws.proofs.Bytes.{bytes-flips}
 use Rattle.std_laws.proofs.Places.{map-at}
 
@@ -58,21 +59,23 @@ module _ (r : RuleValues) (d : Netlist) where
       row-names (first + length (item_shapes r d height (record { item = Feed net; place = item_place r d base left (Feed net) }))) base height (left + item_width d (Feed net)) items known.1
 
   -- the cells of all rows have the names of all seats' instances
-  levels-names : (first base : ℕ) (ws : List Wiring) (rows : List (List Item)) → length ws ≡ length rows + 1 → AllByRecursion (AllByRecursion (IsKnown d)) rows
-      → names_of (stacked_cells r d (row_heights d rows) first (channels_on r d base ws rows) (rows_on r d base ws rows)) ≡ map (name_at d) (all_instances (cells_in rows))
-  levels-names first base [] rows each known = absurd (omega arith)
-  levels-names first base (w ∷ ws) [] each known = refl
-  levels-names first base (w ∷ ws) (items ∷ rows) each known =
+  levels-names : (first base : ℕ) (ws : List Wiring) (rows : List (List Item)) (risers : List (List Drawn)) → length ws ≡ length rows + 1 → length risers ≡ length rows
+      → AllByRecursion (AllByRecursion (IsKnown d)) rows
+      → names_of (stacked_cells r d (row_heights d rows) first (channels_on r d base ws rows) (rows_on r d base ws rows) risers) ≡ map (name_at d) (all_instances (cells_in rows))
+  levels-names first base [] rows risers each rising known = absurd (omega arith)
+  levels-names first base (w ∷ ws) [] risers each rising known = refl
+  levels-names first base (w ∷ ws) (items ∷ rows) [] each rising known = absurd (omega arith)
+  levels-names first base (w ∷ ws) (items ∷ rows) (rise ∷ risers) each rising known =
       let floor : ℕ = base + channel_height r w in
       let tall : ℕ = height_of_row d items in
       let next : ℕ = floor + tall in
       let placed : List PlacedItem = placed_from r d floor 0 items in
       let second : ℕ = first + length (drawing r base w) in
-      let third : ℕ = second + length (row_shapes r d tall placed) in
-      let above : List layouts.Cell = stacked_cells r d (row_heights d rows) third (channels_on r d next ws rows) (rows_on r d next ws rows) in
+      let third : ℕ = second + length (row_shapes r d tall placed rise) in
+      let above : List layouts.Cell = stacked_cells r d (row_heights d rows) third (channels_on r d next ws rows) (rows_on r d next ws rows) risers in
       map-append (λ (c : layouts.Cell). c.name) (row_cells r d tall second placed) above
       ∙ ap (λ (l : List (List ℕ)). l ++ names_of above) (row-names second floor tall 0 items known.0)
-      ∙ ap (λ (l : List (List ℕ)). map (name_at d) (instances_in (seats_in items)) ++ l) (levels-names third next ws rows (omega arith) known.1)
+      ∙ ap (λ (l : List (List ℕ)). map (name_at d) (instances_in (seats_in items)) ++ l) (levels-names third next ws rows risers (omega arith) (omega arith) known.1)
       ∙ sym (map-append (name_at d) (instances_in (seats_in items)) (all_instances (cells_in rows)))
 
 -- the values at all numbers of a list are those of its elements
@@ -90,7 +93,7 @@ names-are d = names-range name_in (slice_get d.instances) 0 d.instances (λ k n 
 module _ (r : RuleValues) (d : Netlist) (is : IsNetlist d) (fed : Fed) (from : IsFed d fed) (ws : List Wiring) (each : length ws ≡ length fed.rows + 1) where
   -- the cells of the layout have the names of the seats' instances
   layout-names : cell_names (stack_layout r d fed ws) ≡ map (name_at d) (all_instances (cells_in fed.rows))
-  layout-names = ap cell_names (stack-rows r d fed ws from) ∙ levels-names r d 0 0 ws fed.rows each (rows-known d fed from.placed is)
+  layout-names = ap cell_names (stack-rows r d fed ws from) ∙ levels-names r d 0 0 ws fed.rows (risers_in r d fed ws) each (risers-each r d fed ws) (rows-known d fed from.placed is)
 
   -- the cells have the names of the instances, each once
   pub stack-names : IsPermutation (instance_names d) (cell_names (stack_layout r d fed ws))

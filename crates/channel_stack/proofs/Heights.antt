@@ -1,4 +1,4 @@
-use Rattle.std.proofs.Common.{◌≡◌, ◌<◌, ◌≤◌, ◌^◌, ℕ, ◌*◌, List, subst, arith}
+use Rattle.std.proofs.Common.{◌≡◌, ◌∙◌, refl, ap, sym, ◌<◌, ◌≤◌, ◌^◌, ℕ, suc, ◌+◌, ◌*◌, List, [], ◌∷◌, length, subst, arith}
 use Rattle.std.proofs.Math.Nat.{mul-le-mul}
 use Rattle.std.specs.List.{AllByRecursion}
 use Rattle.channel_model.specs.declared.wiring.Wiring.{Wiring}
@@ -7,8 +7,9 @@ use Rattle.feed_cells.specs.declared.fed.Item.{Item}
 use Rattle.design_model.specs.Netlist.{Netlist}
 use Rattle.tech_rules.specs.Rules.{RuleValues, ValidRules}
 use Rattle.channel_stack.specs.Routed.{IsRouted, IsWithin}
-use Rattle.channel_stack.specs.Stack.{stack_of, stack_top}
-use Rattle.channel_stack.proofs.StackBounds.{grid-bounded, rows-narrow, top-bounded, top-small, width-bounded, width-small}
+use Rattle.channel_stack.specs.Stack.{row_bases, stack_of, stack_top}
+use Rattle.layout_laws.specs.Heights.{channel_height}
+use Rattle.channel_stack.proofs.StackBounds.{grid-bounded, heights-counted, rows-narrow, top-bounded, top-small, width-bounded, width-small}
 use Rattle.std_laws.proofs.Every.{every-weaker}
 
 -- the edges of a routed design fit their numbers
@@ -31,6 +32,28 @@ rows-fit r d fed ws valid is_fed routed =
       where
         same-width : items_width d items ≤ fed.width → fed.width ≤ fed.width
         same-width h = omega arith
+
+-- the widest row is no wider than a number of columns
+pub fed-narrow : (r : RuleValues) (d : Netlist) (fed : Fed) (ws : List Wiring) → ValidRules r → IsRouted r d fed ws → fed.width < 2 ^ 32
+fed-narrow r d fed ws valid routed =
+    let units = width-small r d fed ws valid routed in
+    let product : fed.width * 1 ≤ fed.width * r.grid.column = mul-le-mul (same fed.width) (omega (arith, valid.ranges.grid.column)) in
+    omega arith
+  where
+    same : (n : ℕ) → n ≤ n
+    same n = omega arith
+
+-- each row has a lower edge
+edges-counted : (r : RuleValues) (heights : List ℕ) (base : ℕ) (ws : List Wiring) → length ws ≡ length heights + 1 → length (row_bases r heights base ws) ≡ length heights
+edges-counted r [] base ws each = refl
+edges-counted r (h ∷ heights) base [] each = absurd (omega (arith, each))
+edges-counted r (h ∷ heights) base (w ∷ ws) each = ap suc (edges-counted r heights (base + channel_height r w + h) ws (omega (arith, each)))
+
+pub bases-counted : (r : RuleValues) (d : Netlist) (fed : Fed) (ws : List Wiring) (heights : List ℕ) → IsFed d fed → IsRouted r d fed ws → fed.heights ≡ heights
+    → length (row_bases r heights 0 ws) ≡ length fed.rows
+bases-counted r d fed ws heights is_fed routed same =
+    let many : length fed.heights ≡ length fed.rows = heights-counted d fed is_fed in
+    edges-counted r heights 0 ws (omega (arith, routed.each, many, ap length same)) ∙ ap length (sym same) ∙ many
 
 -- the stack of a routed design is within its bound
 pub stack-within : (r : RuleValues) (d : Netlist) (fed : Fed) (ws : List Wiring) → IsFed d fed → IsRouted r d fed ws → IsWithin r d fed ws (stack_of r d fed ws)

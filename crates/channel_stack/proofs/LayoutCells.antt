@@ -1,5 +1,5 @@
 use Rattle.geom_core.specs.declared.layout.Cell as layouts
-use Rattle.std.proofs.Common.{◌≡◌, refl, ap, sym, ◌∙◌, subst, ℕ, zero, suc, ◌+◌, List, [], ◌∷◌, ◌++◌, length, map, Some, arith}
+use Rattle.std.proofs.Common.{◌≡◌, refl, ap, append_assoc, sym, ◌∙◌, subst, ℕ, zero, suc, ◌+◌, List, [], ◌∷◌, ◌++◌, length, map, Some, arith}
 use Rattle.std.proofs.lemmas.List.{length-map}
 use Rattle.std.proofs.lemmas.List.Sums.{sum_by-cons}
 use Rattle.std.proofs.lemmas.Option.{none-some, same_Some}
@@ -19,15 +19,15 @@ use Rattle.wire_geom.specs.declared.drawn.Drawn.{Drawn}
 use Rattle.row_model.specs.declared.rows.Seat.{Seat}
 use Rattle.feed_cells.specs.Fed.{Fed, IsFed, item_width, items_width}
 use Rattle.feed_cells.specs.declared.fed.Item.{Item}
-use Rattle.feed_cells.specs.declared.fed.Item.TheVariants.{Cell, Feed}
+use Rattle.feed_cells.specs.declared.fed.Item.TheVariants.{Cell}
 use Rattle.layout_laws.specs.Heights.{channel_height}
 use Rattle.layout_laws.proofs.Plans.{plan_drawn, row_base}
-use Rattle.channel_stack.specs.Layouts.{cell_at, channel_shapes, instance_cells, item_cells, item_shapes, kind_cells, row_cells, row_shapes, stacked_cells}
-use Rattle.channel_stack.proofs.Planned.{cell_drawn, height_of_row, item_drawn, plan_of, row_drawn, row_heights}
+use Rattle.channel_stack.specs.Layouts.{cell_at, instance_cells, item_cells, item_shapes, kind_cells, row_cells, row_shapes, stacked_cells, wire_shapes}
+use Rattle.channel_stack.proofs.Planned.{cell_drawn, height_of_row, item_drawn, plan_of, risers_in, row_drawn, row_heights}
 use Rattle.channel_stack.specs.declared.placed.PlacedItem.{PlacedItem}
 use Rattle.channel_stack.specs.Stack.{item_place, placed_from}
 use Rattle.channel_stack.proofs.KnownItems.{IsKnown, KnownCell, item-drawn, rows-known}
-use Rattle.channel_stack.proofs.LayoutShapes.{channels_on, levels, plan-levels, row-shapes, row_floor, rows_on, stack-rows, stack_layout}
+use Rattle.channel_stack.proofs.LayoutShapes.{channels_on, full-shapes, full_row, levels, plan-levels, risers-each, row_floor, rows_on, stack-rows, stack_layout}
 use Rattle.std_laws.proofs.Parts.{Part, part-before, part-behind}
 use Rattle.std_laws.proofs.Places.{get-before, get-behind}
 
@@ -68,7 +68,7 @@ one-cell r d first s place known =
 
 module _ (r : RuleValues) (valid : ValidRules r) (d : Netlist) (room : HasRoom r d) where
   -- shapes that are those of rectangles are as many
-  even-of : (shapes : List Shape) (drawn : List Drawn) → shapes ≡ channel_shapes drawn → length shapes ≡ length drawn
+  even-of : (shapes : List Shape) (drawn : List Drawn) → shapes ≡ wire_shapes drawn → length shapes ≡ length drawn
   even-of shapes drawn e = ap length e ∙ length-map drawn (λ (a : Drawn). a.shape)
 
   -- the cell of a known seat, and the rectangles that are drawn for it
@@ -109,13 +109,15 @@ module _ (r : RuleValues) (valid : ValidRules r) (d : Netlist) (room : HasRoom r
       (row-stood front s back all.1 known behind base height next at (omega arith))
 
   -- the cell of a seat of row k, behind these items of its row
-  stack-stood : (first base : ℕ) (ws : List Wiring) (rows : List (List Item)) → length ws ≡ length rows + 1 → AllByRecursion (AllByRecursion (IsKnown d)) rows
+  stack-stood : (first base : ℕ) (ws : List Wiring) (rows : List (List Item)) (risers : List (List Drawn)) → length ws ≡ length rows + 1 → length risers ≡ length rows
+      → AllByRecursion (AllByRecursion (IsKnown d)) rows
       → (k : ℕ) (front : List Item) (s : Seat) (back : List Item) → slice_get rows k ≡ Some (front ++ Cell s ∷ back) → (known : KnownCell d s)
-      → Stood (stacked_cells r d (row_heights d rows) first (channels_on r d base ws rows) (rows_on r d base ws rows)) first
-      (levels r d base ws rows) (cell_in (row_floor r d base ws rows k) (items_width d front) s known) (own_of (row_floor r d base ws rows k) (items_width d front) s)
-  stack-stood first base ws [] each all k front s back at known = absurd (none-some (front ++ Cell s ∷ back) at)
-  stack-stood first base [] (items ∷ rows) each all k front s back at known = absurd (omega arith)
-  stack-stood first base (w ∷ ws) (items ∷ rows) each all zero front s back at known =
+      → Stood (stacked_cells r d (row_heights d rows) first (channels_on r d base ws rows) (rows_on r d base ws rows) risers) first
+      (levels r d base ws rows risers) (cell_in (row_floor r d base ws rows k) (items_width d front) s known) (own_of (row_floor r d base ws rows k) (items_width d front) s)
+  stack-stood first base ws [] risers each rising all k front s back at known = absurd (none-some (front ++ Cell s ∷ back) at)
+  stack-stood first base [] (items ∷ rows) risers each rising all k front s back at known = absurd (omega arith)
+  stack-stood first base (w ∷ ws) (items ∷ rows) [] each rising all k front s back at known = absurd (omega arith)
+  stack-stood first base (w ∷ ws) (items ∷ rows) (rise ∷ risers) each rising all zero front s back at known =
       let floor : ℕ = base + channel_height r w in
       let tall : ℕ = height_of_row d items in
       let next : ℕ = floor + tall in
@@ -123,30 +125,32 @@ module _ (r : RuleValues) (valid : ValidRules r) (d : Netlist) (room : HasRoom r
       let wires : List Drawn = drawing r base w in
       let placed : List PlacedItem = placed_from r d floor 0 items in
       let behind : ℕ = first + length wires in
-      let above : List layouts.Cell = stacked_cells r d (row_heights d rows) (behind + length (row_shapes r d tall placed)) (channels_on r d next ws rows) (rows_on r d next ws rows) in
+      let above : List layouts.Cell = stacked_cells r d (row_heights d rows) (behind + length (row_shapes r d tall placed rise)) (channels_on r d next ws rows) (rows_on r d next ws rows) risers in
+      let own_row : List Drawn = row_drawn r d floor tall 0 items in
       let cell : ℕ → layouts.Cell = cell_in floor (items_width d front) s known in
       let own : List Drawn = own_of floor (items_width d front) s in
-      let row : Stood (row_cells r d tall behind placed) behind (row_drawn r d floor tall 0 items) cell own =
+      let row : Stood (row_cells r d tall behind placed) behind own_row cell own =
       subst (λ (l : List Item). Stood (row_cells r d tall behind (placed_from r d floor 0 l)) behind (row_drawn r d floor tall 0 l) cell own) (sym is)
       (row-stood front s back (subst (AllByRecursion (IsKnown d)) is all.0) known behind floor tall 0 (items_width d front) (omega arith)) in
-      stood-right (row_cells r d tall behind placed ++ above) [] first behind (row_drawn r d floor tall 0 items ++ levels r d next ws rows) wires cell own refl
-      (stood-left (row_cells r d tall behind placed) above behind (row_drawn r d floor tall 0 items) (levels r d next ws rows) cell own row)
-  stack-stood first base (w ∷ ws) (items ∷ rows) each all (suc k) front s back at known =
+      stood-right (row_cells r d tall behind placed ++ above) [] first behind ((own_row ++ rise) ++ levels r d next ws rows risers) wires cell own refl
+      (subst (λ (l : List Drawn). Stood (row_cells r d tall behind placed ++ above) behind l cell own) (sym (append_assoc own_row rise (levels r d next ws rows risers)))
+      (stood-left (row_cells r d tall behind placed) above behind own_row (rise ++ levels r d next ws rows risers) cell own row))
+  stack-stood first base (w ∷ ws) (items ∷ rows) (rise ∷ risers) each rising all (suc k) front s back at known =
       let floor : ℕ = base + channel_height r w in
       let tall : ℕ = height_of_row d items in
       let next : ℕ = floor + tall in
       let wires : List Drawn = drawing r base w in
       let placed : List PlacedItem = placed_from r d floor 0 items in
-      let row : List Drawn = row_drawn r d floor tall 0 items in
-      let even : length (row_shapes r d tall placed) ≡ length row = even-of (row_shapes r d tall placed) row (row-shapes r valid d room items all.0 floor tall 0) in
+      let row : List Drawn = full_row r d floor items rise in
+      let even : length (row_shapes r d tall placed rise) ≡ length row = even-of (row_shapes r d tall placed rise) row (full-shapes r valid d room items all.0 floor rise) in
       let behind : ℕ = first + length wires in
-      let last : ℕ = behind + length (row_shapes r d tall placed) in
-      let above : List layouts.Cell = stacked_cells r d (row_heights d rows) last (channels_on r d next ws rows) (rows_on r d next ws rows) in
+      let last : ℕ = behind + length (row_shapes r d tall placed rise) in
+      let above : List layouts.Cell = stacked_cells r d (row_heights d rows) last (channels_on r d next ws rows) (rows_on r d next ws rows) risers in
       let cell : ℕ → layouts.Cell = cell_in (row_floor r d next ws rows k) (items_width d front) s known in
       let own : List Drawn = own_of (row_floor r d next ws rows k) (items_width d front) s in
-      stood-right (row_cells r d tall behind placed ++ above) [] first behind (row ++ levels r d next ws rows) wires cell own refl
-      (stood-right above (row_cells r d tall behind placed) behind last (levels r d next ws rows) row cell own (omega arith)
-      (stack-stood last next ws rows (omega arith) all.1 k front s back at known))
+      stood-right (row_cells r d tall behind placed ++ above) [] first behind (row ++ levels r d next ws rows risers) wires cell own refl
+      (stood-right above (row_cells r d tall behind placed) behind last (levels r d next ws rows risers) row cell own (omega arith)
+      (stack-stood last next ws rows risers (omega arith) (omega arith) all.1 k front s back at known))
 
 -- the cell of a seat of row k behind these items: its number, the number of its first shape, and the plan's rectangles from there on
 pub record CellStands (r : RuleValues) (d : Netlist) (fed : Fed) (ws : List Wiring) (k : ℕ) (front : List Item) (s : Seat) (inst : Inst) (kind : CellKind) : Type 0 where
@@ -162,7 +166,7 @@ pub cell-stands : (r : RuleValues) → ValidRules r → (d : Netlist) → IsNetl
     → (k : ℕ) (front : List Item) (s : Seat) (back : List Item) → slice_get fed.rows k ≡ Some (front ++ Cell s ∷ back) → (known : KnownCell d s)
     → CellStands r d fed ws k front s known.inst known.kind
 cell-stands r valid d is room fed from ws each k front s back at known =
-    let stood = stack-stood r valid d room 0 0 ws fed.rows each (rows-known d fed from.placed is) k front s back at known in
+    let stood = stack-stood r valid d room 0 0 ws fed.rows (risers_in r d fed ws) each (risers-each r d fed ws) (rows-known d fed from.placed is) k front s back at known in
     let cell : ℕ → layouts.Cell = cell_at r known.inst known.kind (item_place r d (row_floor r d 0 ws fed.rows k) (items_width d front) (Cell s)) in
     record {
       number = stood.number;

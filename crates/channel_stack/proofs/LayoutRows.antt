@@ -4,7 +4,7 @@ use Rattle.std.proofs.lemmas.Bool.{cases_lt}
 use Rattle.std.proofs.lemmas.Int.{ints}
 use Rattle.std.proofs.lemmas.Option.{none-some, same_Some, slice_get_within}
 use Rattle.std.specs.List.{AllByRecursion}
-use Rattle.std.specs.Prelude.{pos, slice_get, ◌⊎◌, ◌≤ℤ◌}
+use Rattle.std.specs.Prelude.{pos, slice_get, unwrap_or, ◌⊎◌, ◌≤ℤ◌}
 use Rattle.geom_core.specs.Extent.{Extent}
 use Rattle.geom_core.specs.declared.layout.Shape.{Shape}
 use Rattle.tech_rules.specs.InRows.{InRows, SameRow, IsBelow}
@@ -23,9 +23,10 @@ use Rattle.feed_cells.specs.declared.fed.Item.TheVariants.{Cell, Feed}
 use Rattle.layout_laws.specs.Heights.{channel_height}
 use Rattle.layout_laws.proofs.Plans.{plan_drawn}
 use Rattle.layout_laws.proofs.Seats.{Upright}
-use Rattle.channel_stack.proofs.Planned.{height_of_row, item_drawn, item_height, item_wires, outline_drawn, plan_of, row_drawn, upright_drawn}
+use Rattle.channel_stack.proofs.Planned.{height_of_row, item_drawn, item_height, item_wires, outline_drawn, plan_of, risers_at, risers_in, row_drawn, upright_drawn}
 use Rattle.channel_stack.proofs.RowHeights.{cell-within}
-use Rattle.channel_stack.proofs.LayoutShapes.{levels, plan-levels, stack-shapes, stack_layout}
+use Rattle.channel_stack.proofs.LayoutShapes.{full_row, levels, plan-levels, risers-each, stack-shapes, stack_layout}
+use Rattle.channel_stack.proofs.RowRisers.{riser-of}
 use Rattle.std_laws.proofs.Every.{every-from-get}
 use Rattle.std_laws.proofs.Members.{get-contains, map-cases, Contains-flat_map_cases}
 use Rattle.std_laws.proofs.Places.{map-get, get-either}
@@ -104,6 +105,13 @@ module _ (r : RuleValues) (valid : ValidRules r) where
       record { low = a_in.low; high = a_in.high; from = (let e = a_in.from in omega (arith, ints)) }
 
   module _ (d : Netlist) where
+    -- nor are risers
+    abbrev AreUpright : List Drawn → Type 0
+    AreUpright ds = (a : Drawn) → Contains ds a → a.shape.layer ≡ r.vertical.layer
+
+    upright-wires : (ds : List Drawn) → AreUpright ds → AreWires r ds
+    upright-wires ds all i a at out = valid.layers.vertical_outline (sym (all a (get-contains ds i a at)) ∙ out)
+
     -- the one outline of an item
     item-outline : (base height left : ℕ) (item : Item) (i : ℕ) (a : Drawn) → slice_get (item_drawn r d base height left item) i ≡ Some a → IsOutline r a
         → a ≡ outline_drawn r base (item_height d height item) left (left + item_width d item)
@@ -142,6 +150,22 @@ module _ (r : RuleValues) (valid : ValidRules r) where
         let next = row-in base height (left + item_width d item) items low.1 j b at_b other in
         subst (λ (x : Drawn). Follows x.shape.rect b.shape.rect) (sym is) (beside (sym next.low) next.from))
 
+    -- behind its items a row has risers, which are wires
+    full-in : (base : ℕ) (items : List Item) (rise : List Drawn) → AllByRecursion (λ (item : Item). item_height d (height_of_row d items) item ≤ height_of_row d items) items
+        → AreUpright rise → AreInRow r base (height_of_row d items) 0 (full_row r d base items rise)
+    full-in base items rise low wires i a at out =
+        elim (get-either (row_drawn r d base (height_of_row d items) 0 items) rise i a at) [
+          | inl here ↦ row-in base (height_of_row d items) 0 items low i a here out
+          | inr there ↦ absurd (upright-wires rise wires there.0 a there.2 out)
+        ]
+
+    full-order : (base : ℕ) (items : List Item) (rise : List Drawn) → AllByRecursion (λ (item : Item). item_height d (height_of_row d items) item ≤ height_of_row d items) items
+        → AreUpright rise → InOrder r (full_row r d base items rise)
+    full-order base items rise low wires =
+        order-append r (row_drawn r d base (height_of_row d items) 0 items) rise (row-order base (height_of_row d items) 0 items low)
+        (λ i j a b before at_a at_b out other. absurd (upright-wires rise wires i a at_a out))
+        (λ i j a b at_a at_b out other. absurd (upright-wires rise wires j b at_b other))
+
     -- no item of a row is higher than the row
     items-low : (items : List Item) → AllByRecursion (λ (item : Item). item_height d (height_of_row d items) item ≤ height_of_row d items) items
     items-low items =
@@ -153,46 +177,59 @@ module _ (r : RuleValues) (valid : ValidRules r) where
         by (Feed net) member = omega arith
 
     -- the outlines of channels and rows lie above the lowest channel's edge
-    levels-above : (base : ℕ) (ws : List Wiring) (rows : List (List Item)) → AreAbove r base (levels r d base ws rows)
-    levels-above base [] rows i a at out = absurd (none-some a at)
-    levels-above base (w ∷ ws) [] i a at out = absurd (drawing-wires base w i a at out)
-    levels-above base (w ∷ ws) (items ∷ rows) i a at out =
+    levels-above : (base : ℕ) (ws : List Wiring) (rows : List (List Item)) (risers : List (List Drawn)) → AllByRecursion AreUpright risers
+        → AreAbove r base (levels r d base ws rows risers)
+    levels-above base [] rows risers wires i a at out = absurd (none-some a at)
+    levels-above base (w ∷ ws) [] risers wires i a at out = absurd (drawing-wires base w i a at out)
+    levels-above base (w ∷ ws) (items ∷ rows) [] wires i a at out = absurd (drawing-wires base w i a at out)
+    levels-above base (w ∷ ws) (items ∷ rows) (rise ∷ risers) wires i a at out =
         let floor : ℕ = base + channel_height r w in
-        let tall : ℕ = height_of_row d items in
-        let next : ℕ = floor + tall in
-        let row : List Drawn = row_drawn r d floor tall 0 items in
-        elim (get-either (drawing r base w) (row ++ levels r d next ws rows) i a at) [
+        let next : ℕ = floor + height_of_row d items in
+        let row : List Drawn = full_row r d floor items rise in
+        elim (get-either (drawing r base w) (row ++ levels r d next ws rows risers) i a at) [
           | inl here ↦ absurd (drawing-wires base w i a here out)
-          | inr there ↦ elim (get-either row (levels r d next ws rows) there.0 a there.2) [
-            | inl low ↦ (let e = (row-in floor tall 0 items (items-low items) there.0 a low out).low in
+          | inr there ↦ elim (get-either row (levels r d next ws rows risers) there.0 a there.2) [
+            | inl low ↦ (let e = (full-in floor items rise (items-low items) wires.0 there.0 a low out).low in
                 let up = scaled-up r (2 * base) (2 * floor) (omega arith) in omega (arith, ints))
-            | inr high ↦ (let e = levels-above next ws rows high.0 a high.2 out in
+            | inr high ↦ (let e = levels-above next ws rows risers wires.1 high.0 a high.2 out in
                 let up = scaled-up r (2 * base) (2 * next) (omega arith) in omega (arith, ints))
           ]
         ]
 
     -- and follow one another
-    levels-order : (base : ℕ) (ws : List Wiring) (rows : List (List Item)) → InOrder r (levels r d base ws rows)
-    levels-order base [] rows = λ i j a b before at_a at_b out other. absurd (none-some a at_a)
-    levels-order base (w ∷ ws) [] = λ i j a b before at_a at_b out other. absurd (drawing-wires base w i a at_a out)
-    levels-order base (w ∷ ws) (items ∷ rows) =
+    levels-order : (base : ℕ) (ws : List Wiring) (rows : List (List Item)) (risers : List (List Drawn)) → AllByRecursion AreUpright risers
+        → InOrder r (levels r d base ws rows risers)
+    levels-order base [] rows risers wires = λ i j a b before at_a at_b out other. absurd (none-some a at_a)
+    levels-order base (w ∷ ws) [] risers wires = λ i j a b before at_a at_b out other. absurd (drawing-wires base w i a at_a out)
+    levels-order base (w ∷ ws) (items ∷ rows) [] wires = λ i j a b before at_a at_b out other. absurd (drawing-wires base w i a at_a out)
+    levels-order base (w ∷ ws) (items ∷ rows) (rise ∷ risers) wires =
         let floor : ℕ = base + channel_height r w in
-        let tall : ℕ = height_of_row d items in
-        let next : ℕ = floor + tall in
-        let row : List Drawn = row_drawn r d floor tall 0 items in
-        order-append r (drawing r base w) (row ++ levels r d next ws rows)
+        let next : ℕ = floor + height_of_row d items in
+        let row : List Drawn = full_row r d floor items rise in
+        order-append r (drawing r base w) (row ++ levels r d next ws rows risers)
         (λ i j a b before at_a at_b out other. absurd (drawing-wires base w i a at_a out))
-        (order-append r row (levels r d next ws rows) (row-order floor tall 0 items (items-low items)) (levels-order next ws rows)
+        (order-append r row (levels r d next ws rows risers) (full-order floor items rise (items-low items) wires.0) (levels-order next ws rows risers wires.1)
         (λ i j a b at_a at_b out other.
-        let e = (row-in floor tall 0 items (items-low items) i a at_a out).high in
-        let f = levels-above next ws rows j b at_b other in
+        let e = (full-in floor items rise (items-low items) wires.0 i a at_a out).high in
+        let f = levels-above next ws rows risers wires.1 j b at_b other in
         over (omega (arith, ints))))
         (λ i j a b at_a at_b out other. absurd (drawing-wires base w i a at_a out))
 
+    -- the risers of all rows are wires
+    risers-upright : (fed : Fed) (ws : List Wiring) → IsFed d fed → length ws ≡ length fed.rows + 1 → AllByRecursion AreUpright (risers_in r d fed ws)
+    risers-upright fed ws from each =
+        every-from-get AreUpright (risers_in r d fed ws)
+        (λ k rise at a member.
+        let within : k < length fed.rows = omega (arith, slice_get_within (risers_in r d fed ws) k rise at, risers-each r d fed ws) in
+        let there : risers_at (risers_in r d fed ws) k ≡ rise = ap (λ o. unwrap_or o []) at in
+        let riser = riser-of r d fed from ws each k within a (subst (λ (l : List Drawn). Contains l a) (sym there) member) in
+        ap (λ (x : Drawn). x.shape.layer) riser.is)
+
 -- the outlines of a plan follow one another
-plan-order : (r : RuleValues) → ValidRules r → (d : Netlist) (fed : Fed) (ws : List Wiring) → length ws ≡ length fed.rows + 1
+plan-order : (r : RuleValues) → ValidRules r → (d : Netlist) (fed : Fed) → IsFed d fed → (ws : List Wiring) → length ws ≡ length fed.rows + 1
     → InOrder r (plan_drawn r (plan_of r d fed ws))
-plan-order r valid d fed ws each = subst (InOrder r) (sym (plan-levels r d fed ws each)) (levels-order r valid d 0 ws fed.rows)
+plan-order r valid d fed from ws each =
+    subst (InOrder r) (sym (plan-levels r d fed ws each)) (levels-order r valid d 0 ws fed.rows (risers_in r d fed ws) (risers-upright r valid d fed ws from each))
 
 -- a rectangle and one that follows it are of one row, or the one is below the other
 follows-rows : (a b : Extent) → Follows a b → SameRow a b ⊎ IsBelow a b ⊎ IsBelow b a
@@ -224,7 +261,7 @@ module _ (r : RuleValues) (valid : ValidRules r) (d : Netlist) (is : IsNetlist d
       let b = map-get (λ (x : Drawn). x.shape) plan j t (subst (λ (l : List Shape). slice_get l j ≡ Some t) shapes at_t) in
       subst (λ (x : Shape). Follows x.rect t.rect) a.2
       (subst (λ (x : Shape). Follows a.0.shape.rect x.rect) b.2
-      (plan-order r valid d fed ws each i j a.0 b.0 before a.1 b.1 (ap (λ (x : Shape). x.layer) a.2 ∙ out) (ap (λ (x : Shape). x.layer) b.2 ∙ other)))
+      (plan-order r valid d fed from ws each i j a.0 b.0 before a.1 b.1 (ap (λ (x : Shape). x.layer) a.2 ∙ out) (ap (λ (x : Shape). x.layer) b.2 ∙ other)))
 
   -- two different outlines follow one another in one order or the other
   either-follows : (i j : ℕ) (s t : Shape) → i ≢ j → slice_get (stack_layout r d fed ws).shapes i ≡ Some s → slice_get (stack_layout r d fed ws).shapes j ≡ Some t

@@ -29,7 +29,7 @@ use Rattle.feed_cells.specs.declared.fed.Item.TheVariants.{Cell}
 use Rattle.pin_assign.proofs.EdgeLaws.{EdgePosition, edge-position}
 use Rattle.layout_laws.proofs.Labels.{ShowsPins}
 use Rattle.layout_laws.proofs.Plans.{plan_drawn, row_base}
-use Rattle.channel_stack.specs.Layouts.{cell_at, channel_shapes}
+use Rattle.channel_stack.specs.Layouts.{cell_at, wire_shapes}
 use Rattle.channel_stack.proofs.Planned.{cell_drawn, net_at, net_found, plan_of, upright_drawn, upright_of}
 use Rattle.channel_stack.proofs.Shown.{DrawsPosition, DrawsSeat}
 use Rattle.channel_stack.specs.Stack.{item_place}
@@ -170,11 +170,11 @@ module _ (r : RuleValues) (valid : ValidRules r) (d : Netlist) (is : IsNetlist d
       let left : ℕ = items_width d front in
       let own : List Drawn = cell_drawn r d base left s in
       let turn : (Shape → Shape) = moved_shape (turn_at (item_place r d base left (Cell s))) in
-      let drawn : map turn (drawing_of r known.kind) ≡ channel_shapes own = known-drawn r valid d room s known base 0 left in
-      let many : length (drawing_of r known.kind) ≡ length (channel_shapes own) = sym (length-map (drawing_of r known.kind) turn) ∙ ap length drawn in
+      let drawn : map turn (drawing_of r known.kind) ≡ wire_shapes own = known-drawn r valid d room s known base 0 left in
+      let many : length (drawing_of r known.kind) ≡ length (wire_shapes own) = sym (length-map (drawing_of r known.kind) turn) ∙ ap length drawn in
       ap (λ (n : ℕ). take n (drop c.first (stack_layout r d fed ws).shapes)) many
-      ∙ ap (λ (l : List Shape). take (length (channel_shapes own)) (drop c.first l)) (stack-shapes r valid d is room fed from ws each)
-      ∙ part-taken (channel_shapes (plan_drawn r (plan_of r d fed ws))) c.first (channel_shapes own)
+      ∙ ap (λ (l : List Shape). take (length (wire_shapes own)) (drop c.first l)) (stack-shapes r valid d is room fed from ws each)
+      ∙ part-taken (wire_shapes (plan_drawn r (plan_of r d fed ws))) c.first (wire_shapes own)
       (part-map (λ (a : Drawn). a.shape) (plan_drawn r (plan_of r d fed ws)) c.first own c.part)
       ∙ sym drawn
 

@@ -6,12 +6,17 @@ pub mod Heights
 pub mod PlanBases
 -- the items of a row, and the wires that are drawn for them
 pub mod RowItems
+-- the risers of a row, and where their nets enter the channel above
+pub mod RiserLaws
 -- rows are as high as their highest cells
 pub mod RowHeights
 -- an item as a seat, and what it draws within that
 pub mod PlanSeats
 -- what stands on an edge of a row, as a wire that comes there
 pub mod PlanEntries
+-- the risers of row k, and the pins that they rise from
+pub mod RowRisers
+pub mod RiserPins
 -- rows and channels as a plan
 pub mod StackPlan
 -- the pins of positions

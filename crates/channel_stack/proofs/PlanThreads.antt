@@ -1,5 +1,5 @@
 use Rattle.std.proofs.Common.{◌≡◌, ◌≢◌, ◌⊎◌, inl, inr, refl, sym, ap, ◌∙◌, subst, ℕ, suc, ◌+◌, ◌<◌, ◌≤◌, max, List, [], ◌∷◌, ◌++◌, length, get_or, true, false, Some, Contains, arith}
-use Rattle.std.proofs.lemmas.List.Elements.{All-contains}
+use Rattle.std.proofs.lemmas.List.Elements.{All-contains, Contains-append_right}
 use Rattle.std.proofs.lemmas.Option.{slice_get-get_or}
 use Rattle.std.specs.Option.{option_map}
 use Rattle.std.specs.Prelude.{slice_get}
@@ -11,13 +11,12 @@ use Rattle.design_model.specs.declared.design.Pin.{Pin}
 use Rattle.design_model.specs.declared.design.Position.{Position}
 use Rattle.channel_model.specs.declared.wiring.Wiring.{Wiring}
 use Rattle.row_model.specs.Rows.{ArePlaced}
-use Rattle.row_model.specs.Widths.{cell_height}
 use Rattle.row_model.specs.Stands.{positions_of, row_of}
 use Rattle.row_model.specs.declared.rows.Seat as seats
 use Rattle.feed_cells.specs.Channels.{first_channel}
 use Rattle.feed_cells.proofs.ChannelSpans.{last_channel}
 use Rattle.feed_cells.specs.Crossings.{crossing_of, is_across, lowest}
-use Rattle.feed_cells.specs.Fed.{Fed, cells_in, fed_row, fed_rows}
+use Rattle.feed_cells.specs.Fed.{Fed, IsFed, cells_in, fed_row, fed_rows}
 use Rattle.feed_cells.specs.Feeds.{is_fed}
 use Rattle.feed_cells.proofs.Touching.{Touches}
 use Rattle.feed_cells.specs.declared.crossing.Crossing.{Crossing}
@@ -26,24 +25,28 @@ use Rattle.feed_cells.specs.declared.fed.Item.{Item}
 use Rattle.feed_cells.specs.declared.fed.Item.TheVariants.{Cell, Feed}
 use Rattle.feed_cells.proofs.CrossingLaws.{channels-ordered, channels-within, fed-across, from-across, in-range}
 use Rattle.feed_cells.proofs.FedLaws.{cells-fed, fed-long, fed-row}
+use Rattle.feed_cells.proofs.RowFeedLaws.{fed-from}
 use Rattle.feed_cells.proofs.NetLaws.{across-stands, across-within, alone-same, fed-net, fed-stands, inside-stands}
 use Rattle.pin_assign.specs.Entering.{enters}
+use Rattle.pin_assign.specs.Tables.{table_of}
 use Rattle.pin_assign.proofs.EnteringLaws.{crossed-by, enters-lowest}
 use Rattle.layout_laws.proofs.Chains.{AreChained, AreTogether, itself}
-use Rattle.layout_laws.proofs.ChainLaws.{AreTogether-chained}
-use Rattle.layout_laws.proofs.Plans.{Plan, plan_drawn}
-use Rattle.layout_laws.proofs.Threads.{AreThreaded, IsCrossed, Entering, EntersBelow, into_above, into_below, IsLone, Threads}
+use Rattle.layout_laws.proofs.ChainLaws.{AreChained-trans, AreTogether-chained, touch-chained}
+use Rattle.layout_laws.proofs.PlanPlaces.{row_among}
+use Rattle.layout_laws.proofs.Plans.{Plan, plan_drawn, row_base}
+use Rattle.layout_laws.proofs.Threads.{AreThreaded, IsCrossed, Entering, EntersAbove, EntersBelow, into_above, into_below, IsLone, Threads}
+use Rattle.wire_geom.specs.Edges.{StandsIn, bottom_entry}
 use Rattle.wire_geom.specs.declared.drawn.Drawn.{Drawn}
-use Rattle.channel_stack.proofs.Planned.{feed_upright, height_at, height_of_row, net_at, plan_of, upright_of}
+use Rattle.channel_stack.specs.Risers.{IsRiser}
+use Rattle.channel_stack.proofs.Planned.{feed_upright, height_at, net_at, plan_of, risers_at, risers_in, row_at, row_drawn, upright_of}
 use Rattle.channel_stack.proofs.Shown.{DrawsSeats}
 use Rattle.channel_stack.proofs.PlanEntries.{net-is}
 use Rattle.channel_stack.proofs.PositionPins.{position-pin}
-use Rattle.channel_stack.proofs.RowItems.{among-split, at-split, row-is, split-at}
-use Rattle.channel_stack.proofs.RowHeights.{row-full}
+use Rattle.channel_stack.proofs.RowItems.{at-split, split-at}
 use Rattle.channel_stack.proofs.RowPins.{entry-inside, gap-feed, pin-seat}
-use Rattle.channel_stack.proofs.RowWires.{IsAt, RowWire, drawn-together, feed-above, feed-below, of_gap, of_seat, reach-above, reach-below, row-wire, wire_at}
+use Rattle.channel_stack.proofs.RowWires.{IsAt, RisesTo, RowWire, drawn-together, feed-above, feed-below, of_gap, of_riser, of_seat, reach-above, reach-below, row-wire, wire_at}
+use Rattle.channel_stack.proofs.RowRisers.{riser-listed}
 use Rattle.channel_stack.proofs.SeatOnce.{seat-row, seat-same}
-use Rattle.std_laws.proofs.Members.{get-contains}
 
 -- a position of a cell is of a pin, whose net its wire has
 record PositionNet (d : Netlist) (instance : ℕ) (q : Position) : Type 0 where
@@ -66,8 +69,8 @@ position-net d good instance q member =
       some = (All-contains (λ (x : Pin). (0 < x.net) × (x.net ≤ length d.nets)) d.pins p.pin good.nets p.listed).0;
     }
 
-module _ (r : RuleValues) (d : Netlist) (good : IsNetlist d) (rows : List (List seats.Seat)) (placed : ArePlaced d rows) (ws : List Wiring) (l : Layout)
-    (draws : DrawsSeats r d (fed_rows d rows) ws l) where
+module _ (r : RuleValues) (d : Netlist) (good : IsNetlist d) (rows : List (List seats.Seat)) (placed : ArePlaced d rows) (ws : List Wiring)
+    (each : length ws ≡ length (fed_rows d rows).rows + 1) (l : Layout) (draws : DrawsSeats r d (fed_rows d rows) ws l) where
   abbrev fed : Fed
   fed = fed_rows d rows
 
@@ -84,14 +87,18 @@ module _ (r : RuleValues) (d : Netlist) (good : IsNetlist d) (rows : List (List 
   fed-enters : (p : Pin) (channel : ℕ) → enters d rows p channel ≡ true → enters d (cells_in (fed_rows d rows).rows) p channel ≡ true
   fed-enters p channel entry = subst (λ (rs : List (List seats.Seat)). enters d rs p channel ≡ true) (sym (cells-fed d rows)) entry
 
-  -- every cell is as high as its row
-  cell-full : (k : ℕ) (front back : List Item) (s : seats.Seat) → k < length (fed_rows d rows).rows → IsAt r d (fed_rows d rows) ws k front (Cell s) back
-      → cell_height d s.instance ≡ height_at d (fed_rows d rows) k
-  cell-full k front back s within at =
-      let items : List Item = front ++ Cell s ∷ back in
-      let here : Contains (fed_rows d rows).rows items = get-contains (fed_rows d rows).rows k items at in
-      let own : ArePlaced d (cells_in (fed_rows d rows).rows) = subst (ArePlaced d) (sym (cells-fed d rows)) placed in
-      row-full d good (fed_rows d rows) own items here s (among-split front back (Cell s)) ∙ ap (height_of_row d) (sym (row-is (fed_rows d rows) k items at))
+  -- the rows with feeds are those of these rows
+  from : IsFed d (fed_rows d rows)
+  from = fed-from d rows (fed_rows d rows) placed refl
+
+  -- a chain leads from a pin's rectangle to what leads from it to the row's upper edge
+  risen : (k : ℕ) (front back : List Item) (s : seats.Seat) (p : Pin) → k < length (fed_rows d rows).rows → (up : RisesTo r d (fed_rows d rows) ws good k front back s p)
+      → AreChained r d l (plan_drawn r plan) up.by (rectangle k front s up.position)
+  risen k front back s p within up =
+      elim up.leads [
+        | inl same ↦ subst (λ (x : Drawn). AreChained r d l (plan_drawn r plan) x (rectangle k front s up.position)) (sym same) itself
+        | inr touch ↦ touch-chained (row_among r plan (length (fed_rows d rows).rows) k within up.by up.enters.listed) touch
+      ]
 
   -- the nets of a row's rectangles are numbers of nets
   wire-positive : (k : ℕ) (a : Drawn) → Wire k a → 0 < a.net
@@ -101,6 +108,7 @@ module _ (r : RuleValues) (d : Netlist) (good : IsNetlist d) (rows : List (List 
   wire-positive k a (of_gap front back net at drawn) =
       let feed = gap-feed d good rows k net front back at in
       subst (λ (n : ℕ). 0 < n) (sym (ap (λ (x : Drawn). x.net) drawn)) (omega (arith, feed.some))
+  wire-positive k a (of_riser it) = it.entry.0
 
   -- a rectangle of a cell, by a pin that enters a channel beside the row
   seat-entering : (k : ℕ) (a : Drawn) (front back : List Item) (s : seats.Seat) (q : Position) → k < length (fed_rows d rows).rows
@@ -126,9 +134,20 @@ module _ (r : RuleValues) (d : Netlist) (good : IsNetlist d) (rows : List (List 
       by (inr high) =
           let beside = high.beside in
           let there : channel ≡ suc k = omega (arith, beside, row) in
-          let reach = reach-above r d fed ws good k front back s p (cell-full k front back s within at) at listed some instance high.edge
+          let reach = reach-above r d fed ws good k front back from each within s p at listed some instance high.edge
           (fed-enters p (suc k) (subst (λ (c : ℕ). enters d rows p c ≡ true) there entry)) in
-          into_above (rectangle k front s reach.position) (to reach.position reach.listed reach.terminal) (reach.of_net ∙ sym net) reach.enters
+          into_above reach.by (AreChained-trans (to reach.position reach.listed reach.terminal) (risen k front back s p within reach)) (reach.by_net ∙ sym net) reach.enters
+
+  -- a riser enters the channel above
+  riser-enters : (k : ℕ) (a : Drawn) → k < length (fed_rows d rows).rows → IsRiser r d (fed_rows d rows) k (row_base r plan k) (height_at d (fed_rows d rows) k) a → EntersAbove r plan k a
+  riser-enters k a within it = record {
+    column = it.column;
+    listed = Contains-append_right (row_drawn r d (row_base r plan k) (height_at d fed k) 0 (row_at fed k)) (risers_at (risers_in r d fed ws) k) a
+        (riser-listed r d fed from ws each k within a it);
+    stands = subst (StandsIn r it.column) (sym it.is) (record { on_layer = refl; left = refl; right = refl });
+    at_edge = ap (λ (x : Drawn). x.shape.rect.y1) it.is;
+    has_entry = it.entry;
+  }
 
   -- each rectangle of a net that stands in channels enters one of them
   wire-entering : (net k : ℕ) (a : Drawn) → k < length (fed_rows d rows).rows → Wire k a → a.net ≡ net → crossing_of d rows net ≢ Alone → Entering r plan d l k a
@@ -142,6 +161,7 @@ module _ (r : RuleValues) (d : Netlist) (good : IsNetlist d) (rows : List (List 
       let feed = gap-feed d good rows k own front back at in
       into_below a itself refl
       (subst (λ (x : Drawn). EntersBelow r plan k x) (sym drawn) (feed-below r d fed ws good k front back own at (omega (arith, feed.some))))
+  wire-entering net k a within (of_riser it) a_net stands = into_above a itself refl (riser-enters k a within it)
 
   -- a net crosses a row by a pin
   crossed-pin : (net k : ℕ) → k < length (fed_rows d rows).rows → (p : Pin) → CrossesBy d rows net k p → IsCrossed r plan d l k net
@@ -161,16 +181,18 @@ module _ (r : RuleValues) (d : Netlist) (good : IsNetlist d) (rows : List (List 
       by : (front back : List Item) (s : seats.Seat) → IsAt r d (fed_rows d rows) ws k front (Cell s) back → p.instance ≡ s.instance → IsCrossed r plan d l k net
       by front back s at instance =
           let low = reach-below r d fed ws good k front back s p at leads.under.listed some instance leads.under.touches.edge (fed-enters p k leads.under.entry) in
-          let high = reach-above r d fed ws good k front back s p (cell-full k front back s within at) at leads.under.listed some instance leads.over.touches.edge
+          let high = reach-above r d fed ws good k front back from each within s p at leads.under.listed some instance leads.over.touches.edge
           (fed-enters p (suc k) (subst (λ (c : ℕ). enters d rows p c ≡ true) upper leads.over.entry)) in
           record {
             low = rectangle k front s low.position;
-            high = rectangle k front s high.position;
-            chained = AreTogether-chained (drawn-together r d fed ws l draws k front back s within at low.position high.position low.listed high.listed (low.terminal ∙ sym high.terminal));
+            high = high.by;
+            chained =
+                AreChained-trans (AreTogether-chained (drawn-together r d fed ws l draws k front back s within at low.position high.position low.listed high.listed
+                (low.terminal ∙ sym high.terminal))) (risen k front back s p within high);
             below = low.enters;
             above = high.enters;
             low_net = low.of_net ∙ leads.under.of_net;
-            high_net = high.of_net ∙ leads.under.of_net;
+            high_net = high.by_net ∙ leads.under.of_net;
           }
 
   -- or by a feed
@@ -209,7 +231,7 @@ module _ (r : RuleValues) (d : Netlist) (good : IsNetlist d) (rows : List (List 
       ordered = channels-ordered d rows net;
       entries = λ k column within entry. in-range (crossing_of d rows net) k (entry-inside d good rows k column net entry);
       crossed = λ k above below. crossed-row net k (from-across (crossing_of d rows net) k above below);
-      entering = λ k a within member wired of_net. wire-entering net k a within (row-wire r d fed ws valid k a within member wired) of_net stands;
+      entering = λ k a within member wired of_net. wire-entering net k a within (row-wire r d fed ws valid from each k a within member wired) of_net stands;
     }
 
     -- the rectangles of a net that stands in no channel are of one terminal
@@ -220,9 +242,17 @@ module _ (r : RuleValues) (d : Netlist) (good : IsNetlist d) (rows : List (List 
         let same_net : own ≡ net = ap (λ (x : Drawn). x.net) (sym drawn) ∙ of_net in
         across-stands (crossing_of d rows own) k (fed-across d rows k own feed.fed) (ap (crossing_of d rows) same_net ∙ alone)
 
+    -- nor has such a net a riser
+    riser-stray : (net k : ℕ) (a : Drawn) → crossing_of d rows net ≡ Alone → IsRiser r d (fed_rows d rows) k (row_base r plan k) (height_at d (fed_rows d rows) k) a → a.net ≡ net → ⊥
+    riser-stray net k a alone it of_net =
+        inside-stands (crossing_of d rows net) (suc k)
+        (entry-inside d good rows (suc k) it.column net (inr (subst (bottom_entry (table_of d fed (suc k)) it.column) of_net it.entry))) alone
+
     lone-together : (net j k : ℕ) (a b : Drawn) → crossing_of d rows net ≡ Alone → j < length (fed_rows d rows).rows → Wire j a → Wire k b → a.net ≡ net → b.net ≡ net
         → AreTogether d l (plan_drawn r plan) a b
     lone-together net j k a b alone within (of_gap front back own at drawn) other net_a net_b = absurd (feed-stray net j a front back own alone at drawn net_a)
+    lone-together net j k a b alone within (of_riser it) other net_a net_b = absurd (riser-stray net j a alone it net_a)
+    lone-together net j k a b alone within (of_seat front back s q at member drawn) (of_riser it) net_a net_b = absurd (riser-stray net k b alone it net_b)
     lone-together net j k a b alone within (of_seat front back s q at member drawn) (of_gap front_b back_b own at_b drawn_b) net_a net_b =
         absurd (feed-stray net k b front_b back_b own alone at_b drawn_b net_b)
     lone-together net j k a b alone within (of_seat front back s q at member drawn) (of_seat front_b back_b t u at_b member_b drawn_b) net_a net_b =
@@ -249,14 +279,14 @@ module _ (r : RuleValues) (d : Netlist) (good : IsNetlist d) (rows : List (List 
       none = λ k column within entry. inside-stands (crossing_of d rows net) k (entry-inside d good rows k column net entry) alone;
       chained = λ j k a b within_j within_k in_a in_b wired_a wired_b net_a net_b.
           AreTogether-chained
-          (lone-together net j k a b alone within_j (row-wire r d fed ws valid j a within_j in_a wired_a) (row-wire r d fed ws valid k b within_k in_b wired_b) net_a net_b);
+          (lone-together net j k a b alone within_j (row-wire r d fed ws valid from each j a within_j in_a wired_a) (row-wire r d fed ws valid from each k b within_k in_b wired_b) net_a net_b);
     }
 
     -- the nets of a wired design thread its rows and channels
     threaded : AreThreaded r plan d l
     threaded = record {
       nets = λ net some. by net (crossing_of d rows net) refl;
-      positive = λ k a within member wired. wire-positive k a (row-wire r d fed ws valid k a within member wired);
+      positive = λ k a within member wired. wire-positive k a (row-wire r d fed ws valid from each k a within member wired);
     }
       where
         by : (net : ℕ) (c : Crossing) → crossing_of d rows net ≡ c → IsLone r plan d l net ⊎ ((low : ℕ) × (high : ℕ) × Threads r plan d l net low high)
@@ -265,6 +295,6 @@ module _ (r : RuleValues) (d : Netlist) (good : IsNetlist d) (rows : List (List 
         by net (Many lo hi) is = inr (first_channel (crossing_of d rows net), last_channel (crossing_of d rows net), net-threads net (λ (e : crossing_of d rows net ≡ Alone). cc))
 
 -- the nets of a wired design thread its rows and channels, where the positions of its seats are drawn in the layout where they stand in the plan
-pub stack-threaded : (r : RuleValues) → ValidRules r → (d : Netlist) → IsNetlist d → (rows : List (List seats.Seat)) → ArePlaced d rows → (ws : List Wiring) (l : Layout)
-    → DrawsSeats r d (fed_rows d rows) ws l → AreThreaded r (plan_of r d (fed_rows d rows) ws) d l
-stack-threaded r valid d good rows placed ws l draws = threaded r d good rows placed ws l draws valid
+pub stack-threaded : (r : RuleValues) → ValidRules r → (d : Netlist) → IsNetlist d → (rows : List (List seats.Seat)) → ArePlaced d rows → (ws : List Wiring)
+    → length ws ≡ length (fed_rows d rows).rows + 1 → (l : Layout) → DrawsSeats r d (fed_rows d rows) ws l → AreThreaded r (plan_of r d (fed_rows d rows) ws) d l
+stack-threaded r valid d good rows placed ws each l draws = threaded r d good rows placed ws each l draws valid

@@ -18,7 +18,8 @@ use Rattle.layout_laws.proofs.Plans.{Plan}
 use Rattle.layout_laws.proofs.Seats.{Upright, Seat}
 use Rattle.layout_laws.proofs.Uprights.{upright_rect}
 use Rattle.wire_geom.specs.declared.drawn.Drawn.{Drawn}
-use Rattle.channel_stack.specs.Stack.{channel_bases}
+use Rattle.channel_stack.specs.Risers.{all_risers}
+use Rattle.channel_stack.specs.Stack.{channel_bases, row_bases}
 
 -- the net of a terminal of an instance, 0 where it has no pin
 abbrev pub net_found : Option Pin → ℕ
@@ -128,6 +129,13 @@ row_heights d rows = heights_of d (cells_in rows)
 abbrev pub base_at : RuleValues → Netlist → Fed → List Wiring → ℕ → ℕ
 base_at r d fed ws k = slice_index (channel_bases r (row_heights d fed.rows) 0 ws) k
 
+-- the risers of a routed design, and those of row k among risers of rows
+abbrev pub risers_in : RuleValues → Netlist → Fed → List Wiring → List (List Drawn)
+risers_in r d fed ws = all_risers r d fed (row_bases r fed.heights 0 ws)
+
+abbrev pub risers_at : List (List Drawn) → ℕ → List Drawn
+risers_at risers k = unwrap_or (slice_get risers k) []
+
 -- the rows and channels of a routed design as a plan
 abbrev pub plan_of : RuleValues → Netlist → Fed → List Wiring → Plan
 plan_of r d fed ws = record {
@@ -137,5 +145,5 @@ plan_of r d fed ws = record {
   wiring = wiring_at ws;
   base = base_at r d fed ws;
   seats = row_seats r d fed;
-  row = λ (k : ℕ). row_drawn r d (base_at r d fed ws k + channel_height r (wiring_at ws k)) (height_at d fed k) 0 (row_at fed k);
+  row = λ (k : ℕ). row_drawn r d (base_at r d fed ws k + channel_height r (wiring_at ws k)) (height_at d fed k) 0 (row_at fed k) ++ risers_at (risers_in r d fed ws) k;
 }

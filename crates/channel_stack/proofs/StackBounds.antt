@@ -10,7 +10,6 @@ use Rattle.tech_rules.specs.Rules.{RuleValues, ValidRules}
 use Rattle.design_model.specs.Netlist.{Netlist}
 use Rattle.channel_model.specs.Limits.{most_tracks}
 use Rattle.channel_model.specs.declared.wiring.Wiring.{Wiring}
-use Rattle.row_model.specs.declared.rows.Seat.{Seat}
 use Rattle.feed_cells.specs.Fed.{Fed, IsFed, cells_in, fed_rows, heights_of, items_width, nets_in, row_height, seats_in}
 use Rattle.feed_cells.specs.declared.fed.Item.{Item}
 use Rattle.feed_cells.proofs.FedLaws.{fed-width}

@@ -1,6 +1,6 @@
 use Rattle.row_model.specs.declared.rows.Seat as seats
-use Rattle.std.proofs.Common.{◌≡◌, ◌∙◌, sym, ap, subst, ℕ, ◌+◌, ◌<◌, ◌≤◌, List, [], length, get_or, map, Some, Contains, arith}
-use Rattle.std.proofs.lemmas.List.Elements.{All-contains, All-from_recursion}
+use Rattle.std.proofs.Common.{◌≡◌, ◌∙◌, inl, inr, refl, sym, ap, subst, ℕ, ◌+◌, ◌<◌, ◌≤◌, List, [], ◌∷◌, ◌++◌, length, get_or, map, Some, Contains, arith}
+use Rattle.std.proofs.lemmas.List.Elements.{All-contains, All-from_recursion, Contains-append_cases}
 use Rattle.std.specs.Prelude.{◌==◌, slice_get}
 use Rattle.design_model.proofs.DesignPins.{pin-within}
 use Rattle.tech_rules.specs.Rules.{RuleValues, ValidRules}
@@ -16,19 +16,21 @@ use Rattle.feed_cells.proofs.Standing.{Stands, seated, feeding}
 use Rattle.feed_cells.specs.declared.fed.Item.{Item}
 use Rattle.feed_cells.specs.declared.fed.Item.TheVariants.{Cell, Feed}
 use Rattle.feed_cells.proofs.FedLaws.{cells-fed, fed-row-some, item-stands}
+use Rattle.feed_cells.proofs.RowFeedLaws.{fed-from}
 use Rattle.pin_assign.specs.Tables.{table_of}
-use Rattle.layout_laws.specs.Heights.{channel_height}
-use Rattle.layout_laws.proofs.Plans.{IsPlan}
+use Rattle.layout_laws.proofs.Plans.{IsPlan, row_base}
 use Rattle.layout_laws.proofs.Seats.{IsSeat, Upright, UprightAt}
-use Rattle.layout_laws.proofs.Uprights.{DrawUprights}
+use Rattle.layout_laws.proofs.Uprights.{DrawUprights, DrawsUpright}
 use Rattle.wire_geom.specs.declared.drawn.Drawn.{Drawn}
-use Rattle.channel_stack.proofs.Planned.{base_at, height_at, item_wires, plan_of, row_at, row_drawn, seat_of, wiring_at}
+use Rattle.channel_stack.proofs.Planned.{height_at, item_wires, plan_of, risers_at, risers_in, row_at, row_drawn, seat_of, wiring_at}
 use Rattle.channel_stack.specs.Routed.{AreWired}
 use Rattle.channel_stack.proofs.PlanBases.{bases-next, wiring-there}
 use Rattle.channel_stack.proofs.PlanEntries.{lower-net, upper-net}
 use Rattle.channel_stack.proofs.PlanSeats.{IsInReach, cell-reach, cell-seat, feed-reach, feed-seat}
 use Rattle.channel_stack.proofs.RowHeights.{cell-room, cell-within, row-room}
 use Rattle.channel_stack.proofs.RowItems.{among-split, row-there, upright-stands, wire-of}
+use Rattle.channel_stack.proofs.RowRisers.{riser-of}
+use Rattle.channel_stack.proofs.RiserPins.{riser-drawn}
 use Rattle.std_laws.proofs.Members.{find-member, get-contains, map-cases, member-place}
 use Rattle.std_laws.proofs.Ranges.{image-at}
 use Rattle.std_laws.proofs.Every.{every-get}
@@ -117,25 +119,38 @@ module _ (r : RuleValues) (valid : ValidRules r) (d : Netlist) (good : IsNetlist
       (cell-within d (row_at rows_of k) s member)
   item-reach k within (Feed net) member = feed-reach r valid d (tall_of k) net (row-tall k within (Feed net) member)
 
+  -- a riser lies within what its cell takes of the row
+  row-riser : (ws : List Wiring) → length ws ≡ length (fed_rows d rows).rows + 1 → (k : ℕ) → k < length (fed_rows d rows).rows
+      → (a : Drawn) → Contains (risers_at (risers_in r d (fed_rows d rows) ws) k) a
+      → DrawsUpright r (row_base r (plan_of r d (fed_rows d rows) ws) k) (map (seat_of r d (tall_of k)) (row_at (fed_rows d rows) k)) a
+  row-riser ws each k within a rises =
+      let it = riser-of r d rows_of (fed-from d rows rows_of placed refl) ws each k within a rises in
+      let items : List Item = it.front ++ Cell it.seat ∷ it.back in
+      riser-drawn r d good rows_of k (row_base r (plan_of r d rows_of ws) k) (tall_of k) a it valid
+      (cell-room r d good tall rows_of fed-placed items (get-contains rows_of.rows k items it.at) it.seat (among-split it.front it.back (Cell it.seat)))
+
   -- the rows and channels of a wired design are a plan
   pub stack-plan : (ws : List Wiring) → AreWired d (fed_rows d rows) ws → IsPlan r (plan_of r d (fed_rows d rows) ws)
-  stack-plan ws wired =
+  stack-plan ws wired_all =
       let fed : Fed = fed_rows d rows in
       record {
         wired = λ k within.
-            wired.wired k (table_of d fed k) (wiring_at ws k)
+            wired_all.wired k (table_of d fed k) (wiring_at ws k)
             (image-at (table_of d fed) 0 (length fed.rows + 1) k (omega arith) ∙ ap (λ (n : ℕ). Some (table_of d fed n)) (omega arith))
-            (wiring-there ws k (omega (arith, within, wired.each)));
+            (wiring-there ws k (omega (arith, within, wired_all.each)));
         tall = λ k within seat member.
             let found = map-cases (seat_of r d (tall_of k)) (row_at fed k) seat member in
             let room = row-tall k within found.0 found.1 in
             omega (arith, room);
-        next = λ k within. bases-next r d 0 ws fed.rows k within (omega (arith, within, wired.each));
+        next = λ k within. bases-next r d 0 ws fed.rows k within (omega (arith, within, wired_all.each));
         seated = λ k within seat member.
             let found = map-cases (seat_of r d (tall_of k)) (row_at fed k) seat member in
             subst (IsSeat r (tall_of k)) found.2 (item-seat k within found.0 found.1);
-        drawn = λ k within.
-            row-drawn r valid d (base_at r d fed ws k + channel_height r (wiring_at ws k)) (tall_of k) (row_at fed k) (item-reach k within);
+        drawn = λ k within a member wired.
+            elim (Contains-append_cases (row_drawn r d (row_base r (plan_of r d fed ws) k) (tall_of k) 0 (row_at fed k)) (risers_at (risers_in r d fed ws) k) a member) [
+              | inl own ↦ row-drawn r valid d (row_base r (plan_of r d fed ws) k) (tall_of k) (row_at fed k) (item-reach k within) a own wired
+              | inr rises ↦ row-riser ws wired_all.each k within a rises
+            ];
         top_entries = λ k within column net entry. lower-net r d good fed k within column net entry;
         bottom_entries = λ k within column net entry. upper-net r d good fed k within column net entry;
       }

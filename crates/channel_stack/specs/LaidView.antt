@@ -3,4 +3,12 @@ use Rattle.channel_stack.specs.Stack.{LaidOut}
 use Rattle.channel_stack.specs.declared.placed.Laid.TheInside.{Inside}
 
 abbrev pub laid_in : Inside → LaidOut
-laid_in a = record { channel_base = a.channel_base; row_base = a.row_base; cells = a.cells; width = a.width; height = a.height }
+laid_in a = record {
+  channel_base = a.channel_base;
+  row_base = a.row_base;
+  row_height = a.row_height;
+  cells = a.cells;
+  risers = a.risers;
+  width = a.width;
+  height = a.height;
+}

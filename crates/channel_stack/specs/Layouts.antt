@@ -44,19 +44,25 @@ item_drawing r d height (Feed net) = feed_drawing r height
 abbrev pub item_shapes : RuleValues → Netlist → ℕ → PlacedItem → List Shape
 item_shapes r d height p = map (moved_shape (turn_at p.place)) (item_drawing r d height p.item)
 
--- those of a row, item by item, and those of a channel
-abbrev pub row_shapes : RuleValues → Netlist → ℕ → List PlacedItem → List Shape
-row_shapes r d height row = flat_map (item_shapes r d height) row
+-- those of a row's items from left to right, and those of wires
+abbrev pub items_shapes : RuleValues → Netlist → ℕ → List PlacedItem → List Shape
+items_shapes r d height row = flat_map (item_shapes r d height) row
 
-abbrev pub channel_shapes : List Drawn → List Shape
-channel_shapes drawn = map (λ (a : Drawn). a.shape) drawn
+abbrev pub wire_shapes : List Drawn → List Shape
+wire_shapes drawn = map (λ (a : Drawn). a.shape) drawn
+
+-- those of a row of this height: of its items, and behind them of its risers
+abbrev pub row_shapes : RuleValues → Netlist → ℕ → List PlacedItem → List Drawn → List Shape
+row_shapes r d height row risers = items_shapes r d height row ++ wire_shapes risers
 
 -- from the bottom up: the shapes of channel 0, of row 0, of channel 1, and so on, with rows of these heights
-abbrev pub stacked_shapes : RuleValues → Netlist → List ℕ → List (List Drawn) → List (List PlacedItem) → List Shape
-stacked_shapes r d heights [] rows = []
-stacked_shapes r d heights (channel ∷ channels) [] = channel_shapes channel
-stacked_shapes r d [] (channel ∷ channels) (row ∷ rows) = channel_shapes channel
-stacked_shapes r d (h ∷ heights) (channel ∷ channels) (row ∷ rows) = channel_shapes channel ++ (row_shapes r d h row ++ stacked_shapes r d heights channels rows)
+abbrev pub stacked_shapes : RuleValues → Netlist → List ℕ → List (List Drawn) → List (List PlacedItem) → List (List Drawn) → List Shape
+stacked_shapes r d heights [] rows risers = []
+stacked_shapes r d heights (channel ∷ channels) [] risers = wire_shapes channel
+stacked_shapes r d [] (channel ∷ channels) (row ∷ rows) risers = wire_shapes channel
+stacked_shapes r d (h ∷ heights) (channel ∷ channels) (row ∷ rows) [] = wire_shapes channel
+stacked_shapes r d (h ∷ heights) (channel ∷ channels) (row ∷ rows) (rise ∷ risers) =
+    wire_shapes channel ++ (row_shapes r d h row rise ++ stacked_shapes r d heights channels rows risers)
 
 -- the cell of an instance of a kind at a place, whose first shape has this number
 abbrev pub cell_at : RuleValues → Inst → CellKind → Place → ℕ → layouts.Cell
@@ -87,16 +93,17 @@ row_cells r d height first [] = []
 row_cells r d height first (p ∷ row) = item_cells r d first p.item p.place ++ row_cells r d height (first + length (item_shapes r d height p)) row
 
 -- the cells of the rows of these heights, from the bottom up, behind a first shape of this number
-abbrev pub stacked_cells : RuleValues → Netlist → List ℕ → ℕ → List (List Drawn) → List (List PlacedItem) → List layouts.Cell
-stacked_cells r d heights first [] rows = []
-stacked_cells r d heights first (channel ∷ channels) [] = []
-stacked_cells r d [] first (channel ∷ channels) (row ∷ rows) = []
-stacked_cells r d (h ∷ heights) first (channel ∷ channels) (row ∷ rows) =
-    row_cells r d h (first + length channel) row ++ stacked_cells r d heights (first + length channel + length (row_shapes r d h row)) channels rows
+abbrev pub stacked_cells : RuleValues → Netlist → List ℕ → ℕ → List (List Drawn) → List (List PlacedItem) → List (List Drawn) → List layouts.Cell
+stacked_cells r d heights first [] rows risers = []
+stacked_cells r d heights first (channel ∷ channels) [] risers = []
+stacked_cells r d [] first (channel ∷ channels) (row ∷ rows) risers = []
+stacked_cells r d (h ∷ heights) first (channel ∷ channels) (row ∷ rows) [] = []
+stacked_cells r d (h ∷ heights) first (channel ∷ channels) (row ∷ rows) (rise ∷ risers) =
+    row_cells r d h (first + length channel) row ++ stacked_cells r d heights (first + length channel + length (row_shapes r d h row rise)) channels rows risers
 
 -- the layout that a placed design is
 unfoldable pub layout_of : RuleValues → Netlist → Stacked → Layout
 layout_of r d placed = record {
-  cells = stacked_cells r d placed.heights 0 placed.shapes placed.cells;
-  shapes = stacked_shapes r d placed.heights placed.shapes placed.cells;
+  cells = stacked_cells r d placed.row_height 0 placed.shapes placed.cells placed.risers;
+  shapes = stacked_shapes r d placed.row_height placed.shapes placed.cells placed.risers;
 }

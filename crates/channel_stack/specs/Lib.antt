@@ -1,3 +1,5 @@
+-- risers: wires from the pins of lower cells to the upper edge of their row
+pub mod Risers
 -- rows and channels on one another
 pub mod Stack
 pub mod StackView

@@ -10,6 +10,7 @@ use Rattle.feed_cells.specs.declared.fed.Item.TheVariants.{Cell, Feed}
 use Rattle.layout_laws.specs.Heights.{channel_height}
 use Rattle.wire_geom.specs.Drawing.{drawing}
 use Rattle.wire_geom.specs.declared.drawn.Drawn.{Drawn}
+use Rattle.channel_stack.specs.Risers.{all_risers}
 use Rattle.channel_stack.specs.declared.placed.PlacedItem.{PlacedItem}
 
 -- the lower edges of channels in units, the first of which lies at `base`, with rows of these heights between them
@@ -77,12 +78,13 @@ most_columns ws = fold max 0 (map (λ (w : Wiring). w.columns) ws)
 abbrev pub total_columns : List Wiring → ℕ
 total_columns ws = sum (map (λ (w : Wiring). w.columns) ws)
 
--- rows of these heights and channels on one another, from y 0 up
+-- rows and channels on one another, from y 0 up
 pub record Stacked : Type 0 where
   pub channel_base : List ℕ
   pub row_base : List ℕ
-  pub heights : List ℕ
+  pub row_height : List ℕ
   pub cells : List (List PlacedItem)
+  pub risers : List (List Drawn)
   pub shapes : List (List Drawn)
   pub width : ℕ
   pub height : ℕ
@@ -91,20 +93,31 @@ unfoldable pub stack_of : RuleValues → Netlist → Fed → List Wiring → Sta
 stack_of r d fed ws = record {
   channel_base = channel_bases r fed.heights 0 ws;
   row_base = row_bases r fed.heights 0 ws;
-  heights = fed.heights;
+  row_height = fed.heights;
   cells = placed_rows r d fed.rows (row_bases r fed.heights 0 ws);
+  risers = all_risers r d fed (row_bases r fed.heights 0 ws);
   shapes = drawings r ws (channel_bases r fed.heights 0 ws);
   width = most_columns ws * r.grid.column * r.grid.centi;
   height = stack_top r fed.heights 0 ws * r.grid.centi;
 }
 
--- the same without the heights and the rectangles of channels
+-- the same without the rectangles of channels
 pub record LaidOut : Type 0 where
   pub channel_base : List ℕ
   pub row_base : List ℕ
+  pub row_height : List ℕ
   pub cells : List (List PlacedItem)
+  pub risers : List (List Drawn)
   pub width : ℕ
   pub height : ℕ
 
 abbrev pub laid_of : Stacked → LaidOut
-laid_of s = record { channel_base = s.channel_base; row_base = s.row_base; cells = s.cells; width = s.width; height = s.height }
+laid_of s = record {
+  channel_base = s.channel_base;
+  row_base = s.row_base;
+  row_height = s.row_height;
+  cells = s.cells;
+  risers = s.risers;
+  width = s.width;
+  height = s.height;
+}

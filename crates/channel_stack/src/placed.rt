@@ -12,14 +12,15 @@ pub struct PlacedItem {
     pub place: Place,
 }
 
-/// The layout of a routed design: the lower edges of its channels and rows in units and the heights of the rows, the items of each row from left to right, the
-/// rectangles of each channel with their nets, and its width and height in centimicrons. Contracts see the lists.
+/// The layout of a routed design: the lower edges of its channels and rows and the heights of the rows in units, the items of each row from left to right, the
+/// risers of each row and the rectangles of each channel with their nets, and its width and height in centimicrons. Contracts see the lists.
 #[derive(Debug, Drop)]
 pub struct Placed {
     pub channel_base: Items<u32>,
     pub row_base: Items<u32>,
-    pub heights: Items<u32>,
+    pub row_height: Items<u32>,
     pub cells: Items<Items<PlacedItem>>,
+    pub risers: Items<Items<Drawn>>,
     pub shapes: Items<Items<Drawn>>,
     pub width: u64,
     pub height: u64,
@@ -34,13 +35,15 @@ impl Model for Placed {
     ghost view = { stacked_in };
 }
 
-/// The layout of a routed design without the heights of its rows and the rectangles of its channels: the lower edges of its channels and rows in units, the items
-/// of each row from left to right, and its width and height in centimicrons. Contracts see the lists.
+/// The layout of a routed design without the rectangles of its channels: the lower edges of its channels and rows and the heights of the rows in units, the items
+/// of each row from left to right, the risers of each row, and its width and height in centimicrons. Contracts see the lists.
 #[derive(Debug, Drop)]
 pub struct Laid {
     pub channel_base: Items<u32>,
     pub row_base: Items<u32>,
+    pub row_height: Items<u32>,
     pub cells: Items<Items<PlacedItem>>,
+    pub risers: Items<Items<Drawn>>,
     pub width: u64,
     pub height: u64,
 }

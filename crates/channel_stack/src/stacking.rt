@@ -9,13 +9,15 @@ ghost use Rattle.channel_stack.specs.Stack.{drawings, laid_of, stack_of};
 ghost use Rattle.feed_cells.specs.Fed.{IsFed};
 ghost use Rattle.design_model.specs.Good.{Good};
 ghost use Rattle.design_model.specs.Room.{HasRoom};
+ghost use Rattle.pin_assign.specs.Tables.{tables_of};
 ghost use Rattle.std.specs.List.{All, AllByRecursion};
 ghost use Rattle.std.specs.Prelude.{◌≡◌, IfOk, map};
 
 use crate::bases::{channel_bases, most_columns, row_bases, stack_top};
 use crate::placed::{Laid, Placed};
 use crate::places::placed_rows;
-use channel_model::HasWiring;
+use crate::risers::all_risers;
+use channel_model::{Channel, HasWiring};
 use design_model::Design;
 use feed_cells::FedRows;
 use geom_core::Items;
@@ -48,9 +50,9 @@ fn drawings<W: HasWiring>(
     Ok(drawn)
 }
 
-/// Where the channels, rows, cells and feeds of a routed design lie: from y 0 up, channel 0, row 0, channel 1, and so on, each row of its own height and
-/// each channel of t tracks as high as t + 1 tracks. The rows with feeds are those of their cells; there is one wiring for each channel, within the tracks and
-/// columns of the bound, which passes no limit. The one error is want of memory.
+/// Where the channels, rows, cells, feeds and risers of a routed design lie: from y 0 up, channel 0, row 0, channel 1, and so on, each row of its own height and
+/// each channel of t tracks as high as t + 1 tracks. The rows with feeds are those of their cells, and the channels are those between them; there is one wiring for
+/// each channel, within the tracks and columns of the bound, which passes no limit. The one error is want of memory.
 ///
 /// The layout is within its bound. Where each wiring connects its channel, by whatever router, and the cells have room for their pins, the layout of these cells
 /// and feeds, with each wiring drawn on its channel's lower edge, is good for the design and the rules.
@@ -59,10 +61,12 @@ pub fn lay<W: HasWiring>(
     alloc: Global,
     design: &Design,
     fed: &FedRows,
+    channels: &[Channel],
     wirings: &[W],
     rules: &Rules,
 ) -> Result<Laid, AllocError>
     requires fed { IsFed design.now fed.now }
+    requires channels { channels.now ≡ tables_of design.now fed.now }
     requires routed { IsRouted rules.now design.now fed.now (map W.wiring_of wirings.now) }
     ensures laid { IfOk result (λ laid. laid ≡ laid_of (stack_of rules.now design.now fed.now (map W.wiring_of wirings.now))) }
     ensures within { IfOk result (λ _. IsWithin rules.now design.now fed.now (map W.wiring_of wirings.now) (stack_of rules.now design.now fed.now (map W.wiring_of wirings.now))) }
@@ -75,18 +79,22 @@ pub fn lay<W: HasWiring>(
     let heights = fed.heights.items();
     let channel_base = channel_bases(alloc, wirings, heights, rules)?;
     let row_base = row_bases(alloc, wirings, heights, rules)?;
+    let row_height = heights.to_vec(alloc)?;
     let cells = placed_rows(alloc, design, rules, fed.rows.items(), row_base.as_slice())?;
+    let risers = all_risers(alloc, design, rules, fed, channels, row_base.as_slice())?;
     let columns = u64::from(most_columns(wirings));
     Ok(Laid {
         width: columns * u64::from(rules.grid.column) * centi,
         height: stack_top(wirings, heights, rules) * centi,
         channel_base: Items::new(channel_base),
         row_base: Items::new(row_base),
+        row_height: Items::new(row_height),
         cells: Items::new(cells),
+        risers: Items::new(risers),
     })
 }
 
-/// The whole layout of a routed design: where its channels, rows, cells and feeds lie, and the rectangles of its channels. It needs what `lay` needs. The one
+/// The whole layout of a routed design: where its channels, rows, cells, feeds and risers lie, and the rectangles of its channels. It needs what `lay` needs. The one
 /// error is want of memory.
 ///
 /// The layout is within its bound. Where each wiring connects its channel, by whatever router, and the cells have room for their pins, the layout that the result
@@ -96,24 +104,26 @@ pub fn stack<W: HasWiring>(
     alloc: Global,
     design: &Design,
     fed: &FedRows,
+    channels: &[Channel],
     wirings: &[W],
     rules: &Rules,
 ) -> Result<Placed, AllocError>
     requires fed { IsFed design.now fed.now }
+    requires channels { channels.now ≡ tables_of design.now fed.now }
     requires routed { IsRouted rules.now design.now fed.now (map W.wiring_of wirings.now) }
     ensures stacked { IfOk result (λ placed. placed ≡ stack_of rules.now design.now fed.now (map W.wiring_of wirings.now)) }
     ensures within { IfOk result (λ placed. IsWithin rules.now design.now fed.now (map W.wiring_of wirings.now) placed) }
     ensures good { IfOk result (λ placed. HasRoom rules.now design.now → AreWired design.now fed.now (map W.wiring_of wirings.now)
         → Good rules.now design.now (layout_of rules.now design.now placed)) }
 {
-    let laid = lay(alloc, design, fed, wirings, rules)?;
+    let laid = lay(alloc, design, fed, channels, wirings, rules)?;
     let shapes = drawings(alloc, wirings, laid.channel_base.items(), rules)?;
-    let heights = fed.heights.items().to_vec(alloc)?;
     Ok(Placed {
         channel_base: laid.channel_base,
         row_base: laid.row_base,
-        heights: Items::new(heights),
+        row_height: laid.row_height,
         cells: laid.cells,
+        risers: laid.risers,
         shapes: Items::new(shapes),
         width: laid.width,
         height: laid.height,

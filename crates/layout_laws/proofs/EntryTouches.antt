@@ -16,23 +16,29 @@ use Rattle.layout_laws.proofs.Threads.{EntersBelow, EntersAbove}
 column-wide : (r : RuleValues) (column : ℕ) → scaled r (centre r column - r.vertical.width) ≤ℤ scaled r (centre r column + r.vertical.width)
 column-wide r column = scaled-order r (centre r column - r.vertical.width) (centre r column + r.vertical.width) (omega arith)
 
--- two vertical wires of one column touch where the one ends at a height at which the other begins
+-- two vertical wires of one column touch where their heights share a point
+pub wires-touch : (r : RuleValues) (column : ℕ) (a b : Drawn) → StandsIn r column a → StandsIn r column b
+    → a.shape.rect.y0 ≤ℤ b.shape.rect.y1 → b.shape.rect.y0 ≤ℤ a.shape.rect.y1 → Touch r a.shape b.shape
+wires-touch r column a b in_a in_b low high =
+    let wide = column-wide r column in
+    record {
+      layers = on_one (inr in_a.on_layer) (in_a.on_layer ∙ sym in_b.on_layer);
+      meet = record {
+        left = subst (λ (x : ℤ). x ≤ℤ b.shape.rect.x1) (sym in_a.left)
+            (subst (λ (x : ℤ). scaled r (centre r column - r.vertical.width) ≤ℤ x) (sym in_b.right) wide);
+        right = subst (λ (x : ℤ). x ≤ℤ a.shape.rect.x1) (sym in_b.left)
+            (subst (λ (x : ℤ). scaled r (centre r column - r.vertical.width) ≤ℤ x) (sym in_a.right) wide);
+        low = low;
+        high = high;
+      };
+    }
+
+-- so they do where the one ends at a height at which the other begins
 stands-touch : (r : RuleValues) (column : ℕ) (edge : ℤ) (low high : Drawn) → StandsIn r column low → StandsIn r column high
     → low.shape.rect.y0 ≤ℤ low.shape.rect.y1 → high.shape.rect.y0 ≤ℤ high.shape.rect.y1 → low.shape.rect.y1 ≡ edge → high.shape.rect.y0 ≡ edge
     → Touch r low.shape high.shape
 stands-touch r column edge low high in_low in_high up_low up_high ends begins =
-    let wide = column-wide r column in
-    record {
-      layers = on_one (inr in_low.on_layer) (in_low.on_layer ∙ sym in_high.on_layer);
-      meet = record {
-        left = subst (λ (x : ℤ). x ≤ℤ high.shape.rect.x1) (sym in_low.left)
-            (subst (λ (x : ℤ). scaled r (centre r column - r.vertical.width) ≤ℤ x) (sym in_high.right) wide);
-        right = subst (λ (x : ℤ). x ≤ℤ low.shape.rect.x1) (sym in_high.left)
-            (subst (λ (x : ℤ). scaled r (centre r column - r.vertical.width) ≤ℤ x) (sym in_low.right) wide);
-        low = omega (arith, ints, up_low, up_high, ends, begins);
-        high = omega (arith, ints, up_low, up_high, ends, begins);
-      };
-    }
+    wires-touch r column low high in_low in_high (omega (arith, ints, up_low, up_high, ends, begins)) (omega (arith, ints, up_low, up_high, ends, begins))
 
 module _ (r : RuleValues) (valid : ValidRules r) (plan : Plan) (is : IsPlan r plan) where
   -- the ends of a wire of a channel are in order

@@ -1,5 +1,5 @@
 -- the rectangles of wires, and of squares for pads and cuts, in half units
-use Rattle.std.specs.Prelude.{ℕ, ◌+◌, ◌-◌, ◌==◌, if◌then◌else◌}
+use Rattle.std.specs.Prelude.{ℕ, ◌+◌, ◌-◌, ◌*◌, ◌==◌, if◌then◌else◌}
 use Rattle.tech_rules.specs.Rules.{RuleValues, pad}
 use Rattle.wire_geom.specs.Grid.{centre, line_at}
 
@@ -25,6 +25,10 @@ across_box r base tracks column low high = record {
   x1 = centre r column + r.vertical.width;
   y1 = upper_end r base tracks high;
 }
+
+-- a vertical wire in a column, from one height in units to another
+abbrev pub upright_box : RuleValues → ℕ → ℕ → ℕ → Box
+upright_box r low high column = record { x0 = centre r column - r.vertical.width; y0 = 2 * low; x1 = centre r column + r.vertical.width; y1 = 2 * high }
 
 -- a horizontal wire on a track, which ends half a pad beyond its columns
 abbrev pub along_box : RuleValues → ℕ → ℕ → ℕ → ℕ → Box

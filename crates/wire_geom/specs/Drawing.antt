@@ -8,7 +8,7 @@ use Rattle.channel_model.specs.declared.wiring.Wiring.{Wiring}
 use Rattle.channel_model.specs.Elements.{Element, segment, via, elements}
 use Rattle.geom_core.specs.Extent.{Extent}
 use Rattle.tech_rules.specs.Rules.{RuleValues, pad}
-use Rattle.wire_geom.specs.Boxes.{Box, across_box, along_box, square_box}
+use Rattle.wire_geom.specs.Boxes.{Box, across_box, along_box, square_box, upright_box}
 use Rattle.wire_geom.specs.Grid.{scaled}
 use Rattle.wire_geom.specs.declared.drawn.Drawn.{Drawn}
 
@@ -61,3 +61,7 @@ drawn_by r base tracks e = map (drawn_of r) (pieces_of r base tracks e)
 -- the rectangles of a wiring: those of its segments in order, then those of its vias in order
 abbrev pub drawing : RuleValues → ℕ → Wiring → List Drawn
 drawing r base wiring = flat_map (drawn_by r base wiring.tracks) (elements wiring)
+
+-- a vertical wire of a net in the middle of a column, from one height in units to another
+abbrev pub upright : RuleValues → ℕ → ℕ → ℕ → ℕ → Drawn
+upright r low high column net = drawn_of r (record { mask = on_vertical; box = upright_box r low high column; net = net })

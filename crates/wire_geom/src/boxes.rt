@@ -2,7 +2,7 @@
 
 ghost use Rattle.std.specs.Prelude.{◌≡◌, ◌≤◌, ◌<◌, ◌+◌, ◌*◌, ◌^◌};
 ghost use Rattle.tech_rules.specs.Rules.{pad};
-ghost use Rattle.wire_geom.specs.Boxes.{across_box, along_box, square_box, lower_end, upper_end};
+ghost use Rattle.wire_geom.specs.Boxes.{across_box, along_box, square_box, upright_box, lower_end, upper_end};
 ghost use Rattle.wire_geom.specs.Drawing.{extent_of};
 ghost use Rattle.wire_geom.specs.Grid.{centre, line_at};
 
@@ -89,6 +89,23 @@ pub(crate) fn across_rect(
         lower_end(rules, base, low),
         middle + width,
         upper_end(rules, base, tracks, high),
+    )
+}
+
+// A vertical wire in a column, from one height in units to another.
+pub(crate) fn upright_rect(rules: &Rules, low: u64, high: u64, column: u32) -> Rect
+    requires ordered { low < high }
+    requires within { high ≤ 2 ^ 33 }
+    ensures { result ≡ extent_of rules.now (upright_box rules.now low high column) }
+{
+    let middle = centre(rules, column);
+    let width = u64::from(rules.vertical.width);
+    rect(
+        rules,
+        middle.saturating_sub(width),
+        2 * low,
+        middle + width,
+        2 * high,
     )
 }
 

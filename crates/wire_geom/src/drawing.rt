@@ -4,17 +4,17 @@ ghost use Rattle.channel_model.specs.Elements.{segment as seg, elements};
 ghost use Rattle.channel_model.specs.Pins.{Pins};
 ghost use Rattle.channel_model.specs.Wired.{Wired, IsOnGrid};
 ghost use Rattle.std.specs.List.{All, flat_map};
-ghost use Rattle.std.specs.Prelude.{◌≡◌, ◌<◌, ◌≤◌, ◌+◌, ◌*◌, ◌++◌, ℕ, List, IfOk, OnOk, Some, length, map, slice_get};
+ghost use Rattle.std.specs.Prelude.{◌≡◌, ◌<◌, ◌≤◌, ◌+◌, ◌*◌, ◌++◌, ◌^◌, ℕ, List, IfOk, OnOk, Some, length, map, slice_get};
 ghost use Rattle.tech_rules.specs.Rules.{RuleValues, pad as side_of_pad};
 ghost use Rattle.wire_geom.specs.Columns.{InColumns};
 ghost use Rattle.wire_geom.specs.Contact.{KeepContact};
-ghost use Rattle.wire_geom.specs.Drawing.{on_horizontal, on_vertical, on_cut, segment_piece, via_piece, via_pieces, drawn_of, drawing};
+ghost use Rattle.wire_geom.specs.Drawing.{on_horizontal, on_vertical, on_cut, segment_piece, via_piece, via_pieces, drawn_of, drawing, upright};
 ghost use Rattle.wire_geom.specs.Edges.{KeepEdges, MeetEntries, bottom_entry, top_entry};
 ghost use Rattle.wire_geom.specs.Grid.{line_at};
 ghost use Rattle.wire_geom.specs.Spaces.{NetsApart};
 ghost use Rattle.wire_geom.specs.Widths.{AreWide};
 
-use crate::boxes::{across_rect, along_rect, square_rect};
+use crate::boxes::{across_rect, along_rect, square_rect, upright_rect};
 use crate::drawn::Drawn;
 use channel_model::{Segment, Via, Wiring};
 use geom_core::{LayerName, Rect, Shape};
@@ -83,6 +83,19 @@ pub fn shape_at(wiring: &Wiring, k: u64, base: u32, rules: &Rules) -> Drawn
         part % 3,
         base,
         rules,
+    )
+}
+
+/// A vertical wire of a net in the middle of a column, from one height in units to a greater one, in half centimicrons. Takes no memory.
+pub fn upright(rules: &Rules, low: u64, high: u64, column: u32, net: u32) -> Drawn
+    requires ordered { low < high }
+    requires within { high ≤ 2 ^ 33 }
+    ensures { result ≡ upright rules.now low high column net }
+{
+    drawn_on(
+        rules.vertical.layer,
+        upright_rect(rules, low, high, column),
+        net,
     )
 }
 

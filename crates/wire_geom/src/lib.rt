@@ -5,5 +5,5 @@ mod boxes;
 mod drawing;
 mod drawn;
 
-pub use drawing::{draw, shape_at, shapes};
+pub use drawing::{draw, shape_at, shapes, upright};
 pub use drawn::Drawn;

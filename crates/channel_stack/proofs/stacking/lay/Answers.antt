@@ -1,13 +1,13 @@
-use Rattle.std.proofs.Common.{rules as all_rules, ◌≡◌, ◌<◌, ◌≤◌, ◌^◌, ◌*◌, List, arith, map, subst, sym}
+use Rattle.std.proofs.Common.{rules as all_rules, ◌≡◌, ◌<◌, ◌≤◌, ◌^◌, ◌*◌, List, ap, ◌∙◌, arith, length, map, subst, sym}
 use Rattle.std.proofs.Math.Nat.{mul-le-mul}
 use Rattle.std.specs.List.{AllByRecursion}
 use Rattle.feed_cells.specs.Fed.{items_width}
 use Rattle.feed_cells.specs.declared.fed.Item.{Item}
 use Rattle.design_model.specs.Netlist.{IsNetlist}
 use Rattle.tech_rules.specs.Rules.{ValidRules}
-use Rattle.channel_stack.specs.Stack.{stack_of, stack_top}
+use Rattle.channel_stack.specs.Stack.{row_bases, stack_of, stack_top}
 use Rattle.channel_stack.proofs.GoodStack.{stack-good}
-use Rattle.channel_stack.proofs.Heights.{rows-fit, stack-within, top-fits}
+use Rattle.channel_stack.proofs.Heights.{bases-counted, fed-narrow, rows-fit, stack-within, top-fits}
 use Rattle.channel_stack.proofs.stacking.lay.Goals as goal
 
 pub channel_bases-requires : goal.channel_bases-requires
@@ -45,6 +45,18 @@ placed_rows-requires g c =
     let rows : c.items.result.now ≡ c.args.fed.now.rows = search all_rules in
     subst (λ (l : List (List Item)). AllByRecursion (λ (items : List Item). items_width c.args.design.now items < 2 ^ 39) l) (sym rows)
     (rows-fit c.args.rules.now c.args.design.now c.args.fed.now (map g.W.HasWiring.wiring_of c.args.wirings.now) valid c.requires.fed c.requires.routed)
+
+pub all_risers-requires-clause-narrow : goal.all_risers-requires-clause-narrow
+all_risers-requires-clause-narrow g c =
+    let valid : ValidRules c.args.rules.now = subst ValidRules c.rules.view_is c.rules.invariant in
+    fed-narrow c.args.rules.now c.args.design.now c.args.fed.now (map g.W.HasWiring.wiring_of c.args.wirings.now) valid c.requires.routed
+
+pub all_risers-requires-clause-bases : goal.all_risers-requires-clause-bases
+all_risers-requires-clause-bases g c =
+    let same : c.args.fed.now.heights ≡ c.items-heights.result.now = search all_rules in
+    let bases : c.as_slice-2.result.now ≡ row_bases c.args.rules.now c.items-heights.result.now 0 (map g.W.HasWiring.wiring_of c.args.wirings.now) = search all_rules in
+    ap length bases
+    ∙ bases-counted c.args.rules.now c.args.design.now c.args.fed.now (map g.W.HasWiring.wiring_of c.args.wirings.now) c.items-heights.result.now c.requires.fed c.requires.routed same
 
 pub returns-clause-laid : goal.returns-clause-laid
 unfolding stack_of
