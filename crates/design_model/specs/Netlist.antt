@@ -63,7 +63,7 @@ pub record IsNetlist (d : Netlist) : Type 0 where
   pub few_instances : length d.instances ≤ MOST_INSTANCES
   pub few_pins : length d.pins ≤ MOST_PINS
   pub low : d.height ≤ MOST_HEIGHT
-  pub level : All (λ (k : CellKind). k.height ≡ d.height) d.kinds
+  pub highest : All (λ (k : CellKind). k.height ≤ d.height) d.kinds
   pub kinds : All IsKind d.kinds
   pub instances : All (λ (i : Inst). i.kind < length d.kinds) d.instances
   pub instance_names : All (λ (i : Inst). IsName i.name) d.instances

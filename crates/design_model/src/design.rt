@@ -20,7 +20,7 @@ pub struct Terminal {
     pub power: bool,
 }
 
-/// A kind of cell: a used module, with its width in columns, its height in units, its terminals and their positions. In a `Design` the
+/// A kind of cell: a used module, with its width in columns, its own height in units, its terminals and their positions. In a `Design` the
 /// width is 1 to 100,000,000 and the height at most 200,000,000, each position's column is below the width and no two positions have one
 /// side and column; the terminals with positions are just those that are no power terminals.
 #[derive(Debug, Drop)]
@@ -54,7 +54,7 @@ pub struct Pin {
 pub struct Design {
     /// The used modules; an instance gives its kind's place here.
     pub kinds: Items<CellKind>,
-    /// The height of every kind in units, at most 200,000,000.
+    /// The greatest height of a kind in units, at most 200,000,000; 0 where there is no kind.
     pub height: u32,
     /// The calls of the PARENT module; a pin gives its instance's place here.
     pub instances: Items<Inst>,

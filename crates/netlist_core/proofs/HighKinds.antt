@@ -7,10 +7,11 @@ use Rattle.yal_reader.specs.declared.file.Call.{Call}
 use Rattle.yal_reader.specs.declared.file.Module.{Module}
 use Rattle.yal_reader.specs.declared.file.YalFile.{YalFile}
 use Rattle.netlist_core.specs.Answers.{◌>>=◌, Agrees, unless}
+use Rattle.netlist_core.specs.Cells.{kind_of}
 use Rattle.netlist_core.specs.Calls.{calls_fault, is_parent_module, only_parent, over}
 use Rattle.design_model.specs.Netlist.{Netlist}
 use Rattle.design_model.specs.Room.{HasRoom, least_height}
-use Rattle.netlist_core.specs.OnGrid.{calls_design, design_of, height_of, kind_for, kinds_for, on_grid, used_design, used_modules}
+use Rattle.netlist_core.specs.OnGrid.{calls_design, design_of, kinds_for, on_grid, used_design, used_modules}
 use Rattle.netlist_core.specs.Signals.{PinWord, all_signals}
 use Rattle.design_model.specs.declared.design.CellKind.{CellKind}
 use Rattle.netlist_core.specs.declared.fault.Count.TheVariants.{Instances, Pins}
@@ -31,7 +32,7 @@ each-high rules (m ∷ ms) (k ∷ ks) h = (h.0, each-high rules ms ks h.1)
 
 used-high : (rules : RuleValues) (used : List (ℕ × Module)) (signals : List PinWord) (calls : List Call) (d : Netlist)
     → used_design rules used signals calls ≡ Ok d → HasRoom rules d
-unfolding used_design kinds_for kind_for
+unfolding used_design kinds_for
 used-high rules used signals calls d is = by (kinds_for rules used) refl is
   where
     by : (all : Result (List CellKind) DesignFault) → kinds_for rules used ≡ all → (all >>= (λ kinds. Ok (design_of used signals calls kinds))) ≡ Ok d → HasRoom rules d
@@ -39,8 +40,7 @@ used-high rules used signals calls d is = by (kinds_for rules used) refl is
     by (Ok kinds) good e = subst (λ (d : Netlist). HasRoom rules d) (same e)
         (All-from_recursion (λ (k : CellKind). least_height rules ≤ k.height) kinds
         (each-high rules used kinds
-        (each-zip (kind_for rules (height_of used)) (λ m k. least_height rules ≤ k.height)
-        (λ m k at. kind-high rules (height_of used) m.0 m.1 k at) used kinds good)))
+        (each-zip (kind_of rules) (λ m k. least_height rules ≤ k.height) (λ m k at. kind-high rules m.0 m.1 k at) used kinds good)))
       where
         same : ◌≡◌ {A = Result Netlist DesignFault} (Ok (design_of used signals calls kinds)) (Ok d) → design_of used signals calls kinds ≡ d
         same e = cc

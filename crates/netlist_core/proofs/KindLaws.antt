@@ -33,10 +33,10 @@ few-columns : (width pitch : ℕ) → width ≤ 200000000 → 2 ≤ pitch → wi
 few-columns width pitch low wide = omega (arith, mul-le-mul_right (width / pitch) wide, mul-div-le width pitch)
 
 -- the position of a free terminal, in a column of the kind, is one of the kind
-good-position : (rules : RuleValues) (height : ℕ) (box : Outline) (m : Module) (ps : List Position) (p : Position)
+good-position : (rules : RuleValues) (box : Outline) (m : Module) (ps : List Position) (p : Position)
     → IsFree (terminal_names m.lines) (power_names m.lines) p.terminal × (p.column < box.width / rules.grid.column)
-    → IsPosition (kind_at m height (grid_at rules box ps)) p
-good-position rules height box m ps p h = record {
+    → IsPosition (kind_at m (grid_at rules box ps)) p
+good-position rules box m ps p h = record {
   column = h.1;
   terminal = λ t at. free t (terminal-named (terminal_names m.lines) (power_names m.lines) p.terminal t at);
   within = subst (λ (n : ℕ). p.terminal < n) (sym (length-map (terminal_names m.lines) (terminal_in (power_names m.lines)))) h.0.within;
@@ -45,17 +45,17 @@ good-position rules height box m ps p h = record {
     free : (t : Terminal) → IsNamed (terminal_names m.lines) (power_names m.lines) p.terminal t → t.power ≡ false
     free t named = sym named.powered ∙ h.0.free named.name named.stands
 
-good-kind : (rules : RuleValues) (height n : ℕ) (m : Module) (box : Outline) (ps : List Position) → ValidRules rules → IsKeptModule m
+good-kind : (rules : RuleValues) (n : ℕ) (m : Module) (box : Outline) (ps : List Position) → ValidRules rules → IsKeptModule m
     → is_standard m.kind ≡ true → IsSmall box → IsGridded rules.grid.column box (spots_of m.lines) ps
-    → IsFaultless rules height box (spots_of m.lines) ps → IsKind (kind_at m height (grid_at rules box ps))
-good-kind rules height n m box ps valid kept standard small grid whole = record {
+    → IsFaultless rules box (spots_of m.lines) ps → IsKind (kind_at m (grid_at rules box ps))
+good-kind rules n m box ps valid kept standard small grid whole = record {
   name = kept.name;
   some = some-columns box.width rules.grid.column small.wide grid.whole valid.ranges.grid.column.0;
-  low = subst (λ (y : ℕ). y ≤ 200000000) whole.same small.height;
+  low = small.height;
   few = few-columns box.width rules.grid.column small.width valid.ranges.grid.column.0;
-  positions = every-all (IsPosition (kind_at m height (grid_at rules box ps))) ps
+  positions = every-all (IsPosition (kind_at m (grid_at rules box ps))) ps
       (every-weaker (λ (p : Position). IsFree (terminal_names m.lines) (power_names m.lines) p.terminal × (p.column < box.width / rules.grid.column))
-      (IsPosition (kind_at m height (grid_at rules box ps))) (good-position rules height box m ps) ps
+      (IsPosition (kind_at m (grid_at rules box ps))) (good-position rules box m ps) ps
       (positions-hold (IsFree (terminal_names m.lines) (power_names m.lines)) rules.grid.column box (spots_of m.lines) ps grid.positions
       (free-spots (terminal_names m.lines) (power_names m.lines) m.lines (known-lines m.lines))));
   apart = clash-free [] ps whole.apart;
@@ -64,39 +64,25 @@ good-kind rules height n m box ps valid kept standard small grid whole = record 
 }
 
 -- what a STANDARD module gives is a good kind
-pub kind-good : (rules : RuleValues) (height n : ℕ) (m : Module) (k : CellKind) → ValidRules rules → IsKeptModule m → is_standard m.kind ≡ true
-    → kind_of rules height n m ≡ Ok k → IsKind k
-kind-good rules height n m k valid kept standard h =
-    let made : IsMade rules height n m k = kind-made rules height n m k h in
+pub kind-good : (rules : RuleValues) (n : ℕ) (m : Module) (k : CellKind) → ValidRules rules → IsKeptModule m → is_standard m.kind ≡ true
+    → kind_of rules (n, m) ≡ Ok k → IsKind k
+kind-good rules n m k valid kept standard h =
+    let made : IsMade rules n m k = kind-made rules n m k h in
     subst IsKind made.kind
-    (good-kind rules height n m made.box made.positions valid kept standard (outline-small m.corners made.box kept.corners made.outline)
+    (good-kind rules n m made.box made.positions valid kept standard (outline-small m.corners made.box kept.corners made.outline)
     (grid-made rules.grid.column made.box (spots_of m.lines) made.positions made.grid)
-    (faultless rules height n made.box (spots_of m.lines) made.positions made.fault))
-
--- and it is at most 200,000,000
-pub kind-low : (rules : RuleValues) (height n : ℕ) (m : Module) (k : CellKind) → IsKeptModule m → kind_of rules height n m ≡ Ok k → height ≤ 200000000
-kind-low rules height n m k kept h =
-    let made : IsMade rules height n m k = kind-made rules height n m k h in
-    let small : IsSmall made.box = outline-small m.corners made.box kept.corners made.outline in
-    let whole : IsFaultless rules height made.box (spots_of m.lines) made.positions = faultless rules height n made.box (spots_of m.lines) made.positions made.fault in
-    subst (λ (y : ℕ). y ≤ 200000000) whole.same small.height
-
--- and it has this height
-pub kind-level : (rules : RuleValues) (height n : ℕ) (m : Module) (k : CellKind) → kind_of rules height n m ≡ Ok k → k.height ≡ height
-kind-level rules height n m k h =
-    let made : IsMade rules height n m k = kind-made rules height n m k h in
-    ap (λ (c : CellKind). c.height) (sym made.kind)
+    (faultless rules n made.box (spots_of m.lines) made.positions made.fault))
 
 -- and it has room for two pins and the space between them
-pub kind-high : (rules : RuleValues) (height n : ℕ) (m : Module) (k : CellKind) → kind_of rules height n m ≡ Ok k
+pub kind-high : (rules : RuleValues) (n : ℕ) (m : Module) (k : CellKind) → kind_of rules (n, m) ≡ Ok k
     → least_height rules ≤ k.height
-kind-high rules height n m k h =
-    let made : IsMade rules height n m k = kind-made rules height n m k h in
-    let whole : IsFaultless rules height made.box (spots_of m.lines) made.positions = faultless rules height n made.box (spots_of m.lines) made.positions made.fault in
-    subst (λ (y : ℕ). least_height rules ≤ y) (whole.same ∙ sym (kind-level rules height n m k h)) whole.high
+kind-high rules n m k h =
+    let made : IsMade rules n m k = kind-made rules n m k h in
+    let whole : IsFaultless rules made.box (spots_of m.lines) made.positions = faultless rules n made.box (spots_of m.lines) made.positions made.fault in
+    subst (λ (k : CellKind). least_height rules ≤ k.height) made.kind whole.high
 
 -- a kind's terminals are those of its module
-pub kind-terminals : (rules : RuleValues) (height n : ℕ) (m : Module) (k : CellKind) → kind_of rules height n m ≡ Ok k → k.terminals ≡ terminals_of m.lines
-kind-terminals rules height n m k h =
-    let made : IsMade rules height n m k = kind-made rules height n m k h in
+pub kind-terminals : (rules : RuleValues) (n : ℕ) (m : Module) (k : CellKind) → kind_of rules (n, m) ≡ Ok k → k.terminals ≡ terminals_of m.lines
+kind-terminals rules n m k h =
+    let made : IsMade rules n m k = kind-made rules n m k h in
     ap (λ (c : CellKind). c.terminals) (sym made.kind)

@@ -1,4 +1,4 @@
-use Rattle.std.proofs.Common.{◌≡◌, ℕ, ◌%◌, ◌≤◌, ◌==◌, nat_lt, List, [], Bool, true, false, not, Option, Some, None, Result, Ok, refl, arith}
+use Rattle.std.proofs.Common.{◌≡◌, ℕ, ◌%◌, ◌≤◌, ◌==◌, nat_lt, List, [], Bool, true, false, Option, Some, None, Result, Ok, refl, arith}
 use Rattle.std.proofs.lemmas.Bool.Decides.{nat_tests}
 use Rattle.std.specs.List.{list_all}
 use Rattle.std.specs.Prelude.{if◌then◌else◌}
@@ -10,52 +10,53 @@ use Rattle.netlist_core.specs.Outline.{outline_of}
 use Rattle.design_model.specs.Room.{least_height}
 use Rattle.design_model.specs.declared.design.CellKind.{CellKind}
 use Rattle.design_model.specs.declared.design.Position.{Position}
+use Rattle.netlist_core.specs.declared.cells.Grid.{Grid}
 use Rattle.netlist_core.specs.declared.fault.DesignFault.{DesignFault}
 use Rattle.netlist_core.specs.declared.fault.DesignFault.TheVariants as faults
 use Rattle.netlist_core.specs.declared.outline.Outline.{Outline}
 use Rattle.yal_reader.specs.declared.file.Spot.{Spot}
 
 -- what a module has that is a kind
-pub record IsMade (rules : RuleValues) (height n : ℕ) (m : Module) (k : CellKind) : Type 0 where
+pub record IsMade (rules : RuleValues) (n : ℕ) (m : Module) (k : CellKind) : Type 0 where
   pub box : Outline
   pub positions : List Position
   pub outline : outline_of m.corners ≡ Some box
   pub grid : grid_positions rules.grid.column box (spots_of m.lines) ≡ Some positions
-  pub fault : kind_fault rules height n box (spots_of m.lines) positions ≡ None
-  pub kind : kind_at m height (grid_at rules box positions) ≡ k
+  pub fault : kind_fault rules n box (spots_of m.lines) positions ≡ None
+  pub kind : kind_at m (grid_at rules box positions) ≡ k
 
 ok-one : {X : Type 0} {x y : X} → (let r : Result X DesignFault = Ok x in r) ≡ Ok y → x ≡ y
 ok-one h = cc
 
-made-kind : (rules : RuleValues) (height n : ℕ) (m : Module) (k : CellKind) (box : Outline) (ps : List Position)
+made-kind : (rules : RuleValues) (n : ℕ) (m : Module) (k : CellKind) (box : Outline) (ps : List Position)
     → outline_of m.corners ≡ Some box → grid_positions rules.grid.column box (spots_of m.lines) ≡ Some ps
-    → (fault : Option DesignFault) → kind_fault rules height n box (spots_of m.lines) ps ≡ fault
-    → (unless fault (Ok (grid_at rules box ps)) >>= λ (grid : ℕ × List Position). Ok (kind_at m height grid)) ≡ Ok k → IsMade rules height n m k
-made-kind rules height n m k box ps outline grid None none h =
+    → (fault : Option DesignFault) → kind_fault rules n box (spots_of m.lines) ps ≡ fault
+    → (unless fault (Ok (grid_at rules box ps)) >>= λ (grid : Grid). Ok (kind_at m grid)) ≡ Ok k → IsMade rules n m k
+made-kind rules n m k box ps outline grid None none h =
     record { box = box; positions = ps; outline = outline; grid = grid; fault = none; kind = ok-one h }
-made-kind rules height n m k box ps outline grid (Some fault) some h = cc
+made-kind rules n m k box ps outline grid (Some fault) some h = cc
 
-made-grid : (rules : RuleValues) (height n : ℕ) (m : Module) (k : CellKind) (box : Outline) → outline_of m.corners ≡ Some box
+made-grid : (rules : RuleValues) (n : ℕ) (m : Module) (k : CellKind) (box : Outline) → outline_of m.corners ≡ Some box
     → (ps : Option (List Position)) → grid_positions rules.grid.column box (spots_of m.lines) ≡ ps
-    → ((found (faults.OffGrid n) ps >>= λ positions. unless (kind_fault rules height n box (spots_of m.lines) positions) (Ok (grid_at rules box positions)))
-    >>= λ (grid : ℕ × List Position). Ok (kind_at m height grid)) ≡ Ok k
-    → IsMade rules height n m k
-made-grid rules height n m k box outline None grid h = cc
-made-grid rules height n m k box outline (Some ps) grid h =
-    made-kind rules height n m k box ps outline grid (kind_fault rules height n box (spots_of m.lines) ps) refl h
+    → ((found (faults.OffGrid n) ps >>= λ positions. unless (kind_fault rules n box (spots_of m.lines) positions) (Ok (grid_at rules box positions)))
+    >>= λ (grid : Grid). Ok (kind_at m grid)) ≡ Ok k
+    → IsMade rules n m k
+made-grid rules n m k box outline None grid h = cc
+made-grid rules n m k box outline (Some ps) grid h =
+    made-kind rules n m k box ps outline grid (kind_fault rules n box (spots_of m.lines) ps) refl h
 
 -- where a module is a kind, it has all that
-pub kind-made : (rules : RuleValues) (height n : ℕ) (m : Module) (k : CellKind) → kind_of rules height n m ≡ Ok k → IsMade rules height n m k
+pub kind-made : (rules : RuleValues) (n : ℕ) (m : Module) (k : CellKind) → kind_of rules (n, m) ≡ Ok k → IsMade rules n m k
 unfolding kind_of grid_of
-kind-made rules height n m k = by (outline_of m.corners) refl
+kind-made rules n m k = by (outline_of m.corners) refl
   where
     by : (o : Option Outline) → outline_of m.corners ≡ o
         → ((found (faults.NoShape n) o >>= λ box. found (faults.OffGrid n) (grid_positions rules.grid.column box (spots_of m.lines)) >>= λ positions.
-        unless (kind_fault rules height n box (spots_of m.lines) positions) (Ok (grid_at rules box positions)))
-        >>= λ (grid : ℕ × List Position). Ok (kind_at m height grid)) ≡ Ok k
-        → IsMade rules height n m k
+        unless (kind_fault rules n box (spots_of m.lines) positions) (Ok (grid_at rules box positions)))
+        >>= λ (grid : Grid). Ok (kind_at m grid)) ≡ Ok k
+        → IsMade rules n m k
     by None outline h = cc
-    by (Some box) outline h = made-grid rules height n m k box outline (grid_positions rules.grid.column box (spots_of m.lines)) refl h
+    by (Some box) outline h = made-grid rules n m k box outline (grid_positions rules.grid.column box (spots_of m.lines)) refl h
 
 -- what positions on the grid are
 pub record IsGridded (pitch : ℕ) (box : Outline) (spots : List (ℕ × Spot)) (ps : List Position) : Type 0 where
@@ -75,31 +76,25 @@ grid-made pitch box spots ps = by (box.width % pitch == 0) refl
     by false whole h = cc
 
 -- what a kind without a fault is
-pub record IsFaultless (rules : RuleValues) (height : ℕ) (box : Outline) (spots : List (ℕ × Spot)) (ps : List Position) : Type 0 where
-  pub same : box.height ≡ height
+pub record IsFaultless (rules : RuleValues) (box : Outline) (spots : List (ℕ × Spot)) (ps : List Position) : Type 0 where
   pub high : least_height rules ≤ box.height
   pub apart : clashes [] ps ≡ false
   pub layer : list_all (is_on_layer rules.yal) spots ≡ true
 
-pub faultless : (rules : RuleValues) (height n : ℕ) (box : Outline) (spots : List (ℕ × Spot)) (ps : List Position)
-    → kind_fault rules height n box spots ps ≡ None → IsFaultless rules height box spots ps
+pub faultless : (rules : RuleValues) (n : ℕ) (box : Outline) (spots : List (ℕ × Spot)) (ps : List Position)
+    → kind_fault rules n box spots ps ≡ None → IsFaultless rules box spots ps
 unfolding kind_fault
-faultless rules height n box spots ps =
-    by (box.height == height) refl (nat_lt box.height (least_height rules)) refl (clashes [] ps) refl
-    (list_all (is_on_layer rules.yal) spots) refl
+faultless rules n box spots ps =
+    by (nat_lt box.height (least_height rules)) refl (clashes [] ps) refl (list_all (is_on_layer rules.yal) spots) refl
   where
-    same-of : (box.height == height) ≡ true → box.height ≡ height
-    same-of h = grind (arith, nat_tests)
-
     least-of : nat_lt box.height (least_height rules) ≡ false → least_height rules ≤ box.height
     least-of h = grind (arith, nat_tests)
 
-    by : (a : Bool) → (box.height == height) ≡ a → (b : Bool) → nat_lt box.height (least_height rules) ≡ b
-        → (c : Bool) → clashes [] ps ≡ c → (d : Bool) → list_all (is_on_layer rules.yal) spots ≡ d
-        → (if not a then Some (faults.Height n) else if b then Some (faults.TooLow n) else if c then Some (faults.PinClash n) else if d then None else Some (faults.WrongLayer n)) ≡ None
-        → IsFaultless rules height box spots ps
-    by false ha b hb c hc d hd h = cc
-    by true ha true hb c hc d hd h = cc
-    by true ha false hb true hc d hd h = cc
-    by true ha false hb false hc true hd h = record { same = same-of ha; high = least-of hb; apart = hc; layer = hd }
-    by true ha false hb false hc false hd h = cc
+    by : (a : Bool) → nat_lt box.height (least_height rules) ≡ a → (b : Bool) → clashes [] ps ≡ b
+        → (c : Bool) → list_all (is_on_layer rules.yal) spots ≡ c
+        → (if a then Some (faults.TooLow n) else if b then Some (faults.PinClash n) else if c then None else Some (faults.WrongLayer n)) ≡ None
+        → IsFaultless rules box spots ps
+    by true ha b hb c hc h = cc
+    by false ha true hb c hc h = cc
+    by false ha false hb true hc h = record { high = least-of ha; apart = hb; layer = hc }
+    by false ha false hb false hc h = cc

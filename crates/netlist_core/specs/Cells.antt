@@ -11,19 +11,16 @@ use Rattle.yal_reader.specs.declared.file.Spot.{Spot}
 use Rattle.yal_reader.specs.declared.file.Line.{Line}
 use Rattle.yal_reader.specs.declared.file.Module.{Module}
 use Rattle.netlist_core.specs.Answers.{◌>>=◌, unless, found}
-use Rattle.netlist_core.specs.Outline.{outline_of, height_of_outline}
+use Rattle.netlist_core.specs.Outline.{outline_of}
 use Rattle.design_model.specs.Room.{least_height}
 use Rattle.design_model.specs.declared.design.Position.{Position}
 use Rattle.design_model.specs.declared.design.Terminal.{Terminal}
 use Rattle.design_model.specs.declared.design.CellKind.{CellKind}
+use Rattle.netlist_core.specs.declared.cells.Grid.{Grid}
 use Rattle.netlist_core.specs.declared.fault.DesignFault.{DesignFault}
 use Rattle.netlist_core.specs.declared.fault.DesignFault.TheVariants as faults
 use Rattle.netlist_core.specs.declared.outline.Outline.{Outline}
 use Rattle.netlist_core.specs.declared.positions.Point.{Point}
-
--- the height of a module, or 0 where its corners are no rectangle
-abbrev pub height_of_module : Module → ℕ
-height_of_module m = height_of_outline (outline_of m.corners)
 
 -- the names of lines, and the lines that are power
 abbrev pub line_names : List Line → List (List ℕ)
@@ -110,30 +107,30 @@ clashes earlier (p ∷ ps) = list_any (same_point (point_of p)) earlier || clash
 abbrev pub is_on_layer : List ℕ → ℕ × Spot → Bool
 is_on_layer word spot = str_eq_ignore_ascii_case spot.1.layer word
 
-unfoldable pub kind_fault : RuleValues → ℕ → ℕ → Outline → List (ℕ × Spot) → List Position → Option DesignFault
-kind_fault rules height n box spots positions =
-    if not (box.height == height) then Some (faults.Height n) else
+-- what is wrong with the module with number n on the grid, whose outline this is
+unfoldable pub kind_fault : RuleValues → ℕ → Outline → List (ℕ × Spot) → List Position → Option DesignFault
+kind_fault rules n box spots positions =
     if nat_lt box.height (least_height rules) then Some (faults.TooLow n) else
     if clashes [] positions then Some (faults.PinClash n) else
     if list_all (is_on_layer rules.yal) spots then None else Some (faults.WrongLayer n)
 
--- a module's width in columns, and its positions
-abbrev pub grid_at : RuleValues → Outline → List Position → ℕ × List Position
-grid_at rules box positions = (box.width / rules.grid.column, positions)
+-- the sides of a module with this outline, and its positions
+abbrev pub grid_at : RuleValues → Outline → List Position → Grid
+grid_at rules box positions = record { columns = box.width / rules.grid.column; height = box.height; positions = positions }
 
 -- the same of the module with number n that has these corners and spots, or why it is no kind
-unfoldable pub grid_of : RuleValues → ℕ → ℕ → List ℤ → List (ℕ × Spot) → Result (ℕ × List Position) DesignFault
-grid_of rules height n corners spots = do
+unfoldable pub grid_of : RuleValues → ℕ → List ℤ → List (ℕ × Spot) → Result Grid DesignFault
+grid_of rules n corners spots = do
   box ← found (faults.NoShape n) (outline_of corners)
   positions ← found (faults.OffGrid n) (grid_positions rules.grid.column box spots)
-  unless (kind_fault rules height n box spots positions) (Ok (grid_at rules box positions))
+  unless (kind_fault rules n box spots positions) (Ok (grid_at rules box positions))
 
--- a module as a kind of this height with this width and these positions
-abbrev pub kind_at : Module → ℕ → ℕ × List Position → CellKind
-kind_at m height grid = record { name = m.name; columns = grid.0; height = height; terminals = terminals_of m.lines; positions = grid.1 }
+-- a module as a kind with these sides and positions
+abbrev pub kind_at : Module → Grid → CellKind
+kind_at m grid = record { name = m.name; columns = grid.columns; height = grid.height; terminals = terminals_of m.lines; positions = grid.positions }
 
--- the kind of the module with number n in the file, where all used modules have this height
-unfoldable pub kind_of : RuleValues → ℕ → ℕ → Module → Result CellKind DesignFault
-kind_of rules height n m = do
-  grid ← grid_of rules height n m.corners (spots_of m.lines)
-  Ok (kind_at m height grid)
+-- the kind of a module with its number in the file, or why it is none
+unfoldable pub kind_of : RuleValues → ℕ × Module → Result CellKind DesignFault
+kind_of rules m = do
+  grid ← grid_of rules m.0 m.1.corners (spots_of m.1.lines)
+  Ok (kind_at m.1 grid)

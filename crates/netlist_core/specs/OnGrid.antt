@@ -1,5 +1,5 @@
 -- the checked design of a file, or the first refusal
-use Rattle.std.specs.Prelude.{ℕ, List, [], ◌∷◌, length, map, filter, Bool, Result, Ok}
+use Rattle.std.specs.Prelude.{ℕ, max, List, length, map, filter, fold, Bool, Result, Ok}
 use Rattle.std.specs.List.{enumerate_from, list_any}
 use Rattle.std.specs.Str.{bytes_eq}
 use Rattle.limits.specs.declared.TheConstants.{MOST_INSTANCES, MOST_PINS}
@@ -10,7 +10,7 @@ use Rattle.yal_reader.specs.declared.file.YalFile.{YalFile}
 use Rattle.list_facts.specs.Names.{place_among}
 use Rattle.netlist_core.specs.Answers.{◌>>=◌, unless, each}
 use Rattle.netlist_core.specs.Calls.{only_parent, is_parent_module, calls_fault, over}
-use Rattle.netlist_core.specs.Cells.{height_of_module, kind_of}
+use Rattle.netlist_core.specs.Cells.{kind_of}
 use Rattle.design_model.specs.Netlist.{Netlist}
 use Rattle.netlist_core.specs.Signals.{PinWord, all_signals, nets_of, pin_in}
 use Rattle.design_model.specs.declared.design.CellKind.{CellKind}
@@ -33,18 +33,13 @@ used_modules modules calls = filter (is_used calls) (enumerate_from 0 modules)
 abbrev pub used_names : List (ℕ × Module) → List (List ℕ)
 used_names used = map (λ (m : ℕ × Module). m.1.name) used
 
--- the height of the first used module, or 0 where there is none or it has no outline
-unfoldable pub height_of : List (ℕ × Module) → ℕ
-height_of [] = 0
-height_of (m ∷ ms) = height_of_module m.1
-
--- the kind of a numbered module among those of this height
-unfoldable pub kind_for : RuleValues → ℕ → ℕ × Module → Result CellKind DesignFault
-kind_for rules height m = kind_of rules height m.0 m.1
-
 -- the kinds of the used modules, or the first refusal of one
 unfoldable pub kinds_for : RuleValues → List (ℕ × Module) → Result (List CellKind) DesignFault
-kinds_for rules used = each (kind_for rules (height_of used)) used
+kinds_for rules used = each (kind_of rules) used
+
+-- the greatest height of kinds, or 0 where there is none
+abbrev pub greatest_height : List CellKind → ℕ
+greatest_height kinds = fold max 0 (map (λ (k : CellKind). k.height) kinds)
 
 -- an instance: its kind has the place of its module among the used modules
 abbrev pub inst_in : List (List ℕ) → Call → Inst
@@ -53,7 +48,7 @@ inst_in names call = record { name = call.name; kind = place_among names call.«
 abbrev pub design_of : List (ℕ × Module) → List PinWord → List Call → List CellKind → Netlist
 design_of used signals calls kinds = record {
   kinds = kinds;
-  height = height_of used;
+  height = greatest_height kinds;
   instances = map (inst_in (used_names used)) calls;
   pins = map (pin_in (nets_of signals)) signals;
   nets = nets_of signals;

@@ -24,11 +24,6 @@ outline_of (x0 ∷ y0 ∷ x1 ∷ y1 ∷ x2 ∷ y2 ∷ x3 ∷ y3 ∷ []) =
     if has_turns x0 y0 x1 y1 x2 y2 x3 y3 then between x0 y0 x2 y2 else None
 outline_of _ = None
 
--- the height of an outline, or 0 where there is none
-abbrev pub height_of_outline : Option Outline → ℕ
-height_of_outline None = 0
-height_of_outline (Some o) = o.height
-
 -- the ends of a side of this length, in either order
 pub data AreEnds (from : ℤ) (size : ℕ) (a b : ℤ) : Type 0 where
   upward : a ≡ from → b ≡ from +ℤ pos size → AreEnds from size a b

@@ -1,7 +1,7 @@
-//! The cell kind of a module: width in columns, terminals and positions, or why it does not fit the grid.
+//! The cell kind of a module: its sides, terminals and positions, or why it does not fit the grid.
 
 ghost use Rattle.netlist_core.specs.Answers.{Agrees};
-ghost use Rattle.netlist_core.specs.Cells.{grid_of, height_of_module, kind_fault, kind_of};
+ghost use Rattle.netlist_core.specs.Cells.{grid_of, kind_fault, kind_of};
 ghost use Rattle.std.specs.Prelude.{◌≡◌, IfOk};
 
 use crate::fault::DesignFault;
@@ -14,62 +14,51 @@ use geom_core::Items;
 use std::alloc::{AllocError, Global};
 use tech_rules::Rules;
 
-/// The height of a module in units, or 0 where its corners are no rectangle. Takes no memory.
-pub(crate) fn height_of_module(numbered: &Numbered) -> u32
-    ensures { result ≡ height_of_module numbered.now.1 }
-{
-    match outline_of(numbered.corners()) {
-        Some(outline) => outline.height,
-        None => 0,
-    }
-}
-
-/// The cell kind of a module, where all used modules have this height. It errs with NoShape where
-/// the corners are no rectangle, OffGrid where the width or a position is off the column grid, Height where the height is
-/// another, TooLow where it is below two pins and the vertical space, PinClash where two positions share a point, and
-/// WrongLayer where a position's layer is not the rules' word, ASCII case aside: the first of these that holds. Positions of
-/// power terminals do not count.
+/// The cell kind of a module, of its own height. It errs with NoShape where the corners are no rectangle, OffGrid where the width
+/// is no whole columns or a position is in the middle of no column or at neither edge, TooLow where the height is below two pins and
+/// the vertical space, PinClash where two positions share a point, and WrongLayer where a position's layer is not the rules' word,
+/// ASCII case aside: the first of these that holds. Positions of power terminals do not count.
 #[tactic(auto, unfolding(crate::specs::Cells::kind_of))]
 pub(crate) fn kind_of(
     alloc: Global,
     rules: &Rules,
-    height: u32,
     numbered: &Numbered,
 ) -> Result<CellKind, DesignFault>
-    ensures { Agrees (λ kind. kind) result (kind_of rules.now height numbered.now.0 numbered.now.1) }
+    ensures { Agrees (λ kind. kind) result (kind_of rules.now numbered.now) }
 {
     let module = numbered.module;
     let terminals = Terminals::new(alloc, module.lines.items())?;
     let list = terminals.list(alloc)?;
     let spots = terminals.spots(alloc)?;
-    let grid = grid_of(alloc, rules, height, numbered, spots.as_slice())?;
+    let grid = grid_of(alloc, rules, numbered, spots.as_slice())?;
     Ok(CellKind {
         name: module.name.copied(alloc)?,
         columns: grid.columns,
-        height,
+        height: grid.height,
         terminals: Items::new(list),
         positions: grid.positions,
     })
 }
 
-/// Where a module lies on the grid.
+/// The sides of a module that lies on the grid, and its positions.
 #[derive(Drop)]
 struct Grid {
     /// Its width in columns.
     columns: u32,
+    /// Its height in units.
+    height: u32,
     positions: Items<Position>,
 }
 
-// The width and the positions of a module that has these spots, or why it is no kind.
+// The sides and the positions of a module that has these spots, or why it is no kind.
 #[tactic(auto, unfolding(crate::specs::Cells::grid_of))]
 fn grid_of(
     alloc: Global,
     rules: &Rules,
-    height: u32,
     numbered: &Numbered,
     spots: &[NumberedSpot],
 ) -> Result<Grid, DesignFault>
-    ensures { Agrees (λ grid. (grid.columns, grid.positions)) result (grid_of rules.now height numbered.now.0 numbered.now.1.corners spots.now) }
+    ensures { Agrees (λ grid. grid) result (grid_of rules.now numbered.now.0 numbered.now.1.corners spots.now) }
 {
     let n = numbered.number;
     let Some(outline) = outline_of(numbered.corners()) else {
@@ -82,11 +71,12 @@ fn grid_of(
     let Some(positions) = columns.grid_positions(alloc, spots)? else {
         return Err(DesignFault::OffGrid(n));
     };
-    if let Some(fault) = kind_fault(alloc, rules, height, n, outline, spots, &positions)? {
+    if let Some(fault) = kind_fault(alloc, rules, n, outline, spots, &positions)? {
         return Err(fault);
     }
     Ok(Grid {
         columns: columns.count(),
+        height: outline.height,
         positions: Items::new(positions),
     })
 }
@@ -96,17 +86,13 @@ fn grid_of(
 fn kind_fault(
     alloc: Global,
     rules: &Rules,
-    height: u32,
     n: u32,
     outline: Outline,
     spots: &[NumberedSpot],
     positions: &[Position],
 ) -> Result<Option<DesignFault>, AllocError>
-    ensures { IfOk result (λ fault. fault ≡ kind_fault rules.now height n outline spots.now positions.now) }
+    ensures { IfOk result (λ fault. fault ≡ kind_fault rules.now n outline spots.now positions.now) }
 {
-    if outline.height != height {
-        return Ok(Some(DesignFault::Height(n)));
-    }
     if outline.height < 2 * rules.grid.pin + rules.vertical.space {
         return Ok(Some(DesignFault::TooLow(n)));
     }

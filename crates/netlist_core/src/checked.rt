@@ -11,7 +11,7 @@ use crate::names::Names;
 use crate::nets::connections_of;
 use crate::numbered::Numbered;
 use crate::signals::Signal;
-use crate::used::{height_of, kinds_of, names_of};
+use crate::used::{greatest_height, kinds_of, names_of};
 use design_model::Design;
 use geom_core::Items;
 use std::alloc::{AllocError, Global};
@@ -65,9 +65,10 @@ pub(crate) fn used_design(
     let names = used_names(alloc, checked)?;
     let instances = instances_of(alloc, &names, checked.calls)?;
     let connections = connections_of(alloc, checked)?;
+    let height = greatest_height(kinds.as_slice());
     Ok(Design {
         kinds: Items::new(kinds),
-        height: height_of(used),
+        height,
         instances: Items::new(instances),
         pins: Items::new(connections.pins),
         nets: Items::new(connections.nets),

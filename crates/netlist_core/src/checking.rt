@@ -28,12 +28,12 @@ use yal_reader::YalFile;
 /// The checked design of a file: its PARENT's calls as instances, the modules that they use as kinds on the column grid of the
 /// rules, and the pins with the nets that their signal words make. Two pins have one net exactly where their words are equal.
 /// Kinds stand in the order of the file, positions in that of their lines, instances in that of the calls, and terminals and
-/// nets in the order of their first mention. The height of a design with kinds has room for two pins and the space between
-/// them; without kinds it is 0.
+/// nets in the order of their first mention. A kind is as high as its own module, and has room for two pins and the space
+/// between them; the height of the design is the greatest of its kinds, and 0 where there is none.
 ///
 /// It errs with the first of these that holds: NoParent, ManyParents, Limit(Instances) above 20,000; then by instance
 /// UnknownModule, NotStandard or SignalCount; Limit(Pins) above 200,000; then by used module, in the order of the file, NoShape,
-/// OffGrid, Height, TooLow, PinClash or WrongLayer; and with Memory where memory runs out.
+/// OffGrid, TooLow, PinClash or WrongLayer; and with Memory where memory runs out.
 #[tactic(auto, unfolding(crate::specs::OnGrid::on_grid))]
 pub fn to_design(alloc: Global, file: &YalFile, rules: &Rules) -> Result<Design, DesignFault>
     requires file { IsKept file.now }

@@ -31,12 +31,9 @@ pub enum DesignFault {
     /// This module's DIMENSIONS are not the four corners of a rectangle, in order.
     #[error("a module's dimensions are no rectangle")]
     NoShape(u32),
-    /// This module's width or a position is off the column grid.
+    /// This module's width is no whole columns, or a position is in the middle of no column or at neither edge.
     #[error("a module is off the column grid")]
     OffGrid(u32),
-    /// This module's height is not that of the first used module.
-    #[error("a module's height is not that of the others")]
-    Height(u32),
     /// This module is too low for two pins and the space between them.
     #[error("a module is too low")]
     TooLow(u32),

@@ -1,14 +1,14 @@
-//! The modules that are called, their common height, and the cell kinds that they make.
+//! The modules that are called, the cell kinds that they make, and the greatest height of these.
 
 ghost use Rattle.list_facts.specs.Names.{mentions};
 ghost use Rattle.list_facts.specs.Texts.{texts};
 ghost use Rattle.netlist_core.specs.Answers.{Agrees};
-ghost use Rattle.netlist_core.specs.OnGrid.{height_of, kind_for, kinds_for, used_modules, used_names};
+ghost use Rattle.netlist_core.specs.OnGrid.{greatest_height, kinds_for, used_modules, used_names};
 ghost use Rattle.std.specs.Prelude.{◌≡◌, IfOk};
 
 use crate::DesignFault;
 use crate::calls::called_names;
-use crate::cells::{height_of_module, kind_of};
+use crate::cells::kind_of;
 use crate::modules::Modules;
 use crate::numbered::Numbered;
 use design_model::CellKind;
@@ -56,19 +56,8 @@ pub(crate) fn names_of<'a>(
     Ok(names)
 }
 
-/// The height of the first of these modules, or 0 where there is none. Takes no memory.
-#[tactic(auto, unfolding(crate::specs::OnGrid::height_of))]
-pub(crate) fn height_of(used: &[Numbered]) -> u32
-    ensures { result ≡ height_of used.now }
-{
-    match used {
-        [first, ..] => height_of_module(first),
-        [] => 0,
-    }
-}
-
-/// The kinds of these modules, or the first refusal of one: NoShape, OffGrid, Height, TooLow, PinClash or WrongLayer with its
-/// number in the file.
+/// The kinds of these modules, or the first refusal of one: NoShape, OffGrid, TooLow, PinClash or WrongLayer with its number in
+/// the file.
 #[tactic(auto, unfolding(crate::specs::OnGrid::kinds_for))]
 pub(crate) fn kinds_of(
     alloc: Global,
@@ -77,10 +66,9 @@ pub(crate) fn kinds_of(
 ) -> Result<Vec<CellKind>, DesignFault>
     ensures { Agrees (λ v. v.items) result (kinds_for rules.now used.now) }
 {
-    let height = height_of(used);
     let mut kinds = Vec::new(alloc);
     for numbered in used {
-        match kind_for(alloc, rules, height, numbered) {
+        match kind_of(alloc, rules, numbered) {
             Ok(kind) => kinds.push(kind)?,
             Err(fault) => return Err(fault),
         }
@@ -88,14 +76,13 @@ pub(crate) fn kinds_of(
     Ok(kinds)
 }
 
-#[tactic(auto, unfolding(crate::specs::OnGrid::kind_for))]
-fn kind_for(
-    alloc: Global,
-    rules: &Rules,
-    height: u32,
-    numbered: &Numbered,
-) -> Result<CellKind, DesignFault>
-    ensures { Agrees (λ kind. kind) result (kind_for rules.now height numbered.now) }
+/// The greatest height of these kinds in units, or 0 where there is none. Takes no memory.
+pub(crate) fn greatest_height(kinds: &[CellKind]) -> u32
+    ensures { result ≡ greatest_height kinds.now }
 {
-    kind_of(alloc, rules, height, numbered)
+    let mut greatest = 0;
+    for kind in kinds {
+        greatest = greatest.max(kind.height);
+    }
+    greatest
 }
