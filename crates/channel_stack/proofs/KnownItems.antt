@@ -10,7 +10,7 @@ use Rattle.design_model.specs.declared.design.CellKind.{CellKind}
 use Rattle.design_model.specs.declared.design.Inst.{Inst}
 use Rattle.design_model.specs.declared.design.Position.{Position}
 use Rattle.design_model.specs.Room.{HasRoom}
-use Rattle.design_model.proofs.RoomLaws.{kind-level, kind-room}
+use Rattle.design_model.proofs.RoomLaws.{kind-room}
 use Rattle.geom_core.specs.Moving.{moved_shape, turn_at}
 use Rattle.wire_geom.specs.declared.drawn.Drawn.{Drawn}
 use Rattle.row_model.specs.Rows.{ArePlaced, all_instances, instances_in}
@@ -36,7 +36,6 @@ pub record KnownCell (d : Netlist) (s : Seat) : Type 0 where
   pub is_kind : slice_get d.kinds inst.kind ≡ Some kind
   pub is_kind_of : kind_of d s.instance ≡ Some kind
   pub good : IsKind kind
-  pub level : kind.height ≡ d.height
 
 -- an item has a drawing: a cell's instance is of the design
 abbrev pub IsKnown : Netlist → Item → Type 0
@@ -54,7 +53,6 @@ instance-known d is s inst at =
       is_kind = kind.1;
       is_kind_of = ap (λ (o : Option Inst). kind_in o) at ∙ kind.1;
       good = All-contains IsKind d.kinds kind.0 is.kinds (get-contains d.kinds inst.kind kind.0 kind.1);
-      level = kind-level d is inst.kind kind.0 kind.1;
     }
   where
     kind_in : Option Inst → Option CellKind

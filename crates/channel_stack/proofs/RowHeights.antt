@@ -5,7 +5,7 @@ use Rattle.std.specs.Prelude.{slice_get}
 use Rattle.tech_rules.specs.Rules.{RuleValues}
 use Rattle.design_model.specs.Netlist.{Netlist, IsNetlist}
 use Rattle.design_model.specs.Room.{HasRoom, least_height}
-use Rattle.design_model.proofs.RoomLaws.{design-room, kind-room}
+use Rattle.design_model.proofs.RoomLaws.{kind-highest, design-room, kind-room}
 use Rattle.row_model.specs.Widths.{cell_height, height_of}
 use Rattle.row_model.specs.declared.rows.Seat.{Seat}
 use Rattle.channel_model.specs.declared.wiring.Wiring.{Wiring}
@@ -62,33 +62,24 @@ module _ (r : RuleValues) (d : Netlist) (good : IsNetlist d) (room : HasRoom r d
             let there : Contains (seats_in items) s = subst (λ (l : List Seat). Contains l s) (sym is) (member-head s seats) in
             omega (arith, cell-room s (seat-item items s there), seat-within d (seats_in items) s there)
 
-module _ (d : Netlist) (good : IsNetlist d) (fed : Fed) (placed : ArePlaced d (cells_in fed.rows)) (items : List Item) (row : Contains fed.rows items) where
-  -- all cells of the row are as high as the design, and so is the row
-  seat-level : (s : Seat) → Contains (seats_in items) s → cell_height d s.instance ≡ d.height
-  seat-level s member =
-      let known : KnownCell d s = item-known d fed placed good items row (Cell s) (seat-item items s member) in
-      known-height d s known ∙ known.level
+-- no row is higher than the design
+pub row-low : (d : Netlist) → IsNetlist d → (fed : Fed) → ArePlaced d (cells_in fed.rows) → (items : List Item) → Contains fed.rows items → height_of_row d items ≤ d.height
+row-low d good fed placed items row = by (seats_in items) refl
+  where
+    cell-low : (s : Seat) → Contains (seats_in items) s → cell_height d s.instance ≤ d.height
+    cell-low s member =
+        let known : KnownCell d s = item-known d fed placed good items row (Cell s) (seat-item items s member) in
+        omega (arith, known-height d s known, kind-highest d good known.inst.kind known.kind known.is_kind)
 
-  pub row-level : height_of_row d items ≡ d.height
-  row-level = by (seats_in items) refl
-    where
-      by : (seats : List Seat) → seats_in items ≡ seats → row_height d (seats_in items) ≡ d.height
-      by [] none = ap (row_height d) none
-      by (s ∷ seats) is =
-          let there : Contains (seats_in items) s = subst (λ (l : List Seat). Contains l s) (sym is) (member-head s seats) in
-          let first : cell_height d s.instance ≡ d.height = seat-level s there in
-          let above : cell_height d s.instance ≤ row_height d (seats_in items) = seat-within d (seats_in items) s there in
-          let below : row_height d (s ∷ seats) ≤ d.height =
-          greatest-few d.height (cell_height d s.instance) (map (λ (t : Seat). cell_height d t.instance) seats) (omega (arith, first))
-          (every-map (λ (n : ℕ). n ≤ d.height) (λ (t : Seat). cell_height d t.instance) seats
-          (every-from-get (λ (t : Seat). cell_height d t.instance ≤ d.height) seats
-          (λ k t at. omega (arith, seat-level t (subst (λ (l : List Seat). Contains l t) (sym is) (member-tail s seats t (get-contains seats k t at))))))) in
-          let same : row_height d (seats_in items) ≡ row_height d (s ∷ seats) = ap (row_height d) is in
-          omega (arith, first, above, below, same)
-
-  -- so every cell is as high as its row
-  pub row-full : (s : Seat) → Contains items (Cell s) → cell_height d s.instance ≡ height_of_row d items
-  row-full s member = seat-level s (seat-in items s member) ∙ sym row-level
+    by : (seats : List Seat) → seats_in items ≡ seats → row_height d (seats_in items) ≤ d.height
+    by [] none = subst (λ (l : List Seat). row_height d l ≤ d.height) (sym none) (omega arith)
+    by (s ∷ seats) is =
+        subst (λ (l : List Seat). row_height d l ≤ d.height) (sym is)
+        (greatest-few d.height (cell_height d s.instance) (map (λ (t : Seat). cell_height d t.instance) seats)
+        (cell-low s (subst (λ (l : List Seat). Contains l s) (sym is) (member-head s seats)))
+        (every-map (λ (n : ℕ). n ≤ d.height) (λ (t : Seat). cell_height d t.instance) seats
+        (every-from-get (λ (t : Seat). cell_height d t.instance ≤ d.height) seats
+        (λ k t at. cell-low t (subst (λ (l : List Seat). Contains l t) (sym is) (member-tail s seats t (get-contains seats k t at)))))))
 
 -- the height of a row, among those of the rows with feeds
 pub height-there : (d : Netlist) (fed : Fed) → IsFed d fed → (k : ℕ) (items : List Item) → slice_get fed.rows k ≡ Some items
@@ -97,14 +88,8 @@ height-there d fed is k items at =
     ap (λ (heights : List ℕ). slice_get heights k) (heights-of d fed is) ∙ slice_get-map (row_height d) (cells_in fed.rows) k
     ∙ ap (option_map (row_height d)) (slice_get-map seats_in fed.rows k ∙ ap (option_map seats_in) at)
 
--- the first row is as high as the design
-pub first-level : (d : Netlist) → IsNetlist d → (fed : Fed) → IsFed d fed → slice_get fed.heights 0 ≡ Some d.height
-first-level d good fed is =
-    let first = at-place fed.rows 0 (some-row d fed is) in
-    height-there d fed is 0 first.0 first.1 ∙ ap (λ (n : ℕ). Some n) (row-level d good fed is.placed first.0 (get-contains fed.rows 0 first.0 first.1))
-
--- the stack is as high as the design
-pub height-within : (r : RuleValues) (d : Netlist) → IsNetlist d → (fed : Fed) (ws : List Wiring) → IsFed d fed → length ws ≡ length fed.rows + 1
-    → d.height ≤ stack_top r fed.heights 0 ws
-height-within r d good fed ws is each =
-    row-within r fed.heights 0 ws 0 d.height (first-level d good fed is) (omega (arith, each, heights-counted d fed is))
+-- a row is no higher than the stack
+pub height-within : (r : RuleValues) (d : Netlist) (fed : Fed) (ws : List Wiring) → IsFed d fed → length ws ≡ length fed.rows + 1
+    → (k : ℕ) (items : List Item) → slice_get fed.rows k ≡ Some items → height_of_row d items ≤ stack_top r fed.heights 0 ws
+height-within r d fed ws is each k items at =
+    row-within r fed.heights 0 ws k (height_of_row d items) (height-there d fed is k items at) (omega (arith, each, heights-counted d fed is))

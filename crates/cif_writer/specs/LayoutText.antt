@@ -6,6 +6,7 @@ use Rattle.cif_text.specs.Printing as cif
 use Rattle.cif_text.specs.Written as written
 use Rattle.cif_text.specs.declared.command.CifCommand.TheVariants as commands
 use Rattle.feed_cells.specs.Fed.{Fed}
+use Rattle.cif_writer.specs.FeedHeights.{feed_heights}
 use Rattle.cif_writer.specs.Symbols.{symbols_of, main_items}
 use Rattle.channel_stack.specs.Stack.{Stacked}
 
@@ -16,7 +17,7 @@ text_behind symbols items =
 
 -- the whole text of a placed design: the symbols of its kinds and of its feeds, and then its channels and rows from the bottom up
 unfoldable pub placed_text : RuleValues → Netlist → Fed → Stacked → List ℕ
-placed_text r d fed placed = cif.text_of (written.layout_commands (symbols_of r d fed) (main_items d placed))
+placed_text r d fed placed = cif.text_of (written.layout_commands (symbols_of r d fed) (main_items d (feed_heights fed) placed))
 
 -- a file that is told holds what it was told to hold before, or a front of a text
 abbrev pub HoldsFront : List ℕ → Option (List ℕ) → Option (List ℕ) → Type 0

@@ -1,5 +1,7 @@
 -- a text that is begun
 pub mod Begun
+-- the different heights of the rows in which feeds stand
+pub mod FeedHeights
 -- the symbols of a placed design, and what stands at its main level
 pub mod Symbols
 -- the whole text of a placed design

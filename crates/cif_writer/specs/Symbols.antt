@@ -1,6 +1,5 @@
 -- the symbols of a placed design, and what stands at its main level
-use Rattle.std.specs.Prelude.{ℕ, suc, ◌+◌, List, [], ◌∷◌, ◌++◌, map, length, Bool, true, false, Option, None, Some, option_map, slice_get, slice_index}
-use Rattle.std.specs.List.{list_any}
+use Rattle.std.specs.Prelude.{ℕ, suc, ◌+◌, List, [], ◌∷◌, ◌++◌, map, length, Option, None, Some, option_map, slice_get}
 use Rattle.geom_core.specs.declared.layout.Shape.{Shape}
 use Rattle.geom_core.specs.declared.turn.Place.{Place}
 use Rattle.tech_rules.specs.Rules.{RuleValues}
@@ -14,33 +13,21 @@ use Rattle.feed_cells.specs.declared.fed.Item.{Item}
 use Rattle.feed_cells.specs.declared.fed.Item.TheVariants.{Cell, Feed}
 use Rattle.wire_geom.specs.declared.drawn.Drawn.{Drawn}
 use Rattle.channel_stack.specs.Layouts.{feed_drawing}
-use Rattle.channel_stack.specs.Stack.{Stacked}
+use Rattle.channel_stack.specs.Stack.{LaidOut, Stacked, laid_of}
 use Rattle.channel_stack.specs.declared.placed.PlacedItem.{PlacedItem}
+use Rattle.cif_writer.specs.FeedHeights.{feed_heights, height_place}
 
 -- a kind as a symbol: its name and its drawing
 abbrev pub symbol_for : RuleValues → CellKind → written.WrittenSymbol
 symbol_for r kind = record { name = Some kind.name; shapes = drawing_of r kind }
 
--- whether an item is a feed, and whether there is one in these rows
-abbrev pub is_feed : Item → Bool
-is_feed (Cell s) = false
-is_feed (Feed net) = true
+-- the symbol of the feeds of rows of this height, which has no name
+abbrev pub feed_symbol : RuleValues → ℕ → written.WrittenSymbol
+feed_symbol r height = record { name = None; shapes = feed_drawing r height }
 
-abbrev pub has_feed : List (List Item) → Bool
-has_feed rows = list_any (list_any is_feed) rows
-
--- the height of feeds: that of the lowest row, which all rows have
-abbrev pub feed_height : Fed → ℕ
-feed_height fed = slice_index fed.heights 0
-
--- the symbol of feeds, which has no name, where there are feeds
-abbrev pub feed_symbol : RuleValues → ℕ → Bool → List written.WrittenSymbol
-feed_symbol r height false = []
-feed_symbol r height true = record { name = None; shapes = feed_drawing r height } ∷ []
-
--- the symbols of a layout: the kinds in their order, numbered from 1, and behind them that of feeds
+-- the symbols of a layout: the kinds in their order, numbered from 1, and behind them one for each height of rows with feeds
 abbrev pub symbols_of : RuleValues → Netlist → Fed → List written.WrittenSymbol
-symbols_of r d fed = map (symbol_for r) d.kinds ++ feed_symbol r (feed_height fed) (has_feed fed.rows)
+symbols_of r d fed = map (symbol_for r) d.kinds ++ map (feed_symbol r) (feed_heights fed)
 
 -- an instance's name and the number of its symbol
 abbrev pub name_of : Option Inst → Option (List ℕ)
@@ -51,34 +38,48 @@ abbrev pub number_of : Option Inst → ℕ
 number_of None = 0
 number_of (Some inst) = inst.kind + 1
 
--- a cell is a copy of its kind's symbol with its instance's name, and a feed one of the feeds' symbol without a name
+-- the number of the symbol of the feeds of a row of this height, where feeds have these heights
+abbrev pub feed_number : Netlist → List ℕ → ℕ → ℕ
+feed_number d tall height = length d.kinds + 1 + height_place tall height
+
+-- a cell is a copy of its kind's symbol with its instance's name, and a feed one of the symbol with this number without a name
 abbrev pub copy_name : Netlist → Item → Option (List ℕ)
 copy_name d (Cell s) = name_of (slice_get d.instances s.instance)
 copy_name d (Feed net) = None
 
-abbrev pub copy_number : Netlist → Item → ℕ
-copy_number d (Cell s) = number_of (slice_get d.instances s.instance)
-copy_number d (Feed net) = length d.kinds + 1
+abbrev pub copy_number : Netlist → ℕ → Item → ℕ
+copy_number d number (Cell s) = number_of (slice_get d.instances s.instance)
+copy_number d number (Feed net) = number
 
-abbrev pub copy_of : Netlist → Item → Place → written.MainItem
-copy_of d item place = written.copy (copy_name d item) (copy_number d item) place
+abbrev pub copy_of : Netlist → ℕ → Item → Place → written.MainItem
+copy_of d number item place = written.copy (copy_name d item) (copy_number d number item) place
 
-abbrev pub copies_of : Netlist → List PlacedItem → List written.MainItem
-copies_of d items = map (λ (p : PlacedItem). copy_of d p.item p.place) items
+abbrev pub copies_of : Netlist → ℕ → List PlacedItem → List written.MainItem
+copies_of d number items = map (λ (p : PlacedItem). copy_of d number p.item p.place) items
 
 -- rectangles of wires stand alone
 abbrev pub wires_of : List Drawn → List written.MainItem
 wires_of drawn = map (λ (a : Drawn). written.alone a.shape) drawn
 
--- from the bottom up: channel 0, row 0, channel 1, and so on
-abbrev pub items_of : Netlist → List (List Drawn) → List (List PlacedItem) → List written.MainItem
-items_of d [] rows = []
-items_of d (drawn ∷ channels) [] = wires_of drawn
-items_of d (drawn ∷ channels) (row ∷ rows) = wires_of drawn ++ (copies_of d row ++ items_of d channels rows)
+-- a row of this height: its items from left to right, and then its risers
+abbrev pub row_items : Netlist → List ℕ → ℕ → List PlacedItem → List Drawn → List written.MainItem
+row_items d tall height row risers = copies_of d (feed_number d tall height) row ++ wires_of risers
 
--- the main level of a layout
-abbrev pub main_items : Netlist → Stacked → List written.MainItem
-main_items d placed = items_of d placed.shapes placed.cells
+-- from the bottom up: channel 0, row 0, channel 1, and so on, with rows of these heights
+abbrev pub items_of : Netlist → List ℕ → List ℕ → List (List Drawn) → List (List PlacedItem) → List (List Drawn) → List written.MainItem
+items_of d tall heights [] rows risers = []
+items_of d tall heights (drawn ∷ channels) [] risers = wires_of drawn
+items_of d tall [] (drawn ∷ channels) (row ∷ rows) risers = wires_of drawn
+items_of d tall (h ∷ heights) (drawn ∷ channels) (row ∷ rows) [] = wires_of drawn
+items_of d tall (h ∷ heights) (drawn ∷ channels) (row ∷ rows) (rise ∷ risers) =
+    wires_of drawn ++ (row_items d tall h row rise ++ items_of d tall heights channels rows risers)
+
+-- the main level of a layout that lies so, with these rectangles of channels
+abbrev pub laid_items : Netlist → List ℕ → List (List Drawn) → LaidOut → List written.MainItem
+laid_items d tall channels laid = items_of d tall laid.row_height channels laid.cells laid.risers
+
+abbrev pub main_items : Netlist → List ℕ → Stacked → List written.MainItem
+main_items d tall placed = laid_items d tall placed.shapes (laid_of placed)
 
 -- symbols with these drawings, the first of which has this number, from 0 on: those of kinds have the names of the kinds
 abbrev pub kind_name : Netlist → ℕ → Option (List ℕ)

@@ -1,13 +1,14 @@
 //! The drawings of the symbols of a placed design.
 
 ghost use Rattle.channel_stack.specs.Layouts.{feed_drawing, feed_outline, feed_wire};
-ghost use Rattle.cif_writer.specs.Symbols.{feed_height, has_feed, is_feed, symbol_drawings};
+ghost use Rattle.cif_writer.specs.FeedHeights.{feed_heights, is_feed};
+ghost use Rattle.cif_writer.specs.Symbols.{symbol_drawings};
 ghost use Rattle.design_model.specs.Drawing.{drawing_of};
 ghost use Rattle.design_model.specs.Room.{HasRoom};
 ghost use Rattle.feed_cells.specs.Fed.{IsFed};
 ghost use Rattle.geom_core.specs.Reach.{IsShapeInReach};
 ghost use Rattle.std.specs.List.{AllByRecursion, list_any};
-ghost use Rattle.std.specs.Prelude.{◌≡◌, ◌<◌, ◌≤◌, ◌*◌, map, pos, IfOk};
+ghost use Rattle.std.specs.Prelude.{◌≡◌, ◌<◌, ◌≤◌, ◌*◌, ◌×◌, ℕ, map, pos, IfOk};
 ghost use Rattle.tech_rules.specs.Rules.{ValidRules};
 
 use design_model::{Design, drawing};
@@ -15,6 +16,7 @@ use feed_cells::{FedRows, Item};
 use geom_core::{Items, Rect, Shape};
 use limits::MOST_HEIGHT;
 use std::alloc::{AllocError, Global};
+use std::collections::BTreeSet;
 use tech_rules::Rules;
 
 fn is_feed(item: Item) -> bool
@@ -32,21 +34,28 @@ fn row_has_feed(row: &[Item]) -> bool
     row.iter().any(|item| is_feed(*item))
 }
 
-// Whether a feed stands in one of the rows.
-fn has_feed(rows: &[Items<Item>]) -> bool
-    ensures { result ≡ has_feed rows.now }
+// The different heights of the rows in which feeds stand, ascending.
+fn feed_heights(alloc: Global, fed: &FedRows) -> Result<Vec<u32>, AllocError>
+    ensures { IfOk result (λ heights. heights.items ≡ feed_heights fed.now) }
 {
-    rows.iter().any(|row| row_has_feed(row.items()))
-}
-
-// The height of feeds: that of the lowest row.
-fn feed_height(fed: &FedRows) -> u32
-    ensures { result ≡ feed_height fed.now }
-{
-    match fed.heights.items() {
-        [height, ..] => *height,
-        [] => 0,
+    let mut found = BTreeSet::new(alloc);
+    let mut heights = fed.heights.items();
+    let mut rest = fed.rows.items();
+    while let Some((height, higher)) = heights.split_first() {
+        let Some((row, above)) = rest.split_first() else {
+            break;
+        };
+        if row_has_feed(row.items()) {
+            found.insert(*height)?;
+        }
+        heights = higher;
+        rest = above;
     }
+    let mut ascending = Vec::with_capacity(alloc, found.len())?;
+    for height in &found {
+        ascending.push(*height)?;
+    }
+    Ok(ascending)
 }
 
 // A number of half units, in half centimicrons.
@@ -125,26 +134,53 @@ fn kind_drawings(
     Ok(drawings)
 }
 
-/// The drawings of the symbols of a placed design in their order: those of its kinds, and behind them that of feeds, if one stands in the rows. The cells have room
-/// for their pins. The one error is want of memory.
+// The drawings of the feeds of rows of these heights.
+fn feed_drawings(
+    alloc: Global,
+    rules: &Rules,
+    heights: &[u32],
+) -> Result<Vec<Items<Shape>>, AllocError>
+    requires { AllByRecursion (λ (h : ℕ). (0 < h) × (h ≤ MOST_HEIGHT)) heights.now }
+    ensures { IfOk result (λ drawings. drawings.items ≡ map (feed_drawing rules.now) heights.now) }
+{
+    let mut drawings = Vec::with_capacity(alloc, heights.len())?;
+    let mut rest = heights;
+    while let Some((height, higher)) = rest.split_first() {
+        drawings.push(Items::new(feed_drawing(alloc, rules, *height)?))?;
+        rest = higher;
+    }
+    Ok(drawings)
+}
+
+/// The symbols of a placed design: the drawings of its kinds in their order, and behind them those of feeds, one for each height of the rows in which feeds stand; and these heights
+/// in units, ascending.
+#[derive(Drop)]
+pub struct Symbols {
+    pub drawings: Items<Items<Shape>>,
+    pub feed_heights: Items<u32>,
+}
+
+/// The symbols of a placed design. The cells have room for their pins. The one error is want of memory.
 pub fn symbol_drawings(
     alloc: Global,
     design: &Design,
     fed: &FedRows,
     rules: &Rules,
-) -> Result<Vec<Items<Shape>>, AllocError>
+) -> Result<Symbols, AllocError>
     requires valid { ValidRules rules.now }
     requires high { HasRoom rules.now design.now }
     requires fed { IsFed design.now fed.now }
-    ensures { IfOk result (λ drawings. drawings.items ≡ symbol_drawings rules.now design.now fed.now) }
+    ensures drawings { IfOk result (λ symbols. symbols.drawings ≡ symbol_drawings rules.now design.now fed.now) }
+    ensures heights { IfOk result (λ symbols. symbols.feed_heights ≡ feed_heights fed.now) }
 {
     // The bounds of the design's type are known once a field is read.
     let _kinds = &design.kinds;
+    let heights = feed_heights(alloc, fed)?;
     let mut drawings = kind_drawings(alloc, design, rules)?;
-    if !has_feed(fed.rows.items()) {
-        return Ok(drawings);
-    }
-    let feed = feed_drawing(alloc, rules, feed_height(fed))?;
-    drawings.push(Items::new(feed))?;
-    Ok(drawings)
+    let mut feeds = feed_drawings(alloc, rules, heights.as_slice())?;
+    drawings.append(&mut feeds)?;
+    Ok(Symbols {
+        drawings: Items::new(drawings),
+        feed_heights: Items::new(heights),
+    })
 }

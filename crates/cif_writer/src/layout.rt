@@ -12,7 +12,8 @@ ghost use Rattle.cif_text.specs.Written.{items_commands, layer_after, symbols_co
 ghost use Rattle.cif_text.specs.declared.command.CifCommand.TheVariants as commands;
 ghost use Rattle.cif_writer.specs.InReach.{AreInReach};
 ghost use Rattle.cif_writer.specs.LayoutText.{HoldsFront, placed_text, text_behind};
-ghost use Rattle.cif_writer.specs.Symbols.{copies_of, copy_name, copy_number, items_of, kind_name, symbol_drawings, symbols_with, wires_of};
+ghost use Rattle.cif_writer.specs.FeedHeights.{feed_heights};
+ghost use Rattle.cif_writer.specs.Symbols.{copies_of, copy_name, copy_number, feed_number, kind_name, laid_items, symbol_drawings, symbols_with, wires_of};
 ghost use Rattle.design_model.specs.Room.{HasRoom};
 ghost use Rattle.feed_cells.specs.Fed.{IsFed};
 ghost use Rattle.geom_core.specs.Reach.{IsShapeInReach};
@@ -27,6 +28,7 @@ ghost use Rattle.tech_rules.specs.Rules.{ValidRules};
 ghost use Rattle.wire_geom.specs.Drawing.{drawing};
 ghost use Rattle.wire_geom.specs.declared.drawn.Drawn.{Drawn};
 
+use crate::drawings::Symbols;
 use crate::text::Text;
 use channel_model::{HasWiring, Wiring};
 use channel_stack::{Laid, PlacedItem};
@@ -35,7 +37,7 @@ use feed_cells::{FedRows, Item};
 use geom_core::{Items, Name, Shape};
 use shelf_io::{Failed, FileSink, Shelf, Sink};
 use tech_rules::Rules;
-use wire_geom::{shape_at, shapes};
+use wire_geom::{Drawn, shape_at, shapes};
 
 // The name of a kind, if there is one of this number.
 fn kind_name(design: &Design, n: u64) -> Option<&Name>
@@ -103,63 +105,95 @@ fn copy_name(design: &Design, item: Item) -> Option<&Name>
     }
 }
 
-// The number of the symbol of an item: that of a cell's kind, or that of feeds, behind those of all kinds.
-fn copy_number(design: &Design, item: Item) -> u64
-    ensures { result ≡ copy_number design.now item }
+// The number of the symbol of an item: that of a cell's kind, or of a feed this one.
+fn copy_number(design: &Design, feeds: u64, item: Item) -> u64
+    ensures { result ≡ copy_number design.now feeds item }
 {
     match item {
         Item::Cell(seat) => match design.instances.items().get(seat.instance as usize) {
             Some(inst) => u64::from(inst.kind) + 1,
             None => 0,
         },
-        Item::Feed(_) => design.kinds.items().len() as u64 + 1,
+        Item::Feed(_) => feeds,
     }
 }
 
-// Writes the cells and feeds of a row.
+// The number of the symbol of the feeds of a row of this height, where feeds have these heights.
+fn feed_number(design: &Design, heights: &[u32], height: u32) -> u64
+    ensures { result ≡ feed_number design.now heights.now height }
+{
+    let mut place = 0;
+    for other in heights {
+        if *other == height {
+            break;
+        }
+        place += 1;
+    }
+    design.kinds.items().len() as u64 + 1 + place
+}
+
+// Writes the cells and feeds of a row, whose feeds have the symbol with this number.
 fn write_row<K: Sink>(
     text: &mut Text,
     out: &mut K,
     design: &Design,
+    feeds: u64,
     row: &[PlacedItem],
 ) -> Result<(), Failed>
-    ensures wrote { Writes result (text_of (items_commands None (copies_of design.now row.now))) text.old.buffered text.new.buffered (K.written out.old) (K.written out.new) (K.faults out.old) (K.faults out.new) (K.same_place out.old out.new) (K.else_same out.old out.new) }
+    ensures wrote { Writes result (text_of (items_commands None (copies_of design.now feeds row.now))) text.old.buffered text.new.buffered (K.written out.old) (K.written out.new) (K.faults out.old) (K.faults out.new) (K.same_place out.old out.new) (K.else_same out.old out.new) }
     ensures layer { text.new.last ≡ text.old.last }
 {
     let mut rest = row;
     while let Some((placed, after)) = rest.split_first() {
         let name = copy_name(design, placed.item);
-        let number = copy_number(design, placed.item);
+        let number = copy_number(design, feeds, placed.item);
         text.cell(out, name, number, &placed.place)?;
         rest = after;
     }
     Ok(())
 }
 
-/// A routed design as it is written: its rows with feeds, the wirings of its channels, where all of it lies, and the drawings of its symbols.
+// Writes the risers of a row.
+fn write_risers<K: Sink>(text: &mut Text, out: &mut K, risers: &[Drawn]) -> Result<(), Failed>
+    requires reach { AllByRecursion (λ (a : Drawn). IsShapeInReach a.shape) risers.now }
+    ensures wrote { Writes result (text_of (items_commands text.old.last (wires_of risers.now))) text.old.buffered text.new.buffered (K.written out.old) (K.written out.new) (K.faults out.old) (K.faults out.new) (K.same_place out.old out.new) (K.else_same out.old out.new) }
+    ensures layer { OnOk result (text.new.last ≡ layer_after text.old.last (wires_of risers.now)) }
+{
+    let mut rest = risers;
+    while let Some((riser, after)) = rest.split_first() {
+        text.shape(out, &riser.shape)?;
+        rest = after;
+    }
+    Ok(())
+}
+
+/// A routed design as it is written: its rows with feeds, the wirings of its channels, where all of it lies, and its symbols.
 #[derive(Drop)]
 pub struct RoutedDesign<'p, W> {
     pub design: &'p Design,
     pub fed: &'p FedRows,
     pub wirings: &'p [W],
     pub laid: &'p Laid,
-    pub symbols: &'p [Items<Shape>],
+    pub symbols: &'p Symbols,
     pub rules: &'p Rules,
 }
 
-// Writes the channels and rows from the bottom up: channel 0, row 0, channel 1, and so on.
+// Writes the channels and rows from the bottom up: channel 0, row 0 with its risers, channel 1, and so on.
 fn write_main<'p, W: HasWiring, K: Sink>(
     text: &mut Text,
     out: &mut K,
     routed: &'p RoutedDesign<'p, W>,
 ) -> Result<(), Failed>
-    requires { AreInReach routed.now.rules.now (map W.wiring_of routed.now.wirings.now) routed.now.laid.now.channel_base routed.now.symbols.now }
-    ensures { Writes result (text_of (items_commands text.old.last (items_of routed.now.design.now (drawings routed.now.rules.now (map W.wiring_of routed.now.wirings.now) routed.now.laid.now.channel_base) routed.now.laid.now.cells))) text.old.buffered text.new.buffered (K.written out.old) (K.written out.new) (K.faults out.old) (K.faults out.new) (K.same_place out.old out.new) (K.else_same out.old out.new) }
+    requires { AreInReach routed.now.rules.now (map W.wiring_of routed.now.wirings.now) routed.now.laid.now.channel_base routed.now.laid.now.risers routed.now.symbols.now.drawings }
+    ensures { Writes result (text_of (items_commands text.old.last (laid_items routed.now.design.now routed.now.symbols.now.feed_heights (drawings routed.now.rules.now (map W.wiring_of routed.now.wirings.now) routed.now.laid.now.channel_base) routed.now.laid.now))) text.old.buffered text.new.buffered (K.written out.old) (K.written out.new) (K.faults out.old) (K.faults out.new) (K.same_place out.old out.new) (K.else_same out.old out.new) }
 {
     let mut channels = routed.wirings;
     let laid = routed.laid;
+    let tall = routed.symbols.feed_heights.items();
     let mut edges = laid.channel_base.items();
     let mut rows = laid.cells.items();
+    let mut heights = laid.row_height.items();
+    let mut risers = laid.risers.items();
     while let Some((one, above)) = channels.split_first() {
         let Some((base, others)) = edges.split_first() else {
             return Ok(());
@@ -168,10 +202,20 @@ fn write_main<'p, W: HasWiring, K: Sink>(
         let Some((row, higher)) = rows.split_first() else {
             return Ok(());
         };
-        write_row(text, out, routed.design, row.items())?;
+        let Some((height, taller)) = heights.split_first() else {
+            return Ok(());
+        };
+        let Some((rise, rising)) = risers.split_first() else {
+            return Ok(());
+        };
+        let feeds = feed_number(routed.design, tall, *height);
+        write_row(text, out, routed.design, feeds, row.items())?;
+        write_risers(text, out, rise.items())?;
         channels = above;
         edges = others;
         rows = higher;
+        heights = taller;
+        risers = rising;
     }
     Ok(())
 }
@@ -181,11 +225,11 @@ fn write_all<'p, W: HasWiring, K: Sink>(
     out: &mut K,
     routed: &'p RoutedDesign<'p, W>,
 ) -> Result<(), Failed>
-    requires { AreInReach routed.now.rules.now (map W.wiring_of routed.now.wirings.now) routed.now.laid.now.channel_base routed.now.symbols.now }
-    ensures { Puts result (line commands.Comment ++ (text_behind (symbols_with routed.now.design.now 0 routed.now.symbols.now) (items_of routed.now.design.now (drawings routed.now.rules.now (map W.wiring_of routed.now.wirings.now) routed.now.laid.now.channel_base) routed.now.laid.now.cells))) (K.written out.old) (K.written out.new) (K.faults out.old) (K.faults out.new) (K.same_place out.old out.new) (K.else_same out.old out.new) }
+    requires { AreInReach routed.now.rules.now (map W.wiring_of routed.now.wirings.now) routed.now.laid.now.channel_base routed.now.laid.now.risers routed.now.symbols.now.drawings }
+    ensures { Puts result (line commands.Comment ++ (text_behind (symbols_with routed.now.design.now 0 routed.now.symbols.now.drawings) (laid_items routed.now.design.now routed.now.symbols.now.feed_heights (drawings routed.now.rules.now (map W.wiring_of routed.now.wirings.now) routed.now.laid.now.channel_base) routed.now.laid.now))) (K.written out.old) (K.written out.new) (K.faults out.old) (K.faults out.new) (K.same_place out.old out.new) (K.else_same out.old out.new) }
 {
     let mut text = Text::begin();
-    write_symbols(&mut text, out, routed.design, routed.symbols)?;
+    write_symbols(&mut text, out, routed.design, routed.symbols.drawings.items())?;
     write_main(&mut text, out, routed)?;
     text.end(out)
 }
@@ -196,15 +240,15 @@ fn put_design<'p, W: HasWiring, S: Shelf>(
     file: &str,
     routed: &'p RoutedDesign<'p, W>,
 ) -> Result<(), Failed>
-    requires { AreInReach routed.now.rules.now (map W.wiring_of routed.now.wirings.now) routed.now.laid.now.channel_base routed.now.symbols.now }
-    ensures { Puts result (line commands.Comment ++ (text_behind (symbols_with routed.now.design.now 0 routed.now.symbols.now) (items_of routed.now.design.now (drawings routed.now.rules.now (map W.wiring_of routed.now.wirings.now) routed.now.laid.now.channel_base) routed.now.laid.now.cells))) (S.holds shelf.old file.now) (S.holds shelf.new file.now) (S.write_faults shelf.old file.now) (S.write_faults shelf.new file.now) (Unit {0}) (λ calm. OthersSame calm file.now (S.holds shelf.old) (S.holds shelf.new) (S.read_faults shelf.old) (S.read_faults shelf.new) (S.write_faults shelf.old) (S.write_faults shelf.new)) }
+    requires { AreInReach routed.now.rules.now (map W.wiring_of routed.now.wirings.now) routed.now.laid.now.channel_base routed.now.laid.now.risers routed.now.symbols.now.drawings }
+    ensures { Puts result (line commands.Comment ++ (text_behind (symbols_with routed.now.design.now 0 routed.now.symbols.now.drawings) (laid_items routed.now.design.now routed.now.symbols.now.feed_heights (drawings routed.now.rules.now (map W.wiring_of routed.now.wirings.now) routed.now.laid.now.channel_base) routed.now.laid.now))) (S.holds shelf.old file.now) (S.holds shelf.new file.now) (S.write_faults shelf.old file.now) (S.write_faults shelf.new file.now) (Unit {0}) (λ calm. OthersSame calm file.now (S.holds shelf.old) (S.holds shelf.new) (S.read_faults shelf.old) (S.read_faults shelf.new) (S.write_faults shelf.old) (S.write_faults shelf.new)) }
 {
     let mut out = FileSink::new(shelf, file);
     write_all(&mut out, routed)
 }
 
-/// Makes a file hold the text of a routed design, and nothing else: the symbols of its kinds and of its feeds, and then its channels and rows from the bottom up,
-/// each rectangle written as it is drawn. Its wirings are routed, it lies as its stack says, and its symbols are drawn so. Takes no
+/// Makes a file hold the text of a routed design, and nothing else: the symbols of its kinds and of its feeds, and then its channels and rows from the bottom up, the
+/// risers of a row behind its items, each rectangle written as it is drawn. Its wirings are routed, it lies as its stack says, and its symbols are drawn so. Takes no
 /// memory. After Failed, which comes only where the file's write count rose, the file holds what it held before, or a front of the text.
 ///
 /// The text reads as the layout that the stack of these rows and wirings is.
@@ -219,7 +263,8 @@ pub fn write_layout<W: HasWiring, S: Shelf>(
     requires fed { IsFed routed.now.design.now routed.now.fed.now }
     requires wired { IsRouted routed.now.rules.now routed.now.design.now routed.now.fed.now (map W.wiring_of routed.now.wirings.now) }
     requires laid { routed.now.laid.now ≡ laid_of (stack_of routed.now.rules.now routed.now.design.now routed.now.fed.now (map W.wiring_of routed.now.wirings.now)) }
-    requires symbols { routed.now.symbols.now ≡ symbol_drawings routed.now.rules.now routed.now.design.now routed.now.fed.now }
+    requires symbols { routed.now.symbols.now.drawings ≡ symbol_drawings routed.now.rules.now routed.now.design.now routed.now.fed.now }
+    requires feeds { routed.now.symbols.now.feed_heights ≡ feed_heights routed.now.fed.now }
     ensures text { OnOk result (Refines (S.holds shelf.new file.now) (Some (placed_text routed.now.rules.now routed.now.design.now routed.now.fed.now (stack_of routed.now.rules.now routed.now.design.now routed.now.fed.now (map W.wiring_of routed.now.wirings.now))))) }
     ensures reads_as { ReadsAs (placed_text routed.now.rules.now routed.now.design.now routed.now.fed.now (stack_of routed.now.rules.now routed.now.design.now routed.now.fed.now (map W.wiring_of routed.now.wirings.now)))
         (layout_of routed.now.rules.now routed.now.design.now (stack_of routed.now.rules.now routed.now.design.now routed.now.fed.now (map W.wiring_of routed.now.wirings.now))) }

@@ -1,4 +1,4 @@
-//! Texts in CIF, written to a file as they are made: a symbol for each kind of cell and one for feeds, and then channels and rows from the bottom up.
+//! Texts in CIF, written to a file as they are made: a symbol for each kind of cell and for each height of feeds, and then channels and rows from the bottom up.
 #![tactic(auto)]
 
 mod drawings;
@@ -7,6 +7,6 @@ mod printing;
 mod text;
 mod writer;
 
-pub use drawings::symbol_drawings;
+pub use drawings::{Symbols, symbol_drawings};
 pub use layout::{RoutedDesign, write_layout};
 pub use writer::{StartFault, Writer};
