@@ -83,12 +83,12 @@ module _ (r : RuleValues) (d : Netlist) (fed : Fed) (from : IsFed d fed) (ws : L
   abbrev floor_of : ℕ → ℕ
   floor_of k = row_base r (plan_of r d fed ws) k
 
-  row-floor : (k : ℕ) → k < length fed.rows → slice_index (row_bases r fed.heights 0 ws) k ≡ floor_of k
+  pub row-floor : (k : ℕ) → k < length fed.rows → slice_index (row_bases r fed.heights 0 ws) k ≡ floor_of k
   row-floor k within =
       row-edge r fed.heights 0 ws k (omega (arith, within, heights-counted d fed from)) (omega (arith, each, heights-counted d fed from))
       ∙ ap (λ (heights : List ℕ). slice_index (channel_bases r heights 0 ws) k + channel_height r (wiring_at ws k)) (heights-of d fed from)
 
-  row-tall : (k : ℕ) → k < length fed.rows → slice_index fed.heights k ≡ height_at d fed k
+  pub row-tall : (k : ℕ) → k < length fed.rows → slice_index fed.heights k ≡ height_at d fed k
   row-tall k within = get_or_from_slice_get fed.heights k (height_at d fed k) 0 (height-there d fed from k (row_at fed k) (row-there fed k within))
 
   -- the risers of row k are those along its items

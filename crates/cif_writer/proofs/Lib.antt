@@ -16,8 +16,12 @@ pub mod WholeBoxes
 pub mod WritableSymbols
 -- rectangles of wirings that can be written
 pub mod WritableWires
+-- the heights of rows in which feeds stand
+pub mod HeightLaws
 -- the items of rows with feeds
 pub mod FedItems
+-- risers that can be written
+pub mod WritableRisers
 -- what stands at the main level can be written
 pub mod WritableItems
 -- the layout of a routed design can be written

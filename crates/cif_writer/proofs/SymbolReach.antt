@@ -1,5 +1,4 @@
-use Rattle.cif_text.specs.Written as written
-use Rattle.std.proofs.Common.{◌+◌, ◌*◌, ◌-◌, ◌≤◌, ◌∷◌, [], ℕ, List, Bool, true, false, map, arith, refl, subst, sym}
+use Rattle.std.proofs.Common.{◌+◌, ◌*◌, ◌-◌, ◌≤◌, ◌∷◌, [], ℕ, List, map, arith, refl, subst, sym}
 use Rattle.std.proofs.lemmas.List.Elements.{recursion_from_All}
 use Rattle.std.specs.List.{AllByRecursion}
 use Rattle.channel_stack.specs.Layouts.{feed_drawing}
@@ -10,10 +9,13 @@ use Rattle.feed_cells.specs.Fed.{Fed, IsFed}
 use Rattle.geom_core.specs.Reach.{IsShapeInReach}
 use Rattle.geom_core.specs.declared.layout.Shape.{Shape}
 use Rattle.tech_rules.specs.Rules.{RuleValues, ValidRules}
-use Rattle.cif_writer.specs.Symbols.{feed_height, feed_symbol, has_feed, symbol_drawings}
+use Rattle.cif_writer.specs.FeedHeights.{feed_heights}
+use Rattle.cif_writer.specs.Symbols.{symbol_drawings}
+use Rattle.channel_stack.proofs.RowHeights.{row-low}
+use Rattle.cif_writer.proofs.HeightLaws.{feeds-hold}
 use Rattle.cif_writer.proofs.DrawingReach.{drawing-in-reach, scaled-in-reach}
-use Rattle.cif_writer.proofs.FedItems.{feed-high}
-use Rattle.cif_writer.proofs.SymbolDrawings.{parted}
+use Rattle.cif_writer.proofs.SymbolDrawings.{drawings-are}
+use Rattle.std_laws.proofs.Members.{get-contains}
 use Rattle.std_laws.proofs.Every.{every-append}
 
 -- all shapes of some drawings are in reach
@@ -47,16 +49,17 @@ feed-reach r height valid low =
       ),
     )
 
-feeds-reach : (r : RuleValues) (height : ℕ) → ValidRules r → height ≤ 200000000 → (feeds : Bool)
-    → AreInReach (map (λ (s : written.WrittenSymbol). s.shapes) (feed_symbol r height feeds))
-feeds-reach r height valid low true = (feed-reach r height valid low, tt)
-feeds-reach r height valid low false = tt
+feeds-reach : (r : RuleValues) (heights : List ℕ) → ValidRules r → AllByRecursion (λ (h : ℕ). h ≤ 200000000) heights → AreInReach (map (feed_drawing r) heights)
+feeds-reach r [] valid low = tt
+feeds-reach r (h ∷ heights) valid low = (feed-reach r h valid low.0, feeds-reach r heights valid low.1)
 
 -- the drawings of the symbols of a layout are in reach
 pub symbols-reach : (r : RuleValues) (d : Netlist) (fed : Fed) → ValidRules r → IsNetlist d → IsFed d fed → AreInReach (symbol_drawings r d fed)
 symbols-reach r d fed valid is from =
-    let high = feed-high d is fed from in
-    subst AreInReach (sym (parted r d fed (has_feed fed.rows) refl))
-    (every-append (λ (shapes : List Shape). AllByRecursion IsShapeInReach shapes) (map (drawing_of r) d.kinds)
-    (map (λ (s : written.WrittenSymbol). s.shapes) (feed_symbol r (feed_height fed) (has_feed fed.rows)))
-    (kinds-reach r valid d.kinds (recursion_from_All IsKind d.kinds is.kinds)) (feeds-reach r (feed_height fed) valid (omega (arith, is.low)) (has_feed fed.rows)))
+    subst AreInReach (sym (drawings-are r d fed))
+    (every-append (λ (shapes : List Shape). AllByRecursion IsShapeInReach shapes) (map (drawing_of r) d.kinds) (map (feed_drawing r) (feed_heights fed))
+    (kinds-reach r valid d.kinds (recursion_from_All IsKind d.kinds is.kinds))
+    (feeds-reach r (feed_heights fed) valid
+    (recursion_from_All (λ (h : ℕ). h ≤ 200000000) (feed_heights fed)
+    (feeds-hold d fed from (λ (h : ℕ). h ≤ 200000000)
+    (λ k items at some. omega (arith, row-low d is fed from.placed items (get-contains fed.rows k items at), is.low))))))

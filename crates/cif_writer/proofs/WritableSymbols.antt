@@ -1,4 +1,4 @@
-use Rattle.std.proofs.Common.{◌≡◌, ℕ, ◌+◌, ◌-◌, ◌*◌, ◌<◌, ◌≤◌, List, [], ◌∷◌, length, map, Bool, true, false, refl, add-mul, arith}
+use Rattle.std.proofs.Common.{◌≡◌, ℕ, ◌+◌, ◌-◌, ◌*◌, ◌<◌, ◌≤◌, List, [], ◌∷◌, length, map, Bool, true, false, add-mul, arith}
 use Rattle.std.proofs.Math.Nat.{mul-le-mul, mul-le-mul_right}
 use Rattle.std.proofs.lemmas.Bool.Decides.{nat_tests}
 use Rattle.std.proofs.lemmas.List.Elements.{recursion_from_All}
@@ -149,7 +149,12 @@ module _ (r : RuleValues) (height : ℕ) (valid : ValidRules r) (up : height * r
             (halves-near height r.grid.centi (2 * height) up (omega arith));
       }
 
-  pub feed-are : (feeds : Bool) → (feeds ≡ true → 0 < height) → AllByRecursion IsDrawn (feed_symbol r height feeds)
+  feed-is : 0 < height → IsDrawn (feed_symbol r height)
   unfolding feed_drawing
-  feed-are false tall = tt
-  feed-are true tall = (record { name = tt; shapes = (feed-outline-is (tall refl), (feed-wire-is (tall refl), tt)) }, tt)
+  feed-is tall = record { name = tt; shapes = (feed-outline-is tall, (feed-wire-is tall, tt)) }
+
+-- the symbols of feeds of such heights can be written
+pub feeds-are : (r : RuleValues) (heights : List ℕ) → ValidRules r → AllByRecursion (λ (h : ℕ). (0 < h) × (h * r.grid.centi ≤ 1000000000)) heights
+    → AllByRecursion IsDrawn (map (feed_symbol r) heights)
+feeds-are r [] valid fit = tt
+feeds-are r (h ∷ heights) valid fit = (feed-is r h valid fit.0.1 fit.0.0, feeds-are r heights valid fit.1)

@@ -30,7 +30,7 @@ pub record IsWithin (width height : ℕ) (b : Box) : Type 0 where
   pub top : b.y1 ≤ height
 
 -- the middle of a column keeps half a column from the last one's right edge
-centre-within : (r : RuleValues) (columns column : ℕ) → column < columns → centre r column + r.grid.column ≤ 2 * (columns * r.grid.column)
+pub centre-within : (r : RuleValues) (columns column : ℕ) → column < columns → centre r column + r.grid.column ≤ 2 * (columns * r.grid.column)
 centre-within r columns column inside =
     let next : column + 1 ≤ columns = omega arith in
     let product : (column + 1) * r.grid.column ≤ columns * r.grid.column = mul-le-mul_right r.grid.column next in
@@ -100,7 +100,7 @@ pub record IsWire (d : Drawn) : Type 0 where
 module _ (r : RuleValues) (valid : ValidRules r) (wide high : ℕ)
     (across : wide * r.grid.column * r.grid.centi ≤ 1000000000) (up : high * r.grid.centi ≤ 1000000000) where
   -- a piece within such a width and height can be written
-  piece-is : (columns top : ℕ) (p : Piece) → columns ≤ wide → top ≤ high → IsWithin (2 * (columns * r.grid.column)) (2 * top) p.box → IsWire (drawn_of r p)
+  pub piece-is : (columns top : ℕ) (p : Piece) → columns ≤ wide → top ≤ high → IsWithin (2 * (columns * r.grid.column)) (2 * top) p.box → IsWire (drawn_of r p)
   piece-is columns top p narrow low fits =
       let inside : columns * r.grid.column ≤ wide * r.grid.column = mul-le-mul_right r.grid.column narrow in
       let right : p.box.x1 * r.grid.centi ≤ 1000000000000 =

@@ -8,7 +8,7 @@ ghost use Rattle.design_model.specs.Room.{HasRoom};
 ghost use Rattle.feed_cells.specs.Fed.{IsFed};
 ghost use Rattle.geom_core.specs.Reach.{IsShapeInReach};
 ghost use Rattle.std.specs.List.{AllByRecursion, list_any};
-ghost use Rattle.std.specs.Prelude.{◌≡◌, ◌<◌, ◌≤◌, ◌*◌, ◌×◌, ℕ, map, pos, IfOk};
+ghost use Rattle.std.specs.Prelude.{◌≡◌, ◌<◌, ◌≤◌, ◌*◌, ℕ, map, pos, IfOk};
 ghost use Rattle.tech_rules.specs.Rules.{ValidRules};
 
 use design_model::{Design, drawing};
