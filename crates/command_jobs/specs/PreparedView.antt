@@ -5,6 +5,7 @@ use Rattle.design_model.specs.Good.{Good}
 use Rattle.design_model.specs.Room.{HasRoom}
 use Rattle.channel_stack.specs.Layouts.{layout_of}
 use Rattle.channel_stack.specs.Stack.{laid_of, stack_of}
+use Rattle.cif_writer.specs.FeedHeights.{feed_heights}
 use Rattle.cif_writer.specs.Symbols.{symbol_drawings}
 use Rattle.greedy_router.specs.declared.sweep.Routed.{Routed}
 use Rattle.command_jobs.specs.Job.{Job}
@@ -29,4 +30,5 @@ pub record IsPrepared (a : Inside) : Type 0 where
   pub laid : a.laid ≡ laid_of (stack_of a.rules a.design a.fed (wirings_of a.kept.items))
   pub good : Good a.rules a.design (layout_of a.rules a.design (stack_of a.rules a.design a.fed (wirings_of a.kept.items)))
   pub told : a.summary ≡ summary_of (job_in a).job a.kept.items
-  pub symbols : a.symbols.items ≡ symbol_drawings a.rules a.design a.fed
+  pub symbols : a.symbols.drawings ≡ symbol_drawings a.rules a.design a.fed
+  pub feeds : a.symbols.feed_heights ≡ feed_heights a.fed

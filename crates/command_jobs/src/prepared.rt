@@ -10,23 +10,23 @@ ghost use Rattle.command_jobs.specs.Written.{IsGoodText};
 ghost use Rattle.cif_writer.specs.LayoutText.{HoldsFront};
 ghost use Rattle.design_model.specs.Room.{HasRoom};
 ghost use Rattle.greedy_router.specs.Answers.{AreRouted};
+ghost use Rattle.pin_assign.specs.Tables.{tables_of};
 ghost use Rattle.shelf_io.specs.Count.{Rose};
 ghost use Rattle.shelf_io.specs.OtherFiles.{OthersSame};
 ghost use Rattle.shelf_io.specs.Told.{Refines};
 ghost use Rattle.std.specs.Prelude.{◌≡◌, ◌≢◌, is_ok, Some, IfErr, IfOk, OnErr, OnOk};
 
 use crate::placing::annealed_rows;
-use crate::routing::route_rows;
+use crate::routing::{RoutedRows, route_rows};
 use crate::summarizing::{channel_lines, summarized};
 use anneal_int::CostedRows;
 use channel_stack::{Laid, lay};
 use choose_core::{Chooser, Chooses, Style};
-use cif_writer::{RoutedDesign, symbol_drawings, write_layout};
+use cif_writer::{RoutedDesign, Symbols, symbol_drawings, write_layout};
 use command_ends::Refusal;
 use command_words::Wanted;
 use design_model::Design;
 use feed_cells::{FedRows, insert_feeds, place};
-use geom_core::{Items, Shape};
 use greedy_router::Routed;
 use layout_report::Summary;
 use shelf_io::{Failed, Shelf};
@@ -44,7 +44,7 @@ pub struct Prepared {
     fed: FedRows,
     kept: Vec<Routed>,
     laid: Laid,
-    symbols: Vec<Items<Shape>>,
+    symbols: Symbols,
     summary: Summary,
 }
 
@@ -72,20 +72,22 @@ fn ready(
     rules: Rules,
     wanted: Wanted,
     fed: FedRows,
-    routed: Vec<Routed>,
+    rows: RoutedRows,
     cost: u64,
 ) -> Result<Prepared, AllocError>
     requires high { HasRoom rules design }
-    requires rows { AreRoutedRows (job_of rules design wanted) fed routed.items }
+    requires rows { AreRoutedRows (job_of rules design wanted) fed rows.routed.items }
+    requires channels { rows.channels.items ≡ tables_of design fed }
     requires cost { cost ≡ cost_for (job_of rules design wanted) }
-    ensures { IfOk result (λ made. made ≡ record { job = job_of rules design wanted; kept = routed.items }) }
+    ensures { IfOk result (λ made. made ≡ record { job = job_of rules design wanted; kept = rows.routed.items }) }
 {
+    let RoutedRows { channels, routed } = rows;
     // What every value of the rules keeps is known once a field is read.
     let _ = &rules.version;
-    let channels = routed.as_slice();
-    let lines = channel_lines(alloc, channels, &fed)?;
+    let wirings = routed.as_slice();
+    let lines = channel_lines(alloc, wirings, &fed)?;
     let symbols = symbol_drawings(alloc, &design, &fed, &rules)?;
-    let laid = lay(alloc, &design, &fed, channels, &rules)?;
+    let laid = lay(alloc, &design, &fed, channels.as_slice(), wirings, &rules)?;
     let summary = summarized(&design, &fed, lines, &laid, cost);
     Ok(Prepared {
         rules,
@@ -138,7 +140,7 @@ impl Prepared {
             fed: &self.fed,
             wirings: self.kept.as_slice(),
             laid: &self.laid,
-            symbols: self.symbols.as_slice(),
+            symbols: &self.symbols,
             rules: &self.rules,
         };
         write_layout(shelf, out, &routed)

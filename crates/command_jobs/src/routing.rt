@@ -14,6 +14,7 @@ ghost use Rattle.pin_assign.specs.Tables.{tables_of};
 ghost use Rattle.std.specs.Prelude.{◌≡◌, ◌≢◌, ◌≤◌, IfErr, IfOk, Ok};
 
 use crate::size_limits::size_refusal;
+use channel_model::Channel;
 use choose_core::{Chooser, Chooses, Style};
 use command_ends::Refusal;
 use design_model::Design;
@@ -23,6 +24,13 @@ use limits::MOST_COLUMNS;
 use pin_assign::{bound_of, channels};
 use std::alloc::Global;
 use tech_rules::Rules;
+
+/// The channels between rows with feeds, from the lowest up, and each of them routed.
+#[derive(Drop)]
+pub(crate) struct RoutedRows {
+    pub channels: Vec<Channel>,
+    pub routed: Vec<Routed>,
+}
 
 /// The channels between the rows with feeds of the design that is drawn, routed by a style, or by the left edges where that is wished for and a channel allows it, if the layout is
 /// within the limits. The placement of pins and nets is given up.
@@ -34,14 +42,15 @@ pub(crate) fn route_rows(
     placement: Placement,
     style: &Style,
     edge: bool,
-) -> Result<Vec<Routed>, Refusal>
+) -> Result<RoutedRows, Refusal>
     requires fed { IsFed drawn.now fed.now }
     requires placement { placement ≡ placement_of drawn.now (cells_in fed.now.rows) }
-    ensures made { Answers (λ routed. fed.now) result (unless (size_refusal (pins.bound_of rules.now drawn.now fed.now)) (Ok fed.now)) }
-    ensures narrow { IfOk result (λ routed. fed.now.width ≤ MOST_COLUMNS) }
-    ensures kept { IfOk result (λ routed. AreRouted edge style.now.plan (⟦<Chooser as Chooses>⟧.answers style.now.chooser) (tables_of drawn.now fed.now) routed.items) }
-    ensures wired { IfOk result (λ routed. AreWired drawn.now fed.now (wirings_of routed.items)) }
-    ensures routed { IfOk result (λ routed. IsRouted rules.now drawn.now fed.now (wirings_of routed.items)) }
+    ensures made { Answers (λ rows. fed.now) result (unless (size_refusal (pins.bound_of rules.now drawn.now fed.now)) (Ok fed.now)) }
+    ensures narrow { IfOk result (λ rows. fed.now.width ≤ MOST_COLUMNS) }
+    ensures channels { IfOk result (λ rows. rows.channels.items ≡ tables_of drawn.now fed.now) }
+    ensures kept { IfOk result (λ rows. AreRouted edge style.now.plan (⟦<Chooser as Chooses>⟧.answers style.now.chooser) (tables_of drawn.now fed.now) rows.routed.items) }
+    ensures wired { IfOk result (λ rows. AreWired drawn.now fed.now (wirings_of rows.routed.items)) }
+    ensures routed { IfOk result (λ rows. IsRouted rules.now drawn.now fed.now (wirings_of rows.routed.items)) }
     ensures command { IfErr result (λ refusal. refusal_status refusal ≢ 2) }
 {
     if let Some(refusal) = size_refusal(bound_of(drawn, fed, rules)) {
@@ -49,5 +58,5 @@ pub(crate) fn route_rows(
     }
     let channels = channels(alloc, drawn, fed, &placement)?;
     let routed = route_channels(alloc, channels.as_slice(), style, edge)?;
-    Ok(routed)
+    Ok(RoutedRows { channels, routed })
 }

@@ -13,15 +13,15 @@ use Rattle.command_jobs.proofs.prepared.ready.Goals as goal
 
 pub lay-requires-clause-routed : goal.lay-requires-clause-routed
 lay-requires-clause-routed c =
-    subst (λ (l : List Routed). IsRouted c.args.rules c.args.design c.args.fed (wirings_of l)) (sym c.as_slice-channels.ensures.value) c.requires.rows.routed
+    subst (λ (l : List Routed). IsRouted c.args.rules c.args.design c.args.fed (wirings_of l)) (sym c.as_slice-wirings.ensures.value) c.requires.rows.routed
 
 pub invariant_of-result : goal.invariant_of-result
 invariant_of-result c =
     let r = c.args.rules in
     let d = c.args.design in
     let fed = c.args.fed in
-    let kept = c.args.routed.items in
-    let slice = c.as_slice-channels.ensures.value in
+    let kept = c.args.rows.routed.items in
+    let slice = c.as_slice-wirings.ensures.value in
     let laid : c.in_ok-laid.laid ≡ laid_of (stack_of r d fed (wirings_of kept)) = rw slice at c.in_ok-laid.ensures.laid in
     record {
       valid = subst ValidRules c.rules.view_is c.rules.invariant;
@@ -33,5 +33,6 @@ invariant_of-result c =
       told = c.summarized-summary.ensures
           ∙ summary-from (job_of r d c.args.wanted) fed c.args.cost kept c.in_ok-lines.lines.items c.in_ok-laid.laid c.requires.rows.is c.requires.cost
           (c.in_ok-lines.ensures ∙ ap (map (line_of_channel fed.width)) slice) laid;
-      symbols = c.in_ok-symbols.ensures;
+      symbols = c.in_ok-symbols.ensures.drawings;
+      feeds = c.in_ok-symbols.ensures.heights;
     }
