@@ -45,7 +45,6 @@ fn fault_word(fault: DesignFault) -> &'static [u8]
         DesignFault::SignalCount(_) => b"SignalCount",
         DesignFault::NoShape(_) => b"NoShape",
         DesignFault::OffGrid(_) => b"OffGrid",
-        DesignFault::Height(_) => b"Height",
         DesignFault::TooLow(_) => b"TooLow",
         DesignFault::PinClash(_) => b"PinClash",
         DesignFault::WrongLayer(_) => b"WrongLayer",

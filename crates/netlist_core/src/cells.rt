@@ -15,9 +15,9 @@ use std::alloc::{AllocError, Global};
 use tech_rules::Rules;
 
 /// The cell kind of a module, of its own height. It errs with NoShape where the corners are no rectangle, OffGrid where the width
-/// is no whole columns or a position is in the middle of no column or at neither edge, TooLow where the height is below two pins and
-/// the vertical space, PinClash where two positions share a point, and WrongLayer where a position's layer is not the rules' word,
-/// ASCII case aside: the first of these that holds. Positions of power terminals do not count.
+/// is no multiple of the column or a position is not in the middle of one of the columns or not at an edge, TooLow where the height
+/// is below two pins and the vertical space, PinClash where two positions share a point, and WrongLayer where a position's layer is
+/// not the rules' word, ASCII case aside: the first of these that holds. Positions of power terminals do not count.
 #[tactic(auto, unfolding(crate::specs::Cells::kind_of))]
 pub(crate) fn kind_of(
     alloc: Global,

@@ -31,7 +31,7 @@ pub enum DesignFault {
     /// This module's DIMENSIONS are not the four corners of a rectangle, in order.
     #[error("a module's dimensions are no rectangle")]
     NoShape(u32),
-    /// This module's width is no whole columns, or a position is in the middle of no column or at neither edge.
+    /// This module's width is no multiple of the column, or a position is not in the middle of one of its columns, or not at one of its edges.
     #[error("a module is off the column grid")]
     OffGrid(u32),
     /// This module is too low for two pins and the space between them.

@@ -61,39 +61,53 @@ lower-edge = refl
 inside : edge_of 40 (negsuc 7) (pos 0) ≡ None
 inside = refl
 
--- a buffer of one column of 8 units and a height of 40: its only pin at the top, its power terminals without any
-buffer : ℕ → ℕ → List ℕ → Module
-buffer x y layer = record {
+-- a buffer of one column of 8 units: its only pin at the top, its power terminals without any
+buffer : ℕ → ℕ → ℕ → List ℕ → Module
+buffer height x y layer = record {
   name = codes "BUF";
   kind = kinds.Standard;
-  corners = pos 0 ∷ pos 0 ∷ pos 8 ∷ pos 0 ∷ pos 8 ∷ pos 40 ∷ pos 0 ∷ pos 40 ∷ [];
+  corners = pos 0 ∷ pos 0 ∷ pos 8 ∷ pos 0 ∷ pos 8 ∷ pos height ∷ pos 0 ∷ pos height ∷ [];
   lines = record { name = codes "A"; flow = flows.I; spot = Some (record { x = pos x; y = pos y; layer = layer }) }
       ∷ record { name = codes "VDD"; flow = flows.PWR; spot = None } ∷ record { name = codes "VDD"; flow = flows.I; spot = Some (record { x = pos 1; y = pos 1; layer = layer }) } ∷ [];
   calls = [];
 }
 
-buffer-kind : CellKind
-buffer-kind = record {
+buffer-kind : ℕ → CellKind
+buffer-kind height = record {
   name = codes "BUF";
   columns = 1;
-  height = 40;
+  height = height;
   terminals = record { name = codes "A"; power = false } ∷ record { name = codes "VDD"; power = true } ∷ [];
   positions = record { terminal = 0; top = true; column = 0 } ∷ [];
 }
 
-good : kind_of sample 40 2 (buffer 4 40 (codes "poly")) ≡ Ok buffer-kind
+good : kind_of sample (2, buffer 40 4 40 (codes "poly")) ≡ Ok (buffer-kind 40)
 unfolding are_pairs has_turns between grid_positions kind_fault grid_of kind_of buffer buffer-kind
 good = refl
 
-off-grid : kind_of sample 40 2 (buffer 4 20 (codes "POLY")) ≡ Err (faults.OffGrid 2)
+off-grid : kind_of sample (2, buffer 40 4 20 (codes "POLY")) ≡ Err (faults.OffGrid 2)
 unfolding are_pairs has_turns between grid_positions kind_fault grid_of kind_of buffer
 off-grid = refl
 
-other-height : kind_of sample 48 2 (buffer 4 40 (codes "POLY")) ≡ Err (faults.Height 2)
-unfolding are_pairs has_turns between grid_positions kind_fault grid_of kind_of buffer
-other-height = refl
+-- with another height it has its pin there
+higher : kind_of sample (2, buffer 48 4 48 (codes "POLY")) ≡ Ok (buffer-kind 48)
+unfolding are_pairs has_turns between grid_positions kind_fault grid_of kind_of buffer buffer-kind
+higher = refl
 
-other-layer : kind_of sample 40 2 (buffer 4 40 (codes "POLYS")) ≡ Err (faults.WrongLayer 2)
+below-top : kind_of sample (2, buffer 48 4 40 (codes "POLY")) ≡ Err (faults.OffGrid 2)
+unfolding are_pairs has_turns between grid_positions kind_fault grid_of kind_of buffer
+below-top = refl
+
+-- two pins of 4 and a space of 3
+lowest : kind_of sample (2, buffer 11 4 11 (codes "POLY")) ≡ Ok (buffer-kind 11)
+unfolding are_pairs has_turns between grid_positions kind_fault grid_of kind_of buffer buffer-kind
+lowest = refl
+
+too-low : kind_of sample (2, buffer 10 4 10 (codes "POLY")) ≡ Err (faults.TooLow 2)
+unfolding are_pairs has_turns between grid_positions kind_fault grid_of kind_of buffer
+too-low = refl
+
+other-layer : kind_of sample (2, buffer 40 4 40 (codes "POLYS")) ≡ Err (faults.WrongLayer 2)
 unfolding are_pairs has_turns between grid_positions kind_fault grid_of kind_of buffer
 other-layer = refl
 
@@ -102,9 +116,13 @@ box : List ℕ → ℕ → ℕ → ℕ → ℕ → Shape
 box layer x0 y0 x1 y1 = record { layer = layer; rect = record { x0 = pos x0; y0 = pos y0; x1 = pos x1; y1 = pos y1 } }
 
 -- the buffer's outline and its pin at the top
-buffer-drawn : drawing_of sample buffer-kind ≡ box (codes "XP") 0 0 1600 8000 ∷ box (codes "NP") 500 7200 1100 8000 ∷ []
+buffer-drawn : drawing_of sample (buffer-kind 40) ≡ box (codes "XP") 0 0 1600 8000 ∷ box (codes "NP") 500 7200 1100 8000 ∷ []
 unfolding outline_shape position_shape buffer-kind box
 buffer-drawn = refl
+
+higher-drawn : drawing_of sample (buffer-kind 48) ≡ box (codes "XP") 0 0 1600 9600 ∷ box (codes "NP") 500 8800 1100 9600 ∷ []
+unfolding outline_shape position_shape buffer-kind box
+higher-drawn = refl
 
 -- an inverter's pin at the bottom
 inverter-kind : CellKind

@@ -2,11 +2,15 @@
 #![tactic(auto)]
 
 #[cfg(test)]
+mod decimal_tests;
+#[cfg(test)]
 mod design_tests;
 #[cfg(test)]
 mod file_tests;
 #[cfg(test)]
 mod geometry_tests;
+#[cfg(test)]
+mod height_tests;
 #[cfg(test)]
 mod name_tests;
 #[cfg(test)]
@@ -17,5 +21,7 @@ mod refusal_tests;
 mod rules_tests;
 #[cfg(test)]
 mod shelf_tests;
+#[cfg(test)]
+mod shown_files;
 #[cfg(test)]
 mod yal_tests;

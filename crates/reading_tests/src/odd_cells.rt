@@ -12,10 +12,6 @@ const BOW: &str =
 const OFF: &str =
     "MODULE OFF; TYPE STANDARD; DIMENSIONS 0 0 8 0 8 40 0 40; IOLIST; a I 5 0 3 POLY; ENDIOLIST; ENDMODULE;";
 
-/// A cell that is higher than the others.
-const TALL: &str =
-    "MODULE TALL; TYPE STANDARD; DIMENSIONS 0 0 8 0 8 48 0 48; IOLIST; a I 4 0 3 POLY; ENDIOLIST; ENDMODULE;";
-
 /// A cell that is lower than two pins and a space.
 const LOW: &str =
     "MODULE LOW; TYPE STANDARD; DIMENSIONS 0 0 8 0 8 10 0 10; IOLIST; a I 4 0 3 POLY; ENDIOLIST; ENDMODULE;";
@@ -48,7 +44,6 @@ fn module(name: &str) -> &'static str {
         "THR" => THROUGH,
         "BOW" => BOW,
         "OFF" => OFF,
-        "TALL" => TALL,
         "LOW" => LOW,
         "CLASH" => CLASH,
         "METAL" => METAL,

@@ -26,7 +26,6 @@ INV | u INV a; v INV a b; | SignalCount(1)\n\
 DRV | u DRV a b; | SignalCount(0)\n\
 INV BOW | u BOW a; v INV b; | NoShape(1)\n\
 INV OFF | u OFF a; v INV b; | OffGrid(1)\n\
-INV TALL | u TALL a; v INV b; | Height(1)\n\
 LOW | u LOW a; | TooLow(0)\n\
 CLASH | u CLASH a b; | PinClash(0)\n\
 METAL | u METAL a; | WrongLayer(0)\n\
@@ -35,7 +34,7 @@ INV | u INV a b; v NONE b; | SignalCount(0)\n\
 PAD | u PAD a; v NONE b; | NotStandard(0)\n\
 BOW | u BOW a; v BOW a b; | SignalCount(1)\n\
 OFF BOW | u BOW a; v OFF b; | OffGrid(0)\n\
-INV LOW | u LOW a; v INV b; | Height(1)\n\
+INV LOW | u LOW a; v INV b; | TooLow(1)\n\
 LOW INV | u LOW a; v INV b; | TooLow(0)\n\
 METAL CLASH | u CLASH a b; v METAL c; | WrongLayer(0)";
 
