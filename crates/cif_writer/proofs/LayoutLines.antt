@@ -5,11 +5,11 @@ use Rattle.std.proofs.lemmas.List.{append-nil}
 use Rattle.std.specs.List.{slice_get}
 use Rattle.cif_text.proofs.TextLemmas.{text_of-append, items-append}
 use Rattle.cif_text.specs.Printing.{line, text_of}
-use Rattle.cif_text.specs.Written.{MainItem, WrittenSymbol, copy_commands, items_commands, layer_after, layout_commands, shape_commands, symbol_commands, symbols_commands}
+use Rattle.cif_text.specs.Written.{MainItem, WrittenSymbol, alone, copy, copy_commands, items_commands, layer_after, layout_commands, shape_commands, symbol_commands, symbols_commands}
 use Rattle.cif_text.specs.declared.command.CifCommand.{CifCommand}
 use Rattle.cif_writer.specs.LayoutText.{text_behind}
 use Rattle.cif_writer.proofs.Lines.{text-last}
-use Rattle.cif_writer.specs.Symbols.{copies_of, copy_name, copy_number, items_of, kind_name, symbols_with, wires_of}
+use Rattle.cif_writer.specs.Symbols.{copies_of, copy_name, copy_number, feed_number, items_of, kind_name, row_items, symbols_with, wires_of}
 use Rattle.channel_model.specs.declared.wiring.Wiring.{Wiring}
 use Rattle.channel_stack.specs.Stack.{drawings}
 use Rattle.channel_stack.specs.declared.placed.PlacedItem.{PlacedItem}
@@ -19,20 +19,54 @@ use Rattle.tech_rules.specs.Rules.{RuleValues}
 use Rattle.wire_geom.specs.Drawing.{drawing}
 use Rattle.std_laws.proofs.Slices.{drop-next}
 
+-- the text of items in two parts
+items-parts : (last : Option (List ℕ)) (xs ys : List MainItem)
+    → text_of (items_commands last (xs ++ ys)) ≡ text_of (items_commands last xs) ++ text_of (items_commands (layer_after last xs) ys)
+items-parts last xs ys = ap text_of (items-append last xs ys) ∙ text_of-append (items_commands last xs) (items_commands (layer_after last xs) ys)
+
+-- and the layer behind them
+layer-parts : (last : Option (List ℕ)) (xs ys : List MainItem) → layer_after last (xs ++ ys) ≡ layer_after (layer_after last xs) ys
+layer-parts last [] ys = refl
+layer-parts last (alone s ∷ xs) ys = layer-parts (Some s.layer) xs ys
+layer-parts last (copy name n place ∷ xs) ys = layer-parts last xs ys
+
 -- the items of a row leave the layer, whatever it is
-row-layer : (d : Netlist) (layer : Option (List ℕ)) (items : List PlacedItem) → layer_after layer (copies_of d items) ≡ layer
-row-layer d layer [] = refl
-row-layer d layer (p ∷ items) = row-layer d layer items
+copies-layer : (d : Netlist) (feeds : ℕ) (layer : Option (List ℕ)) (items : List PlacedItem) → layer_after layer (copies_of d feeds items) ≡ layer
+copies-layer d feeds layer [] = refl
+copies-layer d feeds layer (p ∷ items) = copies-layer d feeds layer items
 
-row-commands : (d : Netlist) (layer : Option (List ℕ)) (items : List PlacedItem) → items_commands layer (copies_of d items) ≡ items_commands None (copies_of d items)
-row-commands d layer [] = refl
-row-commands d layer (p ∷ items) =
-    ap (λ (cs : List CifCommand). copy_commands (copy_name d p.item) (copy_number d p.item) p.place ++ cs) (row-commands d layer items)
+copies-commands : (d : Netlist) (feeds : ℕ) (layer : Option (List ℕ)) (items : List PlacedItem)
+    → items_commands layer (copies_of d feeds items) ≡ items_commands None (copies_of d feeds items)
+copies-commands d feeds layer [] = refl
+copies-commands d feeds layer (p ∷ items) =
+    ap (λ (cs : List CifCommand). copy_commands (copy_name d p.item) (copy_number d feeds p.item) p.place ++ cs) (copies-commands d feeds layer items)
 
--- the text of a row: that of its first item, and that of the others
-pub row-parts : (d : Netlist) (p : PlacedItem) (after : List PlacedItem) → text_of (items_commands None (copies_of d (p ∷ after)))
-    ≡ text_of (copy_commands (copy_name d p.item) (copy_number d p.item) p.place) ++ text_of (items_commands None (copies_of d after))
-row-parts d p after = text_of-append (copy_commands (copy_name d p.item) (copy_number d p.item) p.place) (items_commands None (copies_of d after))
+-- the text of a row's items: that of the first, and that of the others
+pub row-parts : (d : Netlist) (feeds : ℕ) (p : PlacedItem) (after : List PlacedItem) → text_of (items_commands None (copies_of d feeds (p ∷ after)))
+    ≡ text_of (copy_commands (copy_name d p.item) (copy_number d feeds p.item) p.place) ++ text_of (items_commands None (copies_of d feeds after))
+row-parts d feeds p after = text_of-append (copy_commands (copy_name d p.item) (copy_number d feeds p.item) p.place) (items_commands None (copies_of d feeds after))
+
+-- the text of a row: that of its items, and that of its risers
+pub level-parts : (d : Netlist) (tall : List ℕ) (height : ℕ) (last : Option (List ℕ)) (row : List PlacedItem) (risers : List wires.Drawn)
+    → text_of (items_commands last (row_items d tall height row risers))
+    ≡ text_of (items_commands None (copies_of d (feed_number d tall height) row)) ++ text_of (items_commands last (wires_of risers))
+level-parts d tall height last row risers =
+    let feeds : ℕ = feed_number d tall height in
+    items-parts last (copies_of d feeds row) (wires_of risers)
+    ∙ ap₂ (λ (cs : List CifCommand) (l : Option (List ℕ)). text_of cs ++ text_of (items_commands l (wires_of risers)))
+    (copies-commands d feeds last row) (copies-layer d feeds last row)
+
+-- and the layer behind it
+pub level-layer : (d : Netlist) (tall : List ℕ) (height : ℕ) (last : Option (List ℕ)) (row : List PlacedItem) (risers : List wires.Drawn)
+    → layer_after last (row_items d tall height row risers) ≡ layer_after last (wires_of risers)
+level-layer d tall height last row risers =
+    let feeds : ℕ = feed_number d tall height in
+    layer-parts last (copies_of d feeds row) (wires_of risers) ∙ ap (λ (l : Option (List ℕ)). layer_after l (wires_of risers)) (copies-layer d feeds last row)
+
+-- the text of risers: that of the first, and that of those behind it
+pub risers-parts : (last : Option (List ℕ)) (a : wires.Drawn) (after : List wires.Drawn) → text_of (items_commands last (wires_of (a ∷ after)))
+    ≡ text_of (shape_commands last a.shape) ++ text_of (items_commands (Some a.shape.layer) (wires_of after))
+risers-parts last a after = text_of-append (shape_commands last a.shape) (items_commands (Some a.shape.layer) (wires_of after))
 
 -- the text of a channel from a rectangle on: that of the rectangle, and that of those behind it
 pub wires-parts : (last : Option (List ℕ)) (drawn : List wires.Drawn) (k : ℕ) (a : wires.Drawn) → slice_get drawn k ≡ Some a
@@ -56,70 +90,72 @@ symbols-parts d n shapes rest =
     ∙ ap₂ (λ (m k : ℕ). text_of (symbol_commands (n + 1) (record { name = kind_name d n; shapes = shapes })) ++ text_of (symbols_commands m (symbols_with d k rest)))
     (sym (add-one (n + 1))) (sym (add-one n))
 
--- the text of channels and rows: that of the first channel, and that of the first row and of what stands above it
-main-parts : (d : Netlist) (last : Option (List ℕ)) (drawn : List wires.Drawn) (above : List (List wires.Drawn)) (row : List PlacedItem)
-    (higher : List (List PlacedItem))
-    → text_of (items_commands last (items_of d (drawn ∷ above) (row ∷ higher)))
-    ≡ text_of (items_commands last (wires_of drawn))
-    ++ (text_of (items_commands None (copies_of d row)) ++ text_of (items_commands (layer_after last (wires_of drawn)) (items_of d above higher)))
-main-parts d last drawn above row higher =
-    let layer : Option (List ℕ) = layer_after last (wires_of drawn) in
-    let behind : items_commands layer (copies_of d row ++ items_of d above higher)
-    ≡ items_commands None (copies_of d row) ++ items_commands layer (items_of d above higher) =
-    items-append layer (copies_of d row) (items_of d above higher)
-    ∙ ap (λ (cs : List CifCommand). cs ++ items_commands (layer_after layer (copies_of d row)) (items_of d above higher)) (row-commands d layer row)
-    ∙ ap (λ (l : Option (List ℕ)). items_commands None (copies_of d row) ++ items_commands l (items_of d above higher)) (row-layer d layer row) in
-    ap text_of (items-append last (wires_of drawn) (copies_of d row ++ items_of d above higher))
-    ∙ text_of-append (items_commands last (wires_of drawn)) (items_commands layer (copies_of d row ++ items_of d above higher))
-    ∙ ap (λ (l : List ℕ). text_of (items_commands last (wires_of drawn)) ++ l)
-    (ap text_of behind ∙ text_of-append (items_commands None (copies_of d row)) (items_commands layer (items_of d above higher)))
+-- the text of channels and of rows of these heights
+abbrev pub main_text : Netlist → List ℕ → RuleValues → Option (List ℕ) → List Wiring → List ℕ → List ℕ → List (List PlacedItem) → List (List wires.Drawn) → List ℕ
+main_text d tall r last ws edges heights rows risers = text_of (items_commands last (items_of d tall heights (drawings r ws edges) rows risers))
 
--- the text of a channel and of what stands above it
-main-first : (d : Netlist) (last : Option (List ℕ)) (drawn : List wires.Drawn) (above : List (List wires.Drawn)) (rows : List (List PlacedItem))
-    → (rest : List ℕ) × (text_of (items_commands last (items_of d (drawn ∷ above) rows)) ≡ text_of (items_commands last (wires_of drawn)) ++ rest)
-main-first d last drawn above [] = ([], sym (append-nil (text_of (items_commands last (wires_of drawn)))))
-main-first d last drawn above (row ∷ higher) = (
-  text_of (items_commands None (copies_of d row)) ++ text_of (items_commands (layer_after last (wires_of drawn)) (items_of d above higher)),
-  main-parts d last drawn above row higher,
-)
+module _ (d : Netlist) (tall : List ℕ) where
+  -- above a first channel with no row, no height or no risers is nothing
+  abbrev pub IsTop : List ℕ → List (List PlacedItem) → List (List wires.Drawn) → Type 0
+  IsTop heights rows risers =
+      (drawn : List wires.Drawn) (above : List (List wires.Drawn)) → items_of d tall heights (drawn ∷ above) rows risers ≡ wires_of drawn
 
--- above the last row is one channel
-main-last : (d : Netlist) (last : Option (List ℕ)) (drawn : List wires.Drawn) (above : List (List wires.Drawn)) (rows : List (List PlacedItem))
-    → length rows ≡ 0 → text_of (items_commands last (items_of d (drawn ∷ above) rows)) ≡ text_of (items_commands last (wires_of drawn)) ++ []
-main-last d last drawn above [] none = sym (append-nil (text_of (items_commands last (wires_of drawn))))
-main-last d last drawn above (row ∷ higher) none = absurd (omega (arith, none))
+  pub no-row : (heights : List ℕ) (rows : List (List PlacedItem)) (risers : List (List wires.Drawn)) → length rows ≡ 0 → IsTop heights rows risers
+  no-row heights [] risers none drawn above = refl
+  no-row heights (row ∷ rows) risers none drawn above = absurd (omega (arith, none))
 
--- the text of what is left of channels and rows where a first channel and its base are found
-main-drawn : (d : Netlist) (r : RuleValues) (last : Option (List ℕ)) (rows : List (List PlacedItem)) {ws : List Wiring} {w : Wiring} {above : List Wiring}
-    {bs : List ℕ} {b : ℕ} {others : List ℕ} → ws ≡ w ∷ above → bs ≡ b ∷ others
-    → text_of (items_commands last (items_of d (drawings r ws bs) rows)) ≡ text_of (items_commands last (items_of d (drawing r b w ∷ drawings r above others) rows))
-main-drawn d r last rows channels edges =
-    ap₂ (λ (l : List Wiring) (k : List ℕ). text_of (items_commands last (items_of d (drawings r l k) rows))) channels edges
+  pub no-height : (heights : List ℕ) (rows : List (List PlacedItem)) (risers : List (List wires.Drawn)) → length heights ≡ 0 → IsTop heights rows risers
+  no-height [] [] risers none drawn above = refl
+  no-height [] (row ∷ rows) risers none drawn above = refl
+  no-height (h ∷ heights) rows risers none drawn above = absurd (omega (arith, none))
 
--- that of the channel, and what follows
-pub main-channel : (d : Netlist) (r : RuleValues) (last : Option (List ℕ)) (rows : List (List PlacedItem)) {ws : List Wiring} {w : Wiring} {above : List Wiring}
-    {bs : List ℕ} {b : ℕ} {others : List ℕ} → ws ≡ w ∷ above → bs ≡ b ∷ others
-    → (rest : List ℕ) × (text_of (items_commands last (items_of d (drawings r ws bs) rows)) ≡ text_of (items_commands last (wires_of (drawing r b w))) ++ rest)
-main-channel d r last rows {w = w} {above = above} {b = b} {others = others} channels edges =
-    let first = main-first d last (drawing r b w) (drawings r above others) rows in
-    (first.0, main-drawn d r last rows channels edges ∙ first.1)
+  pub no-risers : (heights : List ℕ) (rows : List (List PlacedItem)) (risers : List (List wires.Drawn)) → length risers ≡ 0 → IsTop heights rows risers
+  no-risers heights [] [] none drawn above = refl
+  no-risers [] (row ∷ rows) [] none drawn above = refl
+  no-risers (h ∷ heights) (row ∷ rows) [] none drawn above = refl
+  no-risers heights rows (rise ∷ risers) none drawn above = absurd (omega (arith, none))
 
--- that of the channel alone, above the last row
-pub main-top : (d : Netlist) (r : RuleValues) (last : Option (List ℕ)) (rows : List (List PlacedItem)) {ws : List Wiring} {w : Wiring} {above : List Wiring}
-    {bs : List ℕ} {b : ℕ} {others : List ℕ} → ws ≡ w ∷ above → bs ≡ b ∷ others → length rows ≡ 0
-    → text_of (items_commands last (items_of d (drawings r ws bs) rows)) ≡ text_of (items_commands last (wires_of (drawing r b w))) ++ []
-main-top d r last rows {w = w} {above = above} {b = b} {others = others} channels edges none =
-    main-drawn d r last rows channels edges ∙ main-last d last (drawing r b w) (drawings r above others) rows none
+  -- the text of a channel and of what stands above it
+  main-first : (last : Option (List ℕ)) (drawn : List wires.Drawn) (above : List (List wires.Drawn)) (heights : List ℕ) (rows : List (List PlacedItem))
+      (risers : List (List wires.Drawn))
+      → (rest : List ℕ) × (text_of (items_commands last (items_of d tall heights (drawn ∷ above) rows risers)) ≡ text_of (items_commands last (wires_of drawn)) ++ rest)
+  main-first last drawn above heights [] risers = ([], sym (append-nil (text_of (items_commands last (wires_of drawn)))))
+  main-first last drawn above [] (row ∷ rows) risers = ([], sym (append-nil (text_of (items_commands last (wires_of drawn)))))
+  main-first last drawn above (h ∷ heights) (row ∷ rows) [] = ([], sym (append-nil (text_of (items_commands last (wires_of drawn)))))
+  main-first last drawn above (h ∷ heights) (row ∷ rows) (rise ∷ risers) =
+      let behind : List MainItem = row_items d tall h row rise ++ items_of d tall heights above rows risers in
+      (text_of (items_commands (layer_after last (wires_of drawn)) behind), items-parts last (wires_of drawn) behind)
 
--- that of the channel, of the row above it, and of what stands above the row
-pub main-level : (d : Netlist) (r : RuleValues) (last : Option (List ℕ)) {rows : List (List PlacedItem)} {row : List PlacedItem} {higher : List (List PlacedItem)}
-    {ws : List Wiring} {w : Wiring} {above : List Wiring} {bs : List ℕ} {b : ℕ} {others : List ℕ} → ws ≡ w ∷ above → bs ≡ b ∷ others → rows ≡ row ∷ higher
-    → text_of (items_commands last (items_of d (drawings r ws bs) rows)) ≡ text_of (items_commands last (wires_of (drawing r b w)))
-    ++ (text_of (items_commands None (copies_of d row)) ++ text_of (items_commands (layer_after last (wires_of (drawing r b w))) (items_of d (drawings r above others) higher)))
-main-level d r last {rows = rows} {row = row} {higher = higher} {w = w} {above = above} {b = b} {others = others} channels edges is =
-    main-drawn d r last rows channels edges
-    ∙ ap (λ (l : List (List PlacedItem)). text_of (items_commands last (items_of d (drawing r b w ∷ drawings r above others) l))) is
-    ∙ main-parts d last (drawing r b w) (drawings r above others) row higher
+  module _ (r : RuleValues) (last : Option (List ℕ)) {ws : List Wiring} {w : Wiring} {above : List Wiring} {edges : List ℕ} {b : ℕ} {others : List ℕ}
+      (channels : ws ≡ w ∷ above) (bases : edges ≡ b ∷ others) where
+    -- what is left where a first channel and its base are found: that of the channel, and what follows
+    pub main-channel : (heights : List ℕ) (rows : List (List PlacedItem)) (risers : List (List wires.Drawn))
+        → (rest : List ℕ) × (main_text d tall r last ws edges heights rows risers ≡ text_of (items_commands last (wires_of (drawing r b w))) ++ rest)
+    main-channel heights rows risers =
+        let first = main-first last (drawing r b w) (drawings r above others) heights rows risers in
+        (first.0, ap₂ (λ (l : List Wiring) (k : List ℕ). main_text d tall r last l k heights rows risers) channels bases ∙ first.1)
+
+    -- that of the channel alone, above the last row
+    pub main-top : (heights : List ℕ) (rows : List (List PlacedItem)) (risers : List (List wires.Drawn)) → IsTop heights rows risers
+        → main_text d tall r last ws edges heights rows risers ≡ text_of (items_commands last (wires_of (drawing r b w))) ++ []
+    main-top heights rows risers top =
+        ap₂ (λ (l : List Wiring) (k : List ℕ). main_text d tall r last l k heights rows risers) channels bases
+        ∙ ap (λ (items : List MainItem). text_of (items_commands last items)) (top (drawing r b w) (drawings r above others))
+        ∙ sym (append-nil (text_of (items_commands last (wires_of (drawing r b w)))))
+
+    -- that of the channel, of the row above it, and of what stands above the row
+    pub main-level : {heights : List ℕ} {h : ℕ} {taller : List ℕ} {rows : List (List PlacedItem)} {row : List PlacedItem} {higher : List (List PlacedItem)}
+        {risers : List (List wires.Drawn)} {rise : List wires.Drawn} {rising : List (List wires.Drawn)}
+        → rows ≡ row ∷ higher → heights ≡ h ∷ taller → risers ≡ rise ∷ rising
+        → main_text d tall r last ws edges heights rows risers ≡ text_of (items_commands last (wires_of (drawing r b w)))
+        ++ (text_of (items_commands (layer_after last (wires_of (drawing r b w))) (row_items d tall h row rise))
+        ++ main_text d tall r (layer_after (layer_after last (wires_of (drawing r b w))) (row_items d tall h row rise)) above others taller higher rising)
+    main-level {h = h} {taller = taller} {row = row} {higher = higher} {rise = rise} {rising = rising} items_are height_is risers_are =
+        let drawn : List wires.Drawn = drawing r b w in
+        let level : List MainItem = row_items d tall h row rise in
+        let behind : List MainItem = items_of d tall taller (drawings r above others) higher rising in
+        rw (channels, bases, items_are, height_is, risers_are) (items-parts last (wires_of drawn) (level ++ behind)
+        ∙ ap (λ (l : List ℕ). text_of (items_commands last (wires_of drawn)) ++ l) (items-parts (layer_after last (wires_of drawn)) level behind))
 
 -- the whole text: its first line, and what stands behind it
 pub layout-text : (symbols : List WrittenSymbol) (items : List MainItem)

@@ -11,8 +11,8 @@ use Rattle.tech_rules.specs.Rules.{RuleValues}
 use Rattle.wire_geom.specs.declared.drawn.Drawn.{Drawn}
 
 -- wirings whose channels have these lower edges stand on the grids of their channels, and their rectangles, those of risers and those of symbols lie within reach
-pub record AreInReach (r : RuleValues) (wirings : List Wiring) (edges : List ℕ) (rising : List (List Drawn)) (symbols : List (List Shape)) : Type 0 where
+pub record AreInReach (r : RuleValues) (wirings : List Wiring) (edges : List ℕ) (rises : List (List Drawn)) (symbols : List (List Shape)) : Type 0 where
   pub on_grid : AllByRecursion (λ (w : Wiring). All (IsOnGrid w.columns w.tracks) (elements w)) wirings
   pub wires : AllByRecursion (λ (drawn : List Drawn). AllByRecursion (λ (a : Drawn). IsShapeInReach a.shape) drawn) (drawings r wirings edges)
-  pub risers : AllByRecursion (λ (drawn : List Drawn). AllByRecursion (λ (a : Drawn). IsShapeInReach a.shape) drawn) rising
+  pub risers : AllByRecursion (λ (drawn : List Drawn). AllByRecursion (λ (a : Drawn). IsShapeInReach a.shape) drawn) rises
   pub shapes : AllByRecursion (λ (drawn : List Shape). AllByRecursion IsShapeInReach drawn) symbols

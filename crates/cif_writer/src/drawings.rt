@@ -52,8 +52,8 @@ fn feed_heights(alloc: Global, fed: &FedRows) -> Result<Vec<u32>, AllocError>
         rest = above;
     }
     let mut ascending = Vec::with_capacity(alloc, found.len())?;
-    for height in &found {
-        ascending.push(*height)?;
+    while let Some(lowest) = found.pop_first() {
+        ascending.push(lowest)?;
     }
     Ok(ascending)
 }

@@ -10,10 +10,10 @@ ghost use Rattle.cif_text.specs.Printing.{line, text_of};
 ghost use Rattle.cif_text.specs.ReadsAs.{ReadsAs};
 ghost use Rattle.cif_text.specs.Written.{items_commands, layer_after, symbols_commands};
 ghost use Rattle.cif_text.specs.declared.command.CifCommand.TheVariants as commands;
+ghost use Rattle.cif_writer.specs.FeedHeights.{feed_heights, height_place};
 ghost use Rattle.cif_writer.specs.InReach.{AreInReach};
 ghost use Rattle.cif_writer.specs.LayoutText.{HoldsFront, placed_text, text_behind};
-ghost use Rattle.cif_writer.specs.FeedHeights.{feed_heights};
-ghost use Rattle.cif_writer.specs.Symbols.{copies_of, copy_name, copy_number, feed_number, kind_name, laid_items, symbol_drawings, symbols_with, wires_of};
+ghost use Rattle.cif_writer.specs.Symbols.{copies_of, copy_name, copy_number, feed_number, kind_name, laid_items, row_items, symbol_drawings, symbols_with, wires_of};
 ghost use Rattle.design_model.specs.Room.{HasRoom};
 ghost use Rattle.feed_cells.specs.Fed.{IsFed};
 ghost use Rattle.geom_core.specs.Reach.{IsShapeInReach};
@@ -23,7 +23,7 @@ ghost use Rattle.shelf_io.specs.OtherFiles.{OthersSame};
 ghost use Rattle.shelf_io.specs.Told.{Refines};
 ghost use Rattle.shelf_io.specs.Wrote.{Puts, Writes};
 ghost use Rattle.std.specs.List.{All, AllByRecursion};
-ghost use Rattle.std.specs.Prelude.{◌≡◌, ◌++◌, List, None, Some, is_ok, map, option_map, OnOk, OnErr};
+ghost use Rattle.std.specs.Prelude.{◌≡◌, ◌≤◌, ◌++◌, List, None, Some, is_ok, length, map, option_map, OnOk, OnErr};
 ghost use Rattle.tech_rules.specs.Rules.{ValidRules};
 ghost use Rattle.wire_geom.specs.Drawing.{drawing};
 ghost use Rattle.wire_geom.specs.declared.drawn.Drawn.{Drawn};
@@ -118,18 +118,28 @@ fn copy_number(design: &Design, feeds: u64, item: Item) -> u64
     }
 }
 
+// The first place of a height among others, or how many they are.
+fn height_place(heights: &[u32], height: u32) -> u64
+    ensures place { result ≡ height_place heights.now height }
+    ensures within { result ≤ length heights.now }
+{
+    let mut place = 0;
+    let mut rest = heights;
+    while let Some((first, others)) = rest.split_first() {
+        if *first == height {
+            return place;
+        }
+        place += 1;
+        rest = others;
+    }
+    place
+}
+
 // The number of the symbol of the feeds of a row of this height, where feeds have these heights.
 fn feed_number(design: &Design, heights: &[u32], height: u32) -> u64
     ensures { result ≡ feed_number design.now heights.now height }
 {
-    let mut place = 0;
-    for other in heights {
-        if *other == height {
-            break;
-        }
-        place += 1;
-    }
-    design.kinds.items().len() as u64 + 1 + place
+    design.kinds.items().len() as u64 + 1 + height_place(heights, height)
 }
 
 // Writes the cells and feeds of a row, whose feeds have the symbol with this number.
@@ -165,6 +175,25 @@ fn write_risers<K: Sink>(text: &mut Text, out: &mut K, risers: &[Drawn]) -> Resu
         rest = after;
     }
     Ok(())
+}
+
+// Writes a row of this height, where feeds have these heights: its items, and then its risers.
+fn write_level<K: Sink>(
+    text: &mut Text,
+    out: &mut K,
+    design: &Design,
+    tall: &[u32],
+    height: u32,
+    row: &[PlacedItem],
+    risers: &[Drawn],
+) -> Result<(), Failed>
+    requires reach { AllByRecursion (λ (a : Drawn). IsShapeInReach a.shape) risers.now }
+    ensures wrote { Writes result (text_of (items_commands text.old.last (row_items design.now tall.now height row.now risers.now))) text.old.buffered text.new.buffered (K.written out.old) (K.written out.new) (K.faults out.old) (K.faults out.new) (K.same_place out.old out.new) (K.else_same out.old out.new) }
+    ensures layer { OnOk result (text.new.last ≡ layer_after text.old.last (row_items design.now tall.now height row.now risers.now)) }
+{
+    let feeds = feed_number(design, tall, height);
+    write_row(text, out, design, feeds, row)?;
+    write_risers(text, out, risers)
 }
 
 /// A routed design as it is written: its rows with feeds, the wirings of its channels, where all of it lies, and its symbols.
@@ -208,9 +237,15 @@ fn write_main<'p, W: HasWiring, K: Sink>(
         let Some((rise, rising)) = risers.split_first() else {
             return Ok(());
         };
-        let feeds = feed_number(routed.design, tall, *height);
-        write_row(text, out, routed.design, feeds, row.items())?;
-        write_risers(text, out, rise.items())?;
+        write_level(
+            text,
+            out,
+            routed.design,
+            tall,
+            *height,
+            row.items(),
+            rise.items(),
+        )?;
         channels = above;
         edges = others;
         rows = higher;
@@ -229,7 +264,12 @@ fn write_all<'p, W: HasWiring, K: Sink>(
     ensures { Puts result (line commands.Comment ++ (text_behind (symbols_with routed.now.design.now 0 routed.now.symbols.now.drawings) (laid_items routed.now.design.now routed.now.symbols.now.feed_heights (drawings routed.now.rules.now (map W.wiring_of routed.now.wirings.now) routed.now.laid.now.channel_base) routed.now.laid.now))) (K.written out.old) (K.written out.new) (K.faults out.old) (K.faults out.new) (K.same_place out.old out.new) (K.else_same out.old out.new) }
 {
     let mut text = Text::begin();
-    write_symbols(&mut text, out, routed.design, routed.symbols.drawings.items())?;
+    write_symbols(
+        &mut text,
+        out,
+        routed.design,
+        routed.symbols.drawings.items(),
+    )?;
     write_main(&mut text, out, routed)?;
     text.end(out)
 }
