@@ -12,7 +12,7 @@ use Rattle.shelf_io.proofs.WritesLaws.{puts-same}
 use Rattle.cif_writer.proofs.BegunLaws.{begun-front, begun-whole}
 use Rattle.cif_writer.proofs.SymbolDrawings.{whole-text}
 use Rattle.cif_writer.proofs.SymbolReach.{symbols-reach}
-use Rattle.cif_writer.proofs.Writable.{stack-reach}
+use Rattle.cif_writer.proofs.Writable.{risers-reach, stack-reach}
 use Rattle.cif_writer.proofs.WrittenStack.{stack-reads}
 use Rattle.std_laws.proofs.Every.{every-from-get}
 
@@ -25,6 +25,8 @@ put_design-requires g c =
       on_grid = every-from-get (λ (w : Wiring). All (IsOnGrid w.columns w.tracks) (elements w)) (map g.W.HasWiring.wiring_of routed.wirings.now) c.requires.wired.on_grid;
       wires = rw (ap (λ (l : LaidOut). l.channel_base) c.requires.laid)
           (stack-reach routed.rules.now routed.design.now routed.fed.now (map g.W.HasWiring.wiring_of routed.wirings.now) c.requires.valid c.requires.fed c.requires.wired);
+      risers = rw (ap (λ (l : LaidOut). l.risers) c.requires.laid)
+          (risers-reach routed.rules.now routed.design.now routed.fed.now (map g.W.HasWiring.wiring_of routed.wirings.now) c.requires.valid c.requires.fed c.requires.wired);
       shapes = rw c.requires.symbols (symbols-reach routed.rules.now routed.design.now routed.fed.now c.requires.valid netlist c.requires.fed);
     }
 
@@ -35,7 +37,7 @@ returns g c =
     let fed = c.args.routed.now.fed.now in
     let wirings = (map g.W.HasWiring.wiring_of c.args.routed.now.wirings.now) in
     let netlist : IsNetlist c.args.routed.now.design.now = subst IsNetlist c.design.view_is c.design.invariant.netlist in
-    let whole = whole-text rules design fed wirings c.args.routed.now.symbols.now c.args.routed.now.laid.now c.requires.symbols c.requires.laid in
+    let whole = whole-text rules design fed wirings c.args.routed.now.symbols.now.drawings c.args.routed.now.symbols.now.feed_heights c.args.routed.now.laid.now c.requires.symbols c.requires.feeds c.requires.laid in
     let begun = c.in_ok-begin.ensures in
     let put = rw whole at c.put_design.ensures in
     record {
