@@ -8,6 +8,8 @@ mod decimal_tests;
 #[cfg(test)]
 mod edge_tests;
 #[cfg(test)]
+mod height_tests;
+#[cfg(test)]
 mod limit_tests;
 #[cfg(test)]
 mod line_tests;
