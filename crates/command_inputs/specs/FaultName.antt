@@ -24,7 +24,6 @@ fault_name file (faults.NotStandard i) = instance_name file i
 fault_name file (faults.SignalCount i) = instance_name file i
 fault_name file (faults.NoShape n) = module_name file n
 fault_name file (faults.OffGrid n) = module_name file n
-fault_name file (faults.Height n) = module_name file n
 fault_name file (faults.TooLow n) = module_name file n
 fault_name file (faults.PinClash n) = module_name file n
 fault_name file (faults.WrongLayer n) = module_name file n

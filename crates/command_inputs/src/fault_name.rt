@@ -60,7 +60,6 @@ fn lent_name(file: &YalFile, fault: DesignFault) -> Option<&Name>
             instance_name(file, i),
         DesignFault::NoShape(n)
         | DesignFault::OffGrid(n)
-        | DesignFault::Height(n)
         | DesignFault::TooLow(n)
         | DesignFault::PinClash(n)
         | DesignFault::WrongLayer(n) => module_name(file, n),

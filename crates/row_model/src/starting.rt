@@ -13,8 +13,8 @@ use std::alloc::{AllocError, Global};
 use std::marker::Model;
 use tech_rules::{Rules, StartBy};
 
-/// As many rows as make the layout about square: the least number from 1 on whose square times the cells' height is at least
-/// the area of all instances, and 512 where that is greater. Takes no memory.
+/// As many rows as make the layout about square: the least number from 1 on whose square times the highest kind's height is at
+/// least the width of all instances side by side, and 512 where that is greater. Takes no memory.
 #[tactic(auto, unfolding(crate::specs::Start::default_rows))]
 pub fn default_rows(design: &Design, rules: &Rules) -> u32
     ensures is { result ≡ default_rows rules.now design.now }

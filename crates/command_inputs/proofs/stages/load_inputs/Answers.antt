@@ -1,4 +1,4 @@
-use Rattle.std.proofs.Common.{◌≡◌, Err, Ok, ap, inl, inr, is_ok, arith}
+use Rattle.std.proofs.Common.{◌≡◌, Err, Ok, ap, inr, is_ok, arith}
 use Rattle.tech_rules.specs.Rules.{RuleValues}
 use Rattle.command_ends.proofs.FindsLaws.{handed-on, of-file, stops, told-goes-on, told-stops}
 use Rattle.command_words.specs.Seen.{source_seen}
