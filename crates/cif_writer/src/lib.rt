@@ -4,6 +4,7 @@
 mod drawings;
 mod layout;
 mod printing;
+mod rows;
 mod text;
 mod writer;
 

@@ -1,4 +1,4 @@
-use Rattle.std.proofs.Common.{◌≡◌, ◌++◌, ◌∙◌, ◌<◌, ◌≤◌, ℕ, List, ap, ap₂, map, subst, sym}
+use Rattle.std.proofs.Common.{◌++◌, ◌∙◌, ◌<◌, ◌≤◌, ℕ, List, ap, ap₂, map, subst, sym}
 use Rattle.std.specs.List.{AllByRecursion}
 use Rattle.channel_stack.specs.Layouts.{feed_drawing}
 use Rattle.design_model.specs.Netlist.{IsNetlist}

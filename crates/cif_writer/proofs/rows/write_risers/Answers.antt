@@ -1,4 +1,4 @@
-use Rattle.cif_writer.proofs.layout.write_risers.Goals as goal
+use Rattle.cif_writer.proofs.rows.write_risers.Goals as goal
 use Rattle.std.proofs.Common.{◌∙◌, List, ap, refl, sym, true}
 use Rattle.cif_text.specs.Printing.{text_of}
 use Rattle.cif_text.specs.Written.{items_commands, layer_after}

@@ -3,7 +3,7 @@ use Rattle.cif_text.specs.Printing.{text_of}
 use Rattle.cif_text.specs.Written.{items_commands}
 use Rattle.shelf_io.proofs.SoFar.{SoFar}
 use Rattle.cif_writer.specs.Symbols.{copies_of}
-use Rattle.cif_writer.proofs.layout.write_row.Given as goal
+use Rattle.cif_writer.proofs.rows.write_row.Given as goal
 
 abbrev pub invariant-loop-placed : goal.invariant-loop-placed
 invariant-loop-placed g l = record {

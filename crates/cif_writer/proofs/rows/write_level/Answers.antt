@@ -1,4 +1,4 @@
-use Rattle.cif_writer.proofs.layout.write_level.Goals as goal
+use Rattle.cif_writer.proofs.rows.write_level.Goals as goal
 use Rattle.cif_text.specs.Printing.{text_of}
 use Rattle.cif_text.specs.Written.{items_commands}
 use Rattle.cif_writer.specs.Symbols.{wires_of}

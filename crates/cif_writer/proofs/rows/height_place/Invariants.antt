@@ -1,6 +1,6 @@
 use Rattle.std.proofs.Common.{◌≡◌, ◌+◌, length}
 use Rattle.cif_writer.specs.FeedHeights.{height_place}
-use Rattle.cif_writer.proofs.layout.height_place.Given as goal
+use Rattle.cif_writer.proofs.rows.height_place.Given as goal
 
 abbrev pub invariant-loop-first : goal.invariant-loop-first
 invariant-loop-first l = record {

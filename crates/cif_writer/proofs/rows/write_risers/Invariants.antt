@@ -6,7 +6,7 @@ use Rattle.geom_core.specs.Reach.{IsShapeInReach}
 use Rattle.shelf_io.proofs.SoFar.{SoFar}
 use Rattle.wire_geom.specs.declared.drawn.Drawn.{Drawn}
 use Rattle.cif_writer.specs.Symbols.{wires_of}
-use Rattle.cif_writer.proofs.layout.write_risers.Given as goal
+use Rattle.cif_writer.proofs.rows.write_risers.Given as goal
 
 abbrev pub invariant-loop-riser : goal.invariant-loop-riser
 invariant-loop-riser g l = record {

@@ -1,4 +1,4 @@
-use Rattle.cif_writer.proofs.layout.write_row.Goals as goal
+use Rattle.cif_writer.proofs.rows.write_row.Goals as goal
 use Rattle.std.proofs.Common.{◌∙◌, List, None, ap, refl, true}
 use Rattle.std.proofs.lemmas.List.{nil_from_length}
 use Rattle.cif_text.specs.Printing.{text_of}
