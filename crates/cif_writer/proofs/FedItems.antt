@@ -1,9 +1,9 @@
-use Rattle.std.proofs.Common.{◌≡◌, ℕ, ◌+◌, ◌<◌, ◌≤◌, ◌++◌, List, [], ◌∷◌, length, map, sum, Bool, true, Some, Contains, ap, subst, ◌∙◌, refl, arith}
-use Rattle.std.proofs.lemmas.Bool.{both_ways, or_left, or_right}
+use Rattle.std.proofs.Common.{◌≡◌, ℕ, ◌+◌, ◌<◌, ◌≤◌, ◌++◌, List, [], ◌∷◌, length, map, sum, true, Some, Contains, ap, subst, ◌∙◌, refl, arith}
+use Rattle.std.proofs.lemmas.Bool.{both_ways}
 use Rattle.std.proofs.lemmas.Bool.Decides.{nat_tests}
 use Rattle.std.proofs.lemmas.List.Elements.{Contains-append_right, recursion_from_All}
 use Rattle.std.proofs.lemmas.List.Sums.{get_or-le-sum_by}
-use Rattle.std.proofs.lemmas.Option.{get_or_from_slice_get, slice_get_within}
+use Rattle.std.proofs.lemmas.Option.{slice_get_within}
 use Rattle.std.specs.List.{AllByRecursion, list_any}
 use Rattle.std.specs.Prelude.{◌==◌, slice_get, option_map}
 use Rattle.std.specs.Option.{option_and_then}
@@ -18,7 +18,7 @@ use Rattle.row_model.specs.Widths.{cell_height, columns_of, height_of, kind_of, 
 use Rattle.row_model.specs.declared.rows.Seat.{Seat}
 use Rattle.row_model.proofs.PlacedLaws.{IsWithin, rows-within}
 use Rattle.row_model.proofs.StandLaws.{IsStand, stand-is, stand-there}
-use Rattle.feed_cells.specs.Fed.{Fed, IsFed, cells_in, fed_row, fed_rows, heights_of, item_width, items_width, seats_in}
+use Rattle.feed_cells.specs.Fed.{Fed, IsFed, cells_in, fed_row, fed_rows, item_width, items_width, seats_in}
 use Rattle.feed_cells.proofs.Standing.{Stands, seated, feeding}
 use Rattle.feed_cells.specs.declared.fed.Item.{Item}
 use Rattle.feed_cells.specs.declared.fed.Item.TheVariants.{Cell, Feed}

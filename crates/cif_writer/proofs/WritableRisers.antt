@@ -1,29 +1,27 @@
-use Rattle.std.proofs.Common.{◌≡◌, sym, ap, ◌∙◌, subst, ℕ, zero, suc, ◌+◌, ◌-◌, ◌*◌, ◌<◌, ◌≤◌, List, [], ◌∷◌, ◌++◌, length, Some, Contains, arith}
+use Rattle.std.proofs.Common.{◌≡◌, sym, ap, subst, ℕ, zero, suc, ◌+◌, ◌<◌, ◌≤◌, List, [], ◌∷◌, ◌++◌, length, Contains, arith}
 use Rattle.std.specs.List.{AllByRecursion}
-use Rattle.std.specs.Prelude.{slice_get, slice_index, unwrap_or}
+use Rattle.std.specs.Prelude.{slice_index, unwrap_or}
 use Rattle.std.proofs.lemmas.Option.{slice_get_within}
 use Rattle.tech_rules.specs.Rules.{RuleValues, ValidRules}
 use Rattle.design_model.specs.Netlist.{Netlist}
 use Rattle.channel_model.specs.declared.wiring.Wiring.{Wiring}
-use Rattle.row_model.specs.Widths.{cell_height, columns_of}
 use Rattle.feed_cells.specs.Fed.{Fed, IsFed, item_width, items_width}
 use Rattle.feed_cells.specs.declared.fed.Item.{Item}
 use Rattle.feed_cells.specs.declared.fed.Item.TheVariants.{Cell}
 use Rattle.feed_cells.proofs.FedWidths.{width-cons}
 use Rattle.layout_laws.specs.Heights.{channel_height}
 use Rattle.wire_geom.specs.Boxes.{upright_box}
-use Rattle.wire_geom.specs.Drawing.{on_vertical, upright}
-use Rattle.wire_geom.specs.Grid.{centre}
+use Rattle.wire_geom.specs.Drawing.{on_vertical}
 use Rattle.wire_geom.specs.declared.drawn.Drawn.{Drawn}
 use Rattle.channel_stack.specs.Routed.{IsRouted}
-use Rattle.channel_stack.specs.Stack.{row_bases, stack_of, stack_top}
+use Rattle.channel_stack.specs.Stack.{row_bases, stack_top}
 use Rattle.channel_stack.proofs.LayoutShapes.{risers-each}
 use Rattle.channel_stack.proofs.Planned.{risers_at, risers_in}
 use Rattle.channel_stack.proofs.RowRisers.{row-floor, row-tall, riser-of}
 use Rattle.channel_stack.proofs.StackBounds.{IsBounded, bases-within, base-below, heights-counted}
 use Rattle.cif_writer.proofs.WritableSymbols.{wire-narrow}
-use Rattle.cif_writer.proofs.WritableWires.{IsWire, IsWithin, centre-within, piece-is}
-use Rattle.std_laws.proofs.Every.{every-from-get, every-get, every-weaker}
+use Rattle.cif_writer.proofs.WritableWires.{IsWire, centre-within, piece-is}
+use Rattle.std_laws.proofs.Every.{every-from-get, every-get}
 use Rattle.std_laws.proofs.Members.{get-contains}
 
 -- a row ends within the stack
