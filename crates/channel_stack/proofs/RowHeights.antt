@@ -16,12 +16,11 @@ use Rattle.row_model.specs.Rows.{ArePlaced}
 use Rattle.channel_stack.proofs.KnownItems.{KnownCell, item-known, seat-in}
 use Rattle.channel_stack.proofs.Planned.{height_of_row}
 use Rattle.channel_stack.proofs.RowItems.{seat-item}
-use Rattle.channel_stack.proofs.StackBounds.{heights-counted, heights-of, row-within, some-row}
+use Rattle.channel_stack.proofs.StackBounds.{heights-counted, heights-of, row-within}
 use Rattle.channel_stack.specs.Stack.{stack_top}
 use Rattle.std_laws.proofs.Every.{every-from-get, every-map}
 use Rattle.std_laws.proofs.Greatest.{greatest-bound, greatest-few, greatest-first}
 use Rattle.std_laws.proofs.Members.{get-contains, member-cases, member-head, member-tail}
-use Rattle.std_laws.proofs.Places.{at-place}
 
 -- no cell of a row is higher than the row
 seat-within : (d : Netlist) (seats : List Seat) (s : Seat) → Contains seats s → cell_height d s.instance ≤ row_height d seats

@@ -117,7 +117,15 @@ fn row_risers(
     let items = fed.rows.items()[row].items();
     let height = fed.heights.items()[row];
     let above = &channels[row + 1];
-    risers_along(alloc, design, rules, bases[row], height, items, above.bottom.items())
+    risers_along(
+        alloc,
+        design,
+        rules,
+        bases[row],
+        height,
+        items,
+        above.bottom.items(),
+    )
 }
 
 /// The risers of all rows, from the lowest up, where the rows stand on these lower edges: for each net that a cell lower than its row gives to the channel above, a vertical wire from where
