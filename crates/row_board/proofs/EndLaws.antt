@@ -3,7 +3,7 @@ use Rattle.std.proofs.lemmas.List.Elements.{recursion_from_All}
 use Rattle.std.proofs.lemmas.List.{length-map}
 use Rattle.std.proofs.lemmas.Option.{same_Some}
 use Rattle.std.specs.List.{slice_get, AllByRecursion, Contains}
-use Rattle.std.specs.Prelude.{nat_eq, nat_lt}
+use Rattle.std.specs.Prelude.{nat_eq}
 use Rattle.design_model.specs.Netlist.{IsNetlist, Netlist}
 use Rattle.design_model.specs.declared.design.Pin.{Pin}
 use Rattle.row_board.specs.Cost.{pins_of_net}
@@ -12,14 +12,12 @@ use Rattle.row_board.specs.Extremes.{extreme_at, part_of, AreExtremes, AreExtrem
 use Rattle.row_board.specs.NetPins.{net_pin, net_pins, own_pin, pin_column, pin_with_net, pins_of_instance}
 use Rattle.row_board.specs.PinPlaces.{columns_by}
 use Rattle.row_board.specs.Spot.{Spot}
-use Rattle.row_board.specs.Trial.{ends_net, instances_instead, least_cost, marked_in, marked_pins, net_columns, pins_in, shifted_from, shifted_seats, shorter_pins}
+use Rattle.row_board.specs.Trial.{ends_net, least_cost, longer_pins, marked_in, marked_pins, net_columns, shorter_pins}
 use Rattle.row_board.specs.Cost.{difference}
-use Rattle.row_board.specs.Weights.{Weighing}
 use Rattle.row_model.specs.Widths.{columns_of}
 use Rattle.row_model.specs.declared.rows.Seat.{Seat}
 use Rattle.std.proofs.Math.Nat.{mul-le-mul_left}
 use Rattle.std_laws.proofs.Sums.{sum-cons}
-use Rattle.row_board.specs.declared.extreme.Extreme.{Extreme}
 use Rattle.row_board.specs.declared.extreme.Side.{Side}
 use Rattle.row_board.specs.declared.extreme.Side.TheVariants.{Low, High}
 use Rattle.row_board.specs.declared.extremes.Extremes.{Extremes}
@@ -46,12 +44,12 @@ kept-extreme numbers kept side list p all at n ns is =
     by Low q are = extreme-is Low n ns (extreme_at Low q) are.low
     by High q are = extreme-is High n ns (extreme_at High q) are.high
 
--- so those of the columns of a net with a pin are known
-pub net-extreme : (d : Netlist) (t : List Spot) (side : Side) (net : ℕ) (lists : List (List ℕ)) (e : Extreme) → lists ≡ columns_by d t → net ≤ length d.nets → 0 < length (net_pins d net)
-    → ((n : ℕ) (ns : List ℕ) → slice_get lists net ≡ Some (n ∷ ns) → e ≡ extreme_of side (n ∷ ns)) → e ≡ extreme_of side (net_columns d t net)
-net-extreme d t side net lists e are low some is = by (net_columns d t net) refl
+-- so what they tell of the columns of a net with a pin is known
+pub net-told : (d : Netlist) (t : List Spot) (net : ℕ) (lists : List (List ℕ)) (f : List ℕ → ℕ) (x : ℕ) → lists ≡ columns_by d t → net ≤ length d.nets → 0 < length (net_pins d net)
+    → ((n : ℕ) (ns : List ℕ) → slice_get lists net ≡ Some (n ∷ ns) → x ≡ f (n ∷ ns)) → x ≡ f (net_columns d t net)
+net-told d t net lists f x are low some is = by (net_columns d t net) refl
   where
-    by : (l : List ℕ) → net_columns d t net ≡ l → e ≡ extreme_of side l
+    by : (l : List ℕ) → net_columns d t net ≡ l → x ≡ f l
     by [] none = absurd (omega (arith, some, ap length none, length-map (net_pins d net) (pin_column t)))
     by (n ∷ ns) here =
         is n ns
@@ -93,36 +91,38 @@ marked-short : (mark : ℕ × NetPin → ℕ) → ((p : ℕ × NetPin) → mark 
 marked-short mark one [] = omega arith
 marked-short mark one (p ∷ ps) = omega (arith, marked-short mark one ps, one p, sum-cons (mark p) (map mark ps))
 
-marked-few : (d : Netlist) (mark : ℕ × NetPin → ℕ) → ((p : ℕ × NetPin) → mark p ≤ 1) → (ns : List ℕ) → marked_in d mark ns ≤ pins_in d ns
-marked-few d mark one [] = omega arith
-marked-few d mark one (n ∷ ns) =
+pub marked-few : (d : Netlist) (mark : ℕ × NetPin → ℕ) (most : ℕ) → ((p : ℕ × NetPin) → mark p ≤ 1) → ((i : ℕ) → length (pins_of_instance d i) ≤ most) → (ns : List ℕ)
+    → marked_in d mark ns ≤ most * length ns
+marked-few d mark most one few [] = omega arith
+marked-few d mark most one few (n ∷ ns) =
     omega (
       arith,
-      marked-few d mark one ns,
+      marked-few d mark most one few ns,
       marked-short mark one (map (pin_with_net d) (pins_of_instance d n)),
       length-map (pins_of_instance d n) (pin_with_net d),
+      few n,
       sum-cons (marked_pins d mark n) (map (marked_pins d mark) ns),
-      sum-cons (length (pins_of_instance d n)) (map (λ (i : ℕ). length (pins_of_instance d i)) ns),
     )
 
--- so what shifted pins may save is no more than all of them could
-pub rough-told : (d : Netlist) (rows : List (List Seat)) (w : Weighing) (trial : List Spot) (a b : ℕ) (one other : Spot) (cost first second shift length_cost : ℕ)
-    → first ≡ pins_in d (instances_instead a b (shifted_seats rows one other)) → second ≡ pins_in d (instances_instead b a (shifted_seats rows other one))
-    → shift ≡ difference (columns_of d a) (columns_of d b) → length_cost ≡ w.length_cost
-    → cost - shift * (first + second + 2 * length_cost) ≤ least_cost d rows w trial a b one other cost
-rough-told d rows w trial a b one other cost first second shift length_cost is_first is_second is_shift is_cost =
-    let few = marked-few d (ends_net d trial (shifted_from (nat_lt (columns_of d a) (columns_of d b)))) (one_at_most (shifted_from (nat_lt (columns_of d a) (columns_of d b))))
-    (instances_instead a b (shifted_seats rows one other)) in
-    let few' = marked-few d (ends_net d trial (shifted_from (nat_lt (columns_of d b) (columns_of d a)))) (one_at_most (shifted_from (nat_lt (columns_of d b) (columns_of d a))))
-    (instances_instead b a (shifted_seats rows other one)) in
-    let more : shorter_pins d rows trial a b one other + shorter_pins d rows trial b a other one + 2 * w.length_cost ≤ first + second + 2 * length_cost =
-    omega (arith, few, few', is_first, is_second, is_cost) in
-    let all = mul-le-mul_left shift more in
-    omega (arith, all, ap (λ (n : ℕ). n * (shorter_pins d rows trial a b one other + shorter_pins d rows trial b a other one + 2 * w.length_cost)) is_shift)
+pub ends-one : (d : Netlist) (trial : List Spot) (side : Side) (p : ℕ × NetPin) → ends_net d trial side p ≤ 1
+ends-one d trial side p = by (nat_eq (pin_column trial p.1) (extreme_of side (net_columns d trial p.0)).at)
   where
-    one_at_most : (side : Side) (p : ℕ × NetPin) → ends_net d trial side p ≤ 1
-    one_at_most side p = by (nat_eq (pin_column trial p.1) (extreme_of side (net_columns d trial p.0)).at)
-      where
-        by : (b : Bool) → cond b 1 0 ≤ 1
-        by true = omega arith
-        by false = omega arith
+    by : (b : Bool) → cond b 1 0 ≤ 1
+    by true = omega arith
+    by false = omega arith
+
+-- what rows cost at least is no less where more pins are taken to save, and fewer to cost
+pub least-told : (d : Netlist) (rows : List (List Seat)) (trial : List Spot) (a b : ℕ) (one other : Spot) (cost ends ends' alone alone' shift : ℕ)
+    → shorter_pins d rows trial a b one other ≤ ends → shorter_pins d rows trial b a other one ≤ ends'
+    → alone ≤ longer_pins d rows trial a b one other → alone' ≤ longer_pins d rows trial b a other one → shift ≡ difference (columns_of d a) (columns_of d b)
+    → (cost + shift * (alone + alone')) - shift * (ends + ends') ≤ least_cost d rows trial a b one other cost
+least-told d rows trial a b one other cost ends ends' alone alone' shift first second third fourth is =
+    let more : shorter_pins d rows trial a b one other + shorter_pins d rows trial b a other one ≤ ends + ends' = omega (arith, first, second) in
+    let fewer : alone + alone' ≤ longer_pins d rows trial a b one other + longer_pins d rows trial b a other one = omega (arith, third, fourth) in
+    omega (
+      arith,
+      mul-le-mul_left shift more,
+      mul-le-mul_left shift fewer,
+      ap (λ (n : ℕ). n * (shorter_pins d rows trial a b one other + shorter_pins d rows trial b a other one)) is,
+      ap (λ (n : ℕ). n * (longer_pins d rows trial a b one other + longer_pins d rows trial b a other one)) is,
+    )

@@ -133,6 +133,17 @@ pub extreme-moved : (side : Side) (ns : List ℕ) (e : Extreme) (k was now : ℕ
 extreme-moved side ns e k was now is at some =
     extreme-less side ns (extreme_with side e now) k was now at (extreme-more side ns e now (omega (arith, slice_get_within ns k was at)) is) some
 
+-- and where neither number is there or farther out it is as before
+pub extreme-kept : (side : Side) (ns : List ℕ) (e : Extreme) (k was now : ℕ) → IsExtreme side ns e → slice_get ns k ≡ Some was → nat_eq was e.at ≡ false → nat_eq now e.at ≡ false
+    → is_beyond side now e.at ≡ false → IsExtreme side (set ns k now) e
+extreme-kept side ns e k was now is at off other inside =
+    let same : extreme_without (extreme_with side e now) was ≡ e =
+    ap (λ (x : Extreme). extreme_without x was)
+    (ap₂ (λ (x y : Bool). cond x (record { at = now; count = 1 }) (cond y (record { at = e.at; count = e.count + 1 }) e)) inside other)
+    ∙ ap (λ (x : Bool). cond x (record { at = e.at; count = e.count - 1 }) e) off in
+    let some : 0 < e.count = is.some (omega (arith, slice_get_within ns k was at)) in
+    subst (λ (x : Extreme). IsExtreme side (set ns k now) x) same (extreme-moved side ns e k was now is at (omega (arith, some, ap (λ (x : Extreme). x.count) same)))
+
 -- the least of numbers that are at least a bound is at least that
 least-many : (bound first : ℕ) (ns : List ℕ) → bound ≤ first → AllByRecursion (λ (n : ℕ). bound ≤ n) ns → bound ≤ fold min first ns
 least-many bound first [] low all = low

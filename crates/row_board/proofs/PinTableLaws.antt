@@ -1,15 +1,16 @@
 use Rattle.std.proofs.Common.{◌≡◌, ◌⊎◌, inl, inr, ◌<◌, ◌≤◌, ℕ, List, [], ◌∷◌, ◌++◌, length, map, filter, Bool, true, false, cond, Option, None, Some, refl, ap, ap₂, sym, ◌∙◌, subst, arith, Contains, append_assoc, length-append}
+use Rattle.std.proofs.lemmas.Bool.Decides.{nat_tests}
 use Rattle.std.proofs.lemmas.List.{length-map, map-append}
 use Rattle.std.proofs.lemmas.List.Elements.{Contains-append_left, Contains-push, Contains-push_cases}
 use Rattle.std.proofs.lemmas.Option.{same_Some}
 use Rattle.std.specs.List.{slice_get, AllByRecursion}
 use Rattle.std.specs.Option.{option_map}
-use Rattle.std.specs.Prelude.{nat_eq}
+use Rattle.std.specs.Prelude.{nat_eq, nat_lt}
 use Rattle.design_model.specs.Netlist.{IsNetlist, Netlist}
 use Rattle.design_model.specs.declared.design.Pin.{Pin}
 use Rattle.list_facts.specs.Lists.{list_there, with_item}
 use Rattle.row_board.specs.Cost.{pins_of_net}
-use Rattle.row_board.specs.NetPins.{as_net_pin, net_pin, net_pins, own_pin, pin_with_net, pins_of_instance, AreInstancePins}
+use Rattle.row_board.specs.NetPins.{as_net_pin, net_pin, net_pins, own_pin, pin_with_net, pins_of_instance, AreInOrder, AreInstancePins}
 use Rattle.row_board.specs.declared.net_pins.InstancePin.{InstancePin}
 use Rattle.row_board.specs.declared.net_pins.NetPin.{NetPin}
 use Rattle.design_model.proofs.DesignPins.{pins-within}
@@ -166,3 +167,22 @@ pub own-nowhere : (d : Netlist) (i : ℕ) → IsNetlist d → length d.instances
 own-nowhere d i good past =
     ap (map (pin_with_net d)) (sym (filter-none (λ (p : Pin). nat_eq p.instance i) d.pins
     (every-weaker (λ (p : Pin). p.instance < length d.instances) (λ (p : Pin). nat_eq p.instance i ≡ false) (λ p below. nat_eq-false p.instance i (λ same. omega (arith, below, past, same))) d.pins (pins-within d good))))
+
+-- no instance has more pins than the longest of their lists
+pub pins-most : (d : Netlist) (lists : List (List InstancePin)) (most : ℕ) → IsNetlist d → AreInOrder d lists
+    → ((i : ℕ) → i < length d.instances → length (list_there (slice_get lists i)) ≤ most) → (i : ℕ) → length (pins_of_instance d i) ≤ most
+pins-most d lists most good in_order all i = by (nat_lt i (length d.instances)) refl
+  where
+    by : (b : Bool) → nat_lt i (length d.instances) ≡ b → length (pins_of_instance d i) ≤ most
+    by true test =
+        let within : i < length d.instances = grind (arith, nat_tests) in
+        omega (
+          arith,
+          all i within,
+          ap length (in_order.each i within),
+          length-map (list_there (slice_get lists i)) (own_pin i),
+          length-map (pins_of_instance d i) (pin_with_net d),
+        )
+    by false test =
+        let past : length d.instances ≤ i = grind (arith, nat_tests) in
+        omega (arith, ap length (own-nowhere d i good past), length-map (pins_of_instance d i) (pin_with_net d))

@@ -12,7 +12,7 @@ use Rattle.std_laws.proofs.Sums.{sum-both, sum-cons, sum-none, sum-zero}
 use Rattle.std_laws.proofs.Tests.{nat_eq-equal, nat_eq-false}
 
 -- a number that stands at one place
-sum-at : (x k a n : ℕ) → a ≤ k → k < a + n → sum (map (λ (m : ℕ). cond (nat_eq k m) x 0) (range_with_len a n)) ≡ x
+pub sum-at : (x k a n : ℕ) → a ≤ k → k < a + n → sum (map (λ (m : ℕ). cond (nat_eq k m) x 0) (range_with_len a n)) ≡ x
 sum-at x k a zero low high = absurd (omega (arith, low, high))
 sum-at x k a (suc n) low high = by (nat_eq k a) refl (sum-at x k (a + 1) n)
   where

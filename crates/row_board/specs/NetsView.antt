@@ -1,10 +1,11 @@
--- a design whose pins by net and by instance are tabled, and that the tables are its own
-use Rattle.std.specs.Prelude.{◌≡◌, length, map}
+-- a design whose pins by net and by instance are tabled, and that the tables are its own and no instance has more pins than is told
+use Rattle.std.specs.Prelude.{◌≡◌, ◌≤◌, ℕ, length, map}
 use Rattle.std.specs.List.{range_with_len}
 use Rattle.design_model.specs.Netlist.{IsNetlist, Netlist}
-use Rattle.row_board.specs.NetPins.{AreInOrder, ArePins, ArePinsByInstance}
+use Rattle.row_board.specs.NetPins.{AreInOrder, ArePins, ArePinsByInstance, pins_of_instance}
 use Rattle.row_model.specs.Widths.{columns_of}
 use Rattle.row_board.specs.declared.nets.Nets.TheInside.{Inside}
+use Rattle.limits.specs.declared.TheConstants.{MOST_PINS}
 
 abbrev pub design_in : Inside → Netlist
 design_in a = a.design.now
@@ -15,3 +16,5 @@ pub record AreTables (a : Inside) : Type 0 where
   pub by_instance : ArePinsByInstance a.design.now a.by_instance
   pub in_order : AreInOrder a.design.now a.by_instance
   pub widths : a.widths.items ≡ map (columns_of a.design.now) (range_with_len 0 (length a.design.now.instances))
+  pub most : (i : ℕ) → length (pins_of_instance a.design.now i) ≤ a.most_pins
+  pub few : a.most_pins ≤ MOST_PINS

@@ -1,12 +1,11 @@
 -- how the cells that a swap shifts lie in their nets, by a table in which the two that exchange their places did so already and no other is shifted
-use Rattle.std.specs.Prelude.{ℕ, ◌+◌, ◌-◌, ◌*◌, ◌==◌, List, Bool, map, sum, take, drop, false, slice_get, if◌then◌else◌, nat_lt, length}
+use Rattle.std.specs.Prelude.{ℕ, ◌+◌, ◌-◌, ◌*◌, ◌==◌, List, Bool, map, sum, take, drop, false, slice_get, if◌then◌else◌, nat_lt}
 use Rattle.design_model.specs.Netlist.{Netlist}
 use Rattle.row_board.specs.Cost.{difference}
 use Rattle.row_board.specs.Extreme.{across, alone_at_end, at_end, extreme_of}
 use Rattle.row_board.specs.Moving.{moved_end, row_length, row_there}
 use Rattle.row_board.specs.NetPins.{net_pins, pin_column, pin_with_net, pins_of_instance}
 use Rattle.row_board.specs.Spot.{Spot}
-use Rattle.row_board.specs.Weights.{Weighing}
 use Rattle.row_board.specs.declared.extreme.Side.{Side}
 use Rattle.row_board.specs.declared.extreme.Side.TheVariants.{Low, High}
 use Rattle.row_board.specs.declared.net_pins.NetPin.{NetPin}
@@ -30,10 +29,6 @@ marked_pins d mark instance = sum (map mark (map (pin_with_net d) (pins_of_insta
 
 abbrev pub marked_in : Netlist → (ℕ × NetPin → ℕ) → List ℕ → ℕ
 marked_in d mark instances = sum (map (marked_pins d mark) instances)
-
--- how many pins several instances have
-abbrev pub pins_in : Netlist → List ℕ → ℕ
-pins_in d instances = sum (map (λ (i : ℕ). length (pins_of_instance d i)) instances)
 
 -- which instance stands where this one did once two have exchanged their places
 abbrev pub instead : ℕ → ℕ → ℕ → ℕ
@@ -68,8 +63,8 @@ abbrev pub longer_pins : Netlist → List (List Seat) → List Spot → ℕ → 
 longer_pins d rows trial a b one other =
     marked_in d (ends_net_alone d trial (across (shifted_from (nat_lt (columns_of d a) (columns_of d b))))) (instances_instead a b (shifted_seats rows one other))
 
--- what rows cost at least after the swap, where they cost so much by that table
-abbrev pub least_cost : Netlist → List (List Seat) → Weighing → List Spot → ℕ → ℕ → Spot → Spot → ℕ → ℕ
-least_cost d rows w trial a b one other cost =
+-- what rows cost at least after the swap, where they cost so much with their widths after it and the nets by that table
+abbrev pub least_cost : Netlist → List (List Seat) → List Spot → ℕ → ℕ → Spot → Spot → ℕ → ℕ
+least_cost d rows trial a b one other cost =
     (cost + difference (columns_of d a) (columns_of d b) * (longer_pins d rows trial a b one other + longer_pins d rows trial b a other one))
-    - difference (columns_of d a) (columns_of d b) * (shorter_pins d rows trial a b one other + shorter_pins d rows trial b a other one + 2 * w.length_cost)
+    - difference (columns_of d a) (columns_of d b) * (shorter_pins d rows trial a b one other + shorter_pins d rows trial b a other one)

@@ -1,6 +1,8 @@
 //! The least and the greatest of a list of numbers, which are kept as the numbers change.
 
-ghost use Rattle.row_board.specs.Extremes.{AreExtremes, extreme_at, part_of};
+ghost use Rattle.row_board.specs.Extreme.{IsExtreme, across, alone_at_end, at_end};
+ghost use Rattle.row_board.specs.Extremes.{AreExtremes, extreme_at, high_extreme, low_extreme, part_of};
+ghost use Rattle.row_board.specs.declared.extreme.Side.TheVariants.{Low, High};
 ghost use Rattle.std.specs.Prelude.{◌≡◌, ◌≤◌, ◌<◌, ◌+◌, ◌-◌, ℕ, List, Some, length, slice_get, slice_set};
 
 use crate::extreme::{Extreme, Side};
@@ -16,6 +18,13 @@ pub(crate) struct Extremes {
     pub(crate) at_least: u32,
     pub(crate) at_greatest: u32,
     pub(crate) count: u32,
+}
+
+/// How many numbers stand at the extremes of their lists on a side, and how many stand alone at those across.
+#[derive(Clone, Copy)]
+pub(crate) struct Ends {
+    pub(crate) ends: u64,
+    pub(crate) alone: u64,
 }
 
 impl Extremes {
@@ -53,6 +62,19 @@ impl Extremes {
         }
     }
 
+    /// 1 where a number stands at the extreme on a side, else 0, and 1 where it stands alone at that across.
+    pub(crate) fn ends(&self, side: Side, number: u64) -> Ends
+        ensures ends { result.ends ≡ at_end (extreme_at side self.now) number }
+        ensures alone { result.alone ≡ alone_at_end (extreme_at (across side) self.now) number }
+        ensures few { result.ends ≤ 1 }
+        ensures few_alone { result.alone ≤ 1 }
+    {
+        Ends {
+            ends: self.extreme(side).ends(number),
+            alone: self.extreme(side.across()).ends_alone(number),
+        }
+    }
+
     /// The greatest of the numbers less the least, and 0 where there are none. Takes no memory.
     pub(crate) fn distance(self) -> u64
         ensures { result ≡ self.greatest - self.least }
@@ -60,44 +82,56 @@ impl Extremes {
         self.greatest.saturating_sub(self.least)
     }
 
-    // The extremes of these numbers, one of which is now this, where these were theirs before.
-    fn moved(self, was: u64, now: u64, numbers: &[u64]) -> Extremes
-        requires least { self.at_least ≤ MOST_PINS }
-        requires greatest { self.at_greatest ≤ MOST_PINS }
-        requires count { length numbers.now ≤ MOST_PINS }
-        ensures start { result.start ≡ self.start }
-        ensures count { result.count ≡ self.count }
-        ensures is { (old : List ℕ) (k : ℕ) → AreExtremes old self → slice_get old k ≡ Some was → numbers.now ≡ slice_set old k now → AreExtremes numbers.now result }
+    // Keeps the least of the numbers, one of which is now this.
+    fn keep_least(&mut self, was: u64, now: u64, numbers: &[u64])
+        requires count { self.old.at_least ≤ MOST_PINS }
+        requires few { length numbers.now ≤ MOST_PINS }
+        ensures rest { self.new ≡ record self.old { least = self.new.least; at_least = self.new.at_least } }
+        ensures is { (old : List ℕ) (k : ℕ) → IsExtreme Low old (low_extreme self.old) → slice_get old k ≡ Some was → numbers.now ≡ slice_set old k now → IsExtreme Low numbers.now (low_extreme self.new) }
     {
+        // Most numbers move where they meet no extreme.
+        if self.least < was && self.least < now {
+            return;
+        }
         let low = self.extreme(Side::Low).moved(Side::Low, was, now, numbers);
+        self.least = low.at;
+        self.at_least = low.count;
+    }
+
+    // Keeps the greatest of them.
+    fn keep_greatest(&mut self, was: u64, now: u64, numbers: &[u64])
+        requires count { self.old.at_greatest ≤ MOST_PINS }
+        requires few { length numbers.now ≤ MOST_PINS }
+        ensures rest { self.new ≡ record self.old { greatest = self.new.greatest; at_greatest = self.new.at_greatest } }
+        ensures is { (old : List ℕ) (k : ℕ) → IsExtreme High old (high_extreme self.old) → slice_get old k ≡ Some was → numbers.now ≡ slice_set old k now → IsExtreme High numbers.now (high_extreme self.new) }
+    {
+        if was < self.greatest && now < self.greatest {
+            return;
+        }
         let high = self
             .extreme(Side::High)
             .moved(Side::High, was, now, numbers);
-        Extremes {
-            least: low.at,
-            greatest: high.at,
-            start: self.start,
-            at_least: low.count,
-            at_greatest: high.count,
-            count: self.count,
-        }
+        self.greatest = high.at;
+        self.at_greatest = high.count;
     }
 
-    /// Puts a number at a place of the list, and gives the extremes that it then has. Takes no memory.
-    pub(crate) fn put(self, numbers: &mut [u64], place: usize, number: u64) -> Extremes
-        requires is { AreExtremes (part_of numbers.old self) self }
-        requires within { self.start + self.count ≤ length numbers.old }
-        requires few { self.count ≤ MOST_PINS }
-        requires place { place < self.count }
-        ensures numbers { numbers.new ≡ slice_set numbers.old (self.start + place) number }
-        ensures start { result.start ≡ self.start }
-        ensures count { result.count ≡ self.count }
-        ensures is { AreExtremes (part_of numbers.new self) result }
+    /// Puts a number at a place of the list, and keeps the extremes. Takes no memory.
+    pub(crate) fn put(&mut self, numbers: &mut [u64], place: usize, number: u64)
+        requires is { AreExtremes (part_of numbers.old self.old) self.old }
+        requires within { self.old.start + self.old.count ≤ length numbers.old }
+        requires few { self.old.count ≤ MOST_PINS }
+        requires place { place < self.old.count }
+        ensures numbers { numbers.new ≡ slice_set numbers.old (self.old.start + place) number }
+        ensures start { self.new.start ≡ self.old.start }
+        ensures count { self.new.count ≡ self.old.count }
+        ensures is { AreExtremes (part_of numbers.new self.old) self.new }
     {
         let end = self.start + self.count as usize;
         let at = self.start + place;
         let was = numbers[at];
         numbers[at] = number;
-        self.moved(was, number, &numbers[self.start..end])
+        let part = &numbers[self.start..end];
+        self.keep_least(was, number, part);
+        self.keep_greatest(was, number, part);
     }
 }

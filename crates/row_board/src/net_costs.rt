@@ -4,6 +4,7 @@ ghost use Rattle.row_board.specs.PinPlaces.{columns_by, rows_by};
 ghost use Rattle.std.specs.Prelude.{◌≡◌, IfOk};
 
 use crate::extreme::Side;
+use crate::extremes::Ends;
 use crate::nets::Nets;
 use crate::pin_places::{column_of, places_of, put_columns, put_rows, standing_of};
 use crate::spreads::Spreads;
@@ -37,13 +38,6 @@ impl<'d> Model for NetCosts<'d> {
     ghost invariant = { AreCosts };
 }
 
-/// How many pins end their nets on a side, and how many alone end theirs across.
-#[derive(Clone, Copy)]
-pub(crate) struct Ends {
-    pub(crate) ends: u64,
-    pub(crate) alone: u64,
-}
-
 // The columns and the rows of the pins of each net, from net 0 on.
 fn places_by(
     alloc: Global,
@@ -74,7 +68,7 @@ impl<'d> NetCosts<'d> {
     ghost use Rattle.row_board.specs.Trial.{ends_net, ends_net_alone, marked_pins};
     ghost use Rattle.row_board.specs.Weights.{AreFew};
     ghost use Rattle.row_model.specs.Widths.{columns_of};
-    ghost use Rattle.std.specs.Prelude.{◌≡◌, ◌<◌, ◌≤◌, ◌+◌, ◌*◌, length, slice_set, sum, IfOk};
+    ghost use Rattle.std.specs.Prelude.{◌≡◌, ◌<◌, ◌≤◌, ◌+◌, ◌*◌, ℕ, length, slice_set, sum, IfOk};
 
     /// What the nets of a design cost by this table. The one error is want of memory.
     pub(crate) fn new(
@@ -154,12 +148,12 @@ impl<'d> NetCosts<'d> {
         self.put(b, one.taken_by(other));
     }
 
-    /// The number of pins of an instance. Takes no memory.
-    pub(crate) fn pin_count(&self, instance: u32) -> u64
-        ensures is { result ≡ length (pins_of_instance self.now.design instance) }
+    /// A number of pins that no instance has more of. Takes no memory.
+    pub(crate) fn most_pins(&self) -> u64
+        ensures all { (i : ℕ) → length (pins_of_instance self.now.design i) ≤ result }
         ensures few { result ≤ MOST_PINS }
     {
-        self.nets.of(instance).len() as u64
+        self.nets.most_pins()
     }
 
     /// How many pins of an instance end their nets on a side, and how many alone end theirs across. Takes no memory, and steps as the number of its pins.
@@ -174,11 +168,9 @@ impl<'d> NetCosts<'d> {
         let mut rest = self.nets.of(instance);
         while let Some((pin, after)) = rest.split_first() {
             let column = column_of(standing, *pin);
-            let net = pin.net as usize;
-            let near = self.columns.extreme(side, net);
-            let far = self.columns.extreme(side.across(), net);
-            found.ends += near.ends(column);
-            found.alone += far.ends_alone(column);
+            let more = self.columns.ends(side, pin.net as usize, column);
+            found.ends += more.ends;
+            found.alone += more.alone;
             rest = after;
         }
         found

@@ -1,5 +1,8 @@
 //! The nets of a design: the pins of each net, and of each instance its pins with their places in their nets, and its width.
 
+ghost use Rattle.list_facts.specs.Lists.{list_there};
+ghost use Rattle.std.specs.Prelude.{◌<◌, ◌≤◌, ℕ, length, slice_get};
+
 use crate::net_pins::{InstancePin, NetPin, pin_tables};
 use crate::widths::widths_of;
 use design_model::Design;
@@ -8,13 +11,27 @@ use list_facts::Lists;
 use std::alloc::{AllocError, Global};
 use std::marker::Model;
 
-/// The nets of a design: the pins of each net, and of each instance its pins and its width in columns. Contracts see the design.
+// The greatest number of pins that one of so many instances has.
+fn most_pins_of(pins: &Lists<InstancePin>, count: usize) -> usize
+    requires { (i : ℕ) → i < count → length (list_there (slice_get pins.now i)) ≤ MOST_PINS }
+    ensures all { (i : ℕ) → i < count → length (list_there (slice_get pins.now i)) ≤ result }
+    ensures few { result ≤ MOST_PINS }
+{
+    let mut most = 0;
+    for instance in 0..count {
+        most = most.max(pins.at(instance).len());
+    }
+    most
+}
+
+/// The nets of a design: the pins of each net, and of each instance its pins and its width in columns, with the greatest number of pins that one has. Contracts see the design.
 #[derive(Drop)]
 pub(crate) struct Nets<'d> {
     design: &'d Design,
     by_net: Lists<NetPin>,
     by_instance: Lists<InstancePin>,
     widths: Vec<u32>,
+    most_pins: usize,
 }
 
 impl<'d> Model for Nets<'d> {
@@ -33,7 +50,7 @@ impl<'d> Nets<'d> {
     ghost use Rattle.design_model.specs.Netlist.{IsNetlist};
     ghost use Rattle.row_board.specs.NetPins.{AreInstancePins, net_pins, own_pin, pin_with_net, pins_of_instance};
     ghost use Rattle.row_model.specs.Widths.{columns_of};
-    ghost use Rattle.std.specs.Prelude.{◌≡◌, ◌<◌, ◌≤◌, length, map, IfOk};
+    ghost use Rattle.std.specs.Prelude.{◌≡◌, ◌<◌, ◌≤◌, ℕ, length, map, IfOk};
 
     /// The nets of a design. The one error is want of memory.
     pub(crate) fn new(alloc: Global, design: &'d Design) -> Result<Nets<'d>, AllocError>
@@ -43,11 +60,13 @@ impl<'d> Nets<'d> {
         let _pins = &design.pins;
         let (by_net, by_instance) = pin_tables(alloc, design)?;
         let widths = widths_of(alloc, design)?;
+        let most_pins = most_pins_of(&by_instance, design.instances.items().len());
         Ok(Nets {
             design,
             by_net,
             by_instance,
             widths,
+            most_pins,
         })
     }
 
@@ -78,6 +97,14 @@ impl<'d> Nets<'d> {
             return self.by_instance.at(n);
         }
         &[]
+    }
+
+    /// A number of pins that no instance has more of.
+    pub(crate) fn most_pins(&self) -> u64
+        ensures all { (i : ℕ) → length (pins_of_instance self.now i) ≤ result }
+        ensures few { result ≤ MOST_PINS }
+    {
+        self.most_pins as u64
     }
 
     /// The width of an instance of the design in columns, 0 of any other.

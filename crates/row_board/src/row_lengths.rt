@@ -56,10 +56,11 @@ fn row_width(design: &Design, seats: &[Seat]) -> u64
 
 impl RowLengths {
     ghost use Rattle.row_board.specs.Board.{lengths_of};
-    ghost use Rattle.row_board.specs.RowLengths.{Lengths};
+    ghost use Rattle.row_board.specs.Cost.{difference};
+    ghost use Rattle.row_board.specs.RowLengths.{Lengths, width_in};
     ghost use Rattle.row_board.specs.RowLengthsView.{misses_of};
     ghost use Rattle.std.specs.Option.{option_map};
-    ghost use Rattle.std.specs.Prelude.{◌≡◌, ◌==◌, ◌+◌, ◌-◌, ◌*◌, ◌≤◌, ◌<◌, ℕ, Some, length, slice_get, sum, if◌then◌else◌, IfOk};
+    ghost use Rattle.std.specs.Prelude.{◌≡◌, ◌≢◌, ◌==◌, ◌+◌, ◌-◌, ◌*◌, ◌≤◌, ◌<◌, ℕ, Some, length, slice_get, sum, if◌then◌else◌, IfOk};
 
     /// The widths of rows, and the target: the width of all instances divided by the number of rows, rounded up. The one error is want of memory.
     pub(crate) fn of(alloc: Global, placed: &PlacedRows) -> Result<RowLengths, AllocError>
@@ -101,6 +102,42 @@ impl RowLengths {
             self.misses.set(n, Amount { number });
             self.widths[n] = width;
         }
+    }
+
+    // The width of a row, 0 where there is no such row.
+    fn width(&self, row: u16) -> u64
+        ensures { result ≡ width_in (slice_get self.now.widths row) }
+    {
+        match self.widths.get(row as usize) {
+            Some(width) => *width,
+            None => 0,
+        }
+    }
+
+    /// By how many columns all rows miss the target once a row got so many columns more and then so many fewer, and another the other way round. Of one row, which so is as wide
+    /// as before, it is less by twice the difference of the two numbers. Takes no memory.
+    pub(crate) fn unevenness_after(&self, one: u16, other: u16, more: u32, fewer: u32) -> u64
+        requires small { (r width : ℕ) → slice_get self.now.widths r ≡ Some width → width ≤ 2000100000000 }
+        requires more { more ≤ MOST_KIND_COLUMNS }
+        requires fewer { fewer ≤ MOST_KIND_COLUMNS }
+        ensures same { one ≡ other → result ≡ sum (misses_of self.now) - 2 * difference more fewer }
+        ensures apart { one ≢ other → result ≡ (sum (misses_of self.now) + (difference (width_in (slice_get self.now.widths one) + more - fewer) self.now.target + difference (width_in (slice_get self.now.widths other) + fewer - more) self.now.target)) - (difference (width_in (slice_get self.now.widths one)) self.now.target + difference (width_in (slice_get self.now.widths other)) self.now.target) }
+        ensures small { result ≤ 2199023255552 * (MOST_PLACED_ROWS + 4) }
+    {
+        let sum = self.unevenness();
+        let more = u64::from(more);
+        let fewer = u64::from(fewer);
+        if one == other {
+            return sum.saturating_sub(2 * difference(more, fewer));
+        }
+        let first = self.width(one);
+        let second = self.width(other);
+        let target = self.target;
+        let before = difference(first, target) + difference(second, target);
+        let first = (first + more).saturating_sub(fewer);
+        let second = (second + fewer).saturating_sub(more);
+        let after = difference(first, target) + difference(second, target);
+        (sum + after).saturating_sub(before)
     }
 
     /// By how many columns all rows miss the target. Takes no memory.

@@ -1,7 +1,7 @@
 //! Lists of numbers with how far they spread in all, which is kept as the numbers change.
 
-use crate::extreme::{Extreme, Side};
-use crate::extremes::Extremes;
+use crate::extreme::Side;
+use crate::extremes::{Ends, Extremes};
 use limits::MOST_PINS;
 use std::alloc::{AllocError, Global};
 use std::marker::Model;
@@ -30,7 +30,7 @@ impl Model for Spreads {
 
 impl Spreads {
     ghost use Rattle.row_board.specs.Cost.{spread};
-    ghost use Rattle.row_board.specs.Extreme.{extreme_of};
+    ghost use Rattle.row_board.specs.Extreme.{across, alone_at_end, at_end, extreme_of};
     ghost use Rattle.row_board.specs.Spreads.{NumberLists, number_put};
     ghost use Rattle.std.specs.List.{AllByRecursion};
     ghost use Rattle.std.specs.Option.{option_map};
@@ -82,23 +82,27 @@ impl Spreads {
         if list >= self.lists.len() {
             return;
         }
-        let extremes = self.lists[list];
-        if place >= extremes.count as usize {
+        if place >= self.lists[list].count as usize {
             return;
         }
-        let now = extremes.put(self.numbers.as_mut_slice(), place, number);
-        self.lists[list] = now;
-        self.sum -= extremes.distance();
-        self.sum += now.distance();
+        let extremes = &mut self.lists[list];
+        let before = extremes.distance();
+        extremes.put(self.numbers.as_mut_slice(), place, number);
+        let now = extremes.distance();
+        self.sum -= before;
+        self.sum += now;
     }
 
-    /// The extreme of the numbers of a list on a side, where it has any. Takes no memory.
-    pub(crate) fn extreme(&self, side: Side, list: usize) -> Extreme
-        ensures { (n : ℕ) (ns : List ℕ) → slice_get self.now.lists list ≡ Some (n ∷ ns) → result ≡ extreme_of side (n ∷ ns) }
+    /// 1 where a number stands at the extreme on a side of a list that has any, else 0, and 1 where it stands alone at that across. Takes no memory.
+    pub(crate) fn ends(&self, side: Side, list: usize, number: u64) -> Ends
+        ensures ends { (n : ℕ) (ns : List ℕ) → slice_get self.now.lists list ≡ Some (n ∷ ns) → result.ends ≡ at_end (extreme_of side (n ∷ ns)) number }
+        ensures alone { (n : ℕ) (ns : List ℕ) → slice_get self.now.lists list ≡ Some (n ∷ ns) → result.alone ≡ alone_at_end (extreme_of (across side) (n ∷ ns)) number }
+        ensures few { result.ends ≤ 1 }
+        ensures few_alone { result.alone ≤ 1 }
     {
         match self.lists.get(list) {
-            Some(extremes) => extremes.extreme(side),
-            None => Extreme { at: 0, count: 0 },
+            Some(extremes) => extremes.ends(side, number),
+            None => Ends { ends: 0, alone: 0 },
         }
     }
 

@@ -5,7 +5,7 @@ ghost use Rattle.row_board.specs.Cost.{cost_of, difference};
 ghost use Rattle.row_board.specs.Extreme.{across};
 ghost use Rattle.row_board.specs.NetCosts.{table_costs};
 ghost use Rattle.row_board.specs.RowLengthsView.{misses_of};
-ghost use Rattle.row_board.specs.Trial.{ends_net, ends_net_alone, instances_instead, instead, least_cost, longer_pins, marked_in, pins_in, seats_between, shifted_from, shifted_seats, shorter_pins};
+ghost use Rattle.row_board.specs.Trial.{ends_net, ends_net_alone, instances_instead, instead, least_cost, marked_in, seats_between, shifted_from, shifted_seats};
 ghost use Rattle.row_model.specs.Changes.{swapped};
 ghost use Rattle.row_model.specs.Rows.{ArePlaced};
 ghost use Rattle.row_model.specs.Widths.{columns_of};
@@ -13,8 +13,9 @@ ghost use Rattle.std.specs.Bool.{OnTrue};
 ghost use Rattle.std.specs.Prelude.{◌≡◌, ◌≢◌, ◌<◌, ◌≤◌, ◌+◌, ◌*◌, ◌^◌, length, nat_lt, sum};
 
 use crate::extreme::Side;
+use crate::extremes::Ends;
 use crate::moving::moved_seats;
-use crate::net_costs::{Ends, NetCosts};
+use crate::net_costs::NetCosts;
 use crate::row_lengths::{RowLengths, difference};
 use crate::seats::row_at;
 use crate::standings::Standing;
@@ -53,38 +54,30 @@ fn instead(a: u32, b: u32, instance: u32) -> u32
     instance
 }
 
-// How many pins of the instances of seats, once two have exchanged their places, end their nets on a side, and how many alone end theirs across.
-fn ends_in(costs: &NetCosts, seats: &[Seat], a: u32, b: u32, side: Side) -> Ends
-    requires { length seats.now ≤ MOST_INSTANCES }
-    ensures ends { result.ends ≡ marked_in costs.now.design (ends_net costs.now.design costs.now.standings side) (instances_instead a b seats.now) }
-    ensures alone { result.alone ≡ marked_in costs.now.design (ends_net_alone costs.now.design costs.now.standings (across side)) (instances_instead a b seats.now) }
+// At most how many pins of the instances of seats, once two have exchanged their places, end their nets on a side, and at least how many alone end theirs across. The
+// seats are read until the first are surely few enough, by so many more than the second.
+fn ends_in(costs: &NetCosts, seats: &[Seat], a: u32, b: u32, side: Side, enough: u64) -> Ends
+    requires short { length seats.now ≤ MOST_INSTANCES }
+    requires small { enough < 2 ^ 62 }
+    ensures ends { marked_in costs.now.design (ends_net costs.now.design costs.now.standings side) (instances_instead a b seats.now) ≤ result.ends }
+    ensures alone { result.alone ≤ marked_in costs.now.design (ends_net_alone costs.now.design costs.now.standings (across side)) (instances_instead a b seats.now) }
     ensures few { result.ends < 2 ^ 32 }
     ensures few_alone { result.alone < 2 ^ 32 }
 {
+    let most = costs.most_pins();
     let mut found = Ends { ends: 0, alone: 0 };
     let mut rest = seats;
     while let Some((seat, after)) = rest.split_first() {
+        let ends = found.ends + most * rest.len() as u64;
+        if ends <= enough + found.alone {
+            return Ends { ends, ..found };
+        }
         let more = costs.ends(side, instead(a, b, seat.instance));
         found.ends += more.ends;
         found.alone += more.alone;
         rest = after;
     }
     found
-}
-
-// How many pins they have.
-fn pins_in(costs: &NetCosts, seats: &[Seat], a: u32, b: u32) -> u64
-    requires { length seats.now ≤ MOST_INSTANCES }
-    ensures is { result ≡ pins_in costs.now.design (instances_instead a b seats.now) }
-    ensures few { result < 2 ^ 32 }
-{
-    let mut pins = 0;
-    let mut rest = seats;
-    while let Some((seat, after)) = rest.split_first() {
-        pins += costs.pin_count(instead(a, b, seat.instance));
-        rest = after;
-    }
-    pins
 }
 
 // The side that the cells behind an instance are shifted away from where another takes its place.
@@ -126,26 +119,17 @@ fn shifted_seats<'r>(
     between(row_at(rows, reach.row), reach.from + 1, reach.to)
 }
 
-// How many pins behind an instance that takes another's place may make their nets shorter, and how many surely make them longer. The table has both there already.
-fn shifted_ends(
-    costs: &NetCosts,
-    rows: &[Items<Seat>],
-    a: u32,
-    b: u32,
-    one: Standing,
-    other: Standing,
-) -> Ends
-    requires { ArePlaced costs.now.design rows.now }
-    ensures ends { result.ends ≡ shorter_pins costs.now.design rows.now costs.now.standings a b one other }
-    ensures alone { result.alone ≡ longer_pins costs.now.design rows.now costs.now.standings a b one other }
-    ensures few { result.ends < 2 ^ 32 }
-    ensures few_alone { result.alone < 2 ^ 32 }
+// By how many pins those that may make their nets shorter may outnumber those that surely make them longer, where rows that cost so much without a shift are still to cost
+// more than a limit.
+fn spare_pins(cost: u64, limit: u64, shift: u64) -> u64
+    requires { cost < 2 ^ 61 }
+    ensures { result < 2 ^ 61 }
 {
-    let seats = shifted_seats(costs, rows, one, other);
-    ends_in(costs, seats, a, b, shifted_from(costs, a, b))
+    cost.saturating_sub(limit).saturating_sub(1) / shift.max(1)
 }
 
-// What rows cost at least after a swap, where they cost so much by a table in which both instances are at each other's place and no other is shifted.
+// At most what rows cost at least after a swap, where they cost so much with their widths after it and by a table in which both instances are at each other's place and no
+// other is shifted. It is that number, or more than the limit.
 fn least_cost(
     costs: &NetCosts,
     rows: &[Items<Seat>],
@@ -154,59 +138,24 @@ fn least_cost(
     one: Standing,
     other: Standing,
     cost: u64,
-) -> u64
-    requires placed { ArePlaced costs.now.design rows.now }
-    requires small { cost < 2 ^ 61 }
-    ensures { result ≡ least_cost costs.now.design rows.now costs.now.weights costs.now.standings a b one other cost }
-{
-    let first = shifted_ends(costs, rows, a, b, one, other);
-    let second = shifted_ends(costs, rows, b, a, other, one);
-    let length_cost = costs.weights().length_cost;
-    let shift = shift_of(costs, a, b);
-    let longer = shift * (first.alone + second.alone);
-    let shorter = shift * (first.ends + second.ends + 2 * length_cost);
-    (cost + longer).saturating_sub(shorter)
-}
-
-// The same or less, found by the number of shifted pins alone.
-fn rough_cost(
-    costs: &NetCosts,
-    rows: &[Items<Seat>],
-    a: u32,
-    b: u32,
-    one: Standing,
-    other: Standing,
-    cost: u64,
-) -> u64
-    requires { ArePlaced costs.now.design rows.now }
-    ensures { result ≤ least_cost costs.now.design rows.now costs.now.weights costs.now.standings a b one other cost }
-{
-    let first = pins_in(costs, shifted_seats(costs, rows, one, other), a, b);
-    let second = pins_in(costs, shifted_seats(costs, rows, other, one), b, a);
-    let length_cost = costs.weights().length_cost;
-    let shift = shift_of(costs, a, b);
-    cost.saturating_sub(shift * (first + second + 2 * length_cost))
-}
-
-// Whether they surely cost more than a limit.
-fn costs_more(
-    costs: &NetCosts,
-    rows: &[Items<Seat>],
-    a: u32,
-    b: u32,
-    one: Standing,
-    other: Standing,
-    cost: u64,
     limit: u64,
-) -> bool
+) -> u64
     requires placed { ArePlaced costs.now.design rows.now }
     requires small { cost < 2 ^ 61 }
-    ensures { OnTrue result (limit < least_cost costs.now.design rows.now costs.now.weights costs.now.standings a b one other cost) }
+    ensures { result ≤ least_cost costs.now.design rows.now costs.now.standings a b one other cost }
 {
-    if rough_cost(costs, rows, a, b, one, other, cost) > limit {
-        return true;
-    }
-    least_cost(costs, rows, a, b, one, other, cost) > limit
+    let shift = shift_of(costs, a, b);
+    let spare = spare_pins(cost, limit, shift);
+    let seats = shifted_seats(costs, rows, one, other);
+    let others = shifted_seats(costs, rows, other, one);
+    let later = costs.most_pins() * others.len() as u64;
+    let enough = spare.saturating_sub(later);
+    let first = ends_in(costs, seats, a, b, shifted_from(costs, a, b), enough);
+    let enough = (spare + first.alone).saturating_sub(first.ends);
+    let second = ends_in(costs, others, b, a, shifted_from(costs, b, a), enough);
+    let longer = shift * (first.alone + second.alone);
+    let shorter = shift * (first.ends + second.ends);
+    (cost + longer).saturating_sub(shorter)
 }
 
 /// Whether rows surely cost more than a limit after two instances of different widths exchange their places. All is as before after that.
@@ -229,9 +178,16 @@ pub(crate) fn is_dear(
     let _design = costs.design();
     let one = costs.standing(a);
     let other = costs.standing(b);
+    let uneven = lengths.unevenness_after(
+        one.row,
+        other.row,
+        costs.columns_of(b),
+        costs.columns_of(a),
+    );
+    let length_cost = costs.weights().length_cost;
     costs.trade(a, b);
-    let cost = total_of(costs, lengths);
-    let dear = cost > limit && costs_more(costs, rows, a, b, one, other, cost, limit);
+    let cost = costs.sum() + length_cost * uneven;
+    let dear = cost > limit && least_cost(costs, rows, a, b, one, other, cost, limit) > limit;
     costs.put(a, one);
     costs.put(b, other);
     dear

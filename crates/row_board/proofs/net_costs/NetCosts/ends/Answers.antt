@@ -1,4 +1,4 @@
-use Rattle.std.proofs.Common.{◌≡◌, ℕ, List, ap, ap₂, sym, ◌∙◌, arith, length, map, subst, sum}
+use Rattle.std.proofs.Common.{◌≡◌, ℕ, List, ap, sym, ◌∙◌, arith, length, map, subst, sum}
 use Rattle.std.specs.List.{AllByRecursion}
 use Rattle.row_board.specs.Extreme.{across, alone_at_end, at_end, extreme_of}
 use Rattle.row_board.specs.NetPins.{as_net_pin, own_pin, pin_column}
@@ -6,12 +6,11 @@ use Rattle.row_board.specs.PinPlaces.{instance_column}
 use Rattle.row_board.specs.Spot.{Spot}
 use Rattle.row_board.specs.Spreads.{NumberLists}
 use Rattle.row_board.specs.Trial.{ends_net, ends_net_alone, net_columns}
-use Rattle.row_board.specs.declared.extreme.Side.{Side}
 use Rattle.row_board.specs.NetCosts.{Tabled}
 use Rattle.row_board.specs.Standings.{standing_of}
 use Rattle.row_board.specs.declared.net_pins.InstancePin.{InstancePin}
 use Rattle.row_board.specs.declared.net_pins.NetPin.{NetPin}
-use Rattle.row_board.proofs.EndLaws.{net-extreme, own-few, own-of-nets, IsOfNet}
+use Rattle.row_board.proofs.EndLaws.{net-told, own-few, own-of-nets, IsOfNet}
 use Rattle.std_laws.proofs.Sums.{sum-cons}
 use Rattle.row_board.proofs.net_costs.NetCosts.ends.Goals as goal
 
@@ -40,13 +39,13 @@ loop-pin-preserved c =
     let lists = ap (λ (v : NumberLists). v.lists) c.self.invariant.columns in
     let column : c.column_of-column.result ≡ pin_column t (as_net_pin i pin) =
     c.column_of-column.ensures.is ∙ ap (λ (s : Spot). instance_column s pin) (c.standing-standing.ensures ∙ ap (λ (v : Tabled). standing_of v.standings i) (sym c.self.view_is)) in
-    let near : c.extreme-near.result ≡ extreme_of c.args.side (net_columns d t pin.net) =
-    net-extreme d t c.args.side pin.net c.self.inside.columns.lists c.extreme-near.result lists of.0.0 of.0.1 c.extreme-near.ensures in
-    let far : c.extreme-far.result ≡ extreme_of (across c.args.side) (net_columns d t pin.net) =
-    net-extreme d t c.across.result pin.net c.self.inside.columns.lists c.extreme-far.result lists of.0.0 of.0.1 c.extreme-far.ensures
-    ∙ ap (λ (s : Side). extreme_of s (net_columns d t pin.net)) c.across.ensures in
-    let one : c.ends.result ≡ ends_net d t c.args.side (own_pin i pin) = c.ends.ensures.is ∙ ap₂ at_end near column in
-    let one_alone : c.ends_alone.result ≡ ends_net_alone d t (across c.args.side) (own_pin i pin) = c.ends_alone.ensures.is ∙ ap₂ alone_at_end far column in
+    let one : c.ends-more.result.ends ≡ ends_net d t c.args.side (own_pin i pin) =
+    net-told d t pin.net c.self.inside.columns.lists (λ (l : List ℕ). at_end (extreme_of c.args.side l) c.column_of-column.result) c.ends-more.result.ends lists of.0.0 of.0.1 c.ends-more.ensures.ends
+    ∙ ap (λ (n : ℕ). at_end (extreme_of c.args.side (net_columns d t pin.net)) n) column in
+    let one_alone : c.ends-more.result.alone ≡ ends_net_alone d t (across c.args.side) (own_pin i pin) =
+    net-told d t pin.net c.self.inside.columns.lists (λ (l : List ℕ). alone_at_end (extreme_of (across c.args.side) l) c.column_of-column.result) c.ends-more.result.alone lists of.0.0 of.0.1
+    c.ends-more.ensures.alone
+    ∙ ap (λ (n : ℕ). alone_at_end (extreme_of (across c.args.side) (net_columns d t pin.net)) n) column in
     let after = map (own_pin i) c.in-Some.after.now in
     record {
       of_nets = of.1;
@@ -64,6 +63,6 @@ loop-pin-preserved c =
         sum-cons (ends_net_alone d t (across c.args.side) (own_pin i pin)) (map (ends_net_alone d t (across c.args.side)) after),
         c.loop-pin.invariant.alone,
       );
-      few = omega (arith, c.loop-pin.invariant.few, c.ends.ensures.few, ap length rest);
-      few_alone = omega (arith, c.loop-pin.invariant.few_alone, c.ends_alone.ensures.few, ap length rest);
+      few = omega (arith, c.loop-pin.invariant.few, c.ends-more.ensures.few, ap length rest);
+      few_alone = omega (arith, c.loop-pin.invariant.few_alone, c.ends-more.ensures.few_alone, ap length rest);
     }
