@@ -57,8 +57,9 @@ square layer x0 y0 x1 y1 =
 worked-stack : stack_of sample buffers fed (lower ∷ (upper ∷ [])) ≡ record {
   channel_base = 0 ∷ (48 ∷ []);
   row_base = 8 ∷ [];
-  heights = 40 ∷ [];
+  row_height = 40 ∷ [];
   cells = (placed (cell 0 false) 0 false ∷ (placed (Feed 2) 3200 false ∷ (placed (cell 1 true) 8000 true ∷ []))) ∷ [];
+  risers = [] ∷ [];
   shapes = [] ∷ ((square (codes "NM") 2000 10800 2800 11600 ∷ (square (codes "NP") 2000 10800 2800 11600 ∷ (square (codes "NC") 2200 11000 2600 11400 ∷ []))) ∷ []);
   width = 4800;
   height = 7200;

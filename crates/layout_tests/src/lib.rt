@@ -6,6 +6,8 @@ mod mirror;
 #[cfg(test)]
 mod mirror_tests;
 #[cfg(test)]
+mod riser_tests;
+#[cfg(test)]
 mod routing;
 #[cfg(test)]
 mod stack_tests;

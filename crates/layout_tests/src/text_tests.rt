@@ -1,7 +1,7 @@
 //! Whole texts, byte for byte.
 
-use crate::support::{Rowed, is_made_of, layout_for};
-use std::alloc::Global;
+use crate::support::{Rowed, behind, is_made_of, layout_for};
+use std::alloc::{AllocError, Global};
 use std::test::Fail;
 
 /// Two INV of one net, one above the other, under the sample rules. Each row is 40 units high, and lengths below are in units.
@@ -42,6 +42,30 @@ const MIRRORED: &[&str] = &[
     "91 u;\nC 1 M X T 1600 800;\nE\n",
 ];
 
+/// A feed of a row of 80 units below one of a row of 40: the symbols of the cells used, INV, BUF and INT, and behind them those of feeds, the lower first.
+const FED_FRONT: &[&str] = &[
+    "(cellroute 1);\nDS 1 1 1;\n9 INV;\nL XP;\nB 800 4000 400 2000;\nL NP;\nB 300 400 400 200;\nDF;\n",
+    "DS 2 1 1;\n9 BUF;\nL XP;\nB 800 4000 400 2000;\nL NP;\nB 300 400 400 3800;\nDF;\n",
+    "DS 3 1 1;\n9 INT;\nL XP;\nB 800 8000 400 4000;\nL NP;\nB 300 400 400 200;\nDF;\n",
+    "DS 4 1 1;\nL XP;\nB 800 4000 400 2000;\nL NP;\nB 300 4000 400 2000;\nDF;\n",
+    "DS 5 1 1;\nL XP;\nB 800 8000 400 4000;\nL NP;\nB 300 8000 400 4000;\nDF;\n",
+    // Channel 0 is empty, and row 0 lies from 8 to 48.
+    "91 u1;\nC 2 T 0 800;\n",
+];
+
+/// The lines that call its symbols: a net leads from row 0 to row 3, over rows that lie from 72 to 152 and from 176 to 216, between channels of 24 units.
+const FED_CALLS: &str =
+    "C 2 T 0 800;\nC 5 T 0 7200;\nC 3 T 800 7200;\nC 4 T 0 17600;\nC 1 T 800 17600;\nC 1 T 0 24000;\n";
+
+/// A buffer beside a cell of 80 units, in a row from 8 to 88: the riser, from 8 + 36 to 88, stands behind the row's cells and before the wires of channel 1, in which the first goes from 88 to
+/// half a pad above track 1, at 96.
+const RISEN: &[&str] = &[
+    "(cellroute 1);\nDS 1 1 1;\n9 BUF;\nL XP;\nB 800 4000 400 2000;\nL NP;\nB 300 400 400 3800;\nDF;\n",
+    "DS 2 1 1;\n9 TAL;\nL XP;\nB 800 8000 400 4000;\nL NP;\nB 300 400 400 7800;\nDF;\n",
+    "91 u1;\nC 1 T 0 800;\n91 u2;\nC 2 T 800 800;\nL NP;\nB 300 4400 400 6600;\n",
+    "B 300 1000 400 9300;\n",
+];
+
 /// Whether the text of a design in rows is made of these pieces.
 fn is_text(alloc: Global, rowed: Rowed, pieces: &[&str]) -> Result<bool, Fail> {
     match layout_for(alloc, rowed)? {
@@ -69,5 +93,64 @@ fn a_mirrored_cell_is_called_by_its_right_edge(rt: HostRuntime) -> Result<(), Fa
         mirrored: true,
     };
     assert!(rt; is_text(rt.alloc(), rowed, MIRRORED)?);
+    Ok(())
+}
+
+/// Whether the text of a design in rows begins with these pieces.
+fn begins_so(alloc: Global, rowed: Rowed, pieces: &[&str]) -> Result<bool, Fail> {
+    match layout_for(alloc, rowed)? {
+        Some(made) => Ok(behind(made.text.as_slice(), pieces).is_some()),
+        None => Ok(false),
+    }
+}
+
+/// The lines of a text that call symbols.
+fn calls_in(alloc: Global, text: &str) -> Result<String, AllocError> {
+    let mut calls = String::new(alloc);
+    for line in text.split('\n') {
+        if line.starts_with("C ") {
+            calls.push_str(line)?;
+            calls.push_str("\n")?;
+        }
+    }
+    Ok(calls)
+}
+
+/// Whether these are the lines of a text that call symbols.
+fn are_calls(alloc: Global, text: &[u8], wanted: &str) -> Result<bool, Fail> {
+    match str::from_utf8(text) {
+        Ok(text) => Ok(calls_in(alloc, text)?.as_str() == wanted),
+        Err(_) => Ok(false),
+    }
+}
+
+/// The same of the text of a design in rows.
+fn has_calls(alloc: Global, rowed: Rowed, wanted: &str) -> Result<bool, Fail> {
+    match layout_for(alloc, rowed)? {
+        Some(made) => are_calls(alloc, made.text.as_slice(), wanted),
+        None => Ok(false),
+    }
+}
+
+#[test]
+fn feeds_of_two_heights_have_symbols_from_the_lower_up(rt: HostRuntime) -> Result<(), Fail> {
+    let rowed = Rowed {
+        calls: "u1 BUF n; u2 INT p; u3 INV q; u4 INV n;",
+        rows: 4,
+        mirrored: false,
+    };
+    assert!(rt; begins_so(rt.alloc(), rowed, FED_FRONT)?);
+    assert!(rt; has_calls(rt.alloc(), rowed, FED_CALLS)?);
+    Ok(())
+}
+
+#[test]
+fn a_riser_stands_behind_the_cells_of_its_row(rt: HostRuntime) -> Result<(), Fail> {
+    let rowed = Rowed {
+        calls: "u1 BUF n; u2 TAL n;",
+        rows: 1,
+        mirrored: false,
+    };
+    assert!(rt; begins_so(rt.alloc(), rowed, RISEN)?);
     Ok(())
 }

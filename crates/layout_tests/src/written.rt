@@ -2,13 +2,15 @@
 
 ghost use Rattle.channel_stack.specs.Routed.{IsRouted};
 ghost use Rattle.channel_stack.specs.Stack.{laid_of, stack_of};
+ghost use Rattle.cif_writer.specs.FeedHeights.{feed_heights};
 ghost use Rattle.cif_writer.specs.Symbols.{symbol_drawings};
 ghost use Rattle.design_model.specs.Room.{HasRoom};
 ghost use Rattle.feed_cells.specs.Fed.{IsFed};
+ghost use Rattle.pin_assign.specs.Tables.{tables_of};
 ghost use Rattle.std.specs.Prelude.{◌≡◌};
 ghost use Rattle.tech_rules.specs.Rules.{ValidRules};
 
-use channel_model::Wiring;
+use channel_model::{Channel, Wiring};
 use channel_stack::{Laid, lay};
 use cif_writer::{RoutedDesign, symbol_drawings, write_layout};
 use design_model::Design;
@@ -32,7 +34,8 @@ fn text_drawn(alloc: Global, routed: &RoutedDesign<Wiring>) -> Result<Option<Vec
     requires fed { IsFed routed.now.design.now routed.now.fed.now }
     requires wired { IsRouted routed.now.rules.now routed.now.design.now routed.now.fed.now routed.now.wirings.now }
     requires laid { routed.now.laid.now ≡ laid_of (stack_of routed.now.rules.now routed.now.design.now routed.now.fed.now routed.now.wirings.now) }
-    requires symbols { routed.now.symbols.now ≡ symbol_drawings routed.now.rules.now routed.now.design.now routed.now.fed.now }
+    requires symbols { routed.now.symbols.now.drawings ≡ symbol_drawings routed.now.rules.now routed.now.design.now routed.now.fed.now }
+    requires feeds { routed.now.symbols.now.feed_heights ≡ feed_heights routed.now.fed.now }
 {
     let mut shelf = MemShelf::new(alloc)?;
     match write_layout(&mut shelf, "out", routed) {
@@ -62,7 +65,7 @@ fn text_laid(
         fed,
         wirings,
         laid,
-        symbols: symbols.as_slice(),
+        symbols: &symbols,
         rules,
     };
     text_drawn(alloc, &routed)
@@ -73,14 +76,16 @@ pub(crate) fn text_written(
     alloc: Global,
     design: &Design,
     fed: &FedRows,
+    channels: &[Channel],
     wirings: &[Wiring],
     rules: &Rules,
 ) -> Result<Option<Vec<u8>>, AllocError>
     requires valid { ValidRules rules.now }
     requires high { HasRoom rules.now design.now }
     requires fed { IsFed design.now fed.now }
+    requires channels { channels.now ≡ tables_of design.now fed.now }
     requires routed { IsRouted rules.now design.now fed.now wirings.now }
 {
-    let laid = lay(alloc, design, fed, wirings, rules)?;
+    let laid = lay(alloc, design, fed, channels, wirings, rules)?;
     text_laid(alloc, design, fed, &laid, wirings, rules)
 }

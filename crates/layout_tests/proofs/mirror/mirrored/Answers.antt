@@ -1,4 +1,4 @@
-use Rattle.std.proofs.Common.{◌≡◌, List, sym, subst, ◌∙◌}
+use Rattle.std.proofs.Common.{List, sym, subst, ◌∙◌}
 use Rattle.row_model.specs.Rows.{ArePlaced, AreRows}
 use Rattle.row_model.specs.declared.rows.Seat.{Seat}
 use Rattle.layout_tests.proofs.MirrorLaws.{turned_distinct, turned_placed}

@@ -5,10 +5,10 @@ use Rattle.pin_assign.specs.ChannelTables.{AreTablesFor}
 use Rattle.pin_assign.specs.Tables.{tables_of}
 use Rattle.pin_assign.specs.declared.bound.Bound.{Bound}
 use Rattle.layout_tests.proofs.RoutedLaws.{plain-routed}
-use Rattle.layout_tests.proofs.support.wirings_for.Goals as goal
+use Rattle.layout_tests.proofs.support.routed_rows.Goals as goal
 
-pub returns : goal.returns
-returns c =
+pub returns-clause-routed : goal.returns-clause-routed
+returns-clause-routed c =
     let channels : List Pins = c.as_slice.result.now in
     let are : channels ≡ tables_of c.args.design.now c.args.fed.now = c.as_slice.ensures.value ∙ c.in_ok-channels.ensures.is in
     let tables : AreTablesFor c.args.fed.now channels = subst (AreTablesFor c.args.fed.now) (sym c.as_slice.ensures.value) c.in_ok-channels.ensures.tables in
