@@ -55,10 +55,19 @@ fn instead(a: u32, b: u32, instance: u32) -> u32
 }
 
 // At most how many pins of the instances of seats, once two have exchanged their places, end their nets on a side, and at least how many alone end theirs across. The
-// seats are read until the first are surely few enough, by so many more than the second.
-fn ends_in(costs: &NetCosts, seats: &[Seat], a: u32, b: u32, side: Side, enough: u64) -> Ends
+// seats are read until the first, with `others`, are surely no more than the second, with `enough`.
+fn ends_in(
+    costs: &NetCosts,
+    seats: &[Seat],
+    a: u32,
+    b: u32,
+    side: Side,
+    enough: u64,
+    others: u64,
+) -> Ends
     requires short { length seats.now ≤ MOST_INSTANCES }
     requires small { enough < 2 ^ 62 }
+    requires few_others { others < 2 ^ 32 }
     ensures ends { marked_in costs.now.design (ends_net costs.now.design costs.now.standings side) (instances_instead a b seats.now) ≤ result.ends }
     ensures alone { result.alone ≤ marked_in costs.now.design (ends_net_alone costs.now.design costs.now.standings (across side)) (instances_instead a b seats.now) }
     ensures few { result.ends < 2 ^ 32 }
@@ -69,7 +78,7 @@ fn ends_in(costs: &NetCosts, seats: &[Seat], a: u32, b: u32, side: Side, enough:
     let mut rest = seats;
     while let Some((seat, after)) = rest.split_first() {
         let ends = found.ends + most * rest.len() as u64;
-        if ends <= enough + found.alone {
+        if ends + others <= enough + found.alone {
             return Ends { ends, ..found };
         }
         let more = costs.ends(side, instead(a, b, seat.instance));
@@ -148,11 +157,12 @@ fn least_cost(
     let spare = spare_pins(cost, limit, shift);
     let seats = shifted_seats(costs, rows, one, other);
     let others = shifted_seats(costs, rows, other, one);
-    let later = costs.most_pins() * others.len() as u64;
-    let enough = spare.saturating_sub(later);
-    let first = ends_in(costs, seats, a, b, shifted_from(costs, a, b), enough);
-    let enough = (spare + first.alone).saturating_sub(first.ends);
-    let second = ends_in(costs, others, b, a, shifted_from(costs, b, a), enough);
+    let unread = costs.most_pins() * others.len() as u64;
+    let side = shifted_from(costs, a, b);
+    let first = ends_in(costs, seats, a, b, side, spare, unread);
+    let side = shifted_from(costs, b, a);
+    let enough = spare + first.alone;
+    let second = ends_in(costs, others, b, a, side, enough, first.ends);
     let longer = shift * (first.alone + second.alone);
     let shorter = shift * (first.ends + second.ends);
     (cost + longer).saturating_sub(shorter)

@@ -5,8 +5,8 @@ use Rattle.row_model.specs.declared.rows.Seat.{Seat}
 use Rattle.row_board.proofs.EndLaws.{ends-one, marked-few}
 use Rattle.row_board.proofs.trial.ends_in.Goals as goal
 
-pub returns-then-ends-enough-clause-ends : goal.returns-then-ends-enough-clause-ends
-returns-then-ends-enough-clause-ends c =
+pub returns-then-ends-others-clause-ends : goal.returns-then-ends-others-clause-ends
+returns-then-ends-others-clause-ends c =
     let t = c.args.costs.now in
     let rest = c.loop-seat.rest.now in
     omega (

@@ -31,12 +31,12 @@ returns c =
     let told = least-told t.design c.args.rows.now t.standings a b c.args.one c.args.other c.args.cost
     c.ends_in-first.result.ends c.ends_in-second.result.ends c.ends_in-first.result.alone c.ends_in-second.result.alone c.shift_of-shift.result
     (subst (λ (l : List Seat). marked_in t.design (ends_net t.design t.standings (shifted_from (nat_lt (columns_of t.design a) (columns_of t.design b)))) (instances_instead a b l) ≤ c.ends_in-first.result.ends) seats
-    (subst (λ (s : Side). marked_in t.design (ends_net t.design t.standings s) (instances_instead a b c.shifted_seats-seats.result.now) ≤ c.ends_in-first.result.ends) c.shifted_from.ensures c.ends_in-first.ensures.ends))
+    (subst (λ (s : Side). marked_in t.design (ends_net t.design t.standings s) (instances_instead a b c.shifted_seats-seats.result.now) ≤ c.ends_in-first.result.ends) c.shifted_from-side.ensures c.ends_in-first.ensures.ends))
     (subst (λ (l : List Seat). marked_in t.design (ends_net t.design t.standings (shifted_from (nat_lt (columns_of t.design b) (columns_of t.design a)))) (instances_instead b a l) ≤ c.ends_in-second.result.ends) others
-    (subst (λ (s : Side). marked_in t.design (ends_net t.design t.standings s) (instances_instead b a c.shifted_seats-others.result.now) ≤ c.ends_in-second.result.ends) c.shifted_from-2.ensures c.ends_in-second.ensures.ends))
+    (subst (λ (s : Side). marked_in t.design (ends_net t.design t.standings s) (instances_instead b a c.shifted_seats-others.result.now) ≤ c.ends_in-second.result.ends) c.shifted_from-side-2.ensures c.ends_in-second.ensures.ends))
     (subst (λ (l : List Seat). c.ends_in-first.result.alone ≤ marked_in t.design (ends_net_alone t.design t.standings (across (shifted_from (nat_lt (columns_of t.design a) (columns_of t.design b))))) (instances_instead a b l)) seats
-    (subst (λ (s : Side). c.ends_in-first.result.alone ≤ marked_in t.design (ends_net_alone t.design t.standings (across s)) (instances_instead a b c.shifted_seats-seats.result.now)) c.shifted_from.ensures c.ends_in-first.ensures.alone))
+    (subst (λ (s : Side). c.ends_in-first.result.alone ≤ marked_in t.design (ends_net_alone t.design t.standings (across s)) (instances_instead a b c.shifted_seats-seats.result.now)) c.shifted_from-side.ensures c.ends_in-first.ensures.alone))
     (subst (λ (l : List Seat). c.ends_in-second.result.alone ≤ marked_in t.design (ends_net_alone t.design t.standings (across (shifted_from (nat_lt (columns_of t.design b) (columns_of t.design a))))) (instances_instead b a l)) others
-    (subst (λ (s : Side). c.ends_in-second.result.alone ≤ marked_in t.design (ends_net_alone t.design t.standings (across s)) (instances_instead b a c.shifted_seats-others.result.now)) c.shifted_from-2.ensures c.ends_in-second.ensures.alone))
+    (subst (λ (s : Side). c.ends_in-second.result.alone ≤ marked_in t.design (ends_net_alone t.design t.standings (across s)) (instances_instead b a c.shifted_seats-others.result.now)) c.shifted_from-side-2.ensures c.ends_in-second.ensures.alone))
     c.shift_of-shift.ensures.is in
     omega (arith, told, c.saturating_sub.ensures)
