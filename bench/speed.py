@@ -1,7 +1,7 @@
 #!/usr/bin/env python3
 """How long laying a design out takes, by one program or by several side by side.
 
-    python3 bench/speed.py PROGRAM [OLDER ..] [--runs 5] [--cases made,annealed,clocked,growth]
+    python3 bench/speed.py PROGRAM [OLDER ..] [--runs 5] [--cases made,annealed,clocked,growth,heights]
 
 Each PROGRAM is a built cellroute. Every case is run by all programs in turn, so many times, and the median of the seconds is printed for
 each; where several programs are given, their layouts and lines must be the same byte for byte, or the last line says how many were not.
@@ -11,6 +11,7 @@ annealed: `make 1 500` and `make 1 2000` under the everyday rules, and the desig
 clocked: designs shaped like a processor: short local nets, a clock that every fifth cell bears, three resets and enables of many pins.
 growth: `make 1 N` under the sample rules for N from 500 to 8,000. Behind the seconds stand the millions of columns times tracks of all
 channels, by which the seconds should grow.
+heights: 20,000 cells as high as a made design's lowest, as high as its highest, and of three heights in turn, in the style `deft` under the sample rules; older programs refuse the last.
 """
 import argparse
 import hashlib
@@ -94,6 +95,10 @@ def cases_of(folder, wanted):
             found.append((f"clocked {n}, deft, everyday rules", ["route", path, EVERYDAY], ["--style", "deft"]))
     if "growth" in wanted:
         found += [(f"make 1 {n}, best", ["make", "1", str(n), SAMPLE], []) for n in (500, 1000, 2000, 4000, 8000)]
+    if "heights" in wanted:
+        for name, heights in (("11", [11]), ("80", [80]), ("11, 40 and 80", [11, 40, 80])):
+            path = written(folder, f"heights{len(found)}.yal", made_design(1, 20000, heights))
+            found.append((f"made 20000, heights {name}, deft", ["route", path, SAMPLE], ["--style", "deft"]))
     return found
 
 
@@ -120,7 +125,7 @@ def main():
     parser = argparse.ArgumentParser()
     parser.add_argument("programs", nargs="+")
     parser.add_argument("--runs", type=int, default=5)
-    parser.add_argument("--cases", default="made,annealed,clocked,growth")
+    parser.add_argument("--cases", default="made,annealed,clocked,growth,heights")
     given = parser.parse_args()
     unlike = 0
     with tempfile.TemporaryDirectory() as folder:

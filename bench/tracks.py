@@ -48,11 +48,11 @@ def parent(calls):
     return head + "".join(f"{call};\n" for call in calls) + "ENDNETWORK;\nPLACEMENT;\nENDPLACEMENT;\nENDMODULE;\n"
 
 
-def made_design(seed, count):
-    """The design of `cellroute make SEED COUNT`, without its power terminals."""
-    height = 2 * PIN + SPACE
+def made_design(seed, count, heights=(2 * PIN + SPACE,)):
+    """The design of `cellroute make SEED COUNT`, without its power terminals; or the same with kinds that have these heights in turn."""
     kinds = []
     for j in range(5):
+        height = heights[j % len(heights)]
         positions = [("a", "I", 0, 0), ("b", "I", j + 1, 0), ("y", "O", 0, height), ("z", "B", 1, height)]
         if j == 4:
             positions.append(("z", "B", 2, 0))
