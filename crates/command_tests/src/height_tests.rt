@@ -23,6 +23,7 @@ const MIDDLE: &str =
 /// The symbols of BUF, and of TAL behind it.
 const BUF_SYMBOL: &str =
     "DS 1 1 1;\n9 BUF;\nL XP;\nB 800 4000 400 2000;\nL NP;\nB 300 400 400 3800;\nDF;\n";
+
 const TAL_SYMBOL: &str =
     "DS 2 1 1;\n9 TAL;\nL XP;\nB 800 8000 400 4000;\nL NP;\nB 300 400 400 7800;\nDF;\n";
 
@@ -52,6 +53,7 @@ C 5 T 0 10400;\n91 u3;\nC 3 T 800 10400;\nB 300 800 400 18800;\n\
 /// The summaries of the joined cells and of the four rows.
 const JOINED_LINES: &str =
     "cells 2\nnets 1\nrows 1\nfeeds 0\nchannel 0 tracks 0 extra 0 greedy\nchannel 1 tracks 1 extra 0 greedy\nsize 1600 10400\ncost 1\n";
+
 const FED_LINES: &str =
     "cells 4\nnets 3\nrows 4\nfeeds 2\nchannel 0 tracks 0 extra 0 greedy\nchannel 1 tracks 0 extra 0 greedy\nchannel 2 tracks 0 extra 0 greedy\nchannel 3 tracks 0 extra 0 greedy\nchannel 4 tracks 0 extra 0 greedy\nsize 1600 24000\ncost 12\n";
 
@@ -91,8 +93,26 @@ fn a_lower_cell_in_a_row(rt: HostRuntime) -> Result<(), Fail> {
     let modules = [BUFFER, TALL];
     let joined = [BUF_SYMBOL, TAL_SYMBOL, JOINED];
     let alone = [BUF_SYMBOL, TAL_SYMBOL, UNJOINED];
-    assert!(rt; is_laid(alloc, ROUTE, &modules, "u1 BUF n;\nu2 TAL n;\n", JOINED_LINES, &joined)?);
-    assert!(rt; is_laid(alloc, ROUTE, &modules, "u1 BUF p;\nu2 TAL q;\n", "cells 2\nnets 2\n", &alone)?);
+    assert!(rt;
+        is_laid(
+            alloc,
+            ROUTE,
+            &modules,
+            "u1 BUF n;\nu2 TAL n;\n",
+            JOINED_LINES,
+            &joined
+        )?
+    );
+    assert!(rt;
+        is_laid(
+            alloc,
+            ROUTE,
+            &modules,
+            "u1 BUF p;\nu2 TAL q;\n",
+            "cells 2\nnets 2\n",
+            &alone
+        )?
+    );
     Ok(())
 }
 
@@ -100,7 +120,16 @@ fn a_lower_cell_in_a_row(rt: HostRuntime) -> Result<(), Fail> {
 fn feeds_of_two_heights(rt: HostRuntime) -> Result<(), Fail> {
     let modules = [INVERTER, BUFFER, TALL_INVERTER];
     let calls = "u1 BUF n;\nu2 INV p;\nu3 INT q;\nu4 INV n;\n";
-    assert!(rt; is_laid(rt.alloc(), "route|--rows|4|d|r|o", &modules, calls, FED_LINES, &[FED])?);
+    assert!(rt;
+        is_laid(
+            rt.alloc(),
+            "route|--rows|4|d|r|o",
+            &modules,
+            calls,
+            FED_LINES,
+            &[FED]
+        )?
+    );
     Ok(())
 }
 
