@@ -11,7 +11,7 @@ annealed: `make 1 500` and `make 1 2000` under the everyday rules, and the desig
 clocked: designs shaped like a processor: short local nets, a clock that every fifth cell bears, three resets and enables of many pins.
 growth: `make 1 N` under the sample rules for N from 500 to 8,000. Behind the seconds stand the millions of columns times tracks of all
 channels, by which the seconds should grow.
-heights: 20,000 cells as high as a made design's lowest, as high as its highest, and of three heights in turn, in the style `deft` under the sample rules; older programs refuse the last.
+heights: 20,000 cells of one height, and the same cells of three heights in turn.
 """
 import argparse
 import hashlib
@@ -31,18 +31,18 @@ EVERYDAY = os.path.join(EXAMPLES, "everyday.toml")
 KINDS = [("NOT", 2, ["a"], ["y"]), ("AND", 3, ["a", "b"], ["y"]), ("MUX", 5, ["a", "b", "s"], ["y"]), ("DFF", 7, ["d", "ck", "en"], ["q"])]
 
 
-def kind_text(name, columns, inputs, outputs):
-    """A cell of 40 units' height, with each input at both edges and each output at the right."""
+def kind_text(name, columns, inputs, outputs, height):
+    """A cell of this height, with each input at both edges and each output at the right."""
     width = columns * 8
-    lines = [f"MODULE {name};\nTYPE STANDARD;\nDIMENSIONS 0 0 {width} 0 {width} 40 0 40;\nIOLIST;\n"]
+    lines = [f"MODULE {name};\nTYPE STANDARD;\nDIMENSIONS 0 0 {width} 0 {width} {height} 0 {height};\nIOLIST;\n"]
     for flow, places in (("I", [(t, k) for k, t in enumerate(inputs)]), ("O", [(t, columns - 1) for t in outputs])):
         for terminal, column in places:
-            lines += [f"{terminal} {flow} {8 * column + 4} {y} 3 POLY;\n" for y in (0, 40)]
+            lines += [f"{terminal} {flow} {8 * column + 4} {y} 3 POLY;\n" for y in (0, height)]
     return "".join(lines) + "vdd PWR;\nvss GND;\nENDIOLIST;\nENDMODULE;\n"
 
 
-def clocked(count):
-    """A design of so many cells, of which every fifth is a register on one clock."""
+def clocked(count, heights=(40,)):
+    """A design of so many cells, of which every fifth is a register on one clock, whose kinds have these heights in turn."""
     drawn = random.Random(count)
 
     def near(i):
@@ -59,7 +59,7 @@ def clocked(count):
         }[name]()
         calls.append(f"u{i} {name} {' '.join(signals)} n{i} VDD VSS;\n")
     head = "MODULE clocked;\nTYPE PARENT;\nDIMENSIONS 0 0 1 0 1 1 0 1;\nIOLIST;\nENDIOLIST;\nNETWORK;\n"
-    return "".join(kind_text(*kind) for kind in KINDS) + head + "".join(calls) + "ENDNETWORK;\nENDMODULE;\n"
+    return "".join(kind_text(*kind, heights[k % len(heights)]) for k, kind in enumerate(KINDS)) + head + "".join(calls) + "ENDNETWORK;\nENDMODULE;\n"
 
 
 def written(folder, name, text):
@@ -96,9 +96,9 @@ def cases_of(folder, wanted):
     if "growth" in wanted:
         found += [(f"make 1 {n}, best", ["make", "1", str(n), SAMPLE], []) for n in (500, 1000, 2000, 4000, 8000)]
     if "heights" in wanted:
-        for name, heights in (("11", [11]), ("80", [80]), ("11, 40 and 80", [11, 40, 80])):
-            path = written(folder, f"heights{len(found)}.yal", made_design(1, 20000, heights))
-            found.append((f"made 20000, heights {name}, deft", ["route", path, SAMPLE], ["--style", "deft"]))
+        for name, heights in (("80", [80]), ("40, 60 and 80", [40, 60, 80])):
+            path = written(folder, f"heights{len(found)}.yal", clocked(20000, heights))
+            found.append((f"20,000 cells, heights {name}, deft", ["route", path, SAMPLE], ["--style", "deft"]))
     return found
 
 
