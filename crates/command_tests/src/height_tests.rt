@@ -1,10 +1,8 @@
 //! Designs with cells of several heights: a row is as high as its highest cell, cells stand on the row's lower edge, and risers lead from lower cells to its upper edge.
 
-use crate::support::{
-    ROUTE, begins_so, ended, is_done, is_ended, rules_with, shelf_of, shelf_with,
-};
+use crate::support::{ROUTE, begins_so, is_done, is_ended, rules_with, shelf_of, shelf_with};
 use samples::{BUFFER, INVERTER, RULES, design_text};
-use shelf_io::{MemShelf, MemSink};
+use shelf_io::MemShelf;
 use std::alloc::{AllocError, Global};
 use std::test::Fail;
 
@@ -133,35 +131,34 @@ fn feeds_of_two_heights(rt: HostRuntime) -> Result<(), Fail> {
     Ok(())
 }
 
-/// Words, a module besides BUF, calls, and a line of the summary: a difference in height below a wire's width, a low row below a high one, and a row without cells, as high as
-/// the highest module.
+/// Words, a module besides BUF, calls, and the summary but for the cost: a difference in height below a wire's width, a low row below a high one, and a row without cells, as
+/// high as the highest module.
 const SIZES: [(&str, &str, &str, &str); 3] = [
-    (ROUTE, MIDDLE, "u1 BUF n;\nu2 MID n;\n", "size 1600 6600\n"),
+    (
+        ROUTE,
+        MIDDLE,
+        "u1 BUF n;\nu2 MID n;\n",
+        "cells 2\nnets 1\nrows 1\nfeeds 0\nchannel 0 tracks 0 extra 0 greedy\nchannel 1 tracks 1 extra 0 greedy\nsize 1600 6600\n",
+    ),
     (
         "route|--rows|2|d|r|o",
         TALL_INVERTER,
         "u1 BUF n;\nu2 INT n;\n",
-        "size 800 14400\n",
+        "cells 2\nnets 1\nrows 2\nfeeds 0\nchannel 0 tracks 0 extra 0 greedy\nchannel 1 tracks 0 extra 0 greedy\nchannel 2 tracks 0 extra 0 greedy\nsize 800 14400\n",
     ),
     (
         "route|--rows|3|d|r|o",
         TALL,
         "u1 BUF p;\nu2 TAL q;\n",
-        "size 800 23200\n",
+        "cells 2\nnets 2\nrows 3\nfeeds 0\nchannel 0 tracks 0 extra 0 greedy\nchannel 1 tracks 0 extra 0 greedy\nchannel 2 tracks 0 extra 0 greedy\nchannel 3 tracks 0 extra 0 greedy\nsize 800 23200\n",
     ),
 ];
 
-/// Whether a case gives a good layout, and its line is told.
+/// Whether a case gives a good layout and prints its lines.
 fn is_size(alloc: Global, case: &(&str, &str, &str, &str)) -> Result<bool, AllocError> {
     let modules = format!(in alloc; "{BUFFER}{}", case.1)?;
     let mut shelf = shelf_of(alloc, RULES, modules.as_str(), case.2)?;
-    let mut out = MemSink::new(alloc)?;
-    let status = ended(alloc, case.0, &mut shelf, &mut out)?.status;
-    let told = out
-        .bytes()
-        .windows(case.3.len())
-        .any(|line| line == case.3.as_bytes());
-    Ok(status == 0 && told && is_good(alloc, &mut shelf)?)
+    Ok(begins_so(alloc, case.0, &mut shelf, case.3)? && is_good(alloc, &mut shelf)?)
 }
 
 #[test]
