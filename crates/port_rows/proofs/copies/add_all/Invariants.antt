@@ -1,0 +1,8 @@
+use Rattle.std.proofs.Common.{◌≡◌, ◌++◌}
+use Rattle.std.specs.Vec.Iter.{into_iter_items}
+use Rattle.port_rows.proofs.copies.add_all.Given as goal
+
+abbrev pub invariant-loop-item : goal.invariant-loop-item
+invariant-loop-item g l = (goal.iterator-loop-item g).can_next l.item-iterator
+    × (goal.iterator-loop-item g).is_finite l.item-iterator
+    × (l.items.items ++ into_iter_items l.item-iterator ≡ l.initial.items.items ++ into_iter_items l.initial.item-iterator)
