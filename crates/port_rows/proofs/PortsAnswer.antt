@@ -1,4 +1,5 @@
-use Rattle.std.proofs.Common.{◌≡◌, ◌≤◌, ℕ, ◌+◌, List, ◌++◌, length, Option, Some, None, Result, Ok, Err, refl, sym, subst, arith, length-append}
+use Rattle.std.proofs.Common.{◌≡◌, ◌≤◌, ℕ, ◌+◌, List, [], ◌∷◌, ◌++◌, length, Option, Some, None, Result, Ok, Err, refl, ap, sym, ◌∙◌, subst, arith, length-append}
+use Rattle.std.proofs.lemmas.List.{append-nil}
 use Rattle.std.proofs.lemmas.List.Elements.{All-from_recursion, recursion_from_All}
 use Rattle.std.specs.List.{range_with_len}
 use Rattle.std.specs.List.Sorted.{IsPermutation}
@@ -7,9 +8,12 @@ use Rattle.tech_rules.specs.Rules.{RuleValues, ValidRules}
 use Rattle.design_model.specs.Netlist.{IsNetlist, Netlist}
 use Rattle.design_model.specs.Room.{HasRoom, least_height}
 use Rattle.design_model.specs.declared.design.CellKind.{CellKind}
+use Rattle.design_model.specs.declared.design.Inst.{Inst}
+use Rattle.design_model.specs.declared.design.Pin.{Pin}
+use Rattle.netlist_core.specs.OnGrid.{greatest_height}
 use Rattle.row_model.specs.Rows.{all_instances, ArePlaced}
 use Rattle.row_model.specs.declared.rows.Seat.{Seat}
-use Rattle.port_rows.specs.Added.{port_instances, port_kind, port_kinds, with_ports}
+use Rattle.port_rows.specs.Added.{nets_with, port_instances, port_kind, port_kinds, with_ports}
 use Rattle.port_rows.specs.PortRows.{cells_in, HoldCells}
 use Rattle.port_rows.specs.Ported.{Agrees, limit_fault, port_fault, ported_with, unless}
 use Rattle.port_rows.specs.PortNames.{ArePorts}
@@ -80,3 +84,17 @@ ports-room rules d south north room =
     (every-append (λ (k : CellKind). least_height rules ≤ k.height) d.kinds (port_kinds rules south north)
     (recursion_from_All (λ (k : CellKind). least_height rules ≤ k.height) d.kinds room)
     (every-port-kind (λ (k : CellKind). least_height rules ≤ k.height) rules south north (omega arith) (omega arith)))
+
+-- a design without ports stays
+no-ports : (rules : RuleValues) (d : Netlist) → d.height ≡ greatest_height d.kinds → with_ports rules d [] [] ≡ d
+unfolding nets_with
+no-ports rules d high =
+    ap (λ (x : List CellKind). record (with_ports rules d [] []) { kinds = x; height = greatest_height x }) (append-nil d.kinds)
+    ∙ ap (λ (x : ℕ). record (with_ports rules d [] []) { kinds = d.kinds; height = x }) (sym high)
+    ∙ ap (λ (x : List Inst). record (with_ports rules d [] []) { kinds = d.kinds; height = d.height; instances = x }) (append-nil d.instances)
+    ∙ ap (λ (x : List Pin). record d { pins = x }) (append-nil d.pins)
+
+pub ports-none : (rules : RuleValues) (d : Netlist) (south north : List (List ℕ)) → d.height ≡ greatest_height d.kinds → length south + length north ≡ 0 → with_ports rules d south north ≡ d
+ports-none rules d [] [] high none = no-ports rules d high
+ports-none rules d [] (p ∷ ps) high none = absurd (omega arith)
+ports-none rules d (p ∷ ps) north high none = absurd (omega arith)

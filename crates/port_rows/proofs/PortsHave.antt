@@ -1,4 +1,4 @@
-use Rattle.std.proofs.Common.{◌≡◌, ◌≤◌, ◌-◌, ◌^◌, ℕ, List, length, Result, Ok, subst}
+use Rattle.std.proofs.Common.{◌≡◌, ◌≤◌, ◌-◌, ◌^◌, ◌+◌, ℕ, List, length, Result, Ok, subst}
 use Rattle.std.specs.Result.{IfOk}
 use Rattle.tech_rules.specs.Rules.{RuleValues, ValidRules}
 use Rattle.yal_reader.specs.Kept.{HasAtMost, IsKept, module_names}
@@ -19,9 +19,9 @@ use Rattle.port_rows.specs.Ported.{Agrees, ported_of, ported_with}
 use Rattle.port_rows.specs.Ports.{north_ports, parent_lines, south_ports}
 use Rattle.port_rows.specs.declared.fault.PortFault.{PortFault}
 use Rattle.port_rows.specs.declared.ported.Ported.{Ported}
-use Rattle.port_rows.proofs.GridLaws.{grid-called}
+use Rattle.port_rows.proofs.GridLaws.{IsCalled, grid-called}
 use Rattle.port_rows.proofs.NameLaws.{file-ports}
-use Rattle.port_rows.proofs.PortsAnswer.{answer-has, cells-count, faultless-good, ports-room, rows-hold}
+use Rattle.port_rows.proofs.PortsAnswer.{answer-has, cells-count, faultless-good, ports-none, ports-room, rows-hold}
 use Rattle.port_rows.proofs.WordLaws.{ported-words, words-agree}
 
 -- what a file's design with its ports has
@@ -31,6 +31,7 @@ pub record HasPorts (rules : RuleValues) (file : YalFile) (d : Netlist) (p : Por
   pub high : HasRoom rules p.design
   pub cells : cells_in p ≡ length d.instances
   pub rows : (rows : List (List Seat)) → ArePlaced d rows → length rows ≤ 512 → HoldCells p rows
+  pub none : p.south + p.north ≡ 0 → p.design ≡ d
 
 -- the answer for the ports of a file
 pub said-of : (rules : RuleValues) (file : YalFile) (d : Netlist) (ports : PortNames) (answer : Result Ported PortFault) → ports ≡ ports_in (parent_lines file)
@@ -50,8 +51,12 @@ answer-ports rules valid file kept few d good on answer agrees =
       high = ports-room rules d south north (grid-high rules file d on);
       cells = cells-count rules d south north;
       rows = rows-hold rules d south north;
+      none = ports-none rules d south north called.height;
     }) agrees
   where
+    called : IsCalled (parent_calls file) d
+    called = grid-called rules file d on
+
     south : List (List ℕ)
     south = south_ports (parent_lines file)
 
@@ -59,6 +64,4 @@ answer-ports rules valid file kept few d good on answer agrees =
     north = north_ports (parent_lines file)
 
     words : BearWords (ported_word file) (with_ports rules d south north)
-    words =
-        let called = grid-called rules file d on in
-        ported-words rules d good (parent_calls file) called.instances called.words south north
+    words = ported-words rules d good (parent_calls file) called.instances called.words south north

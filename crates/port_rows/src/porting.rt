@@ -37,7 +37,7 @@ use yal_reader::YalFile;
 /// pins and the space of the vertical layer high, with one terminal `p` and one position, which looks into the layout. Behind its
 /// instances stands `port:NAME` for each port, those of the lower edge first, in the order of their first mention; and behind its pins
 /// the pin of each of these, on the net of the signal NAME, which is a new one behind the others where no pin has that signal. All
-/// numbers of the design stay. Two pins of the answer have one net exactly where their signals are equal: that of a port is its name.
+/// numbers of the design stay, and without ports all of it. Two pins of the answer have one net exactly where their signals are equal: that of a port is its name.
 ///
 /// It errs with the first of these that holds: Limit(Instances) above 20,000 instances and Limit(Pins) above 200,000 pins, ports
 /// among them; Clash with the first name of a kind of ports that a module of the file bears, or else of a port's instance that an
@@ -58,6 +58,7 @@ pub fn ports(
     ensures high { IfOk result (λ ported. HasRoom rules.now ported.design) }
     ensures cells { IfOk result (λ ported. cells_in ported ≡ length design.now.instances) }
     ensures rows { IfOk result (λ ported. (rows : List (List Seat)) → ArePlaced design.now rows → length rows ≤ MOST_ROWS → HoldCells ported rows) }
+    ensures none { IfOk result (λ ported. ported.south + ported.north ≡ 0 → ported.design ≡ design.now) }
 {
     // The bounds of a type are known once a field is read.
     let _pins = &design.pins;

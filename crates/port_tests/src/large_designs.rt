@@ -43,11 +43,15 @@ fn end(alloc: Global, cells: u32, words: &str, ports: u32) -> Result<String, Fai
         lines.as_str(),
         calls.as_str(),
     )?;
-    let end = match found.as_str().rsplit_once(" / ") {
-        Some((_, end)) => end,
-        None => found.as_str(),
-    };
-    Ok(String::from_str(alloc, end)?)
+    Ok(String::from_str(alloc, last_part(found.as_str()))?)
+}
+
+/// What stands behind the last stroke of a text.
+fn last_part(text: &str) -> &str {
+    match text.rsplit_once(" / ") {
+        Some((_, part)) => part,
+        None => text,
+    }
 }
 
 /// Whether it does so.

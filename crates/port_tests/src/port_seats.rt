@@ -151,11 +151,21 @@ fn begin(alloc: Global, design: &Design, begun: &Begun) -> Result<Rows, Fail>
     if begun.rows == 0 || begun.rows > 512 {
         return Err(Fail::new("no rows"));
     }
-    let mut rows = start(alloc, design, begun.rows, StartBy::Width)?;
-    if let Some(instance) = begun.mirrored {
-        mirror(&mut rows, instance);
+    let rows = start(alloc, design, begun.rows, StartBy::Width)?;
+    match begun.mirrored {
+        Some(instance) => Ok(turned(design, rows, instance)),
+        None => Ok(rows),
     }
-    Ok(rows)
+}
+
+/// Rows of a design in which this instance is turned over.
+fn turned(design: &Design, rows: Rows, instance: u32) -> Rows
+    requires { ArePlaced design.now rows }
+    ensures { ArePlaced design.now result }
+{
+    let mut rows = rows;
+    mirror(&mut rows, instance);
+    rows
 }
 
 /// The rows of the design of a file with those of its ports, as a text.
