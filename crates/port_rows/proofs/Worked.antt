@@ -1,15 +1,24 @@
-use Rattle.std.proofs.Common.{◌≡◌, ℕ, List, [], ◌∷◌, true, false, None, Some, Ok, Err, refl}
+use Rattle.std.proofs.Common.{◌≡◌, ℕ, pos, List, [], ◌∷◌, map, true, false, None, Some, Ok, Err, refl}
 use Rattle.std.specs.Prelude.{codes}
 use Rattle.tech_rules.specs.Rules.{RuleValues}
 use Rattle.tech_rules.specs.declared.sections.StartBy.TheVariants.{Width}
 use Rattle.design_model.specs.Netlist.{Netlist}
 use Rattle.yal_reader.specs.declared.file.Flow.{Flow}
 use Rattle.yal_reader.specs.declared.file.Flow.TheVariants as flows
+use Rattle.yal_reader.specs.declared.file.Kind.TheVariants as kinds
 use Rattle.yal_reader.specs.declared.file.Line.{Line}
+use Rattle.yal_reader.specs.declared.file.YalFile.{YalFile}
+use Rattle.netlist_core.specs.Answers.{each}
+use Rattle.netlist_core.specs.Calls.{call_fault, calls_fault}
+use Rattle.netlist_core.specs.Cells.{grid_of, grid_positions, kind_fault, kind_of}
+use Rattle.netlist_core.specs.OnGrid.{calls_design, kinds_for, on_grid, used_design, used_modules}
+use Rattle.netlist_core.specs.Outline.{are_pairs, between, has_turns}
+use Rattle.netlist_core.specs.Signals.{all_signals, nets_of}
 use Rattle.row_model.specs.Start.{upright}
 use Rattle.port_rows.specs.Added.{nets_with, port_kind, port_pins, with_ports}
 use Rattle.port_rows.specs.PortRows.{with_port_rows}
-use Rattle.port_rows.specs.Ported.{clash_fault, limit_fault, port_fault, ported_with}
+use Rattle.port_rows.specs.PortWords.{ported_word}
+use Rattle.port_rows.specs.Ported.{clash_fault, limit_fault, port_fault, ported_of, ported_with}
 use Rattle.port_rows.specs.Ports.{first_lines, north_ports, south_ports}
 use Rattle.port_rows.specs.declared.fault.PortFault.TheVariants as faults
 
@@ -78,6 +87,37 @@ inverter-port : ported_with rules (codes "INV" ∷ codes "top" ∷ []) inverter 
     ≡ Ok (record { design = inverter-ported; south = 1; north = 0 })
 unfolding port_fault limit_fault clash_fault nets_with port_kind
 inverter-port = refl
+
+-- the same of the file
+abbrev inverter-file : YalFile
+inverter-file = record {
+  modules = record {
+    name = codes "INV";
+    kind = kinds.Standard;
+    corners = pos 0 ∷ pos 0 ∷ pos 8 ∷ pos 0 ∷ pos 8 ∷ pos 40 ∷ pos 0 ∷ pos 40 ∷ [];
+    lines = record { name = codes "a"; flow = flows.I; spot = Some (record { x = pos 4; y = pos 0; layer = codes "POLY" }) } ∷ [];
+    calls = [];
+  } ∷ record {
+    name = codes "top";
+    kind = kinds.Parent;
+    corners = [];
+    lines = line (codes "n1") flows.I ∷ [];
+    calls = record { name = codes "u1"; «module» = codes "INV"; signals = codes "n1" ∷ [] } ∷ [];
+  } ∷ [];
+}
+
+inverter-design : on_grid rules inverter-file ≡ Ok inverter
+unfolding on_grid calls_design used_design used_modules kinds_for all_signals nets_of calls_fault call_fault each are_pairs has_turns between grid_positions kind_fault grid_of kind_of
+inverter-design = refl
+
+inverter-ports : ported_of rules inverter-file inverter ≡ Ok (record { design = inverter-ported; south = 1; north = 0 })
+unfolding ported_of first_lines port_fault limit_fault clash_fault nets_with port_kind
+inverter-ports = refl
+
+-- both pins have the signal n1
+inverter-words : map (ported_word inverter-file) inverter-ported.pins ≡ Some (codes "n1") ∷ Some (codes "n1") ∷ []
+unfolding first_lines
+inverter-words = refl
 
 -- its row stands above that of the port
 inverter-rows : with_port_rows (record { design = inverter-ported; south = 1; north = 0 }) ((upright 0 ∷ []) ∷ []) ≡ (upright 1 ∷ []) ∷ (upright 0 ∷ []) ∷ []
