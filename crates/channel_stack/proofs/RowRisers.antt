@@ -1,7 +1,7 @@
 use Rattle.std.proofs.Common.{◌≡◌, refl, sym, ap, ◌∙◌, subst, ℕ, zero, suc, ◌+◌, ◌-◌, ◌<◌, ◌≤◌, List, [], ◌∷◌, ◌++◌, length, get_or, Some, Contains, arith}
 use Rattle.std.proofs.lemmas.List.{length-map}
 use Rattle.std.proofs.lemmas.List.FromFn.{length-range_with_len}
-use Rattle.std.proofs.lemmas.Option.{get_or_from_slice_get, same_Some, slice_get_read}
+use Rattle.std.proofs.lemmas.Option.{get_or_from_slice_get, same_Some, slice_get_read, slice_get_within}
 use Rattle.std.specs.List.{range_with_len}
 use Rattle.std.specs.Prelude.{slice_get, slice_index, unwrap_or}
 use Rattle.tech_rules.specs.Rules.{RuleValues}
@@ -17,7 +17,7 @@ use Rattle.pin_assign.proofs.WidthLaws.{table-bottom_length}
 use Rattle.layout_laws.specs.Heights.{channel_height}
 use Rattle.layout_laws.proofs.Plans.{row_base}
 use Rattle.wire_geom.specs.declared.drawn.Drawn.{Drawn}
-use Rattle.channel_stack.specs.Risers.{IsRiser, risers_along, row_risers}
+use Rattle.channel_stack.specs.Risers.{AreRisers, IsRiser, risers_along, row_risers}
 use Rattle.channel_stack.specs.Stack.{channel_bases, row_bases}
 use Rattle.channel_stack.proofs.Planned.{height_at, plan_of, risers_at, risers_in, row_at, wiring_at}
 use Rattle.channel_stack.proofs.RiserLaws.{along-listed, along-of, cell_riser}
@@ -134,3 +134,31 @@ module _ (r : RuleValues) (d : Netlist) (fed : Fed) (from : IsFed d fed) (ws : L
       (subst (λ (l : List Item). Contains (risers_along r d (floor_of k) (height_at d fed k) 0 (table_of d fed (suc k)).bottom l) a) (sym (row-is fed k items it.at))
       (subst (Contains (risers_along r d (floor_of k) (height_at d fed k) 0 (table_of d fed (suc k)).bottom items))
       (ap (λ (n : ℕ). cell_riser r d (floor_of k) (height_at d fed k) it.seat n a.net) again ∙ sym it.is) listed))
+
+  -- the risers of the stack are just those of its rows' cells
+  pub risers-are : AreRisers r d fed (row_bases r fed.heights 0 ws) (risers_in r d fed ws)
+  risers-are = record {
+    each = length-map (range_with_len 0 (length fed.rows)) (row_risers r d fed (row_bases r fed.heights 0 ws)) ∙ length-range_with_len 0 (length fed.rows);
+    are = λ k rise a at member.
+        let inside = within k rise at in
+        subst (λ (n : ℕ). IsRiser r d fed k n (slice_index fed.heights k) a) (sym (row-floor k inside))
+        (subst (λ (n : ℕ). IsRiser r d fed k (floor_of k) n a) (sym (row-tall k inside))
+        (riser-of k inside a (subst (λ (l : List Drawn). Contains l a) (sym (there k rise at)) member)));
+    all = λ k rise a at it.
+        let inside = within k rise at in
+        subst (λ (l : List Drawn). Contains l a) (there k rise at)
+        (riser-listed k inside a
+        (subst (λ (n : ℕ). IsRiser r d fed k (floor_of k) n a) (row-tall k inside)
+        (subst (λ (n : ℕ). IsRiser r d fed k n (slice_index fed.heights k) a) (row-floor k inside) it)));
+  }
+    where
+      within : (k : ℕ) (rise : List Drawn) → slice_get (risers_in r d fed ws) k ≡ Some rise → k < length fed.rows
+      within k rise at =
+          omega (
+            arith,
+            slice_get_within (risers_in r d fed ws) k rise at,
+            length-map (range_with_len 0 (length fed.rows)) (row_risers r d fed (row_bases r fed.heights 0 ws)) ∙ length-range_with_len 0 (length fed.rows),
+          )
+
+      there : (k : ℕ) (rise : List Drawn) → slice_get (risers_in r d fed ws) k ≡ Some rise → risers_at (risers_in r d fed ws) k ≡ rise
+      there k rise at = ap (λ o. unwrap_or o []) at

@@ -1,5 +1,5 @@
 -- risers: wires that lead from the upper pins of cells lower than their row to the row's upper edge
-use Rattle.std.specs.Prelude.{◌≡◌, ◌<◌, ◌≤◌, ℕ, zero, suc, ◌+◌, ◌-◌, List, [], ◌∷◌, ◌++◌, map, length, take, drop, if◌then◌else◌, nat_lt, unwrap_or, Some, slice_get, slice_index}
+use Rattle.std.specs.Prelude.{◌≡◌, ◌<◌, ◌≤◌, ℕ, zero, suc, ◌+◌, ◌-◌, List, [], ◌∷◌, ◌++◌, map, length, take, drop, if◌then◌else◌, nat_lt, unwrap_or, Some, Contains, slice_get, slice_index}
 use Rattle.std.specs.List.{range_with_len}
 use Rattle.tech_rules.specs.Rules.{RuleValues}
 use Rattle.design_model.specs.Netlist.{Netlist}
@@ -53,3 +53,9 @@ row_risers r d fed bases k =
 -- those of all rows, from the lowest up
 abbrev pub all_risers : RuleValues → Netlist → Fed → List ℕ → List (List Drawn)
 all_risers r d fed bases = map (row_risers r d fed bases) (range_with_len 0 (length fed.rows))
+
+-- for each row there are risers, and these are just the risers of its cells, where rows stand on these lower edges
+pub record AreRisers (r : RuleValues) (d : Netlist) (fed : Fed) (bases : List ℕ) (risers : List (List Drawn)) : Type 0 where
+  pub each : length risers ≡ length fed.rows
+  pub are : (k : ℕ) (rise : List Drawn) (a : Drawn) → slice_get risers k ≡ Some rise → Contains rise a → IsRiser r d fed k (slice_index bases k) (slice_index fed.heights k) a
+  pub all : (k : ℕ) (rise : List Drawn) (a : Drawn) → slice_get risers k ≡ Some rise → IsRiser r d fed k (slice_index bases k) (slice_index fed.heights k) a → Contains rise a

@@ -4,6 +4,7 @@ ghost use Rattle.channel_model.specs.Elements.{elements};
 ghost use Rattle.channel_model.specs.Wired.{IsOnGrid};
 ghost use Rattle.channel_model.specs.declared.wiring.Wiring.{Wiring};
 ghost use Rattle.channel_stack.specs.Layouts.{layout_of};
+ghost use Rattle.channel_stack.specs.Risers.{AreRisers};
 ghost use Rattle.channel_stack.specs.Routed.{AreWired, IsRouted, IsWithin};
 ghost use Rattle.channel_stack.specs.Stack.{drawings, laid_of, stack_of};
 ghost use Rattle.feed_cells.specs.Fed.{IsFed};
@@ -54,6 +55,9 @@ fn drawings<W: HasWiring>(
 /// each channel of t tracks as high as t + 1 tracks. The rows with feeds are those of their cells, and the channels are those between them; there is one wiring for
 /// each channel, within the tracks and columns of the bound, which passes no limit. The one error is want of memory.
 ///
+/// The risers of a row are those of its cells that are lower than the row: for each net that such a cell gives to the channel above, a vertical wire in the
+/// entry's column, from `grid.pin` below the cell's top to the row's top.
+///
 /// The layout is within its bound. Where each wiring connects its channel, by whatever router, and the cells have room for their pins, the layout of these cells
 /// and feeds, with each wiring drawn on its channel's lower edge, is good for the design and the rules.
 #[tactic(auto, unfolding(crate::specs::Stack::stack_of))]
@@ -69,6 +73,7 @@ pub fn lay<W: HasWiring>(
     requires channels { channels.now ≡ tables_of design.now fed.now }
     requires routed { IsRouted rules.now design.now fed.now (map W.wiring_of wirings.now) }
     ensures laid { IfOk result (λ laid. laid ≡ laid_of (stack_of rules.now design.now fed.now (map W.wiring_of wirings.now))) }
+    ensures risers { IfOk result (λ laid. AreRisers rules.now design.now fed.now laid.row_base laid.risers) }
     ensures within { IfOk result (λ _. IsWithin rules.now design.now fed.now (map W.wiring_of wirings.now) (stack_of rules.now design.now fed.now (map W.wiring_of wirings.now))) }
     ensures good { IfOk result (λ _. HasRoom rules.now design.now → AreWired design.now fed.now (map W.wiring_of wirings.now)
         → Good rules.now design.now (layout_of rules.now design.now (stack_of rules.now design.now fed.now (map W.wiring_of wirings.now)))) }
@@ -112,6 +117,7 @@ pub fn stack<W: HasWiring>(
     requires channels { channels.now ≡ tables_of design.now fed.now }
     requires routed { IsRouted rules.now design.now fed.now (map W.wiring_of wirings.now) }
     ensures stacked { IfOk result (λ placed. placed ≡ stack_of rules.now design.now fed.now (map W.wiring_of wirings.now)) }
+    ensures risers { IfOk result (λ placed. AreRisers rules.now design.now fed.now placed.row_base placed.risers) }
     ensures within { IfOk result (λ placed. IsWithin rules.now design.now fed.now (map W.wiring_of wirings.now) placed) }
     ensures good { IfOk result (λ placed. HasRoom rules.now design.now → AreWired design.now fed.now (map W.wiring_of wirings.now)
         → Good rules.now design.now (layout_of rules.now design.now placed)) }

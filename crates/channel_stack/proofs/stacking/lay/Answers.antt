@@ -5,7 +5,9 @@ use Rattle.feed_cells.specs.Fed.{items_width}
 use Rattle.feed_cells.specs.declared.fed.Item.{Item}
 use Rattle.design_model.specs.Netlist.{IsNetlist}
 use Rattle.tech_rules.specs.Rules.{ValidRules}
-use Rattle.channel_stack.specs.Stack.{row_bases, stack_of, stack_top}
+use Rattle.channel_stack.specs.Stack.{LaidOut, row_bases, stack_of, stack_top}
+use Rattle.channel_stack.specs.Risers.{AreRisers}
+use Rattle.channel_stack.proofs.RowRisers.{risers-are}
 use Rattle.channel_stack.proofs.GoodStack.{stack-good}
 use Rattle.channel_stack.proofs.Heights.{bases-counted, fed-narrow, rows-fit, stack-within, top-fits}
 use Rattle.channel_stack.proofs.stacking.lay.Goals as goal
@@ -61,6 +63,14 @@ all_risers-requires-clause-bases g c =
 pub returns-clause-laid : goal.returns-clause-laid
 unfolding stack_of
 returns-clause-laid g c = search all_rules
+
+pub returns-clause-risers : goal.returns-clause-risers
+unfolding stack_of
+returns-clause-risers g c =
+    let ws = map g.W.HasWiring.wiring_of c.args.wirings.now in
+    let laid = returns-clause-laid g c in
+    subst (λ (l : LaidOut). AreRisers c.args.rules.now c.args.design.now c.args.fed.now l.row_base l.risers) (sym laid)
+    (risers-are c.args.rules.now c.args.design.now c.args.fed.now c.requires.fed ws c.requires.routed.each)
 
 pub returns-clause-within : goal.returns-clause-within
 returns-clause-within g c = stack-within c.args.rules.now c.args.design.now c.args.fed.now (map g.W.HasWiring.wiring_of c.args.wirings.now) c.requires.fed c.requires.routed

@@ -8,6 +8,8 @@ use Rattle.design_model.specs.Good.{Good}
 use Rattle.channel_stack.specs.Layouts.{layout_of}
 use Rattle.channel_stack.specs.Routed.{IsWithin}
 use Rattle.channel_stack.specs.Stack.{Stacked, stack_of}
+use Rattle.channel_stack.specs.Risers.{AreRisers}
+use Rattle.channel_stack.proofs.RowRisers.{risers-are}
 use Rattle.std_laws.proofs.Every.{every-from-get}
 
 pub drawings-requires : goal.drawings-requires
@@ -18,6 +20,13 @@ drawings-requires g c =
 pub returns-clause-stacked : goal.returns-clause-stacked
 unfolding stack_of
 returns-clause-stacked g c = search all_rules
+
+pub returns-clause-risers : goal.returns-clause-risers
+unfolding stack_of
+returns-clause-risers g c =
+    let ws = map g.W.HasWiring.wiring_of c.args.wirings.now in
+    subst (λ (p : Stacked). AreRisers c.args.rules.now c.args.design.now c.args.fed.now p.row_base p.risers) (sym (returns-clause-stacked g c))
+    (risers-are c.args.rules.now c.args.design.now c.args.fed.now c.requires.fed ws c.requires.routed.each)
 
 pub returns-clause-within : goal.returns-clause-within
 returns-clause-within g c =
