@@ -12,5 +12,6 @@ Agrees view (Err (kinds.Inexact, i)) meant = meant ≡ Err (inexact, i)
 Agrees view (Err (kinds.NoLayer, i)) meant = meant ≡ Err (no_layer, i)
 Agrees view (Err (kinds.NoSymbolName, i)) meant = meant ≡ Err (no_symbol_name, i)
 Agrees view (Err (kinds.TooFar v, i)) meant = Unit {0}
+Agrees view (Err (kinds.LongPath, i)) meant = Unit {0}
 Agrees view (Err (kinds.TooMany, i)) meant = Unit {0}
 Agrees view (Err (kinds.TooDeep, i)) meant = Unit {0}

@@ -8,13 +8,14 @@ use Rattle.cif_text.specs.Symbols.{Symbol, Level, State}
 use Rattle.cif_text.specs.Meaning.{Unmeant, undefined, twice, inexact, no_layer, no_symbol_name, at_command, step, run, layout_of, meaning}
 use Rattle.cif_reader.specs.declared.fault.ExpandKind.{ExpandKind}
 use Rattle.cif_reader.specs.declared.fault.ExpandKind.TheVariants as kinds
-use Rattle.cif_reader.specs.Limits.{first_far, numbers_of, more_than_most, far_or_many, limit_passed, most_shapes, deepest, depth_given, shapes_given}
+use Rattle.cif_reader.specs.Limits.{first_far, numbers_of, more_than_most, far_or_many, limit_passed, most_corners, long_by, either_limit, most_shapes, deepest, depth_given, shapes_given}
 use Rattle.cif_reader.specs.Expansion.{Progress, present_level, within, depth_by, progress_to, advance, refused_at, progress, at_first, expansion}
 use Rattle.cif_reader.proofs.Agreement.{Agrees}
 
 -- the refusals that are limits
 abbrev IsLimit : Option ExpandKind → Type 0
 IsLimit (Some (kinds.TooFar v)) = Unit {0}
+IsLimit (Some kinds.LongPath) = Unit {0}
 IsLimit (Some kinds.TooMany) = Unit {0}
 IsLimit (Some kinds.TooDeep) = Unit {0}
 IsLimit (Some other) = ⊥
@@ -32,15 +33,29 @@ far-limit : (far : Option ℤ) (many : Option ExpandKind) → IsLimit many → I
 far-limit (Some v) many h = tt
 far-limit None many h = h
 
+long-limit : (c : CifCommand) → IsLimit (long_by c)
+long-limit (commands.Polygon path) = by (nat_lt most_corners (length path))
+  where
+    by : (b : Bool) → IsLimit (if b then Some kinds.LongPath else None)
+    by true = tt
+    by false = tt
+long-limit c = tt
+
+either-is : (long many : Option ExpandKind) → IsLimit long → IsLimit many → IsLimit (either_limit long many)
+either-is (Some kind) many first second = first
+either-is None many first second = second
+
 passed-limit : (symbols : List Symbol) (l : Level) (c : CifCommand) → IsLimit (limit_passed symbols l c)
 passed-limit symbols l c =
-    far-limit (first_far (numbers_of symbols l c)) (more_than_most (length l.shapes) (shapes_given symbols c))
-    (many-limit (nat_lt most_shapes (length l.shapes + shapes_given symbols c)))
+    far-limit (first_far (numbers_of symbols l c)) (either_limit (long_by c) (more_than_most (length l.shapes) (shapes_given symbols l c)))
+    (either-is (long_by c) (more_than_most (length l.shapes) (shapes_given symbols l c)) (long-limit c)
+    (many-limit (nat_lt most_shapes (length l.shapes + shapes_given symbols l c))))
 
 -- a limit comes first
 limit-agrees : {A B : Type 0} (view : A → B) (i : ℕ) (limit : Option ExpandKind) (kind : ExpandKind) (meant : Result B (Unmeant × ℕ)) → IsLimit limit
     → Agrees view (Err (kind, i)) meant → Agrees view (Err (unwrap_or limit kind, i)) meant
 limit-agrees view i (Some (kinds.TooFar v)) kind meant h more = tt
+limit-agrees view i (Some kinds.LongPath) kind meant h more = tt
 limit-agrees view i (Some kinds.TooMany) kind meant h more = tt
 limit-agrees view i (Some kinds.TooDeep) kind meant h more = tt
 limit-agrees view i (Some other) kind meant h more = absurd h
@@ -75,6 +90,7 @@ within-agrees i p c (Some kind) (Ok t) h = limit-itself kind h
   where
     limit-itself : (kind : ExpandKind) → IsLimit (Some kind) → Agrees state_of (refused_at i (Err kind)) (Ok t)
     limit-itself (kinds.TooFar v) h = tt
+    limit-itself kinds.LongPath h = tt
     limit-itself kinds.TooMany h = tt
     limit-itself kinds.TooDeep h = tt
     limit-itself other h = absurd h
@@ -90,6 +106,7 @@ next-agrees view seen (Err (kinds.Inexact, i)) meant f g h more = rw h refl
 next-agrees view seen (Err (kinds.NoLayer, i)) meant f g h more = rw h refl
 next-agrees view seen (Err (kinds.NoSymbolName, i)) meant f g h more = rw h refl
 next-agrees view seen (Err (kinds.TooFar v, i)) meant f g h more = tt
+next-agrees view seen (Err (kinds.LongPath, i)) meant f g h more = tt
 next-agrees view seen (Err (kinds.TooMany, i)) meant f g h more = tt
 next-agrees view seen (Err (kinds.TooDeep, i)) meant f g h more = tt
 

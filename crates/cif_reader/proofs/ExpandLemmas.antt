@@ -38,6 +38,8 @@ next-of inside (commands.Box long wide cx cy upright) cs h =
 next-of inside (commands.Layer name) cs h = record { place = record { sound = h.0; stands = refl; last = λ is. cc }; left = left-of inside cs h.1 }
 next-of inside (commands.Call n flip quarters dx dy) cs h =
     record { place = record { sound = h.0; stands = refl; last = λ is. cc }; left = left-of inside cs h.1 }
+next-of inside (commands.Wire width path) cs h = record { place = record { sound = h.0; stands = refl; last = λ is. cc }; left = left-of inside cs h.1 }
+next-of inside (commands.Polygon path) cs h = record { place = record { sound = h.0; stands = refl; last = λ is. cc }; left = left-of inside cs h.1 }
 next-of inside commands.Comment cs h = record { place = record { sound = h.0; stands = refl; last = λ is. cc }; left = left-of inside cs h.1 }
 next-of inside (commands.User kind text) cs h = record { place = record { sound = h.0; stands = refl; last = λ is. cc }; left = left-of inside cs h.1 }
 

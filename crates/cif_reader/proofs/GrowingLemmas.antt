@@ -1,6 +1,6 @@
 use Rattle.cif_reader.specs.declared.fault.ExpandKind.TheVariants as kinds
 use Rattle.cif_reader.specs.declared.table.Item.TheVariants as items
-use Rattle.std.proofs.Common.{◌≡◌, refl, ap, sym, ◌∙◌, subst, ℕ, suc, ◌+◌, ◌≤◌, List, [], ◌∷◌, ◌++◌, length, length-append, append-nil, ◌<◌, Bool, true, false, Option, Some, Ok, Err, arith}
+use Rattle.std.proofs.Common.{◌≡◌, refl, ap, sym, ◌∙◌, subst, ℕ, suc, ◌+◌, ◌≤◌, List, [], ◌∷◌, ◌++◌, length, length-append, append-nil, append_assoc, ◌<◌, Bool, true, false, Option, Some, Ok, Err, arith}
 use Rattle.std.proofs.lemmas.Bool.Decides.{nat_tests}
 use Rattle.std.proofs.lemmas.Int.{ints}
 use Rattle.std.proofs.lemmas.List.{length-map}
@@ -17,13 +17,13 @@ use Rattle.cif_reader.specs.declared.table.Kept.{Kept}
 use Rattle.cif_reader.specs.Growing.{HasItem, Grows}
 use Rattle.cif_reader.specs.Levels.{depth_above}
 use Rattle.cif_reader.specs.Limits.{deepest, most_shapes}
-use Rattle.cif_reader.specs.Sides.{IsProper, IsNearTurn}
+use Rattle.cif_reader.specs.Sides.{AreProper, IsProper, IsNearTurn}
 use Rattle.cif_reader.specs.Table.{items_drawn, symbol_at, IsItem, IsKeptBehind, AreAround, ReachesWithin}
 use Rattle.cif_reader.specs.Tabled.{Tabled, IsKeptAt, depth_at}
 use Rattle.cif_reader.specs.Within.{IsShapeWithin}
 use Rattle.cif_reader.proofs.BoundLemmas.{around-moved, reaches-moved, around-joined, reach-joined, reach-most}
 use Rattle.cif_reader.proofs.TableLemmas.{drawn-push}
-use Rattle.std_laws.proofs.Every.{every-append}
+use Rattle.std_laws.proofs.Every.{every-append, every-at}
 
 -- an item more of some shapes
 item-grows : (symbols : List Symbol) (old new : Kept) (item : Item) (count : ℕ) (bounds : Option Extent) (depth : ℕ) (shapes : List Shape)
@@ -83,6 +83,68 @@ unfolding items_drawn
 own-grows symbols old new shape depth has one kept near proper few =
     item-grows symbols old new (items.Own shape) 1 (Some shape.rect) depth (shape ∷ []) has kept refl refl tt (near, tt) (own-around shape proper)
     (subst (λ (n : ℕ). ForSome (Some shape.rect) (ReachesWithin n)) one (own-reach shape near)) (omega arith) few
+
+-- some shapes of its own, and others that are still to come
+pub record GrowsTo (old new : Kept) (shapes rest : List Shape) (depth : ℕ) : Type 0 where
+  pub done : List Shape
+  pub stands : done ++ rest ≡ shapes
+  pub grows : (symbols : List Symbol) → IsKeptBehind symbols old → AllByRecursion IsShapeWithin shapes → AreProper shapes → 1 ≡ depth
+      → Grows symbols old new done depth
+
+deeper-kept : (symbols : List Symbol) (old : Kept) (depth : ℕ) → IsKeptBehind symbols old → 1 ≡ depth
+    → IsKeptBehind symbols (record old { depth = max old.depth depth })
+deeper-kept symbols old depth h one =
+    let deep : old.depth ≤ deepest = h.deep in
+    record {
+      items = h.items;
+      count = h.count;
+      few = h.few;
+      near = h.near;
+      around = h.around;
+      reach = reach-most old.depth (max old.depth depth) old.bounds (omega arith) h.reach;
+      deep = omega (arith, one);
+    }
+
+pub grows-begin : (old new : Kept) (shapes : List Shape) (depth : ℕ) → new ≡ record old { depth = max old.depth depth } → GrowsTo old new shapes shapes depth
+grows-begin old new shapes depth is = rw is (record {
+  done = [];
+  stands = refl;
+  grows = λ symbols h near proper one. record {
+    number = refl;
+    name = refl;
+    drawn = sym (append-nil (items_drawn symbols old.items.items));
+    depth_is = refl;
+    is = deeper-kept symbols old depth h one;
+  };
+})
+
+pub grows-next : (old kept new : Kept) (shapes rest : List Shape) (shape : Shape) (depth : ℕ) → GrowsTo old kept shapes (shape ∷ rest) depth
+    → HasItem kept new (items.Own shape) 1 (Some shape.rect) depth → kept.count + 1 ≤ most_shapes → GrowsTo old new shapes rest depth
+grows-next old kept new shapes rest shape depth h has few = record {
+  done = h.done ++ shape ∷ [];
+  stands = append_assoc h.done (shape ∷ []) rest ∙ h.stands;
+  grows = λ symbols is near proper one.
+      let before : Grows symbols old kept h.done depth = h.grows symbols is near proper one in
+      let near_all : AllByRecursion IsShapeWithin (h.done ++ shape ∷ rest) = subst (AllByRecursion IsShapeWithin) (sym h.stands) near in
+      let proper_all : AreProper (h.done ++ shape ∷ rest) = subst AreProper (sym h.stands) proper in
+      let more = own-grows symbols kept new shape depth has one before.is (every-at IsShapeWithin h.done rest shape near_all)
+      (every-at (λ s. IsProper s.rect) h.done rest shape proper_all) few in
+      let first : kept.depth ≡ max old.depth depth = before.depth_is in
+      let second : new.depth ≡ max kept.depth depth = more.depth_is in
+      record {
+        number = more.number ∙ before.number;
+        name = more.name ∙ before.name;
+        drawn = more.drawn ∙ ap (λ (ss : List Shape). ss ++ shape ∷ []) before.drawn ∙ append_assoc (items_drawn symbols old.items.items) h.done (shape ∷ []);
+        depth_is = omega arith;
+        is = more.is;
+      };
+}
+
+pub grows-all : (old new : Kept) (shapes rest : List Shape) (depth : ℕ) → rest ≡ [] → GrowsTo old new shapes rest depth
+    → (symbols : List Symbol) → IsKeptBehind symbols old → AllByRecursion IsShapeWithin shapes → AreProper shapes → 1 ≡ depth → Grows symbols old new shapes depth
+grows-all old new shapes rest depth none h symbols is near proper one =
+    let whole : h.done ≡ shapes = sym (append-nil h.done) ∙ ap (λ (ss : List Shape). h.done ++ ss) (sym none) ∙ h.stands in
+    subst (λ (ss : List Shape). Grows symbols old new ss depth) whole (h.grows symbols is near proper one)
 
 above-ok : (depth given : ℕ) → depth_above depth ≡ Ok given → (given ≡ suc depth) × (suc depth ≤ deepest)
 above-ok depth given is = by (nat_lt deepest (suc depth)) refl is

@@ -1,3 +1,7 @@
+-- rectangles at a scale, and the first of their sides that is too far
+pub mod RectLaws
+-- points at a scale, and the blocks between them
+pub mod PolygonLaws
 -- whole texts, and the layout or the refusal of each
 pub mod Samples
 -- what commands give is what they mean

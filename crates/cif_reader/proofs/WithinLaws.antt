@@ -4,25 +4,29 @@ use Rattle.std.proofs.Common.{◌≡◌, refl, ap, sym, subst, ◌∙◌, ℕ, s
 use Rattle.std.proofs.lemmas.Bool.Decides.{nat_tests}
 use Rattle.std.proofs.lemmas.List.{length-map}
 use Rattle.std.specs.List.{AllByRecursion}
-use Rattle.std.specs.Prelude.{if◌then◌else◌, nat_lt, nat_abs, option_map}
+use Rattle.std.specs.Prelude.{if◌then◌else◌, map, nat_lt, nat_abs, option_map}
 use Rattle.geom_core.specs.declared.layout.Shape.{Shape}
 use Rattle.geom_core.specs.declared.layout.Cell.{Cell}
 use Rattle.geom_core.specs.declared.layout.Layout.{Layout}
+use Rattle.geom_core.specs.declared.corner.Corner.{Corner}
 use Rattle.geom_core.specs.Extent.{Extent}
+use Rattle.region_cut.specs.Maximal.{maximal}
 use Rattle.geom_core.specs.Moving.{moved_shape}
 use Rattle.geom_core.specs.Turning.{Turning}
 use Rattle.cif_text.specs.declared.command.CifCommand.{CifCommand}
 use Rattle.read_base.specs.Steps.{◌>>=◌}
-use Rattle.cif_text.specs.Scales.{scaled, doubled, box_around, scaled_extent, turning_of, scaled_turning}
+use Rattle.cif_text.specs.Scales.{scaled, doubled, box_around, scaled_extent, scaled_extents, wire_around, doubled_corner, scaled_corners, turning_of, scaled_turning}
 use Rattle.cif_text.specs.Sound.{IsSound, AreSound}
 use Rattle.cif_text.specs.Symbols.{Symbol, Level, Definition, Main, State, symbol_of, moved_shapes}
 use Rattle.cif_text.specs.Meaning.{Unmeant, undefined, inexact, no_symbol_name, found, on_layer, drawn_by, cells_of, cells_by, main_with, main_behind, definition_behind, opened, started, finished, with_main, with_inside, step, step_in, layout_of}
 use Rattle.cif_text.proofs.BodyLaws.{given}
 use Rattle.cif_reader.specs.declared.fault.ExpandKind.{ExpandKind}
-use Rattle.cif_reader.specs.Limits.{farthest, most_shapes, first_far, coordinates_of, box_numbers, call_numbers, numbers_of, called_shapes, shapes_given, more_than_most, far_or_many, limit_passed}
+use Rattle.cif_reader.specs.Limits.{farthest, most_shapes, first_far, coordinates_of, sides_of_all, box_numbers, wire_numbers, path_numbers, blocks_of, long_by, either_limit, call_numbers, numbers_of, called_shapes, shapes_given, more_than_most, far_or_many, limit_passed}
 use Rattle.cif_reader.specs.Expansion.{Progress, present_level, within, depth_by, progress_to, advance, refused_at, progress, at_first, expansion}
 use Rattle.cif_reader.specs.Within.{IsNotFar, IsShapeWithin, IsCellWithin, IsLayoutWithin}
 use Rattle.cif_reader.proofs.AgreementLaws.{progress-state}
+use Rattle.cif_reader.proofs.RectLaws.{scaled-count}
+use Rattle.cif_reader.proofs.PolygonLaws.{near-blocks}
 use Rattle.std_laws.proofs.Every.{every-append, every-weaker}
 
 -- numbers of which none is far
@@ -51,6 +55,10 @@ pub far-none : (far : Option ℤ) (many : Option ExpandKind) → far_or_many far
 far-none (Some z) many none = cc
 far-none None many none = (refl, none)
 
+either-none : (long many : Option ExpandKind) → either_limit long many ≡ None → many ≡ None
+either-none (Some kind) many none = cc
+either-none None many none = none
+
 pub few-none : (b : Bool) (kind : ExpandKind) → (if b then Some kind else None) ≡ None → b ≡ false
 few-none true kind none = cc
 few-none false kind none = refl
@@ -72,6 +80,31 @@ fit-box (Some e) (Some name) before shapes none few is =
     let whole : record { layer = name; rect = e } ∷ [] ≡ shapes = cc is in
     subst (Fit before) whole (record { near = ((near-shape name e [] none).0, tt); few = few })
 
+near-rects : (layer : List ℕ) (rs : List Extent) → first_far (sides_of_all rs) ≡ None
+    → AllByRecursion IsShapeWithin (map (λ rect. record { layer = layer; rect = rect }) rs)
+near-rects layer [] none = tt
+near-rects layer (r ∷ rs) none = let first = near-shape layer r (sides_of_all rs) none in (first.0, near-rects layer rs first.1)
+
+fit-wire : (rects : Option (List Extent)) (layer : Option (List ℕ)) (before count : ℕ) (shapes : List Shape) → ((rs : List Extent) → rects ≡ Some rs → length rs ≡ count)
+    → first_far (wire_numbers rects) ≡ None → before + count ≤ most_shapes → (found inexact rects >>= λ rs. on_layer layer rs) ≡ Ok shapes → Fit before shapes
+fit-wire None layer before count shapes same none few is = cc
+fit-wire (Some rs) None before count shapes same none few is = cc
+fit-wire (Some rs) (Some name) before count shapes same none few is =
+    let shaped : Extent → Shape = λ rect. record { layer = name; rect = rect } in
+    let whole : map shaped rs ≡ shapes = cc is in
+    let all : length (map shaped rs) ≡ count = length-map rs shaped ∙ same rs refl in
+    subst (Fit before) whole (record { near = near-rects name rs none; few = rw all few })
+
+fit-polygon : (path : Option (List Corner)) (layer : Option (List ℕ)) (before : ℕ) (shapes : List Shape) → first_far (path_numbers path) ≡ None
+    → before + blocks_of path ≤ most_shapes → (found inexact path >>= λ cs. on_layer layer (maximal cs)) ≡ Ok shapes → Fit before shapes
+fit-polygon None layer before shapes none few is = cc
+fit-polygon (Some cs) None before shapes none few is = cc
+fit-polygon (Some cs) (Some name) before shapes none few is =
+    let shaped : Extent → Shape = λ rect. record { layer = name; rect = rect } in
+    let whole : map shaped (maximal cs) ≡ shapes = cc is in
+    let all : length (map shaped (maximal cs)) ≡ length (maximal cs) = length-map (maximal cs) shaped in
+    subst (Fit before) whole (record { near = near-blocks name cs none; few = rw all few })
+
 fit-call : (n : ℕ) (there : Option Symbol) (turning : Option Turning) (before : ℕ) (shapes : List Shape) → first_far (call_numbers there turning) ≡ None
     → before + called_shapes there ≤ most_shapes
     → (found (undefined n) there >>= λ s. found inexact turning >>= λ t. Ok (moved_shapes t s.shapes)) ≡ Ok shapes → Fit before shapes
@@ -90,13 +123,18 @@ fit-none before shapes few none = subst (Fit before) none (record { near = tt; f
 pub drawn-fit : (symbols : List Symbol) (l : Level) (c : CifCommand) (shapes : List Shape) → limit_passed symbols l c ≡ None → drawn_by symbols l c ≡ Ok shapes
     → Fit (length l.shapes) shapes
 drawn-fit symbols l c shapes none is =
-    let parts = far-none (first_far (numbers_of symbols l c)) (more_than_most (length l.shapes) (shapes_given symbols c)) none in
-    by c parts.0 (few-given (length l.shapes) (shapes_given symbols c) parts.1) is
+    let parts = far-none (first_far (numbers_of symbols l c)) (either_limit (long_by c) (more_than_most (length l.shapes) (shapes_given symbols l c))) none in
+    by c parts.0 (few-given (length l.shapes) (shapes_given symbols l c) (either-none (long_by c) (more_than_most (length l.shapes) (shapes_given symbols l c)) parts.1)) is
   where
-    by : (c : CifCommand) → first_far (numbers_of symbols l c) ≡ None → length l.shapes + shapes_given symbols c ≤ most_shapes → drawn_by symbols l c ≡ Ok shapes
+    by : (c : CifCommand) → first_far (numbers_of symbols l c) ≡ None → length l.shapes + shapes_given symbols l c ≤ most_shapes → drawn_by symbols l c ≡ Ok shapes
         → Fit (length l.shapes) shapes
     by (commands.Box long wide cx cy upright) far few is =
         fit-box (scaled_extent l.a l.b (box_around long wide cx cy upright)) l.layer (length l.shapes) shapes far few is
+    by (commands.Wire width path) far few is =
+        fit-wire (scaled_extents l.a l.b (wire_around width path)) l.layer (length l.shapes) (length (wire_around width path)) shapes
+        (scaled-count l.a l.b (wire_around width path)) far few is
+    by (commands.Polygon path) far few is =
+        fit-polygon (scaled_corners l.a l.b (map doubled_corner path)) l.layer (length l.shapes) shapes far few is
     by (commands.Call n flip quarters dx dy) far few is =
         fit-call n (symbol_of n symbols) (scaled_turning l.a l.b flip quarters dx dy) (length l.shapes) shapes far few is
     by c far few is = fit-none (length l.shapes) shapes few (cc is)
@@ -199,7 +237,7 @@ main-within most symbols m n c h sound none is =
     let shapes = given (drawn_by symbols m.level c) _ n is in
     let cells = given (found no_symbol_name (cells_by symbols m.level m.waiting c)) _ n shapes.2 in
     let whole : main_with m c shapes.0 cells.0 ≡ n = cc cells.2 in
-    let far = far-none (first_far (numbers_of symbols m.level c)) (more_than_most (length m.level.shapes) (shapes_given symbols c)) none in
+    let far = far-none (first_far (numbers_of symbols m.level c)) (either_limit (long_by c) (more_than_most (length m.level.shapes) (shapes_given symbols m.level c))) none in
     subst (MainWithin (suc most)) whole
     (drawn-within most m c shapes.0 cells.0 h (drawn-fit symbols m.level c shapes.0 none shapes.1)
     (cells-within symbols m.level m.waiting c shapes.0 cells.0 sound far.0 shapes.1
@@ -268,6 +306,8 @@ sound-each inside (commands.Start n a b ∷ cs) h = (h.1, sound-each true cs h.2
 sound-each inside (commands.Box long wide cx cy upright ∷ cs) h = (h.0, sound-each inside cs h.1)
 sound-each inside (commands.Layer name ∷ cs) h = (h.0, sound-each inside cs h.1)
 sound-each inside (commands.Call n flip quarters dx dy ∷ cs) h = (h.0, sound-each inside cs h.1)
+sound-each inside (commands.Wire width path ∷ cs) h = (h.0, sound-each inside cs h.1)
+sound-each inside (commands.Polygon path ∷ cs) h = (h.0, sound-each inside cs h.1)
 sound-each inside (commands.Comment ∷ cs) h = (h.0, sound-each inside cs h.1)
 sound-each inside (commands.User kind text ∷ cs) h = (h.0, sound-each inside cs h.1)
 

@@ -1,8 +1,10 @@
 -- what a command gives the level in which it stands
-use Rattle.std.specs.Prelude.{if◌then◌else◌, ℕ, suc, ℤ, nat_lt, Bool, true, false, List, ◌∷◌, length, Option, Some, None, Result, Ok, Err}
+use Rattle.std.specs.Prelude.{if◌then◌else◌, ℕ, suc, ℤ, nat_lt, Bool, true, false, List, ◌∷◌, length, map, Option, Some, None, Result, Ok, Err}
 use Rattle.geom_core.specs.declared.layout.Shape.{Shape}
 use Rattle.geom_core.specs.declared.layout.Cell.{Cell}
+use Rattle.geom_core.specs.declared.corner.Corner.{Corner}
 use Rattle.geom_core.specs.Extent.{Extent}
+use Rattle.region_cut.specs.Maximal.{maximal}
 use Rattle.geom_core.specs.Turning.{Turning}
 use Rattle.cif_text.specs.declared.command.CifCommand.{CifCommand}
 use Rattle.cif_text.specs.declared.command.CifCommand.TheVariants as commands
@@ -11,7 +13,7 @@ use Rattle.cif_text.specs.Symbols.{Symbol, Level, Definition, Main, moved_shapes
 use Rattle.cif_text.specs.Meaning.{drawn_by, definition_with, cells_by, main_with}
 use Rattle.cif_reader.specs.declared.fault.ExpandKind.{ExpandKind}
 use Rattle.cif_reader.specs.declared.fault.ExpandKind.TheVariants as kinds
-use Rattle.cif_reader.specs.Limits.{deepest, first_far, sides_of, coordinates_of, far_or_many, more_than_most, limit_passed}
+use Rattle.cif_reader.specs.Limits.{deepest, either_limit, first_far, sides_of, sides_of_all, coordinates_of_path, coordinates_of, far_or_many, more_than_most, limit_passed}
 use Rattle.cif_reader.specs.Expansion.{unless_refused, within, depth_by}
 
 -- what is neither the start nor the end of a definition
@@ -28,6 +30,27 @@ layered (Some layer) rect = Ok (record { layer = layer; rect = rect })
 unfoldable pub boxed : Option (List ℕ) → ℕ → Option Extent → Result Shape ExpandKind
 boxed layer before None = Err kinds.Inexact
 boxed layer before (Some rect) = unless_refused (far_or_many (first_far (sides_of rect)) (more_than_most before 1)) (layered layer rect)
+
+-- the shapes of rectangles on the present layer of a level that has so many shapes before them, or why they are refused
+abbrev pub layered_all : Option (List ℕ) → List Extent → Result (List Shape) ExpandKind
+layered_all None rects = Err kinds.NoLayer
+layered_all (Some layer) rects = Ok (map (λ rect. record { layer = layer; rect = rect }) rects)
+
+abbrev pub layered_rects : Option (List ℕ) → ℕ → List Extent → Result (List Shape) ExpandKind
+layered_rects layer before rects = unless_refused (more_than_most before (length rects)) (layered_all layer rects)
+
+-- the same of rectangles that may be too far
+unfoldable pub wired : Option (List ℕ) → ℕ → Option (List Extent) → Result (List Shape) ExpandKind
+wired layer before None = Err kinds.Inexact
+wired layer before (Some rects) =
+    unless_refused (far_or_many (first_far (sides_of_all rects)) (more_than_most before (length rects))) (layered_all layer rects)
+
+-- the shapes of the maximal blocks of a path, at a scale, where the path may have too many points
+unfoldable pub cut_in : Option (List ℕ) → ℕ → Option ExpandKind → Option (List Corner) → Result (List Shape) ExpandKind
+cut_in layer before long None = Err kinds.Inexact
+cut_in layer before long (Some path) =
+    unless_refused (far_or_many (first_far (coordinates_of_path path)) (either_limit long (more_than_most before (length (maximal path)))))
+    (layered_all layer (maximal path))
 
 -- the first number of a call that is too far: its offset, and then the coordinates of its shapes
 abbrev pub far_call : Turning → List Shape → Option ℤ

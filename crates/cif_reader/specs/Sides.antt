@@ -1,5 +1,7 @@
 -- rectangles that are small, proper or near
 use Rattle.std.specs.Prelude.{◌<ℤ◌, ℤ, List, Option, Some, None, Result, Ok, Err}
+use Rattle.std.specs.List.{AllByRecursion}
+use Rattle.geom_core.specs.declared.layout.Shape.{Shape}
 use Rattle.geom_core.specs.Extent.{Extent}
 use Rattle.geom_core.specs.Turning.{Turning}
 use Rattle.cif_reader.specs.Limits.{first_far}
@@ -9,6 +11,9 @@ use Rattle.cif_reader.specs.Within.{IsNotFar}
 pub record IsProper (e : Extent) : Type 0 where
   pub across : e.x0 <ℤ e.x1
   pub up : e.y0 <ℤ e.y1
+
+abbrev pub AreProper : List Shape → Type 0
+AreProper shapes = AllByRecursion (λ s. IsProper s.rect) shapes
 
 -- a rectangle of which no side is too far
 pub record AreSidesNear (e : Extent) : Type 0 where

@@ -15,7 +15,7 @@ use Rattle.cif_reader.specs.declared.outside.Main.{Main as MainKept}
 use Rattle.cif_reader.specs.Expansion.{depth_by}
 use Rattle.cif_reader.specs.Levels.{depth_above}
 use Rattle.cif_reader.specs.Limits.{most_shapes}
-use Rattle.cif_reader.specs.Sides.{IsNearTurn, IsProper}
+use Rattle.cif_reader.specs.Sides.{AreProper, IsNearTurn, IsProper}
 use Rattle.cif_reader.specs.Table.{items_drawn, symbol_at, IsKeptBehind}
 use Rattle.cif_reader.specs.Tabled.{Tabled, depth_at}
 
@@ -30,6 +30,7 @@ symbol_called call = symbol_at call.symbol.table.now.symbols call.symbol.place
 abbrev pub shapes_made : Given → List Shape
 shapes_made givens.Nothing = []
 shapes_made (givens.Own shape) = shape ∷ []
+shapes_made (givens.Several shapes) = shapes
 shapes_made (givens.Copied call) = moved_shapes call.turn (symbol_called call).shapes
 
 abbrev pub depth_made : Given → Result ℕ ExpandKind
@@ -40,10 +41,11 @@ abbrev pub cells_made : Option (List ℕ) → ℕ → Given → Option (List Cel
 cells_made waiting first (givens.Copied call) = cells_of waiting (Some (symbol_called call)) (Some call.turn) first
 cells_made waiting first _ = Some []
 
--- a shape with proper sides, or a copy of a symbol of this table
+-- shapes with proper sides, or a copy of a symbol of this table
 abbrev pub IsSoundIn : Tabled → Given → Type 0
 IsSoundIn t givens.Nothing = Unit {0}
 IsSoundIn t (givens.Own shape) = IsProper shape.rect
+IsSoundIn t (givens.Several shapes) = AreProper shapes
 IsSoundIn t (givens.Copied call) = (call.symbol.table.now ≡ t) × IsNearTurn call.turn
 
 -- this is what a command gives a level, where these symbols can be called

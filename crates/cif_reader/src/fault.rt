@@ -11,12 +11,14 @@ pub enum ExpandKind {
     Twice(u64),
     /// A number that the scale of its definition does not make whole in half centimicrons.
     Inexact,
-    /// The offset of a call, or a coordinate of a shape that the command gives, has a magnitude above 4,000,000,000 half
+    /// The offset of a call, a corner of a polygon, or a coordinate of a shape that another command gives, has a magnitude above 4,000,000,000 half
     /// centimicrons; this is the first such number.
     TooFar(i128),
+    /// More than 2,000 points of a polygon, as they are written.
+    LongPath,
     /// More than 4,000,000 shapes in a definition or at the main level.
     TooMany,
-    /// A box without a layer.
+    /// A box, a wire or a polygon without a layer.
     NoLayer,
     /// A named call of a symbol without a name.
     NoSymbolName,

@@ -10,12 +10,14 @@ use crate::calls::{CalledSymbol, called, depth_above};
 use crate::drawing_command::DrawingCommand;
 use crate::fault::ExpandKind;
 use crate::limit_passing::boxed;
+use crate::polygons::polygon_shapes;
 use crate::refusal::ExpandStop;
 use crate::scales::Scale;
 use crate::symbol_table::SymbolTable;
 use crate::unscaled::{UnscaledBox, UnscaledTurn};
+use crate::wires::wire_shapes;
 use cif_text::CifCommand;
-use geom_core::{LayerName, Shape};
+use geom_core::{Items, LayerName, Shape};
 use std::alloc::Global;
 
 /// How a level draws: its scale, and its present layer.
@@ -25,11 +27,12 @@ pub(crate) struct Pen {
     pub(crate) layer: Option<LayerName>,
 }
 
-/// What a command gives its level to draw: nothing, a shape, or the shapes of a called symbol under its turn.
-#[derive(Clone, Copy)]
+/// What a command gives its level to draw: nothing, a shape, several shapes, or the shapes of a called symbol under its turn.
+#[derive(Drop)]
 pub(crate) enum Given<'t> {
     Nothing,
     Own(Shape),
+    Several(Items<Shape>),
     Copied(CalledSymbol<'t>),
 }
 
@@ -77,6 +80,18 @@ impl Pen {
                     Err(kind) => Err(ExpandStop::Because(kind)),
                 }
             }
+            CifCommand::Wire { width, path } => {
+                match wire_shapes(alloc, self, before, *width, path.items()) {
+                    Ok(shapes) => Ok(Given::Several(shapes)),
+                    Err(refusal) => Err(refusal),
+                }
+            }
+            CifCommand::Polygon { path } => {
+                match polygon_shapes(alloc, self, before, path.items()) {
+                    Ok(shapes) => Ok(Given::Several(shapes)),
+                    Err(refusal) => Err(refusal),
+                }
+            }
             CifCommand::Call {
                 n,
                 flip,
@@ -107,7 +122,7 @@ impl Given<'_> {
         ensures { result ≡ depth_made self.now }
     {
         match self {
-            Given::Nothing | Given::Own(_) => Ok(1),
+            Given::Nothing | Given::Own(_) | Given::Several(_) => Ok(1),
             Given::Copied(call) => depth_above(call.symbol.kept().depth),
         }
     }

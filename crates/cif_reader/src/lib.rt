@@ -18,12 +18,14 @@ mod limit_passing;
 mod near_turn;
 mod outside;
 mod places;
+mod polygons;
 mod refusal;
 mod scales;
 mod standing;
 mod symbol_table;
 mod table;
 mod unscaled;
+mod wires;
 
 pub use expanding::expand;
 pub use fault::{ExpandFault, ExpandKind};

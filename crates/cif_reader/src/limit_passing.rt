@@ -71,7 +71,7 @@ pub(crate) fn near(z: i128) -> Option<i64>
 
 /// A rectangle, or its first side that is too far.
 #[tactic(auto, using(std_laws::proofs::Integers::read_back))]
-fn near_rect(sides: &WideSides) -> Result<Rect, i128>
+pub(crate) fn near_rect(sides: &WideSides) -> Result<Rect, i128>
     ensures is { result ≡ unless_far (sides_of sides.now) sides.now }
     ensures proper { IfOk result IsProper }
 {
@@ -90,6 +90,17 @@ fn near_rect(sides: &WideSides) -> Result<Rect, i128>
     Ok(Rect { x0, y0, x1, y1 })
 }
 
+/// Whether so many shapes more are too many for a level that has so many.
+pub(crate) fn many_passed(before: usize, given: usize) -> Option<ExpandKind>
+    ensures { result ≡ more_than_most before given }
+{
+    if before.saturating_add(given) > MOST_SHAPES as usize {
+        Some(ExpandKind::TooMany)
+    } else {
+        None
+    }
+}
+
 /// The limit that a command passes by what it gives its level, which has so many shapes before it: the first number that is too
 /// far, if there is one, or too many shapes.
 pub(crate) fn limit_passed(far: Option<i128>, before: usize, given: u32) -> Option<ExpandKind>
@@ -97,13 +108,7 @@ pub(crate) fn limit_passed(far: Option<i128>, before: usize, given: u32) -> Opti
 {
     match far {
         Some(z) => Some(ExpandKind::TooFar(z)),
-        None => {
-            if before.saturating_add(given as usize) > MOST_SHAPES as usize {
-                Some(ExpandKind::TooMany)
-            } else {
-                None
-            }
-        }
+        None => many_passed(before, given as usize),
     }
 }
 

@@ -92,6 +92,7 @@ fn draw(alloc: Global, shapes: &mut Vec<Shape>, given: &Given) -> Result<(), All
             shapes.push(*shape)?;
             Ok(())
         }
+        Given::Several(several) => shapes.extend_from_slice(several.items()),
         Given::Copied(call) => call.symbol.push_copy(alloc, &call.turn, shapes),
     }
 }

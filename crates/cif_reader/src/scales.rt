@@ -1,10 +1,11 @@
-//! The scale of a definition, and box sides and call offsets in half centimicrons, however far they are.
+//! The scale of a definition, and box sides, corners and call offsets in half centimicrons, however far they are.
 
 ghost use Rattle.cif_text.specs.Printable.{IsPart};
-ghost use Rattle.cif_text.specs.Scales.{scaled, scaled_extent, scaled_natural, scaled_turning};
+ghost use Rattle.cif_text.specs.Scales.{scaled, scaled_corner, scaled_extent, scaled_natural, scaled_turning};
 ghost use Rattle.std.specs.Prelude.{◌≡◌, ◌≤◌, ◌^◌, nat_abs, option_map, pos, IfSome};
 
 use crate::unscaled::{Sides, UnscaledTurn};
+use geom_core::Corner;
 use std::marker::Model;
 
 /// The scale of a definition, whose numbers count as `a / b` centimicrons each.
@@ -36,6 +37,23 @@ impl Model for WideSides {
     ghost invariant = { λ r. (r.x0 <ℤ r.x1) × (r.y0 <ℤ r.y1) };
 
     ghost inverse = { λ e. record { x0 = e.x0; y0 = e.y0; x1 = e.x1; y1 = e.y1 } };
+}
+
+/// A point in half centimicrons, however far it is.
+#[derive(Clone, Copy, Debug)]
+pub(crate) struct WideCorner {
+    pub(crate) x: i128,
+    pub(crate) y: i128,
+}
+
+impl Model for WideCorner {
+    ghost use Rattle.geom_core.specs.declared.corner.Corner.{Corner};
+
+    ghost Value = { Corner };
+
+    ghost view = { λ c. record { x = c.x; y = c.y } };
+
+    ghost inverse = { λ c. record { x = c.x; y = c.y } };
 }
 
 /// A call's turn in half centimicrons, however far its offset is.
@@ -101,6 +119,16 @@ impl Scale {
         let x1 = self.scaled(sides.x1)?;
         let y1 = self.scaled(sides.y1)?;
         Some(WideSides { x0, y0, x1, y1 })
+    }
+
+    /// A point at a scale, where its coordinates are whole.
+    #[tactic(auto, using(std_laws::proofs::Integers::read_back))]
+    pub(crate) fn scaled_corner(self, corner: Corner) -> Option<WideCorner>
+        ensures { result ≡ scaled_corner self.a self.b corner }
+    {
+        let x = self.scaled(corner.x)?;
+        let y = self.scaled(corner.y)?;
+        Some(WideCorner { x, y })
     }
 
     /// A call's turn at a scale, where its offset is whole in half centimicrons.

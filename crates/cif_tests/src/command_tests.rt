@@ -4,7 +4,7 @@ use crate::shown::are_shown;
 use std::test::Fail;
 
 /// Texts, and the commands that each reads as. A box has `true` where it is upright, and a call where it is flipped.
-const TEXTS: [(&str, &str); 33] = [
+const TEXTS: [(&str, &str); 39] = [
     // whole texts
     (
         "DS 1; 9 INV; L NP; B 2 4 5 2; DF; 91 u; C 1 M X T 12 0; E",
@@ -48,6 +48,20 @@ const TEXTS: [(&str, &str); 33] = [
         "B 1000000000000 007 -1000000000000 00000000000000002;E",
         "B 1000000000000 7 -1000000000000 2 false;E",
     ),
+    // wires
+    ("W 4 0 0 10,0X10 10 ;E", "W 4 0 0 10 0 10 10;E"),
+    ("Wire4 5 -5Q;E", "W 4 5 -5;E"),
+    ("W 1 0 0 0 0;E", "W 1 0 0 0 0;E"),
+    (
+        "W1000000000000 -1000000000000 007;E",
+        "W 1000000000000 -1000000000000 7;E",
+    ),
+    // polygons
+    (
+        "P0 0 10 0 10 4 10,-4X0 -4 ;E",
+        "P 0 0 10 0 10 4 10 -4 0 -4;E",
+    ),
+    ("Path 1 2 1 2 1 2;E", "P 1 2 1 2 1 2;E"),
     // definitions
     ("D S 3 2 5 Q;D F ;E", "DS 3 2 5;DF;E"),
     ("DS0;DF;DS 0 X;DF;E", "DS 0 1 1;DF;DS 0 1 1;DF;E"),

@@ -130,7 +130,8 @@ pub(crate) fn expanded(
     }
 }
 
-fn shown(alloc: Global, text: &[u8]) -> Result<Vec<u8>, AllocError> {
+/// What the text gives, shown as a text.
+pub(crate) fn shown(alloc: Global, text: &[u8]) -> Result<Vec<u8>, AllocError> {
     match expanded(alloc, text)? {
         Some(Ok(layout)) => shown_layout(alloc, &layout),
         Some(Err(ExpandFault::Bad { kind, at })) => format!(in alloc; "{kind:?} {at}")?
@@ -142,7 +143,7 @@ fn shown(alloc: Global, text: &[u8]) -> Result<Vec<u8>, AllocError> {
 }
 
 /// Whether each of these texts gives what stands beside it.
-fn are_given(alloc: Global, texts: &[(&str, &str)]) -> Result<bool, AllocError> {
+pub(crate) fn are_given(alloc: Global, texts: &[(&str, &str)]) -> Result<bool, AllocError> {
     for (text, want) in texts {
         if shown(alloc, text.as_bytes())?.as_slice() != want.as_bytes() {
             return Ok(false);
@@ -194,7 +195,7 @@ fn nested(
     Ok(text)
 }
 
-const BOX: &str = "DS 1; L NM; B 2 2 0 0; DF;";
+pub(crate) const BOX: &str = "DS 1; L NM; B 2 2 0 0; DF;";
 
 const EMPTY: &str = "DS 1; DF;";
 
@@ -212,7 +213,7 @@ const NESTED: [(&str, u32, bool, &str, &str); 6] = [
 ];
 
 /// Whether definitions that call one another give this.
-fn is_nested(
+pub(crate) fn is_nested(
     alloc: Global,
     body: &str,
     last: u32,

@@ -4,12 +4,12 @@ use crate::shown::are_shown;
 use std::test::Fail;
 
 /// Texts, and the kind and the place of the fault of each.
-const FAULTS: [(&str, &str); 67] = [
+const FAULTS: [(&str, &str); 84] = [
     // each fault
     ("", "NoEnd 0"),
     (" ;\n", "NoEnd 3"),
     ("C 2;", "NoEnd 4"),
-    ("P 1 1 2 2 3 3; E", "LeftOut(80) 0"),
+    ("P 1 1 2 2 3 3; E", "Turned 0"),
     ("C 1 R 1 1; E", "Turned 0"),
     (";(a(b)c", "Unclosed 1"),
     ("E \u{e9}", "NotAscii 2"),
@@ -17,7 +17,7 @@ const FAULTS: [(&str, &str); 67] = [
     ("L NM; B 1 1 1000000000001 0;E", "Number 12"),
     ("DS 1; E", "NoEnd 6"),
     ("DS 1;L NM;", "NoEnd 10"),
-    (" W 1 1 2 2 3 3; E", "LeftOut(87) 1"),
+    ("L NM; W 1 0 0 0 4 1 5; E", "Turned 6"),
     ("R 1 1 2; E", "LeftOut(82) 0"),
     ("DS 1;D d D 1;DF;E", "LeftOut(68) 5"),
     ("B 1 1 0 0 1 1;E", "Turned 0"),
@@ -32,8 +32,10 @@ const FAULTS: [(&str, &str); 67] = [
     ("X", "NoEnd 1"),
     ("C 1 R 1 1", "NoEnd 9"),
     ("(a) E", "NoEnd 5"),
-    ("P 2000000000000;E", "LeftOut(80) 0"),
-    ("W;E", "LeftOut(87) 0"),
+    ("P 2000000000000;E", "Number 2"),
+    ("W 1 0 0 1 1", "NoEnd 11"),
+    ("W 1 0 0 1 1 2000000000000;E", "Number 12"),
+    ("W 1 0 0 1 1 Q-;E", "BadCommand 0"),
     ("R 1 1 Q;E", "LeftOut(82) 0"),
     ("B 2000000000000 Q-;E", "Number 2"),
     ("DS 1;DS 2000000000000;E", "Number 8"),
@@ -57,6 +59,23 @@ const FAULTS: [(&str, &str); 67] = [
     ("DS 1 1 0;E", "BadCommand 0"),
     ("DS -1;E", "BadCommand 0"),
     ("C 1000000000001;E", "Number 2"),
+    // wires
+    ("W;E", "BadCommand 0"),
+    ("W 5;E", "BadCommand 0"),
+    (" W 1 1 2 2 3 3;E", "BadCommand 1"),
+    ("W 0 1 1;E", "BadCommand 0"),
+    ("W 1 1 1-1 1;E", "BadCommand 0"),
+    ("W 2000000000000 0 0;E", "Number 2"),
+    ("W 1 0 0 2000000000000;E", "Number 8"),
+    ("W 1 0 0 0 0 3 4;E", "Turned 0"),
+    // polygons
+    ("L NM; P 0 0 4 4 8 0; E", "Turned 6"),
+    ("P 0 0 4 0 4 4;E", "Turned 0"),
+    ("P;E", "BadCommand 0"),
+    ("P 1 1 1 2;E", "BadCommand 0"),
+    ("P 1 1 2 2;E", "BadCommand 0"),
+    ("P 0 0 4 0 4 4 0;E", "BadCommand 0"),
+    ("P 0 0 4 0 4 2000000000000;E", "Number 12"),
     // the whole offset of a call
     (" C 1 T 1000000000000 0 T 1 0;E", "Number 1"),
     ("C 1 T 0 -1000000000000 T 0 -1;E", "Number 0"),

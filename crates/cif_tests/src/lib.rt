@@ -12,4 +12,6 @@ mod fault_tests;
 #[cfg(test)]
 mod many_tests;
 #[cfg(test)]
+mod path_tests;
+#[cfg(test)]
 mod shown;

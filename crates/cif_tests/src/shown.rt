@@ -1,6 +1,7 @@
 //! How a text reads, as a text.
 
 use cif_text::{CifCommand, CifFault, UserKind, read_commands};
+use geom_core::Corner;
 use std::alloc::{AllocError, Global};
 
 /// Puts a part, its text and a semicolon at the end of a text.
@@ -19,6 +20,21 @@ fn digits(kind: UserKind) -> &'static str {
     }
 }
 
+/// Puts a path at the end of a text: what stands before it, and its points.
+fn put_path(
+    alloc: Global,
+    into: &mut Vec<u8>,
+    first: &[u8],
+    path: &[Corner],
+) -> Result<(), AllocError> {
+    into.extend_from_slice(first)?;
+    for corner in path {
+        let point = format!(in alloc; " {} {}", corner.x, corner.y)?;
+        into.extend_from_slice(point.as_bytes())?;
+    }
+    into.extend_from_slice(b";")
+}
+
 /// Puts a command at the end of a text: its letter and its numbers.
 fn put_command(alloc: Global, into: &mut Vec<u8>, command: &CifCommand) -> Result<(), AllocError> {
     match command {
@@ -32,6 +48,11 @@ fn put_command(alloc: Global, into: &mut Vec<u8>, command: &CifCommand) -> Resul
             let line = format!(in alloc; "{length} {width} {cx} {cy} {upright}")?;
             put(into, b"B ", line.as_bytes())
         }
+        CifCommand::Wire { width, path } => {
+            let first = format!(in alloc; "W {width}")?;
+            put_path(alloc, into, first.as_bytes(), path.items())
+        }
+        CifCommand::Polygon { path } => put_path(alloc, into, b"P", path.items()),
         CifCommand::Layer(layer) => put(into, b"L ", layer.text()),
         CifCommand::Start { n, a, b } => {
             let line = format!(in alloc; "{n} {a} {b}")?;

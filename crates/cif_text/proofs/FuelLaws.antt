@@ -1,14 +1,16 @@
-use Rattle.std.proofs.Common.{◌≡◌, refl, ap, ℕ, zero, suc, ◌<◌, ◌≤◌, ℤ, List, [], ◌∷◌, length, Bool, true, false, cond, IfOk, IfSome, Result, Ok, Err, Option, Some, None, arith}
+use Rattle.std.proofs.Common.{◌≡◌, refl, ap, sym, subst, ℕ, zero, suc, ◌<◌, ◌≤◌, ℤ, List, [], ◌∷◌, length, Bool, true, false, cond, IfOk, IfSome, Result, Ok, Err, Option, Some, None, arith}
 use Rattle.std.specs.Char.{is_ascii_digit}
 use Rattle.std.specs.Prelude.{◌&&◌, ◌==◌, if◌then◌else◌}
 use Rattle.cif_text.specs.declared.fault.CifKind.TheVariants as kinds
-use Rattle.cif_text.specs.Bytes.{is_between, is_blank, not_semicolon, span, skip, begins, ends}
+use Rattle.cif_text.specs.Bytes.{is_between, is_blank, is_separator, not_semicolon, span, skip, begins, ends}
 use Rattle.read_base.specs.Digits.{number_within}
 use Rattle.read_base.specs.Steps.{◌>>=◌}
 use Rattle.cif_text.specs.declared.misfit.Misfit.{Misfit}
 use Rattle.cif_text.specs.declared.misfit.Misfit.TheVariants.{TooGreat, Malformed}
 use Rattle.cif_text.specs.Numbers.{greatest, unless_great, value_at, natural, number, apart}
 use Rattle.cif_text.specs.Forms.{Form}
+use Rattle.geom_core.specs.declared.corner.Corner.{Corner}
+use Rattle.cif_text.specs.Paths.{corner_of, corners_of, first_corner_of}
 use Rattle.cif_text.specs.Calls.{Step, translate, mirror_x, mirror_y, rotate, point_of, mirror_of, step_of, steps_of}
 use Rattle.cif_text.specs.Commands.{fails, open_behind, after_comment, is_left_out, form_of, may_stand, reading_of, cut_of, comment_end, comment_of, command_at}
 use Rattle.cif_text.specs.CifReads.{is_end, is_open_behind, commands_at}
@@ -109,6 +111,50 @@ steps-enough (suc n) (suc m) (c ∷ cs) enough_n enough_m =
     let less : length (skip is_blank step.1) ≤ length step.1 = span-rest is_blank step.1 in
     ap (λ (r : Result (List Step) Misfit). r >>= λ others. Ok (step.0 ∷ others))
     (steps-enough n m (skip is_blank step.1) (omega arith) (omega arith)))
+
+-- the points of a path
+pub corner-leaves : (bytes : List ℕ) → Leaves (length bytes) (corner_of bytes)
+corner-leaves bytes =
+    next-leaves (length bytes) (length bytes) (apart is_separator number bytes) _ (apart-leaves is_separator bytes) (λ x few.
+    next-leaves (length bytes) (length bytes) (apart is_separator number x.1) _ (fewer-leaves _ _ _ few (apart-leaves is_separator x.1)) (λ y less.
+    record { holds = less }))
+
+pub first-leaves : (bytes : List ℕ) → Leaves (length bytes) (first_corner_of bytes)
+first-leaves bytes =
+    next-leaves (length bytes) (length bytes) (number (skip is_separator bytes)) _ (skipped-number-leaves is_separator bytes) (λ x few.
+    next-leaves (length bytes) (length bytes) (apart is_separator number x.1) _ (fewer-leaves _ _ _ few (apart-leaves is_separator x.1)) (λ y less.
+    record { holds = less }))
+
+-- a number behind a separator leaves fewer bytes than there are
+apart-fewer : (p : ℕ → Bool) (c : ℕ) (cs : List ℕ) → Leaves (length cs) (apart p number (c ∷ cs))
+apart-fewer p c cs = by (p c) refl
+  where
+    more : p c ≡ true → skip p (c ∷ cs) ≡ skip p cs
+    more is = rw (is, skip) refl
+
+    by : (b : Bool) → p c ≡ b → Leaves (length cs) (if b then number (skip p (c ∷ cs)) else Err Malformed)
+    by true is = subst (λ (bytes : List ℕ). Leaves (length cs) (number bytes)) (sym (more is)) (skipped-number-leaves p cs)
+    by false is = record { holds = tt }
+
+pub corner-fewer : (c : ℕ) (cs : List ℕ) → Leaves (length cs) (corner_of (c ∷ cs))
+corner-fewer c cs =
+    next-leaves (length cs) (length cs) (apart is_separator number (c ∷ cs)) _ (apart-fewer is_separator c cs) (λ x few.
+    next-leaves (length cs) (length cs) (apart is_separator number x.1) _ (fewer-leaves _ _ _ few (apart-leaves is_separator x.1)) (λ y less.
+    record { holds = less }))
+
+-- the points are the same for every count that is enough
+pub corners-enough : (n m : ℕ) (bytes : List ℕ) → length bytes ≤ n → length bytes ≤ m → corners_of n bytes ≡ corners_of m bytes
+unfolding corners_of
+corners-enough zero zero bytes enough_n enough_m = refl
+corners-enough (suc n) zero [] enough_n enough_m = refl
+corners-enough (suc n) zero (c ∷ cs) enough_n enough_m = absurd (omega arith)
+corners-enough zero (suc m) [] enough_n enough_m = refl
+corners-enough zero (suc m) (c ∷ cs) enough_n enough_m = absurd (omega arith)
+corners-enough (suc n) (suc m) [] enough_n enough_m = refl
+corners-enough (suc n) (suc m) (c ∷ cs) enough_n enough_m =
+    ap (λ (r : Result (List Corner) Misfit). if ends is_separator (c ∷ cs) then Ok [] else r)
+    (bind-same (length cs) (corner_of (c ∷ cs)) _ _ (corner-fewer c cs) (λ first few.
+    ap (λ (r : Result (List Corner) Misfit). r >>= λ others. Ok (first.0 ∷ others)) (corners-enough n m first.1 (omega arith) (omega arith))))
 
 -- a comment
 comment-rest : (inner : ℕ) (bytes : List ℕ) → IfSome (after_comment inner bytes) (λ rest. length rest < length bytes)

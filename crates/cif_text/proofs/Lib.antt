@@ -23,6 +23,8 @@ pub mod TextLemmas
 pub mod ReadingLaws
 -- what the steps of a call do together
 pub mod MoveLaws
+-- the points of a path, one after another
+pub mod PathLaws
 -- the commands that a text can give
 pub mod SoundLemmas
 -- where a number stands that is too great

@@ -15,9 +15,11 @@ use Rattle.cif_text.specs.declared.misfit.Misfit.{Misfit}
 use Rattle.cif_text.specs.declared.misfit.Misfit.TheVariants.{TooGreat, Malformed}
 use Rattle.cif_text.specs.Numbers.{greatest, unless_great, value_at, natural, number, above_zero, positive, apart}
 use Rattle.cif_text.specs.Forms.{finished, box_end, box_form, layer_form, start_form, definition_of, definition_form, naming, user_form}
+use Rattle.geom_core.specs.declared.corner.Corner.{Corner}
+use Rattle.cif_text.specs.Paths.{corner_of, corners_of, wire_of, wire_form, first_corner_of, polygon_of, polygon_form}
 use Rattle.cif_text.specs.Calls.{Step, translate, rotate, point_of, mirror_of, step_of, steps_of, after_all, at_rest, call_of, call_form}
 use Rattle.cif_text.specs.Commands.{form_of}
-use Rattle.cif_text.proofs.FuelLaws.{Leaves, next-leaves, either-leaves, fewer-leaves, span-rest, value-leaves, natural-leaves, number-leaves, step-leaves}
+use Rattle.cif_text.proofs.FuelLaws.{Leaves, next-leaves, either-leaves, fewer-leaves, span-rest, value-leaves, natural-leaves, number-leaves, step-leaves, corner-leaves, first-leaves}
 
 -- a number that is too great begins at most so many bytes before the semicolon
 abbrev pub IsPlace : ℕ → Misfit → Type 0
@@ -221,6 +223,59 @@ call-places body =
     whole n (Ok steps) h = record { holds = tt }
     whole n (Err e) h = record { holds = h.holds }
 
+-- the points of a path
+corner-places : (bytes : List ℕ) → Places (length bytes) (corner_of bytes)
+corner-places bytes =
+    onward (length bytes) (apart is_separator number) bytes _ (parted is_separator number numbers) (omega arith) (λ x a.
+    onward (length bytes) (apart is_separator number) x.1 _ (parted is_separator number numbers) a (λ y b. found-places (length bytes) _))
+
+corners-places : (n most : ℕ) (bytes : List ℕ) → length bytes ≤ most → Places most (corners_of n bytes)
+unfolding corners_of
+corners-places zero most bytes few = either-places most (ends is_separator bytes) _ _ (found-places most _) (bad-places most)
+corners-places (suc n) most bytes few =
+    either-places most (ends is_separator bytes) _ _ (found-places most _)
+    (next-places most (corner_of bytes) _ (fewer-leaves _ _ _ few (corner-leaves bytes)) (more-places _ _ _ few (corner-places bytes)) (λ first less.
+    joined (corners_of n first.1) first.0 (corners-places n most first.1 less)))
+  where
+    joined : (r : Result (List Corner) Misfit) (first : Corner) → Places most r → Places most (r >>= λ others. Ok (first ∷ others))
+    joined (Ok others) first h = record { holds = tt }
+    joined (Err e) first h = record { holds = h.holds }
+
+wire-places : (body : List ℕ) → Places (length body) (wire_form body)
+unfolding wire_form
+wire-places body =
+    onward (length body) (λ bytes. positive (skip is_separator bytes)) body _ (skipped is_separator positive positives) (omega arith) (λ width few.
+    whole width.0 (corners_of (length width.1) width.1) (corners-places (length width.1) (length body) width.1 few))
+  where
+    kind : (width : ℕ) (path : List Corner) → Places (length body) (wire_of width path)
+    kind width [] = record { holds = tt }
+    kind width (c ∷ cs) = record { holds = tt }
+
+    whole : (width : ℕ) (r : Result (List Corner) Misfit) → Places (length body) r → Places (length body) (r >>= wire_of width)
+    whole width (Ok path) h = kind width path
+    whole width (Err e) h = record { holds = h.holds }
+
+first-places : (bytes : List ℕ) → Places (length bytes) (first_corner_of bytes)
+first-places bytes =
+    onward (length bytes) (λ bytes. number (skip is_separator bytes)) bytes _ (skipped is_separator number numbers) (omega arith) (λ x a.
+    onward (length bytes) (apart is_separator number) x.1 _ (parted is_separator number numbers) a (λ y b. found-places (length bytes) _))
+
+polygon-places : (body : List ℕ) → Places (length body) (polygon_form body)
+unfolding polygon_form
+polygon-places body =
+    next-places (length body) (first_corner_of body) _ (first-leaves body) (first-places body) (λ first few.
+    whole first.0 (corners_of (length first.1) first.1) (corners-places (length first.1) (length body) first.1 few))
+  where
+    kind : (path : List Corner) → Places (length body) (polygon_of path)
+    kind [] = record { holds = tt }
+    kind (a ∷ []) = record { holds = tt }
+    kind (a ∷ b ∷ []) = record { holds = tt }
+    kind (a ∷ b ∷ c ∷ cs) = record { holds = tt }
+
+    whole : (first : Corner) (r : Result (List Corner) Misfit) → Places (length body) r → Places (length body) (r >>= λ others. polygon_of (first ∷ others))
+    whole first (Ok others) h = kind (first ∷ others)
+    whole first (Err e) h = record { holds = h.holds }
+
 -- a command's form
 pub form-places : (c : ℕ) (body : List ℕ) → Places (length body) (form_of c body)
 form-places c body =
@@ -228,7 +283,9 @@ form-places c body =
     (either-places (length body) (c == 66) _ _ (box-places body)
     (either-places (length body) (c == 76) _ _ (layer-places body)
     (either-places (length body) (c == 68) _ _ (definition-places body)
-    (either-places (length body) (c == 67) _ _ (call-places body) (bad-places (length body))))))
+    (either-places (length body) (c == 67) _ _ (call-places body)
+    (either-places (length body) (c == 87) _ _ (wire-places body)
+    (either-places (length body) (c == 80) _ _ (polygon-places body) (bad-places (length body))))))))
 
 -- a program's form
 pub has-place : (left behind most : ℕ) (form : Result (Result CifCommand CifKind) Misfit) → most + 1 + behind ≤ left → Places most form

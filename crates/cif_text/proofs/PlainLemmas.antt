@@ -76,6 +76,8 @@ bytes-plain (commands.Call n flip quarters dx dy) h =
       plain-flip flip (quarter_parts quarters offset)
           (plain-quarter quarters offset (refl, (plain-signed dx h.2, (plain-signed dy h.3, tt)))),
     )
+bytes-plain (commands.Wire width path) h = absurd h
+bytes-plain (commands.Polygon path) h = absurd h
 bytes-plain commands.Comment h = refl
 bytes-plain (commands.User users.SymbolName text) h = plain-blanked (text ∷ []) (h.plain, tt)
 bytes-plain (commands.User users.InstanceName text) h = plain-blanked (text ∷ []) (h.plain, tt)

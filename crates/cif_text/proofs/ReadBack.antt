@@ -45,6 +45,8 @@ line-read inside (commands.Start n a b) r h stands more =
 line-read inside commands.Finish r h stands more = cut-is inside _ 68 _ r _ refl refl finish-is stands
 line-read inside (commands.Call n flip quarters dx dy) r h stands more =
     cut-is inside _ 67 _ r _ (bytes-plain (commands.Call n flip quarters dx dy) h) refl (call-is n flip quarters dx dy h.0 h.1 h.2 h.3) stands
+line-read inside (commands.Wire width path) r h stands more = absurd h
+line-read inside (commands.Polygon path) r h stands more = absurd h
 line-read inside commands.Comment r h stands more = refl
 line-read inside (commands.User users.SymbolName text) r h stands more =
     cut-is inside _ 57 _ r _ (bytes-plain (commands.User users.SymbolName text) h) refl (symbol-is text h) stands
@@ -82,6 +84,8 @@ text-read (commands.Layer text ∷ cs) (suc n) inside enough h =
     step-read n inside (commands.Layer text) cs h.0 refl refl (text-read cs n inside (omega arith) h.1)
 text-read (commands.Call m flip quarters dx dy ∷ cs) (suc n) inside enough h =
     step-read n inside (commands.Call m flip quarters dx dy) cs h.0 refl refl (text-read cs n inside (omega arith) h.1)
+text-read (commands.Wire width path ∷ cs) (suc n) inside enough h = absurd h.0
+text-read (commands.Polygon path ∷ cs) (suc n) inside enough h = absurd h.0
 text-read (commands.Comment ∷ cs) (suc n) inside enough h =
     step-read n inside commands.Comment cs tt refl refl (text-read cs n inside (omega arith) h.1)
 text-read (commands.User kind text ∷ cs) (suc n) inside enough h =
@@ -93,6 +97,8 @@ first-ascii (commands.Layer text) = refl
 first-ascii (commands.Start n a b) = refl
 first-ascii commands.Finish = refl
 first-ascii (commands.Call n flip quarters dx dy) = refl
+first-ascii (commands.Wire width path) = refl
+first-ascii (commands.Polygon path) = refl
 first-ascii commands.Comment = refl
 first-ascii (commands.User users.SymbolName text) = refl
 first-ascii (commands.User users.InstanceName text) = refl
@@ -121,6 +127,8 @@ text-ascii inside (commands.Box long wide cx cy upright ∷ cs) h =
 text-ascii inside (commands.Layer text ∷ cs) h = line-ascii (commands.Layer text) (text_of cs) h.0 (text-ascii inside cs h.1)
 text-ascii inside (commands.Call n flip quarters dx dy ∷ cs) h =
     line-ascii (commands.Call n flip quarters dx dy) (text_of cs) h.0 (text-ascii inside cs h.1)
+text-ascii inside (commands.Wire width path ∷ cs) h = absurd h.0
+text-ascii inside (commands.Polygon path ∷ cs) h = absurd h.0
 text-ascii inside (commands.Comment ∷ cs) h = line-ascii commands.Comment (text_of cs) tt (text-ascii inside cs h.1)
 text-ascii inside (commands.User kind text ∷ cs) h = line-ascii (commands.User kind text) (text_of cs) h.0 (text-ascii inside cs h.1)
 

@@ -7,8 +7,13 @@ use Rattle.read_base.specs.Digits.{number_within}
 use Rattle.cif_text.specs.Numbers.{natural, positive, number}
 use Rattle.cif_text.specs.Forms.{box_end, box_form, layer_form, start_form, definition_form, user_form}
 use Rattle.cif_text.specs.Calls.{step_of, steps_of, call_form}
+use Rattle.geom_core.specs.declared.corner.Corner.{Corner}
+use Rattle.cif_text.specs.Paths.{corners_of, wire_form, polygon_form}
 use Rattle.cif_text.specs.Commands.{after_comment}
 use Rattle.cif_text.specs.CifReads.{commands_at, cif_reads}
+
+abbrev corner : ℕ → ℕ → Corner
+corner x y = record { x = pos x; y = pos y }
 
 -- the text of one inverter
 abbrev pub inverter_text : List ℕ
@@ -51,13 +56,42 @@ no_end : cif_reads (codes "C 2;") ≡ Err (kinds.NoEnd, 4)
 unfolding cif_reads commands_at after_comment box_end box_form layer_form start_form definition_form call_form user_form step_of steps_of natural positive number number_within
 no_end = refl
 
-polygon : cif_reads (codes "P 1 1 2 2 3 3; E") ≡ Err (kinds.LeftOut 80, 0)
-unfolding cif_reads commands_at after_comment box_end box_form layer_form start_form definition_form call_form user_form step_of steps_of natural positive number number_within
+polygon : cif_reads (codes "P0 0 10 0 10 4 0,4;E") ≡ Ok (commands.Polygon (corner 0 0 ∷ corner 10 0 ∷ corner 10 4 ∷ corner 0 4 ∷ []) ∷ commands.End ∷ [])
+unfolding cif_reads commands_at polygon_form corners_of natural positive number number_within
 polygon = refl
 
-wire : cif_reads (codes "W 1 1 2 2 3 3; E") ≡ Err (kinds.LeftOut 87, 0)
-unfolding cif_reads commands_at after_comment box_end box_form layer_form start_form definition_form call_form user_form step_of steps_of natural positive number number_within
+polygon_of_two_points : cif_reads (codes "P 1 1 1 2;E") ≡ Err (kinds.BadCommand, 0)
+unfolding cif_reads commands_at polygon_form corners_of natural positive number number_within
+polygon_of_two_points = refl
+
+-- each step is along an axis, but the one back to the first point
+slanted_last_step : cif_reads (codes "L NM;P 0 0 4 0 4 4;E") ≡ Err (kinds.Turned, 5)
+unfolding cif_reads commands_at layer_form polygon_form corners_of natural positive number number_within
+slanted_last_step = refl
+
+wire : cif_reads (codes "W 4 0 0 10,0X10 10;E") ≡ Ok (commands.Wire (pos 4) (corner 0 0 ∷ corner 10 0 ∷ corner 10 10 ∷ []) ∷ commands.End ∷ [])
+unfolding cif_reads commands_at wire_form corners_of natural positive number number_within
 wire = refl
+
+wire_of_a_point : cif_reads (codes "W 4 5 5;E") ≡ Ok (commands.Wire (pos 4) (corner 5 5 ∷ []) ∷ commands.End ∷ [])
+unfolding cif_reads commands_at wire_form corners_of natural positive number number_within
+wire_of_a_point = refl
+
+wire_without_points : cif_reads (codes "W 5;E") ≡ Err (kinds.BadCommand, 0)
+unfolding cif_reads commands_at wire_form corners_of natural positive number number_within
+wire_without_points = refl
+
+odd_count_of_numbers : cif_reads (codes " W 1 1 2 2;E") ≡ Err (kinds.BadCommand, 1)
+unfolding cif_reads commands_at wire_form corners_of natural positive number number_within
+odd_count_of_numbers = refl
+
+great_number_before_an_odd_count : cif_reads (codes "W 1 0 0 2000000000000;E") ≡ Err (kinds.Number, 8)
+unfolding cif_reads commands_at wire_form corners_of natural positive number number_within
+great_number_before_an_odd_count = refl
+
+slanted_wire : cif_reads (codes "L NM;W 1 0 0 0 4 1 5;E") ≡ Err (kinds.Turned, 5)
+unfolding cif_reads commands_at layer_form wire_form corners_of natural positive number number_within
+slanted_wire = refl
 
 round_flash : cif_reads (codes " R 1 1 2; E") ≡ Err (kinds.LeftOut 82, 1)
 unfolding cif_reads commands_at after_comment box_end box_form layer_form start_form definition_form call_form user_form step_of steps_of natural positive number number_within

@@ -11,6 +11,7 @@ use Rattle.cif_text.specs.Bytes.{is_blank, span, skip, begins, ends, not_semicol
 use Rattle.cif_text.specs.declared.misfit.Misfit.TheVariants.{TooGreat, Malformed}
 use Rattle.cif_text.specs.Forms.{Form, box_form, layer_form, definition_form, user_form}
 use Rattle.cif_text.specs.Calls.{call_form}
+use Rattle.cif_text.specs.Paths.{wire_form, polygon_form}
 
 -- a command and the bytes behind it
 abbrev pub Reading : Type 0
@@ -28,9 +29,9 @@ unfoldable pub after_comment : ℕ → List ℕ → Option (List ℕ)
 after_comment inner [] = None
 after_comment inner (c ∷ cs) = if c == byte ")" && inner == 0 then Some cs else after_comment (open_behind c inner) cs
 
--- the commands of CIF 2.0 that are left out: a polygon, a wire, a round flash and the deletion of definitions
+-- the commands of CIF 2.0 that are left out: a round flash and the deletion of definitions
 abbrev pub is_left_out : ℕ → List ℕ → Bool
-is_left_out c body = c == byte "P" || c == byte "W" || c == byte "R" || (c == byte "D" && begins (λ d. d == byte "D") (skip is_blank body))
+is_left_out c body = c == byte "R" || (c == byte "D" && begins (λ d. d == byte "D") (skip is_blank body))
 
 -- the form that a command's first byte calls for
 abbrev pub form_of : ℕ → List ℕ → Form
@@ -39,7 +40,9 @@ form_of c body =
     if c == byte "B" then box_form body else
     if c == byte "L" then layer_form body else
     if c == byte "D" then definition_form body else
-    if c == byte "C" then call_form body else Err Malformed
+    if c == byte "C" then call_form body else
+    if c == byte "W" then wire_form body else
+    if c == byte "P" then polygon_form body else Err Malformed
 
 -- CIF 2.0: a definition starts outside of definitions and finishes inside one. Which commands may stand here
 abbrev pub may_stand : Bool → CifCommand → Bool

@@ -9,6 +9,8 @@ pub mod Numbers
 pub mod Forms
 -- the form of calls
 pub mod Calls
+-- the forms of wires and polygons
+pub mod Paths
 -- a command, by its first byte, and its faults
 pub mod Flaws
 pub mod Commands
@@ -22,7 +24,7 @@ pub mod Answers
 pub mod Transforms
 -- the commands whose printed text reads as they are
 pub mod Printable
--- the numbers of boxes and calls at a scale
+-- the numbers of boxes, wires, polygons and calls at a scale
 pub mod Scales
 -- symbols, and what stands behind some commands
 pub mod Symbols

@@ -5,11 +5,12 @@ use Rattle.geom_core.specs.declared.layout.Cell.{Cell}
 use Rattle.geom_core.specs.declared.layout.Layout.{Layout}
 use Rattle.geom_core.specs.Extent.{Extent}
 use Rattle.geom_core.specs.Turning.{Turning}
+use Rattle.region_cut.specs.Maximal.{maximal}
 use Rattle.cif_text.specs.declared.command.CifCommand.{CifCommand}
 use Rattle.cif_text.specs.declared.command.CifCommand.TheVariants as commands
 use Rattle.cif_text.specs.declared.command.UserKind.TheVariants as users
 use Rattle.read_base.specs.Steps.{◌>>=◌}
-use Rattle.cif_text.specs.Scales.{box_around, scaled_extent, scaled_turning}
+use Rattle.cif_text.specs.Scales.{box_around, doubled_corner, scaled_corners, scaled_extent, scaled_extents, scaled_turning, wire_around}
 use Rattle.cif_text.specs.Symbols.{Symbol, Level, Definition, Main, State, symbol_of, moved_shapes}
 
 -- why a command has no meaning
@@ -20,7 +21,7 @@ pub data Unmeant : Type 0 where
   twice : ℕ → Unmeant
   -- a number that its definition's scale does not make whole in half centimicrons
   inexact : Unmeant
-  -- a box without a layer
+  -- a box, a wire or a polygon without a layer
   no_layer : Unmeant
   -- a named call of a symbol without a name
   no_symbol_name : Unmeant
@@ -35,12 +36,18 @@ on_layer layer rects = do
   name ← found no_layer layer
   Ok (map (λ rect. record { layer = name; rect = rect }) rects)
 
--- CIF 2.0: what a command draws on a level, where these symbols can be called: a box its rectangle on the present layer, a call the shapes of the called
--- symbol under its turn, and any other command nothing
+-- CIF 2.0: what a command draws on a level, where these symbols can be called: a box its rectangle on the present layer, a wire the rectangles of its steps,
+-- a polygon its maximal blocks, a call the shapes of the called symbol under its turn, and any other command nothing
 abbrev pub drawn_by : List Symbol → Level → CifCommand → Result (List Shape) Unmeant
 drawn_by symbols l (commands.Box long wide cx cy upright) = do
   rect ← found inexact (scaled_extent l.a l.b (box_around long wide cx cy upright))
   on_layer l.layer (rect ∷ [])
+drawn_by symbols l (commands.Wire width path) = do
+  rects ← found inexact (scaled_extents l.a l.b (wire_around width path))
+  on_layer l.layer rects
+drawn_by symbols l (commands.Polygon path) = do
+  corners ← found inexact (scaled_corners l.a l.b (map doubled_corner path))
+  on_layer l.layer (maximal corners)
 drawn_by symbols l (commands.Call n flip quarters dx dy) = do
   symbol ← found (undefined n) (symbol_of n symbols)
   turn ← found inexact (scaled_turning l.a l.b flip quarters dx dy)

@@ -1,5 +1,6 @@
 -- the commands whose printed text reads as they are
 use Rattle.std.specs.Prelude.{ℕ, ◌≤◌, ℤ, pos, negsuc, ◌≤ℤ◌}
+use Rattle.geom_core.specs.declared.corner.Corner.{Corner}
 use Rattle.limits.specs.declared.TheConstants.{MOST_NUMBER}
 use Rattle.cif_text.specs.Numbers.{greatest}
 
@@ -12,6 +13,11 @@ pub record IsCifNumber (z : ℤ) : Type 0 where
 pub record IsSize (z : ℤ) : Type 0 where
   pub low : pos 1 ≤ℤ z
   pub high : z ≤ℤ pos MOST_NUMBER
+
+-- a point that can be read
+pub record IsNearCorner (c : Corner) : Type 0 where
+  pub x : IsCifNumber c.x
+  pub y : IsCifNumber c.y
 
 -- a number without a sign that can be read
 pub record IsNatural (n : ℕ) : Type 0 where

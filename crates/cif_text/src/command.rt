@@ -1,6 +1,6 @@
 //! The commands of CIF: box, layer, start and finish of a definition, call, comment, user command and end.
 
-use geom_core::{LayerName, Name};
+use geom_core::{Corner, Items, LayerName, Name};
 
 /// What a user command of a CIF text is for (CIF 2.0 leaves these commands, which begin with a digit, to their users).
 #[derive(Clone, Copy, Debug, PartialEq, Eq)]
@@ -25,7 +25,18 @@ pub enum CifCommand {
         cy: i64,
         upright: bool,
     },
-    /// The layer of the boxes that follow.
+    /// A wire of a width above 0 along a path of one point or more, of which two that follow one another have the same x or
+    /// the same y.
+    Wire {
+        width: i64,
+        path: Items<Corner>,
+    },
+    /// A polygon with three corners or more, of which two that follow one another, the last and the first among them, have
+    /// the same x or the same y.
+    Polygon {
+        path: Items<Corner>,
+    },
+    /// The layer of the boxes, wires and polygons that follow.
     Layer(LayerName),
     /// The definition of symbol `n` starts; its numbers count as `a / b` centimicrons each, with both above 0.
     Start {

@@ -14,6 +14,7 @@ use crate::command::CifCommand;
 use crate::fault::{CifKind, Flaw, Stop};
 use crate::forms::{Form, box_form, definition_form, layer_form, user_form};
 use crate::misfit::Misfit;
+use crate::paths::{polygon_form, wire_form};
 use std::alloc::{AllocError, Global};
 
 /// How many parentheses are open inside a comment behind a byte of it.
@@ -78,7 +79,7 @@ fn is_left_out(first: u8, body: &[u8]) -> bool
     ensures { result ≡ is_left_out first body.now }
 {
     match first {
-        b'P' | b'W' | b'R' => true,
+        b'R' => true,
         b'D' => begins_with(b'D', after_blanks(body)),
         _ => false,
     }
@@ -97,6 +98,8 @@ fn form_at(alloc: Global, first: u8, body: &[u8]) -> Result<Form, AllocError>
         b'L' => layer_form(body),
         b'D' => definition_form(body),
         b'C' => call_form(body),
+        b'W' => return wire_form(alloc, body),
+        b'P' => return polygon_form(alloc, body),
         _ => Err(Misfit::Malformed),
     })
 }

@@ -17,10 +17,11 @@ pub enum CifKind {
     /// The text ends before its end command, a command without a semicolon included; the place is the text's length.
     /// Or the end command stands inside a definition; the place is then that command.
     NoEnd,
-    /// A command of CIF that is not read; this is the byte of its letter, `P`, `W`, `R` or the `D` of a deletion. The
+    /// A command of CIF that is not read; this is the byte of its letter, `R` or the `D` of a deletion. The
     /// place is the command's first byte.
     LeftOut(u8),
-    /// The direction of a box or of a call's turn is (0, 0) or not along an axis; the place is the command's first byte.
+    /// The direction of a box or of a call's turn is (0, 0) or not along an axis, or two successive points of a path differ in
+    /// both x and y, the last and the first point of a polygon included; the place is the command's first byte.
     Turned,
 }
 

@@ -11,6 +11,7 @@ mod fault;
 mod forms;
 mod misfit;
 mod numbers;
+mod paths;
 mod print;
 mod reading;
 mod transform;

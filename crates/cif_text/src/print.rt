@@ -11,7 +11,7 @@ use itoa::Buffer;
 
 /// Writes the command's line to the front of `into`, and gives the length of the line. Takes no memory.
 ///
-/// It needs a command that is no user command, and a call with at most three quarters.
+/// It needs a command that is no wire, no polygon and no user command, and a call with at most three quarters.
 pub fn print_command(command: &CifCommand, into: &mut [u8; 160]) -> usize
     requires { HasLine command.now }
     ensures line { take result into.new ≡ line command.now }
@@ -36,7 +36,9 @@ pub fn print_command(command: &CifCommand, into: &mut [u8; 160]) -> usize
             dy,
         } => print_call(*n, *flip, *quarters, *dx, *dy, into),
         CifCommand::Comment => put(into, 0, b"(cellroute 1);\n"),
-        CifCommand::User { .. } => unreachable!(),
+        CifCommand::Wire { .. } | CifCommand::Polygon { .. } | CifCommand::User { .. } => {
+            unreachable!()
+        }
         CifCommand::End => put(into, 0, b"E\n"),
     }
 }

@@ -1,6 +1,7 @@
 //! Rectangles, turns, layouts and the list types that every crate above speaks of.
 #![tactic(auto)]
 
+mod corner;
 mod items;
 mod layer;
 mod layout;
@@ -9,6 +10,7 @@ mod rect;
 mod shapes_in_reach;
 mod turn;
 
+pub use corner::Corner;
 pub use items::Items;
 pub use layer::LayerName;
 pub use layout::{Cell, Layout, Shape};

@@ -1,0 +1,48 @@
+//! The lines of a path: the different x and the different y of its corners.
+
+ghost use Rattle.region_cut.specs.Cells.{lines_across, lines_up};
+ghost use Rattle.std.specs.BTreeSet.{btree_set_len};
+ghost use Rattle.std.specs.Prelude.{◌≡◌, IfOk};
+
+use geom_core::Corner;
+use std::alloc::{AllocError, Global};
+use std::collections::BTreeSet;
+
+// The numbers of a set, ascending.
+fn listed(alloc: Global, mut found: BTreeSet<i64>) -> Result<Vec<i64>, AllocError>
+    ensures { IfOk result (λ lines. lines.items ≡ found.keys) }
+{
+    let mut lines = Vec::with_capacity(alloc, found.len())?;
+    while let Some(lowest) = found.pop_first() {
+        lines.push(lowest)?;
+    }
+    Ok(lines)
+}
+
+/// The different x of the corners of a path, ascending.
+#[tactic(auto, unfolding(crate::specs::Cells::ascending))]
+pub(crate) fn lines_across(alloc: Global, path: &[Corner]) -> Result<Vec<i64>, AllocError>
+    ensures { IfOk result (λ lines. lines.items ≡ lines_across path.now) }
+{
+    let mut found = BTreeSet::new(alloc);
+    let mut rest = path;
+    while let Some((corner, later)) = rest.split_first() {
+        found.insert(corner.x)?;
+        rest = later;
+    }
+    listed(alloc, found)
+}
+
+/// The different y of the corners of a path, ascending.
+#[tactic(auto, unfolding(crate::specs::Cells::ascending))]
+pub(crate) fn lines_up(alloc: Global, path: &[Corner]) -> Result<Vec<i64>, AllocError>
+    ensures { IfOk result (λ lines. lines.items ≡ lines_up path.now) }
+{
+    let mut found = BTreeSet::new(alloc);
+    let mut rest = path;
+    while let Some((corner, later)) = rest.split_first() {
+        found.insert(corner.y)?;
+        rest = later;
+    }
+    listed(alloc, found)
+}

@@ -1,0 +1,7 @@
+//! Tests of the rectangles of wires and polygons.
+#![tactic(auto)]
+
+#[cfg(test)]
+mod comb_tests;
+#[cfg(test)]
+mod row_tests;
