@@ -8,6 +8,8 @@ pub mod PlaceLaws
 pub mod ExtremeLaws
 -- lists of numbers side by side, and how far they spread in all
 pub mod ExtremesLaws
+-- the extremes of few numbers
+pub mod FewLaws
 pub mod SpreadLaws
 -- seats that are put somewhere
 pub mod PutLaws

@@ -16,6 +16,7 @@ pub mod NetsView
 -- the least and the greatest of numbers, and how far they are apart
 pub mod Extreme
 pub mod Extremes
+pub mod Few
 pub mod Spreads
 pub mod SpreadsView
 -- where the pins of nets stand

@@ -6,6 +6,7 @@ ghost use Rattle.row_board.specs.declared.extreme.Side.TheVariants.{Low, High};
 ghost use Rattle.std.specs.Prelude.{◌≡◌, ◌≤◌, ◌<◌, ◌+◌, ◌-◌, ℕ, List, Some, length, slice_get, slice_set};
 
 use crate::extreme::{Extreme, Side};
+use crate::few::{FEW, Few};
 use limits::MOST_PINS;
 
 /// The extremes of a list of numbers: the least and the greatest of them, and how many stand at either; with the place of the first of them among all
@@ -42,6 +43,26 @@ impl Extremes {
             start,
             at_least: low.count,
             at_greatest: high.count,
+            count: numbers.len() as u32,
+        }
+    }
+
+    // The extremes of one to four numbers.
+    fn of_few(start: usize, numbers: &[u64]) -> Extremes
+        requires some { 0 < length numbers.now }
+        requires few { length numbers.now ≤ 4 }
+        ensures start { result.start ≡ start }
+        ensures is { AreExtremes numbers.now result }
+    {
+        let few = Few::of(numbers);
+        let least = few.least();
+        let greatest = few.greatest();
+        Extremes {
+            least,
+            greatest,
+            start,
+            at_least: few.count(least),
+            at_greatest: few.count(greatest),
             count: numbers.len() as u32,
         }
     }
@@ -131,6 +152,11 @@ impl Extremes {
         let was = numbers[at];
         numbers[at] = number;
         let part = &numbers[self.start..end];
+        // Of few numbers nearly each stands at an end, and which cannot be foretold: they are measured anew, by steps that branch on none of them.
+        if part.len() <= FEW {
+            *self = Extremes::of_few(self.start, part);
+            return;
+        }
         self.keep_least(was, number, part);
         self.keep_greatest(was, number, part);
     }

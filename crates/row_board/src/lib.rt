@@ -6,6 +6,7 @@ mod building;
 mod costing;
 mod extreme;
 mod extremes;
+mod few;
 mod moving;
 mod net_costs;
 mod net_pins;

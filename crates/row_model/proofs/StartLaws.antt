@@ -58,7 +58,7 @@ rows-last d target (suc zero) first n some few = refl
 rows-last d target (suc (suc left)) first n some few = absurd (omega arith)
 
 -- there are as many rows as are wanted
-rows-count : (d : Netlist) (target rows first n : ℕ) → length (rows_from d target rows first n) ≡ rows
+pub rows-count : (d : Netlist) (target rows first n : ℕ) → length (rows_from d target rows first n) ≡ rows
 rows-count d target zero first n = refl
 rows-count d target (suc zero) first n = refl
 rows-count d target (suc (suc more)) first n = ap suc (rows-count d target (suc more) (first + taken d target first n) (n - taken d target first n))
