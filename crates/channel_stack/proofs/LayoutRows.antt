@@ -37,21 +37,21 @@ data Follows (a b : Extent) : Type 0 where
   over : a.y1 ≤ℤ b.y0 → Follows a b
 
 -- an outline, and where it stands: in a row, from a column on, or no lower than a height
-abbrev IsOutline : RuleValues → Drawn → Type 0
+abbrev pub IsOutline : RuleValues → Drawn → Type 0
 IsOutline r a = a.shape.layer ≡ r.outline.layer
 
-record InRow (r : RuleValues) (base height left : ℕ) (a : Drawn) : Type 0 where
+pub record InRow (r : RuleValues) (base height left : ℕ) (a : Drawn) : Type 0 where
   pub low : a.shape.rect.y0 ≡ scaled r (2 * base)
   pub high : a.shape.rect.y1 ≤ℤ scaled r (2 * (base + height))
   pub from : scaled r (2 * (left * r.grid.column)) ≤ℤ a.shape.rect.x0
 
-abbrev AreInRow : RuleValues → ℕ → ℕ → ℕ → List Drawn → Type 0
+abbrev pub AreInRow : RuleValues → ℕ → ℕ → ℕ → List Drawn → Type 0
 AreInRow r base height left ds = (i : ℕ) (a : Drawn) → slice_get ds i ≡ Some a → IsOutline r a → InRow r base height left a
 
 abbrev AreAbove : RuleValues → ℕ → List Drawn → Type 0
 AreAbove r base ds = (i : ℕ) (a : Drawn) → slice_get ds i ≡ Some a → IsOutline r a → scaled r (2 * base) ≤ℤ a.shape.rect.y0
 
-abbrev AreWires : RuleValues → List Drawn → Type 0
+abbrev pub AreWires : RuleValues → List Drawn → Type 0
 AreWires r ds = (i : ℕ) (a : Drawn) → slice_get ds i ≡ Some a → IsOutline r a → ⊥
 
 -- of two outlines the later one follows the earlier
@@ -85,7 +85,7 @@ module _ (r : RuleValues) (valid : ValidRules r) where
   mask-other on_vertical is = valid.layers.vertical_outline is
   mask-other on_cut is = valid.layers.cut_outline is
 
-  drawing-wires : (base : ℕ) (w : Wiring) → AreWires r (drawing r base w)
+  pub drawing-wires : (base : ℕ) (w : Wiring) → AreWires r (drawing r base w)
   drawing-wires base w i a at out =
       let of = Contains-flat_map_cases (drawn_by r base w.tracks) (elements w) a (get-contains (drawing r base w) i a at) in
       let piece = map-cases (drawn_of r) (pieces_of r base w.tracks of.0) a of.2 in
@@ -106,7 +106,7 @@ module _ (r : RuleValues) (valid : ValidRules r) where
 
   module _ (d : Netlist) where
     -- nor are risers
-    abbrev AreUpright : List Drawn → Type 0
+    abbrev pub AreUpright : List Drawn → Type 0
     AreUpright ds = (a : Drawn) → Contains ds a → a.shape.layer ≡ r.vertical.layer
 
     upright-wires : (ds : List Drawn) → AreUpright ds → AreWires r ds
@@ -151,7 +151,7 @@ module _ (r : RuleValues) (valid : ValidRules r) where
         subst (λ (x : Drawn). Follows x.shape.rect b.shape.rect) (sym is) (beside (sym next.low) next.from))
 
     -- behind its items a row has risers, which are wires
-    full-in : (base : ℕ) (items : List Item) (rise : List Drawn) → AllByRecursion (λ (item : Item). item_height d (height_of_row d items) item ≤ height_of_row d items) items
+    pub full-in : (base : ℕ) (items : List Item) (rise : List Drawn) → AllByRecursion (λ (item : Item). item_height d (height_of_row d items) item ≤ height_of_row d items) items
         → AreUpright rise → AreInRow r base (height_of_row d items) 0 (full_row r d base items rise)
     full-in base items rise low wires i a at out =
         elim (get-either (row_drawn r d base (height_of_row d items) 0 items) rise i a at) [
@@ -167,7 +167,7 @@ module _ (r : RuleValues) (valid : ValidRules r) where
         (λ i j a b at_a at_b out other. absurd (upright-wires rise wires j b at_b other))
 
     -- no item of a row is higher than the row
-    items-low : (items : List Item) → AllByRecursion (λ (item : Item). item_height d (height_of_row d items) item ≤ height_of_row d items) items
+    pub items-low : (items : List Item) → AllByRecursion (λ (item : Item). item_height d (height_of_row d items) item ≤ height_of_row d items) items
     items-low items =
         every-from-get (λ (item : Item). item_height d (height_of_row d items) item ≤ height_of_row d items) items
         (λ k item at. by item (get-contains items k item at))
@@ -216,7 +216,7 @@ module _ (r : RuleValues) (valid : ValidRules r) where
         (λ i j a b at_a at_b out other. absurd (drawing-wires base w i a at_a out))
 
     -- the risers of all rows are wires
-    risers-upright : (fed : Fed) (ws : List Wiring) → IsFed d fed → length ws ≡ length fed.rows + 1 → AllByRecursion AreUpright (risers_in r d fed ws)
+    pub risers-upright : (fed : Fed) (ws : List Wiring) → IsFed d fed → length ws ≡ length fed.rows + 1 → AllByRecursion AreUpright (risers_in r d fed ws)
     risers-upright fed ws from each =
         every-from-get AreUpright (risers_in r d fed ws)
         (λ k rise at a member.

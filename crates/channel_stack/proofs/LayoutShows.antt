@@ -1,5 +1,5 @@
 use Rattle.geom_core.specs.declared.layout.Cell as layouts
-use Rattle.std.proofs.Common.{◌≡◌, refl, ap, sym, ◌∙◌, subst, inl, inr, ℕ, suc, ◌+◌, ◌<◌, List, length, map, take, drop, Bool, true, false, Some, None, Option, Contains, arith}
+use Rattle.std.proofs.Common.{◌≡◌, refl, ap, sym, ◌∙◌, subst, inl, inr, ℕ, suc, ◌+◌, ◌<◌, List, ◌∷◌, ◌++◌, length, map, take, drop, Bool, true, false, Some, None, Option, Contains, arith}
 use Rattle.std.proofs.lemmas.Bool.{both_ways}
 use Rattle.std.proofs.lemmas.List.{length-map}
 use Rattle.std.proofs.lemmas.Option.{none-some, same_Some, slice_get_within}
@@ -46,6 +46,8 @@ pub record IsCellOf (r : RuleValues) (d : Netlist) (fed : Fed) (ws : List Wiring
   pub row : ℕ
   pub front : List Item
   pub seat : Seat
+  pub back : List Item
+  pub at : slice_get fed.rows row ≡ Some (front ++ Cell seat ∷ back)
   pub own : seat.instance ≡ instance
   pub known : KnownCell d seat
   pub same_inst : known.inst ≡ inst
@@ -93,6 +95,8 @@ module _ (r : RuleValues) (valid : ValidRules r) (d : Netlist) (is : IsNetlist d
         row = seat.row;
         front = seat.front;
         seat = seat.seat;
+        back = seat.back;
+        at = seat.at;
         own = seat.own;
         known = known;
         same_inst = same;

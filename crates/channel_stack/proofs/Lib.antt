@@ -45,6 +45,8 @@ pub mod CellNames
 pub mod LayoutShows
 -- the cells and feeds of a layout stand in rows
 pub mod LayoutRows
+-- the cells of the lowest and of the highest row
+pub mod RowEdges
 -- wired channels make a good layout
 pub mod GoodStack
 -- the layout as a plan of rows and channels, with the nets of its rectangles

@@ -6,5 +6,7 @@ pub mod StackView
 pub mod LaidView
 -- the layout that a stack is
 pub mod Layouts
+-- the cells of the lowest and of the highest row of a layout
+pub mod RowEdges
 -- wirings for all channels, and stacks of them
 pub mod Routed

@@ -4,3 +4,5 @@ pub mod Puts
 pub mod StopLaws
 -- what was found in files, and what is said of them
 pub mod FindsLaws
+-- the line of a name that ports would have
+pub mod ClashLine

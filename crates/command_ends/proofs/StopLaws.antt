@@ -20,6 +20,7 @@ refusal-told (refusals.Range key) = (refl, omega arith, λ eight. absurd (omega 
 refusal-told (refusals.Tight rule) = (refl, omega arith, λ eight. absurd (omega (arith, eight)), λ nine. absurd (omega (arith, nine)))
 refusal-told (refusals.Yal kind at) = (refl, omega arith, λ eight. absurd (omega (arith, eight)), λ nine. absurd (omega (arith, nine)))
 refusal-told (refusals.Design fault name) = (refl, omega arith, λ eight. absurd (omega (arith, eight)), λ nine. absurd (omega (arith, nine)))
+refusal-told (refusals.PortClash name) = (refl, omega arith, λ eight. absurd (omega (arith, eight)), λ nine. absurd (omega (arith, nine)))
 refusal-told (refusals.Cif kind at) = (refl, omega arith, λ eight. absurd (omega (arith, eight)), λ nine. absurd (omega (arith, nine)))
 refusal-told (refusals.Meaning kind at) = (refl, omega arith, λ eight. absurd (omega (arith, eight)), λ nine. absurd (omega (arith, nine)))
 refusal-told (refusals.Limit what n) = (refl, omega arith, λ eight. absurd (omega (arith, eight)), λ nine. absurd (omega (arith, nine)))

@@ -14,7 +14,7 @@ use Rattle.cif_reader.specs.declared.fault.ExpandKind.TheVariants as meanings
 use Rattle.command_ends.specs.declared.refusal.Limited.{Limited}
 use Rattle.command_ends.specs.declared.refusal.Limited.TheVariants as limits
 use Rattle.command_ends.specs.declared.refusal.Refusal.{Refusal}
-use Rattle.command_ends.specs.declared.refusal.Refusal.TheVariants.{Usage, Toml, Missing, Range, Tight, Yal, Design, Cif, Meaning, Limit, Memory}
+use Rattle.command_ends.specs.declared.refusal.Refusal.TheVariants.{Usage, Toml, Missing, Range, Tight, Yal, Design, PortClash, Cif, Meaning, Limit, Memory}
 use Rattle.command_ends.specs.declared.stop.Stop.{Stop}
 use Rattle.command_ends.specs.declared.stop.Stop.TheVariants.{Refused, ReadFault, WriteFault}
 
@@ -55,6 +55,7 @@ meaning_word (meanings.Undefined n) = codes "Undefined"
 meaning_word (meanings.Twice n) = codes "Twice"
 meaning_word meanings.Inexact = codes "Inexact"
 meaning_word (meanings.TooFar z) = codes "TooFar"
+meaning_word meanings.LongPath = codes "LongPath"
 meaning_word meanings.TooMany = codes "TooMany"
 meaning_word meanings.NoLayer = codes "NoLayer"
 meaning_word meanings.NoSymbolName = codes "NoSymbolName"
@@ -81,6 +82,7 @@ refusal_words (Tight rule) = codes "rules" ∷ codes "Tight" ∷ decimal rule �
 refusal_words (Yal kind place) = codes "yal" ∷ kind_word kind ∷ decimal place ∷ []
 refusal_words (Design fault None) = codes "design" ∷ fault_word fault ∷ []
 refusal_words (Design fault (Some name)) = codes "design" ∷ fault_word fault ∷ name ∷ []
+refusal_words (PortClash name) = codes "design" ∷ codes "PortClash" ∷ name ∷ []
 refusal_words (Cif kind place) = codes "cif" ∷ text_word kind ∷ decimal place ∷ []
 refusal_words (Meaning kind command) = codes "cif" ∷ meaning_word kind ∷ decimal command ∷ []
 refusal_words (Limit what n) = codes "limit" ∷ limited_word what ∷ decimal n ∷ []

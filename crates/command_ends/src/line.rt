@@ -2,7 +2,7 @@
 
 ghost use Rattle.command_ends.specs.Gains.{Gains};
 ghost use Rattle.command_ends.specs.Line.{fault_word, kind_word, limited_word, line_of, meaning_word, refusal_words, stop_words, text_word};
-ghost use Rattle.command_ends.specs.declared.refusal.Refusal.TheVariants.{Design};
+ghost use Rattle.command_ends.specs.declared.refusal.Refusal.TheVariants.{Design, PortClash};
 ghost use Rattle.shelf_io.specs.Lines.{line, word_text};
 ghost use Rattle.shelf_io.specs.Wrote.{Puts};
 ghost use Rattle.std.specs.Prelude.{◌≡◌, ◌≤◌, ◌∷◌, []};
@@ -79,6 +79,7 @@ fn meaning_word(kind: ExpandKind) -> &'static [u8]
         ExpandKind::Twice(_) => b"Twice",
         ExpandKind::Inexact => b"Inexact",
         ExpandKind::TooFar(_) => b"TooFar",
+        ExpandKind::LongPath => b"LongPath",
         ExpandKind::TooMany => b"TooMany",
         ExpandKind::NoLayer => b"NoLayer",
         ExpandKind::NoSymbolName => b"NoSymbolName",
@@ -128,6 +129,17 @@ fn put_design<K: Sink>(out: &mut K, fault: DesignFault, name: &Option<Name>) -> 
     }
 }
 
+// Puts the line of a name that ports would have.
+#[tactic(auto, unfolding(crate::specs::Line::refusal_words))]
+fn put_clash<K: Sink>(out: &mut K, name: &Name) -> Result<(), Failed>
+    ensures { Puts result (line (refusal_words (PortClash name.now))) (K.written out.old) (K.written out.new) (K.faults out.old) (K.faults out.new) (K.same_place out.old out.new) (K.else_same out.old out.new) }
+{
+    put_line(
+        out,
+        &[Text(b"design"), Text(b"PortClash"), Text(name.items())],
+    )
+}
+
 // Puts the line of a refusal.
 #[tactic(auto, unfolding(crate::specs::Line::refusal_words))]
 fn put_refusal<K: Sink>(out: &mut K, refusal: &Refusal) -> Result<(), Failed>
@@ -141,6 +153,7 @@ fn put_refusal<K: Sink>(out: &mut K, refusal: &Refusal) -> Result<(), Failed>
         Refusal::Tight(rule) => put_three(out, b"rules", b"Tight", Number(u64::from(*rule))),
         Refusal::Yal(kind, at) => put_three(out, b"yal", kind_word(*kind), Number(*at)),
         Refusal::Design(fault, name) => put_design(out, *fault, name),
+        Refusal::PortClash(name) => put_clash(out, name),
         Refusal::Cif(kind, at) => put_three(out, b"cif", text_word(*kind), Number(*at)),
         Refusal::Meaning(kind, at) => put_three(
             out,

@@ -52,6 +52,8 @@ pub enum Refusal {
     /// The file is no design, for this reason, which is neither a limit nor want of memory; with the name of the instance or of the
     /// module that it speaks of.
     Design(DesignFault, Option<Name>),
+    /// A module or an instance of the design has this name, which a kind or an instance of its ports would have.
+    PortClash(Name),
     /// The layout's file is no text of CIF, for this reason at this byte.
     Cif(CifKind, u64),
     /// Its commands give no layout, for this reason at the command of this number.
@@ -81,7 +83,7 @@ impl Refusal {
             Refusal::Usage => 2,
             Refusal::Yal(..) => 3,
             Refusal::Toml | Refusal::Missing(_) | Refusal::Range(_) | Refusal::Tight(_) => 4,
-            Refusal::Design(..) => 5,
+            Refusal::Design(..) | Refusal::PortClash(_) => 5,
             Refusal::Limit(..) => 6,
             Refusal::Cif(..) | Refusal::Meaning(..) => 7,
             Refusal::Memory => 10,

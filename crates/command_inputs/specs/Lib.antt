@@ -2,6 +2,8 @@
 pub mod Reading
 -- the names in the faults of a design
 pub mod FaultName
+-- the designs that a file of YAL gives: the one that is drawn, and the one that is placed
+pub mod Drawn
 -- what the files of rules and of a design state, and what the file of a layout says
 pub mod Stated
 pub mod LayoutFile

@@ -1,5 +1,5 @@
 -- what the files of rules and of a design state, and what the file of a layout says
-use Rattle.std.specs.Prelude.{ℕ, List, Option, Some, option_map, Result, Ok, Err}
+use Rattle.std.specs.Prelude.{ℕ, List, Bool, Option, Some, option_map, Result, Ok, Err}
 use Rattle.limits.specs.declared.TheConstants.{MOST_DESIGN_BYTES, MOST_RULES_BYTES}
 use Rattle.tech_rules.specs.Rules.{RuleValues}
 use Rattle.tech_rules.specs.RulesOf.{rules_of}
@@ -9,21 +9,16 @@ use Rattle.yal_reader.specs.Numbers.{numbers_of}
 use Rattle.yal_reader.specs.YalReads.{yal_reads}
 use Rattle.yal_reader.specs.declared.fault.YalKind.{YalKind}
 use Rattle.yal_reader.specs.declared.file.YalFile.{YalFile}
-use Rattle.design_model.specs.Netlist.{Netlist}
-use Rattle.netlist_core.specs.OnGrid.{on_grid}
-use Rattle.netlist_core.specs.declared.fault.Count.TheVariants.{Instances, Pins}
-use Rattle.netlist_core.specs.declared.fault.DesignFault.{DesignFault}
-use Rattle.netlist_core.specs.declared.fault.DesignFault.TheVariants as faults
 use Rattle.layout_report.specs.MadeText.{made_text}
 use Rattle.command_words.specs.Command.{Source, from_file, from_seed}
-use Rattle.command_inputs.specs.FaultName.{fault_name}
+use Rattle.command_inputs.specs.Drawn.{file_said}
 use Rattle.command_ends.specs.Limits.{within_limit}
 use Rattle.command_ends.specs.Refusing.{◌>>=◌, told_then}
 use Rattle.command_ends.specs.declared.refusal.Limited.TheVariants as limits
 use Rattle.command_ends.specs.declared.refusal.Refusal.{Refusal}
 use Rattle.command_inputs.specs.declared.outcome.ReadDesign.{ReadDesign}
 use Rattle.command_inputs.specs.declared.stages.Inputs.{Inputs}
-use Rattle.command_ends.specs.declared.refusal.Refusal.TheVariants.{Toml, Missing, Range, Tight, Yal, Design, Limit, Memory}
+use Rattle.command_ends.specs.declared.refusal.Refusal.TheVariants.{Toml, Missing, Range, Tight, Yal, Memory}
 
 -- a fault of the rules file as a refusal
 abbrev pub rules_refusal : RulesFault → Refusal
@@ -41,17 +36,6 @@ abbrev pub yal_said : Result YalFile (YalKind × ℕ) → Result YalFile Refusal
 yal_said (Ok file) = Ok file
 yal_said (Err bad) = Err (Yal bad.0 bad.1)
 
--- a fault of the design as a refusal
-abbrev pub design_refusal : YalFile → DesignFault → Refusal
-design_refusal file (faults.Limit Instances n) = Limit limits.Instances n
-design_refusal file (faults.Limit Pins n) = Limit limits.Pins n
-design_refusal file faults.Memory = Memory
-design_refusal file fault = Design fault (fault_name file fault)
-
-abbrev pub design_said : YalFile → Result Netlist DesignFault → Result ReadDesign Refusal
-design_said file (Ok design) = Ok (record { file = file; design = design })
-design_said file (Err fault) = Err (design_refusal file fault)
-
 -- the rules that a text states
 abbrev pub stated_rules : List ℕ → Result RuleValues Refusal
 stated_rules bytes = rules_said (rules_of bytes)
@@ -62,29 +46,30 @@ rules_verdict bytes = do
   whole ← within_limit limits.Rules MOST_RULES_BYTES bytes
   stated_rules whole
 
--- the file that a text of YAL is, and the design that it says
-unfoldable pub stated_design : RuleValues → List ℕ → Result ReadDesign Refusal
-stated_design rules bytes = do
+-- the file that a text of YAL is, and the designs that it says, with ports where these are wished for
+unfoldable pub stated_design : RuleValues → Bool → List ℕ → Result ReadDesign Refusal
+stated_design rules ports bytes = do
   file ← yal_said (yal_reads bytes (numbers_of rules.version rules.decimals))
-  design_said file (on_grid rules file)
+  file_said ports rules file
 
 -- those that the bytes of a design's file state
-unfoldable pub design_verdict : RuleValues → List ℕ → Result ReadDesign Refusal
-design_verdict rules bytes = do
+unfoldable pub design_verdict : RuleValues → Bool → List ℕ → Result ReadDesign Refusal
+design_verdict rules ports bytes = do
   whole ← within_limit limits.Design MOST_DESIGN_BYTES bytes
-  stated_design rules whole
+  stated_design rules ports whole
 
 -- the rules, and what the bytes of a design's file state under them
-unfoldable pub inputs_under : RuleValues → List ℕ → Result Inputs Refusal
-inputs_under rules bytes = do
-  read ← design_verdict rules bytes
-  Ok (record { rules = rules; file = read.file; design = read.design })
+unfoldable pub inputs_under : RuleValues → Bool → List ℕ → Result Inputs Refusal
+inputs_under rules ports bytes = do
+  read ← design_verdict rules ports bytes
+  Ok (record { rules = rules; file = read.file; designs = read.designs })
 
 -- the text of a design from a source, under rules: that of a file as far as it is told, or one that is made
 abbrev pub design_text : Source → (List ℕ → Option (List ℕ)) → RuleValues → Option (List ℕ)
 design_text (from_file name) told rules = told name
 design_text (from_seed seed count) told rules = Some (made_text rules seed count)
 
--- the rules that a file is told to state, and the design from a source under them
-unfoldable pub inputs_told : List ℕ → Source → (List ℕ → Option (List ℕ)) → Option (Result Inputs Refusal)
-inputs_told rules source told = told_then (option_map rules_verdict (told rules)) (λ stated. option_map (inputs_under stated) (design_text source told stated))
+-- the rules that a file is told to state, and the designs from a source under them
+unfoldable pub inputs_told : List ℕ → Source → Bool → (List ℕ → Option (List ℕ)) → Option (Result Inputs Refusal)
+inputs_told rules source ports told =
+    told_then (option_map rules_verdict (told rules)) (λ stated. option_map (inputs_under stated ports) (design_text source told stated))

@@ -4,7 +4,7 @@ ghost use Rattle.command_ends.specs.Answers.{Finds};
 ghost use Rattle.command_ends.specs.Limits.{within_limit};
 ghost use Rattle.command_ends.specs.Status.{ending_status};
 ghost use Rattle.command_inputs.specs.Failures.{FileFails, InputsFail, SourceFails};
-ghost use Rattle.command_inputs.specs.Origin.{AreRead, IsDesignFor};
+ghost use Rattle.command_inputs.specs.Origin.{AreDesignsFor, AreRead};
 ghost use Rattle.command_inputs.specs.Reading.{Loads, OnlyRead, Says, files, stopped_by};
 ghost use Rattle.command_inputs.specs.Stated.{design_text, design_verdict, inputs_told, rules_verdict};
 ghost use Rattle.command_words.specs.Seen.{source_seen};
@@ -14,9 +14,9 @@ ghost use Rattle.std.specs.Prelude.{◌≡◌, ◌<◌, ◌≤◌, ◌^◌, leng
 use crate::outcome::{ReadDesign, stated_design, stated_rules};
 use command_ends::{Limited, Refusal, Stop};
 use command_words::{MadeCount, Source};
-use design_model::Design;
 use layout_report::make_design;
 use limits::{MOST_DESIGN_BYTES, MOST_RULES_BYTES};
+use port_rows::Designs;
 use shelf_io::{LoadFault, Shelf, load};
 use std::alloc::Global;
 use tech_rules::Rules;
@@ -62,82 +62,87 @@ fn load_rules<S: Shelf>(alloc: Global, shelf: &mut S, name: &str) -> Result<Rule
     or_stop(stated_rules(alloc, bytes.as_slice()))
 }
 
-// The design of a file.
+// The designs of a file, drawn with ports where these are wished for.
 fn load_design<S: Shelf>(
     alloc: Global,
     shelf: &mut S,
     name: &str,
     rules: &Rules,
+    ports: bool,
 ) -> Result<ReadDesign, Stop>
-    ensures loads { Loads (λ read. read) (design_verdict rules.now) (λ told. told name.now) (FileFails name.now) result
+    ensures loads { Loads (λ read. read) (design_verdict rules.now ports) (λ told. told name.now) (FileFails name.now) result
         (files (S.holds shelf.old) (S.read_faults shelf.old) (S.write_faults shelf.old)) (files (S.holds shelf.new) (S.read_faults shelf.new) (S.write_faults shelf.new)) }
-    ensures is { IfOk result (λ read. IsDesignFor rules.now read.file read.design) }
+    ensures are { IfOk result (λ read. AreDesignsFor rules.now ports read.file read.designs) }
 {
     let bytes = load_within(alloc, shelf, name, Limited::Design, MOST_DESIGN_BYTES)?;
-    or_stop(stated_design(alloc, bytes.as_slice(), rules))
+    or_stop(stated_design(alloc, bytes.as_slice(), rules, ports))
 }
 
-/// Rules, a file of YAL, and the design that it says under them.
+/// Rules, a file of YAL, and the designs that it says under them.
 #[derive(Drop)]
 pub struct Inputs {
     pub rules: Rules,
     pub file: YalFile,
-    pub design: Design,
+    pub designs: Designs,
 }
 
-// The design that is made under rules from a seed, with so many instances, if its text is within the limit of files.
+// The designs that are made under rules from a seed, with so many instances, if their text is within the limit of files.
 #[tactic(auto, unfolding(crate::specs::Stated::design_verdict, command_ends::specs::Limits::within_limit))]
 fn make_source(
     alloc: Global,
     seed: u64,
     count: MadeCount,
     rules: &Rules,
+    ports: bool,
 ) -> Result<ReadDesign, Refusal>
-    ensures says { Says (λ read. read) result (design_verdict rules.now (made_text rules.now seed count)) }
-    ensures is { IfOk result (λ read. IsDesignFor rules.now read.file read.design) }
+    ensures says { Says (λ read. read) result (design_verdict rules.now ports (made_text rules.now seed count)) }
+    ensures are { IfOk result (λ read. AreDesignsFor rules.now ports read.file read.designs) }
 {
     let text = make_design(alloc, rules, seed, count.get())?;
     if text.len() as u64 > MOST_DESIGN_BYTES {
         return Err(Refusal::Limit(Limited::Design, MOST_DESIGN_BYTES));
     }
-    stated_design(alloc, text.as_slice(), rules)
+    stated_design(alloc, text.as_slice(), rules, ports)
 }
 
-// The design from a source, under rules.
+// The designs from a source, under rules, drawn with ports where these are wished for.
 fn load_source<S: Shelf>(
     alloc: Global,
     shelf: &mut S,
     source: &Source<'_>,
     rules: &Rules,
+    ports: bool,
 ) -> Result<ReadDesign, Stop>
-    ensures loads { Loads (λ read. read) (design_verdict rules.now) (λ told. design_text (source_seen source.now) told rules.now) (SourceFails (source_seen source.now)) result
+    ensures loads { Loads (λ read. read) (design_verdict rules.now ports) (λ told. design_text (source_seen source.now) told rules.now) (SourceFails (source_seen source.now)) result
         (files (S.holds shelf.old) (S.read_faults shelf.old) (S.write_faults shelf.old)) (files (S.holds shelf.new) (S.read_faults shelf.new) (S.write_faults shelf.new)) }
-    ensures is { IfOk result (λ read. IsDesignFor rules.now read.file read.design) }
+    ensures are { IfOk result (λ read. AreDesignsFor rules.now ports read.file read.designs) }
 {
     match source {
-        Source::File(name) => load_design(alloc, shelf, name, rules),
-        Source::Made(seed, count) => or_stop(make_source(alloc, *seed, *count, rules)),
+        Source::File(name) => load_design(alloc, shelf, name, rules, ports),
+        Source::Made(seed, count) => or_stop(make_source(alloc, *seed, *count, rules, ports)),
     }
 }
 
-/// The rules of a file, and then the file and the design from a source under them. The files stay as they are; ReadFault comes only where a read count rose.
+/// The rules of a file, and then the file and the designs from a source under them: the design is drawn with the ports of its PARENT where these are wished
+/// for. The files stay as they are; ReadFault comes only where a read count rose.
 pub fn load_inputs<S: Shelf>(
     alloc: Global,
     shelf: &mut S,
     rules: &str,
     source: &Source<'_>,
+    ports: bool,
 ) -> Result<Inputs, Stop>
-    ensures told { (said : _) → inputs_told rules.now (source_seen source.now) (S.holds shelf.old) ≡ Some said
+    ensures told { (said : _) → inputs_told rules.now (source_seen source.now) ports (S.holds shelf.old) ≡ Some said
         → Finds (λ inputs. inputs) result said }
-    ensures are { IfOk result (AreRead rules.now (source_seen source.now) (S.holds shelf.old)) }
+    ensures are { IfOk result (AreRead rules.now (source_seen source.now) ports (S.holds shelf.old)) }
     ensures read { OnlyRead (ending_status result) (InputsFail rules.now (source_seen source.now) (S.holds shelf.old))
         (files (S.holds shelf.old) (S.read_faults shelf.old) (S.write_faults shelf.old)) (files (S.holds shelf.new) (S.read_faults shelf.new) (S.write_faults shelf.new)) }
 {
     let rules = load_rules(alloc, shelf, rules)?;
-    let read = load_source(alloc, shelf, source, &rules)?;
+    let read = load_source(alloc, shelf, source, &rules, ports)?;
     Ok(Inputs {
         rules,
         file: read.file,
-        design: read.design,
+        designs: read.designs,
     })
 }

@@ -2,5 +2,9 @@
 pub mod SizeLaws
 -- the wirings of routed channels connect the channels of rows with feeds, within the bound
 pub mod RoutedLaws
+-- how many rows a job has
+pub mod RowCounts
+-- the cells of ports
+pub mod PortCells
 -- a layout in short
 pub mod SummaryLaws

@@ -51,7 +51,7 @@ feeds-few d fed is narrow =
 -- a layout in short is that of its job
 pub summary-from : (job : Job) (fed : Fed) (cost : ℕ) (kept : List Routed) (channels : List ChannelLine) (laid : LaidOut)
     → fed ≡ rows_with_feeds job → cost ≡ cost_for job → channels ≡ map (line_of_channel fed.width) kept
-    → laid ≡ laid_of (stack_of job.rules job.drawn fed (wirings_of kept))
-    → summary_with job.drawn fed cost channels laid ≡ summary_of job kept
+    → laid ≡ laid_of (stack_of job.rules job.drawn.design fed (wirings_of kept))
+    → summary_with job.drawn.design fed cost channels laid ≡ summary_of job kept
 unfolding summary_of
 summary-from job fed cost kept channels laid fed_is cost_is channels_are laid_is = rw (channels_are, laid_is, cost_is, fed_is) refl

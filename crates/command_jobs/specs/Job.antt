@@ -2,11 +2,13 @@
 use Rattle.std.specs.Prelude.{ℕ}
 use Rattle.tech_rules.specs.Rules.{RuleValues}
 use Rattle.design_model.specs.Netlist.{Netlist}
+use Rattle.port_rows.specs.declared.ported.Ported.{Ported}
 
--- what a command to route comes to where nothing is refused: a design that is placed and one that is drawn, under these rules, in so many rows, which are annealed by this seed
+-- what a command to route comes to where nothing is refused: a design that is placed in so many rows, which are annealed by this seed, and one that is drawn, the same or that
+-- with its ports, under these rules
 pub record Job : Type 0 where
   pub rules : RuleValues
   pub placed : Netlist
-  pub drawn : Netlist
+  pub drawn : Ported
   pub rows : ℕ
   pub seed : ℕ

@@ -12,6 +12,7 @@ use Rattle.command_jobs.specs.Job.{Job}
 use Rattle.command_jobs.specs.Rows.{job_of}
 use Rattle.command_jobs.specs.Summarized.{summary_of}
 use Rattle.command_jobs.specs.Text.{AreRoutedRows, wirings_of}
+use Rattle.command_jobs.specs.Written.{StandAtEdges}
 use Rattle.command_jobs.specs.declared.prepared.Prepared.TheInside.{Inside}
 
 -- a job, and its routed channels
@@ -20,15 +21,16 @@ pub record RoutedJob : Type 0 where
   pub kept : List Routed
 
 abbrev pub job_in : Inside → RoutedJob
-job_in a = record { job = job_of a.rules a.design a.wanted; kept = a.kept.items }
+job_in a = record { job = job_of a.rules a.designs a.wanted; kept = a.kept.items }
 
--- its rows with feeds and its channels are the job's, and lie where its layout says, which is good; and its symbols are drawn
+-- its rows with feeds and its channels are the job's, and lie where its layout says, which is good, with its ports at the edges; and its symbols are drawn
 pub record IsPrepared (a : Inside) : Type 0 where
   pub valid : ValidRules a.rules
-  pub high : HasRoom a.rules a.design
+  pub high : HasRoom a.rules a.designs.drawn.design
   pub rows : AreRoutedRows (job_in a).job a.fed a.kept.items
-  pub laid : a.laid ≡ laid_of (stack_of a.rules a.design a.fed (wirings_of a.kept.items))
-  pub good : Good a.rules a.design (layout_of a.rules a.design (stack_of a.rules a.design a.fed (wirings_of a.kept.items)))
+  pub laid : a.laid ≡ laid_of (stack_of a.rules a.designs.drawn.design a.fed (wirings_of a.kept.items))
+  pub good : Good a.rules a.designs.drawn.design (layout_of a.rules a.designs.drawn.design (stack_of a.rules a.designs.drawn.design a.fed (wirings_of a.kept.items)))
+  pub edges : StandAtEdges a.rules a.designs.drawn (layout_of a.rules a.designs.drawn.design (stack_of a.rules a.designs.drawn.design a.fed (wirings_of a.kept.items)))
   pub told : a.summary ≡ summary_of (job_in a).job a.kept.items
-  pub symbols : a.symbols.drawings ≡ symbol_drawings a.rules a.design a.fed
+  pub symbols : a.symbols.drawings ≡ symbol_drawings a.rules a.designs.drawn.design a.fed
   pub feeds : a.symbols.feed_heights ≡ feed_heights a.fed

@@ -10,7 +10,7 @@ use Rattle.greedy_router.specs.declared.sweep.Routed.{Routed}
 use Rattle.layout_report.specs.declared.summary.ChannelLine.{ChannelLine}
 use Rattle.layout_report.specs.declared.summary.Summary.{Summary}
 use Rattle.command_jobs.specs.Job.{Job}
-use Rattle.command_jobs.specs.Rows.{rows_of, schedule_of}
+use Rattle.command_jobs.specs.Rows.{annealed_rows, schedule_of}
 use Rattle.command_jobs.specs.Text.{rows_with_feeds, wirings_of}
 
 -- 1 for a feed, and 0 for a cell
@@ -33,7 +33,7 @@ line_of_channel width r = record { tracks = r.wiring.tracks; extra = r.wiring.co
 
 -- what the annealed rows of a job cost
 unfoldable pub cost_for : Job → ℕ
-cost_for job = cost_of job.placed (rows_of job) (schedule_of job.rules).weights
+cost_for job = cost_of job.placed (annealed_rows job) (schedule_of job.rules).weights
 
 -- a layout in short, of a design in rows with feeds that cost so, with these channels, where all of it lies so
 abbrev pub summary_with : Netlist → Fed → ℕ → List ChannelLine → LaidOut → Summary
@@ -52,4 +52,4 @@ summary_with d fed cost channels laid = record {
 unfoldable pub summary_of : Job → List Routed → Summary
 summary_of job kept =
     let fed : Fed = rows_with_feeds job in
-    summary_with job.drawn fed (cost_for job) (map (line_of_channel fed.width) kept) (laid_of (stack_of job.rules job.drawn fed (wirings_of kept)))
+    summary_with job.drawn.design fed (cost_for job) (map (line_of_channel fed.width) kept) (laid_of (stack_of job.rules job.drawn.design fed (wirings_of kept)))

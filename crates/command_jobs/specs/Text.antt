@@ -13,6 +13,7 @@ use Rattle.pin_assign.specs.declared.bound.Bound.{Bound}
 use Rattle.channel_stack.specs.Routed.{AreWired, IsRouted}
 use Rattle.channel_stack.specs.Stack.{stack_of}
 use Rattle.cif_writer.specs.LayoutText.{placed_text}
+use Rattle.port_rows.specs.PortRows.{HaveEdges}
 use Rattle.command_jobs.specs.Job.{Job}
 use Rattle.command_jobs.specs.Rows.{rows_of}
 
@@ -26,24 +27,25 @@ routed_text r d fed wirings = placed_text r d fed (stack_of r d fed wirings)
 
 -- the rows of a job with feeds
 unfoldable pub rows_with_feeds : Job → Fed
-rows_with_feeds job = fed_rows job.drawn (rows_of job)
+rows_with_feeds job = fed_rows job.drawn.design (rows_of job)
 
--- the rows of a job with feeds, and routed channels between them, which connect what they should and are within the limits
+-- the rows of a job with feeds, and routed channels between them, which connect what they should and are within the limits; its ports stand in the rows at the edges
 pub record AreRoutedRows (job : Job) (fed : Fed) (kept : List Routed) : Type 0 where
   pub is : fed ≡ rows_with_feeds job
-  pub feeds : IsFed job.drawn fed
+  pub feeds : IsFed job.drawn.design fed
   pub narrow : fed.width ≤ MOST_COLUMNS
-  pub wired : AreWired job.drawn fed (wirings_of kept)
-  pub routed : IsRouted job.rules job.drawn fed (wirings_of kept)
+  pub wired : AreWired job.drawn.design fed (wirings_of kept)
+  pub routed : IsRouted job.rules job.drawn.design fed (wirings_of kept)
+  pub edges : HaveEdges job.drawn (rows_of job)
 
 -- the channels of a job
 abbrev pub channels_of : Job → List Pins
-channels_of job = tables_of job.drawn (rows_with_feeds job)
+channels_of job = tables_of job.drawn.design (rows_with_feeds job)
 
 -- the text of a job with these routed channels: that of its rows with feeds and of their wirings
 unfoldable pub job_text : Job → List Routed → List ℕ
-job_text job kept = routed_text job.rules job.drawn (rows_with_feeds job) (wirings_of kept)
+job_text job kept = routed_text job.rules job.drawn.design (rows_with_feeds job) (wirings_of kept)
 
 -- the size that the layout of a job is within
 abbrev pub bound_for : Job → Bound
-bound_for job = pins.bound_of job.rules job.drawn (rows_with_feeds job)
+bound_for job = pins.bound_of job.rules job.drawn.design (rows_with_feeds job)

@@ -6,17 +6,22 @@ ghost use Rattle.command_jobs.specs.Limits.{within_limits};
 ghost use Rattle.command_jobs.specs.Rows.{job_of};
 ghost use Rattle.command_jobs.specs.Summarized.{cost_for, summary_of};
 ghost use Rattle.command_jobs.specs.Text.{AreRoutedRows, channels_of, job_text};
-ghost use Rattle.command_jobs.specs.Written.{IsGoodText};
+ghost use Rattle.command_jobs.specs.Written.{IsPortedText};
 ghost use Rattle.cif_writer.specs.LayoutText.{HoldsFront};
 ghost use Rattle.design_model.specs.Room.{HasRoom};
 ghost use Rattle.greedy_router.specs.Answers.{AreRouted};
+ghost use Rattle.limits.specs.declared.TheConstants.{MOST_ROWS};
 ghost use Rattle.pin_assign.specs.Tables.{tables_of};
+ghost use Rattle.port_rows.specs.Designs.{placed_in};
+ghost use Rattle.port_rows.specs.PortRows.{HoldCells};
+ghost use Rattle.row_model.specs.Rows.{ArePlaced};
+ghost use Rattle.row_model.specs.declared.rows.Seat.{Seat};
 ghost use Rattle.shelf_io.specs.Count.{Rose};
 ghost use Rattle.shelf_io.specs.OtherFiles.{OthersSame};
 ghost use Rattle.shelf_io.specs.Told.{Refines};
-ghost use Rattle.std.specs.Prelude.{◌≡◌, ◌≢◌, is_ok, Some, IfErr, IfOk, OnErr, OnOk};
+ghost use Rattle.std.specs.Prelude.{◌≡◌, ◌≢◌, ◌≤◌, List, length, is_ok, Some, IfErr, IfOk, OnErr, OnOk};
 
-use crate::placing::annealed_rows;
+use crate::placing::job_rows;
 use crate::routing::{RoutedRows, route_rows};
 use crate::summarizing::{channel_lines, summarized};
 use anneal_int::CostedRows;
@@ -25,21 +30,21 @@ use choose_core::{Chooser, Chooses, Style};
 use cif_writer::{RoutedDesign, Symbols, symbol_drawings, write_layout};
 use command_ends::Refusal;
 use command_words::Wanted;
-use design_model::Design;
 use feed_cells::{FedRows, insert_feeds, place};
 use greedy_router::Routed;
 use layout_report::Summary;
+use port_rows::Designs;
 use shelf_io::{Failed, Shelf};
 use std::alloc::{AllocError, Global};
 use std::marker::Model;
 use tech_rules::Rules;
 
-/// A design with its rules, laid out as is wanted: its rows with feeds, its routed channels, where all of it lies, the drawings of its symbols, and the layout in short. Contracts see the job
+/// Designs with their rules, laid out as is wanted: the rows with feeds, the routed channels, where all of it lies, the drawings of the symbols, and the layout in short. Contracts see the job
 /// and the routed channels, by which all else is given.
 #[derive(Drop)]
 pub struct Prepared {
     rules: Rules,
-    design: Design,
+    designs: Designs,
     wanted: Wanted,
     fed: FedRows,
     kept: Vec<Routed>,
@@ -68,30 +73,31 @@ impl Model for Prepared {
 // Lays the rows of a job with feeds and routed channels, draws their symbols, and tells of them in short. They cost so before they got feeds. The one error is want of memory.
 fn ready(
     alloc: Global,
-    design: Design,
+    designs: Designs,
     rules: Rules,
     wanted: Wanted,
     fed: FedRows,
     rows: RoutedRows,
     cost: u64,
 ) -> Result<Prepared, AllocError>
-    requires high { HasRoom rules design }
-    requires rows { AreRoutedRows (job_of rules design wanted) fed rows.routed.items }
-    requires channels { rows.channels.items ≡ tables_of design fed }
-    requires cost { cost ≡ cost_for (job_of rules design wanted) }
-    ensures { IfOk result (λ made. made ≡ record { job = job_of rules design wanted; kept = rows.routed.items }) }
+    requires high { HasRoom rules designs.drawn.design }
+    requires rows { AreRoutedRows (job_of rules designs wanted) fed rows.routed.items }
+    requires channels { rows.channels.items ≡ tables_of designs.drawn.design fed }
+    requires cost { cost ≡ cost_for (job_of rules designs wanted) }
+    ensures { IfOk result (λ made. made ≡ record { job = job_of rules designs wanted; kept = rows.routed.items }) }
 {
     let RoutedRows { channels, routed } = rows;
     // What every value of the rules keeps is known once a field is read.
     let _ = &rules.version;
+    let drawn = &designs.drawn.design;
     let wirings = routed.as_slice();
     let lines = channel_lines(alloc, wirings, &fed)?;
-    let symbols = symbol_drawings(alloc, &design, &fed, &rules)?;
-    let laid = lay(alloc, &design, &fed, channels.as_slice(), wirings, &rules)?;
-    let summary = summarized(&design, &fed, lines, &laid, cost);
+    let symbols = symbol_drawings(alloc, drawn, &fed, &rules)?;
+    let laid = lay(alloc, drawn, &fed, channels.as_slice(), wirings, &rules)?;
+    let summary = summarized(drawn, &fed, lines, &laid, cost);
     Ok(Prepared {
         rules,
-        design,
+        designs,
         wanted,
         fed,
         kept: routed,
@@ -101,26 +107,29 @@ fn ready(
     })
 }
 
-/// A design laid out as is wanted and routed by the choices of a style, if that is within the limits. Each cell has room for its pins.
+/// Designs laid out as is wanted: the one placed without its ports, and the other drawn with them and routed by the choices of a style, if that is within the limits. Each cell has
+/// room for its pins.
 #[tactic(auto, unfolding(crate::specs::Limits::within_limits))]
 pub fn lay_out(
     alloc: Global,
-    design: Design,
+    designs: Designs,
     rules: Rules,
     wanted: Wanted,
     style: &Style,
 ) -> Result<Prepared, Refusal>
-    requires high { HasRoom rules design }
-    ensures made { Answers (λ prepared. prepared.job) result (within_limits (job_of rules design wanted)) }
-    ensures is { IfOk result (λ prepared. prepared.job ≡ job_of rules design wanted) }
+    requires high { HasRoom rules designs.drawn.design }
+    requires hold { (rows : List (List Seat)) → ArePlaced (placed_in designs) rows → length rows ≤ MOST_ROWS → HoldCells designs.drawn rows }
+    ensures made { Answers (λ prepared. prepared.job) result (within_limits (job_of rules designs wanted)) }
+    ensures is { IfOk result (λ prepared. prepared.job ≡ job_of rules designs wanted) }
     ensures kept { IfOk result (λ prepared. AreRouted wanted.edge style.now.plan (⟦<Chooser as Chooses>⟧.answers style.now.chooser) (channels_of prepared.job) prepared.kept) }
     ensures command { IfErr result (λ refusal. refusal_status refusal ≢ 2) }
 {
-    let CostedRows { rows, cost } = annealed_rows(alloc, &design, &rules, &wanted)?;
-    let placement = place(alloc, &design, &rows)?;
-    let fed = insert_feeds(alloc, &design, &rows, &placement)?;
-    let routed = route_rows(alloc, &design, &rules, &fed, placement, style, wanted.edge)?;
-    let made = ready(alloc, design, rules, wanted, fed, routed, cost)?;
+    let CostedRows { rows, cost } = job_rows(alloc, &designs, &rules, &wanted)?;
+    let drawn = &designs.drawn.design;
+    let placement = place(alloc, drawn, &rows)?;
+    let fed = insert_feeds(alloc, drawn, &rows, &placement)?;
+    let routed = route_rows(alloc, drawn, &rules, &fed, placement, style, wanted.edge)?;
+    let made = ready(alloc, designs, rules, wanted, fed, routed, cost)?;
     Ok(made)
 }
 
@@ -130,13 +139,13 @@ impl Prepared {
     #[tactic(auto, unfolding(crate::specs::Text::job_text))]
     pub fn write<S: Shelf>(&self, shelf: &mut S, out: &str) -> Result<(), Failed>
         ensures whole { OnOk result (Refines (S.holds shelf.new out.now) (Some (job_text self.now.job self.now.kept))) }
-        ensures good { IsGoodText self.now.job.rules self.now.job.drawn (job_text self.now.job self.now.kept) }
+        ensures good { IsPortedText self.now.job.rules self.now.job.drawn (job_text self.now.job self.now.kept) }
         ensures front { OnErr result (HoldsFront (job_text self.now.job self.now.kept) (S.holds shelf.old out.now) (S.holds shelf.new out.now)) }
         ensures others { OthersSame (is_ok result) out.now (S.holds shelf.old) (S.holds shelf.new) (S.read_faults shelf.old) (S.read_faults shelf.new) (S.write_faults shelf.old) (S.write_faults shelf.new) }
         ensures cause { OnErr result (Rose (S.write_faults shelf.old out.now) (S.write_faults shelf.new out.now)) }
     {
         let routed = RoutedDesign {
-            design: &self.design,
+            design: &self.designs.drawn.design,
             fed: &self.fed,
             wirings: self.kept.as_slice(),
             laid: &self.laid,

@@ -88,7 +88,8 @@ const REFUSED: &str = "\
 DS 1 1 2; L NM; B 3 4 2 2; DF; C 1; E/Inexact 2|\
 C 2; E/Undefined 0|\
 C 2;/NoEnd 4|\
-P 1 1 2 2 3 3; E/LeftOut 0|\
+P 1 1 2 2 3 3; E/Turned 0|\
+R 10 0 0; E/LeftOut 0|\
 C 1 R 1 1; E/Turned 0|\
 DS 1; DF; DS 1; DF; E/Twice 2|\
 L NM; B 2 2 4000000000 0; E/TooFar 1|\
@@ -143,6 +144,8 @@ check\n\
 check|d|r\n\
 check|d|r|c|x\n\
 check|d|r|c|--seed|1\n\
+check|d|r|c|--ports|--ports\n\
+check|d|r|c|--ports=x\n\
 Check|d|r|c";
 
 #[test]

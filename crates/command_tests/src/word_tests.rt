@@ -39,6 +39,9 @@ route|d|r|o|--style|none\n\
 route|d|r|o|--style|NEAR\n\
 route|d|r|o|--style|\n\
 route|d|r|o|--style|near|--style|near\n\
+route|d|r|o|--ports|--ports\n\
+route|d|r|o|--ports=x\n\
+make|1|2|r|o|--ports\n\
 route|d|r|-x";
 
 #[test]

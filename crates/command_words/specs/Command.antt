@@ -21,11 +21,12 @@ pub record Names : Type 0 where
   pub wanted : Wanted
   pub style : ℕ
 
--- what a command to check says: the design's file, the rules file, and the file of the layout
+-- what a command to check says: the design's file, the rules file, the file of the layout, and whether the terminals of the PARENT are to be ports
 pub record CheckNames : Type 0 where
   pub design : List ℕ
   pub rules : List ℕ
   pub cif : List ℕ
+  pub ports : Bool
 
 -- an argument that has to be given, by its place
 abbrev pub positional_rule : Text → Rule
@@ -44,14 +45,14 @@ named_app name last = with_rule (with_rule (with_rule (new_app name)
 abbrev pub flag_rule : Text → Rule
 flag_rule id = record (new_rule id) { long = Some id; action = Some SetTrue }
 
--- `route` with three names, with a seed, a number of rows and a style, and with the wish for left edges
+-- `route` with three names, with a seed, a number of rows and a style, and with the wishes for left edges and for ports
 abbrev pub route_app : App
-route_app = with_rule (with_rule (with_rule (with_rule (named_app (codes "route") (codes "out"))
-    (option_rule (codes "seed"))) (option_rule (codes "rows"))) (option_rule (codes "style"))) (flag_rule (codes "edge"))
+route_app = with_rule (with_rule (with_rule (with_rule (with_rule (named_app (codes "route") (codes "out"))
+    (option_rule (codes "seed"))) (option_rule (codes "rows"))) (option_rule (codes "style"))) (flag_rule (codes "edge"))) (flag_rule (codes "ports"))
 
--- `check` with three names
+-- `check` with three names, and with the wish for ports
 abbrev pub check_app : App
-check_app = named_app (codes "check") (codes "cif")
+check_app = with_rule (named_app (codes "check") (codes "cif")) (flag_rule (codes "ports"))
 
 -- `make` with a seed, a number of instances and two names
 abbrev pub make_app : App
@@ -73,11 +74,11 @@ abbrev pub is_given : Option Text → Bool
 is_given None = false
 is_given (Some text) = bytes_eq text (codes "true")
 
--- how a design is to be laid out, by the seed, the rows and whether left edges are wished for
-abbrev pub wanted_from : Option ℕ → Option (Option ℕ) → Bool → Option Wanted
-wanted_from (Some seed) (Some rows) edge = Some (record { seed = seed; rows = rows; edge = edge })
-wanted_from (Some seed) None edge = None
-wanted_from None rows edge = None
+-- how a design is to be laid out, by the seed, the rows, and whether left edges and ports are wished for
+abbrev pub wanted_from : Option ℕ → Option (Option ℕ) → Bool → Bool → Option Wanted
+wanted_from (Some seed) (Some rows) edge ports = Some (record { seed = seed; rows = rows; edge = edge; ports = ports })
+wanted_from (Some seed) None edge ports = None
+wanted_from None rows edge ports = None
 
 -- the place of the first style of a name, among the names of all
 abbrev pub place_of : List Text → Text → Option ℕ
@@ -98,28 +99,29 @@ names_from (Some design) (Some rules) None wanted style = None
 names_from (Some design) None out wanted style = None
 names_from None rules out wanted style = None
 
--- the seed, the rows and the flag among the values that words gave, and all that they say
+-- the seed, the rows and the flags among the values that words gave, and all that they say
 abbrev pub wanted_in : List Row → Option Wanted
 wanted_in values = wanted_from (seed_given (first_of (codes "seed") values)) (rows_given (first_of (codes "rows") values))
-    (is_given (first_of (codes "edge") values))
+    (is_given (first_of (codes "edge") values)) (is_given (first_of (codes "ports") values))
 
 abbrev pub names_in : List Text → List Row → Option Names
 names_in styles values = names_from (first_of (codes "design") values) (first_of (codes "rules") values) (first_of (codes "out") values) (wanted_in values)
     (style_given styles (first_of (codes "style") values))
 
-abbrev pub check_from : Option Text → Option Text → Option Text → Option CheckNames
-check_from (Some design) (Some rules) (Some cif) = Some (record { design = design; rules = rules; cif = cif })
-check_from (Some design) (Some rules) None = None
-check_from (Some design) None cif = None
-check_from None rules cif = None
+abbrev pub check_from : Option Text → Option Text → Option Text → Bool → Option CheckNames
+check_from (Some design) (Some rules) (Some cif) ports = Some (record { design = design; rules = rules; cif = cif; ports = ports })
+check_from (Some design) (Some rules) None ports = None
+check_from (Some design) None cif ports = None
+check_from None rules cif ports = None
 
 abbrev pub check_in : List Row → Option CheckNames
 check_in values = check_from (first_of (codes "design") values) (first_of (codes "rules") values) (first_of (codes "cif") values)
+    (is_given (first_of (codes "ports") values))
 
--- a design that is made, and laid out by the same seed, in rows as usual, by the first style and without left edges
+-- a design that is made, and laid out by the same seed, in rows as usual, by the first style, without left edges and without ports
 abbrev pub make_names : ℕ → ℕ → Text → Text → Names
 make_names seed count rules out =
-    record { design = from_seed seed count; rules = rules; out = out; wanted = record { seed = seed; rows = None; edge = false }; style = 0 }
+    record { design = from_seed seed count; rules = rules; out = out; wanted = record { seed = seed; rows = None; edge = false; ports = false }; style = 0 }
 
 abbrev pub make_from : Option ℕ → Option ℕ → Option Text → Option Text → Option Names
 make_from (Some seed) (Some count) (Some rules) (Some out) = Some (make_names seed count rules out)

@@ -21,7 +21,7 @@ seen names = record { design = source_seen names.design; rules = names.rules.now
 
 -- the same of a command to check
 abbrev pub check_seen : Check → CheckNames
-check_seen names = record { design = names.design.now; rules = names.rules.now; cif = names.cif.now }
+check_seen names = record { design = names.design.now; rules = names.rules.now; cif = names.cif.now; ports = names.ports }
 
 abbrev pub command_seen : asked.Command → Command
 command_seen (commands.Route names) = route (seen names)

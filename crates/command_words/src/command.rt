@@ -1,25 +1,27 @@
 //! The command that words give.
 
 ghost use Rattle.clap.specs.Words.{found_of, rows_of};
-ghost use Rattle.command_words.specs.Command.{IsOfStyle, check, check_app, check_in, command_of, given_by, is_given, make_app, make_in, names_in, place_of, route, route_app, rows_given, seed_given, style_given, wanted_in};
-ghost use Rattle.command_words.specs.NumberWord.{count_in, number_of};
+ghost use Rattle.command_words.specs.Command.{IsOfStyle, check, check_app, check_in, command_of, given_by, make_app, make_in, names_in, route, route_app, wanted_in};
 ghost use Rattle.command_words.specs.Seen.{Reads, check_seen, command_seen, seen};
-ghost use Rattle.std.specs.Prelude.{◌≡◌, ◌<◌, ℕ, length, map, option_and_then, option_map, IfOk};
+ghost use Rattle.std.specs.Prelude.{◌≡◌, ◌<◌, ℕ, length, map, option_map, IfOk};
 
-use crate::number_word::{MadeCount, RowCount, read_count, read_number, read_rows};
+use crate::number_word::{MadeCount, RowCount};
 use crate::parser::{check_parser, make_parser, matches_in, route_parser, value_of};
+use crate::values::{count_given, is_given, number_given, rows_given, seed_given, style_given};
 use crate::word::Word;
 use choose_core::Style;
 use clap::ArgMatches;
 use std::alloc::Global;
 
-/// How a design is to be laid out: the seed of its annealing, the number of rows, 1 to 512, if one is asked for, and whether channels
-/// without vertical constraints are to be routed by the left edges of their nets.
+/// How a design is to be laid out: the seed of its annealing, the number of rows, 1 to 512, if one is asked for, whether channels
+/// without vertical constraints are to be routed by the left edges of their nets, and whether the terminals of the PARENT become
+/// ports.
 #[derive(Clone, Copy, Debug)]
 pub struct Wanted {
     pub seed: u64,
     pub rows: Option<RowCount>,
     pub edge: bool,
+    pub ports: bool,
 }
 
 /// Where a design comes from.
@@ -42,12 +44,14 @@ pub struct Route<'a> {
     pub style: usize,
 }
 
-/// The command to check a layout: the names of the design's file, of the rules file and of the layout's file.
+/// The command to check a layout: the names of the design's file, of the rules file and of the layout's file, and whether the
+/// terminals of the PARENT are to be ports.
 #[derive(Clone, Copy, Debug)]
 pub struct Check<'a> {
     pub design: &'a str,
     pub rules: &'a str,
     pub cif: &'a str,
+    pub ports: bool,
 }
 
 /// A command, and what its arguments are.
@@ -68,36 +72,6 @@ pub enum WordsFault {
     Memory,
 }
 
-// The rows that a value asks for.
-fn rows_given(value: Option<&str>) -> Option<Option<RowCount>>
-    ensures { result ≡ rows_given (option_map (λ s. s.now) value.entry) }
-{
-    match value {
-        Some(word) => Some(Some(read_rows(word)?)),
-        None => Some(None),
-    }
-}
-
-// The seed that a value asks for, 1 where there is none.
-fn seed_given(value: Option<&str>) -> Option<u64>
-    ensures { result ≡ seed_given (option_map (λ s. s.now) value.entry) }
-{
-    match value {
-        Some(word) => read_number(word),
-        None => Some(1),
-    }
-}
-
-// Whether a flag is given, by its value.
-fn is_given(value: Option<&str>) -> bool
-    ensures { result ≡ is_given (option_map (λ s. s.now) value.entry) }
-{
-    match value {
-        Some(word) => word == "true",
-        None => false,
-    }
-}
-
 // How a design is to be laid out by accepted words.
 fn wanted_of<'a>(matches: &ArgMatches<'a>) -> Option<Wanted>
     ensures { result ≡ wanted_in (rows_of (found_of matches.now)) }
@@ -106,33 +80,8 @@ fn wanted_of<'a>(matches: &ArgMatches<'a>) -> Option<Wanted>
         seed: seed_given(value_of(matches, "seed"))?,
         rows: rows_given(value_of(matches, "rows"))?,
         edge: is_given(value_of(matches, "edge")),
+        ports: is_given(value_of(matches, "ports")),
     })
-}
-
-// The place of the first style of a name.
-fn place_of(styles: &[Style], name: &str) -> Option<usize>
-    ensures { result ≡ place_of (map (λ s. s.chooser.name) styles.now) name.now }
-{
-    let mut place = 0;
-    let mut rest = styles;
-    while let Some((style, after)) = rest.split_first() {
-        if style.chooser.name().items() == name.as_bytes() {
-            return Some(place);
-        }
-        place += 1;
-        rest = after;
-    }
-    None
-}
-
-// The place of the style that a value asks for, of the first where there is none.
-fn style_given(styles: &[Style], value: Option<&str>) -> Option<usize>
-    ensures { result ≡ style_given (map (λ s. s.chooser.name) styles.now) (option_map (λ s. s.now) value.entry) }
-{
-    match value {
-        Some(word) => place_of(styles, word),
-        None => Some(0),
-    }
 }
 
 // What accepted words give.
@@ -176,6 +125,7 @@ fn check_of<'a>(matches: &ArgMatches<'a>) -> Option<Check<'a>>
         design: value_of(matches, "design")?,
         rules: value_of(matches, "rules")?,
         cif: value_of(matches, "cif")?,
+        ports: is_given(value_of(matches, "ports")),
     })
 }
 
@@ -195,26 +145,6 @@ fn read_check<'w>(alloc: Global, words: &'w [Word]) -> Result<Check<'w>, WordsFa
     }
 }
 
-// The number that a value writes.
-fn number_given(value: Option<&str>) -> Option<u64>
-    ensures { result ≡ option_and_then number_of (option_map (λ s. s.now) value.entry) }
-{
-    match value {
-        Some(word) => read_number(word),
-        None => None,
-    }
-}
-
-// The number of instances that a value asks for.
-fn count_given(value: Option<&str>) -> Option<MadeCount>
-    ensures { result ≡ option_and_then count_in (option_map (λ s. s.now) value.entry) }
-{
-    match value {
-        Some(word) => read_count(word),
-        None => None,
-    }
-}
-
 // What accepted words of `make` give.
 fn make_of<'a>(matches: &ArgMatches<'a>) -> Option<Route<'a>>
     ensures { option_map seen result ≡ make_in (rows_of (found_of matches.now)) }
@@ -229,6 +159,7 @@ fn make_of<'a>(matches: &ArgMatches<'a>) -> Option<Route<'a>>
             seed,
             rows: None,
             edge: false,
+            ports: false,
         },
         style: 0,
     })

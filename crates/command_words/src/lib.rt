@@ -4,6 +4,7 @@
 mod command;
 mod number_word;
 mod parser;
+mod values;
 mod word;
 
 pub use command::{Check, Command, Route, Source, Wanted, WordsFault, read_command};

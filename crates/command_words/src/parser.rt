@@ -53,22 +53,31 @@ fn named_parser<'a>(alloc: Global, name: &'a str, last: &'a str) -> Result<Parse
     with_arg(command, positional(alloc, last))
 }
 
+// The command with the options of a seed, of rows and of a style.
+fn with_options<'a>(alloc: Global, command: Parser<'a>) -> Result<Parser<'a>, AllocError>
+    ensures { IfOk result (λ c. app_of c ≡ with_rule (with_rule (with_rule (app_of command.entry) (option_rule (codes "seed"))) (option_rule (codes "rows"))) (option_rule (codes "style"))) }
+{
+    let command = with_arg(command, option(alloc, "seed"))?;
+    let command = with_arg(command, option(alloc, "rows"))?;
+    with_arg(command, option(alloc, "style"))
+}
+
 /// The command `route` with its arguments. The one error is want of memory.
 pub(crate) fn route_parser<'a>(alloc: Global) -> Result<Parser<'a>, AllocError>
     ensures { IfOk result (λ c. app_of c ≡ route_app) }
 {
     let command = named_parser(alloc, "route", "out")?;
-    let command = with_arg(command, option(alloc, "seed"))?;
-    let command = with_arg(command, option(alloc, "rows"))?;
-    let command = with_arg(command, option(alloc, "style"))?;
-    with_arg(command, flag(alloc, "edge"))
+    let command = with_options(alloc, command)?;
+    let command = with_arg(command, flag(alloc, "edge"))?;
+    with_arg(command, flag(alloc, "ports"))
 }
 
 /// The command `check` with its arguments. The one error is want of memory.
 pub(crate) fn check_parser<'a>(alloc: Global) -> Result<Parser<'a>, AllocError>
     ensures { IfOk result (λ c. app_of c ≡ check_app) }
 {
-    named_parser(alloc, "check", "cif")
+    let command = named_parser(alloc, "check", "cif")?;
+    with_arg(command, flag(alloc, "ports"))
 }
 
 /// The command `make` with its arguments. The one error is want of memory.

@@ -53,6 +53,7 @@ stopped-so asked stop kept old new ends usage none unwritten empty holds writes 
       unwritten empty holds writes quiet;
   cause = cause;
   headline = λ names stated bytes held is states source zero told. absurd (omega (arith, stop-above stop, zero));
+  edges = λ names stated bytes held is ports states source zero told. absurd (omega (arith, stop-above stop, zero));
   judges = λ names stated bytes text is states design cif. tt;
 }
 

@@ -1,45 +1,121 @@
-use Rattle.std.proofs.Common.{◌≡◌, ◌∙◌, ℕ, List, Ok, ap, subst, sym}
+use Rattle.std.proofs.Common.{◌≡◌, ◌∙◌, ℕ, List, Bool, true, false, Result, Ok, Err, refl, ap, subst, sym}
 use Rattle.geom_core.specs.declared.layout.Layout.{Layout}
 use Rattle.tech_rules.specs.Rules.{RuleValues}
+use Rattle.yal_reader.specs.declared.file.YalFile.{YalFile}
 use Rattle.design_model.specs.Good.{Good}
 use Rattle.design_model.specs.Netlist.{Netlist}
 use Rattle.netlist_core.specs.OnGrid.{on_grid}
+use Rattle.port_rows.specs.Designs.{bare_designs, placed_in, ported_designs}
+use Rattle.port_rows.specs.Ported.{ported_of}
+use Rattle.port_rows.specs.declared.designs.Designs.{Designs}
+use Rattle.port_rows.specs.declared.fault.PortFault.{PortFault}
+use Rattle.port_rows.specs.declared.ported.Ported.{Ported}
 use Rattle.cif_text.specs.Meaning.{meaning}
 use Rattle.cif_text.specs.ReadsAs.{ReadsAs}
-use Rattle.command_inputs.specs.Origin.{AreInputsFrom}
+use Rattle.command_ends.specs.declared.refusal.Refusal.{Refusal}
+use Rattle.command_inputs.specs.Drawn.{drawn_said, ported_said}
+use Rattle.command_inputs.specs.Origin.{AreDesignsFor, AreInputsFrom}
 use Rattle.command_inputs.specs.declared.stages.Inputs.{Inputs}
-use Rattle.command_jobs.specs.Written.{IsGoodText}
-use Rattle.commands.specs.Headline.{Headline}
+use Rattle.command_jobs.specs.Written.{IsGoodText, IsPortedText}
+use Rattle.commands.specs.Headline.{Headline, IsGoodSo, PortedHeadline}
 use Rattle.yal_reader.specs.Numbers.{numbers_of}
 use Rattle.yal_reader.specs.YalReads.{yal_reads}
 use Rattle.std_laws.proofs.Options.{ok-same}
 
+-- without ports the design that is drawn is the one that is placed
+bare-drawn : (rules : RuleValues) (file : YalFile) (d : Netlist) (designs : Designs) → drawn_said false rules file d ≡ Ok designs → d ≡ designs.drawn.design
+bare-drawn rules file d designs is =
+    ap (λ (x : Designs). x.drawn.design) (ok-same (drawn_said false rules file d) (bare_designs d) designs refl is)
+
+-- and with them it is that with its ports
+ported-drawn : (rules : RuleValues) (file : YalFile) (d : Netlist) (designs : Designs) → drawn_said true rules file d ≡ Ok designs → ported_of rules file d ≡ Ok designs.drawn
+ported-drawn rules file d designs is = by (ported_of rules file d) is
+  where
+    by : (found : Result Ported PortFault) → ported_said d found ≡ Ok designs → found ≡ Ok designs.drawn
+    by (Ok ported) found =
+        ap (λ (x : Designs). let answer : Result Ported PortFault = Ok x.drawn in answer) (ok-same (ported_said d (Ok ported)) (ported_designs d ported) designs refl found)
+    by (Err fault) found = cc
+
+-- a text that is a good layout of the design that is drawn is so of what the file says
+good-so : (ports : Bool) (rules : RuleValues) (file : YalFile) (designs : Designs) (text : List ℕ) → AreDesignsFor rules ports file designs
+    → IsGoodText rules designs.drawn.design text → IsGoodSo ports rules file text
+good-so false rules file designs text are good = record {
+  design = designs.drawn.design;
+  checked = subst (λ (d : Netlist). on_grid rules file ≡ Ok d) (bare-drawn rules file (placed_in designs) designs are.drawn) are.checked;
+  nets = are.nets;
+  good = good;
+}
+good-so true rules file designs text are good = record {
+  design = placed_in designs;
+  checked = are.checked;
+  ported = designs.drawn;
+  has = ported-drawn rules file (placed_in designs) designs are.drawn;
+  words = are.words refl;
+  nets = are.nets;
+  good = good;
+}
+
+-- a text reads as one layout
+one-layout : (rules : RuleValues) (d : Netlist) (text : List ℕ) (layout : Layout) → ReadsAs text layout → IsGoodText rules d text → Good rules d layout
+one-layout rules d text layout reads good =
+    let commands : good.reads.commands ≡ reads.commands = ok-same _ good.reads.commands reads.commands good.reads.reads reads.reads in
+    let shown : good.layout ≡ layout = ok-same (meaning good.reads.commands) good.layout layout good.reads.means (ap meaning commands ∙ reads.means) in
+    subst (λ (l : Layout). Good rules d l) shown good.good
+
+-- what a file says is one design, so that a good layout of it is one of the design that is drawn
+so-good : (ports : Bool) (rules : RuleValues) (file : YalFile) (designs : Designs) (text : List ℕ) → AreDesignsFor rules ports file designs
+    → IsGoodSo ports rules file text → IsGoodText rules designs.drawn.design text
+so-good false rules file designs text are so =
+    let same : so.design ≡ placed_in designs = ok-same (on_grid rules file) so.design (placed_in designs) so.checked are.checked in
+    subst (λ (d : Netlist). IsGoodText rules d text) (same ∙ bare-drawn rules file (placed_in designs) designs are.drawn) so.good
+so-good true rules file designs text are so =
+    let same : so.design ≡ placed_in designs = ok-same (on_grid rules file) so.design (placed_in designs) so.checked are.checked in
+    let drawn : so.ported ≡ designs.drawn =
+    ok-same (ported_of rules file (placed_in designs)) so.ported designs.drawn (ap (ported_of rules file) (sym same) ∙ so.has)
+    (ported-drawn rules file (placed_in designs) designs are.drawn) in
+    subst (λ (p : Ported). IsGoodText rules p.design text) drawn so.good
+
 -- of what the bytes of a rules file and of a design's file say
-module _ (stated bytes text : List ℕ) (inputs : Inputs) (from : AreInputsFrom stated bytes inputs) where
+module _ (stated bytes text : List ℕ) (ports : Bool) (inputs : Inputs) (from : AreInputsFrom stated bytes ports inputs) where
   -- a text that is a good layout of it is so of what they say
-  pub headline-of : IsGoodText inputs.rules inputs.design text → Headline stated bytes text
+  pub headline-of : IsGoodText inputs.rules inputs.designs.drawn.design text → Headline ports stated bytes text
   headline-of good = record {
+    rules = inputs.rules;
+    states = from.states;
+    good = record { file = inputs.file; read = from.read; good = good-so ports inputs.rules inputs.file inputs.designs text from.is good };
+  }
+
+  -- what files say is one design under one set of rules, and a text reads as one layout, so that the headline is a fact of these
+  pub good-of : (layout : Layout) → ReadsAs text layout → Headline ports stated bytes text → Good inputs.rules inputs.designs.drawn.design layout
+  good-of layout reads headline =
+      let rules : headline.rules ≡ inputs.rules = ok-same _ headline.rules inputs.rules headline.states from.states in
+      let file : headline.good.file ≡ inputs.file =
+      ok-same _ headline.good.file inputs.file headline.good.read
+      (ap (λ (r : RuleValues). yal_reads bytes (numbers_of r.version r.decimals)) rules ∙ from.read) in
+      let so : IsGoodSo ports inputs.rules inputs.file text =
+      subst (λ (f : YalFile). IsGoodSo ports inputs.rules f text) file (subst (λ (r : RuleValues). IsGoodSo ports r headline.good.file text) rules headline.good.good) in
+      one-layout inputs.rules inputs.designs.drawn.design text layout reads (so-good ports inputs.rules inputs.file inputs.designs text from.is so)
+
+-- a text in which ports stand at the edges
+pub ported-of : (stated bytes text : List ℕ) (inputs : Inputs) → AreInputsFrom stated bytes true inputs → IsPortedText inputs.rules inputs.designs.drawn text
+    → PortedHeadline stated bytes text
+ported-of stated bytes text inputs from ported = (
+  record {
     rules = inputs.rules;
     states = from.states;
     good = record {
       file = inputs.file;
       read = from.read;
-      good = record { design = inputs.design; checked = from.is.checked; nets = from.is.nets; good = good };
+      good = record {
+        design = placed_in inputs.designs;
+        checked = from.is.checked;
+        ported = inputs.designs.drawn;
+        has = ported-drawn inputs.rules inputs.file (placed_in inputs.designs) inputs.designs from.is.drawn;
+        words = from.is.words refl;
+        nets = from.is.nets;
+        good = ported.is;
+      };
     };
-  }
-
-  -- what files say is one design under one set of rules, and a text reads as one layout, so that the headline is a fact of these
-  pub good-of : (layout : Layout) → ReadsAs text layout → Headline stated bytes text → Good inputs.rules inputs.design layout
-  good-of layout reads headline =
-      let h = headline.good.good in
-      let rules : headline.rules ≡ inputs.rules = ok-same _ headline.rules inputs.rules headline.states from.states in
-      let file : headline.good.file ≡ inputs.file =
-      ok-same _ headline.good.file inputs.file headline.good.read
-      (ap (λ (r : RuleValues). yal_reads bytes (numbers_of r.version r.decimals)) rules ∙ from.read) in
-      let checked : on_grid inputs.rules inputs.file ≡ Ok h.design =
-      ap (λ (r : RuleValues). on_grid r inputs.file) (sym rules) ∙ ap (on_grid headline.rules) (sym file) ∙ h.checked in
-      let design : h.design ≡ inputs.design = ok-same _ h.design inputs.design checked from.is.checked in
-      let commands : h.good.reads.commands ≡ reads.commands = ok-same _ h.good.reads.commands reads.commands h.good.reads.reads reads.reads in
-      let shown : h.good.layout ≡ layout = ok-same (meaning h.good.reads.commands) h.good.layout layout h.good.reads.means (ap meaning commands ∙ reads.means) in
-      subst (λ (l : Layout). Good inputs.rules inputs.design l) shown
-      (subst (λ (d : Netlist). Good inputs.rules d h.good.layout) design (subst (λ (r : RuleValues). Good r h.design h.good.layout) rules h.good.good))
+  },
+  ported.edges,
+)

@@ -1,5 +1,5 @@
 -- what was done for the words of a command
-use Rattle.std.specs.Prelude.{◌≡◌, ◌⊎◌, ◌↔◌, ℕ, List, [], Option, Some, None, option_and_then, Result, IfOk}
+use Rattle.std.specs.Prelude.{◌≡◌, ◌⊎◌, ◌↔◌, ℕ, List, [], true, Option, Some, None, option_and_then, Result, IfOk}
 use Rattle.command_ends.specs.Status.{ending_status}
 use Rattle.command_ends.specs.declared.stop.Stop.{Stop}
 use Rattle.command_inputs.specs.Origin.{IsSourceText}
@@ -8,7 +8,7 @@ use Rattle.command_words.specs.Command.{CheckNames, Command, Names, check, route
 use Rattle.commands.specs.Causes.{ReadFails}
 use Rattle.commands.specs.Changes.{Changes, IsAsSaid}
 use Rattle.commands.specs.Done.{Done, judged, laid_out}
-use Rattle.commands.specs.Headline.{Headline}
+use Rattle.commands.specs.Headline.{Headline, PortedHeadline}
 use Rattle.commands.specs.Verdict.{asked_verdict}
 use Rattle.greedy_router.specs.declared.sweep.Routed.{Routed}
 
@@ -26,6 +26,8 @@ pub record Carried (asked : Option Command) (ending : Result Done Stop) (kept : 
   pub cause : (command : Command) → asked ≡ Some command → ending_status ending ≡ 8 → ReadFails command old.holds old.reads new.reads
   -- what is written is a good layout, and a layout is judged by that
   pub headline : (names : Names) (stated bytes held : List ℕ) → asked ≡ Some (route names) → old.holds names.rules ≡ Some stated
-      → IsSourceText names.design old.holds stated bytes → ending_status ending ≡ 0 → new.holds names.out ≡ Some held → Headline stated bytes held
+      → IsSourceText names.design old.holds stated bytes → ending_status ending ≡ 0 → new.holds names.out ≡ Some held → Headline names.wanted.ports stated bytes held
   pub judges : (names : CheckNames) (stated bytes text : List ℕ) → asked ≡ Some (check names) → old.holds names.rules ≡ Some stated
-      → old.holds names.design ≡ Some bytes → old.holds names.cif ≡ Some text → IfOk ending (IsJudgedBy (Headline stated bytes text))
+      → old.holds names.design ≡ Some bytes → old.holds names.cif ≡ Some text → IfOk ending (IsJudgedBy (Headline names.ports stated bytes text))
+  pub edges : (names : Names) (stated bytes held : List ℕ) → asked ≡ Some (route names) → names.wanted.ports ≡ true → old.holds names.rules ≡ Some stated
+      → IsSourceText names.design old.holds stated bytes → ending_status ending ≡ 0 → new.holds names.out ≡ Some held → PortedHeadline stated bytes held

@@ -11,7 +11,7 @@ abbrev pub ReadFails : Command → (List ℕ → Option (List ℕ)) → (List �
 ReadFails (route names) told old new = InputsFail names.rules names.design told old new
 ReadFails (check names) told old new =
     InputsFail names.rules (from_file names.design) told old new
-    ⊎ (Rose (old names.cif) (new names.cif) × ((under : RuleValues) × ArePassed names.rules (from_file names.design) told under))
+    ⊎ (Rose (old names.cif) (new names.cif) × ((under : RuleValues) × ArePassed names.rules (from_file names.design) names.ports told under))
 
 -- why its writing failed: the write count of the file that it writes rose, or that of the sink as it printed what it had done
 abbrev pub WriteFails : Option (List ℕ) → (List ℕ → ℕ) → (List ℕ → ℕ) → ℕ → ℕ → Type 0

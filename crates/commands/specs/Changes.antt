@@ -7,7 +7,7 @@ use Rattle.command_ends.specs.declared.stop.Stop.TheVariants.{Refused, ReadFault
 use Rattle.command_inputs.specs.Reading.{Files}
 use Rattle.command_jobs.specs.Job.{Job}
 use Rattle.command_jobs.specs.Text.{job_text}
-use Rattle.command_jobs.specs.Written.{IsGoodText}
+use Rattle.command_jobs.specs.Written.{IsPortedText}
 use Rattle.commands.specs.Accepted.{Accepted, to_lay_out}
 use Rattle.commands.specs.Done.{Done, judged, laid_out}
 use Rattle.commands.specs.Ends.{Ends}
@@ -40,10 +40,10 @@ pub record Changes (file : Option (List ℕ)) (ending : Result Done Stop) (kept 
   pub same_writes : ending_status ending ≢ 9 → new.writes ≡ old.writes
   pub same_reads : ending_status ending ≢ 8 → new.reads ≡ old.reads
 
--- a job with these routed channels was written into a file, or could not be; its text is that of a good layout
+-- a job with these routed channels was written into a file, or could not be; its text is that of a good layout, with its ports at the edges
 pub record IsWritten (job : Job) (routed : List Routed) (file : List ℕ) (ending : Result Done Stop) (kept : List Routed) (old new : Files) : Type 0 where
   pub listed : (ending_status ending ≡ 0) ⊎ (ending_status ending ≡ 9)
   pub said : IsAsSaid (Ok (to_lay_out job)) (Some file) ending kept old new
   pub changes : Changes (Some file) ending kept old new
   pub routed_so : kept ≡ routed
-  pub good : IsGoodText job.rules job.drawn (job_text job routed)
+  pub good : IsPortedText job.rules job.drawn (job_text job routed)

@@ -24,8 +24,8 @@ pub data Done : Type 0 where
 
 -- findings of a layout for a design under rules: there are none exactly where it is good
 pub record AreFound (inputs : Inputs) (layout : Layout) (findings : List Finding) : Type 0 where
-  pub are : Findings inputs.rules inputs.design layout findings
-  pub good : (findings ≡ []) ↔ Good inputs.rules inputs.design layout
+  pub are : Findings inputs.rules inputs.designs.drawn.design layout findings
+  pub good : (findings ≡ []) ↔ Good inputs.rules inputs.designs.drawn.design layout
 
 -- so of the inputs and the layout that were to be judged
 pub record IsJudged (inputs : Inputs) (layout : Layout) (findings : List Finding) (asked : Inputs) (shown : Layout) : Type 0 where
@@ -56,7 +56,7 @@ done_status (judged inputs layout findings) = findings_status findings
 
 abbrev pub done_text : Done → List ℕ
 done_text (laid_out summary) = summary_text summary
-done_text (judged inputs layout findings) = judged_text inputs.design layout findings
+done_text (judged inputs layout findings) = judged_text inputs.designs.drawn.design layout findings
 
 -- what a command has done as contracts see it, and how it ended
 abbrev pub done_seen : seen.Done → Done
@@ -74,5 +74,5 @@ IsJudgement good n = ((n ≡ 0) × good) ⊎ ((n ≡ 1) × (good → ⊥))
 -- the status of a verdict, where nothing fails
 abbrev pub IsStatusOf : Result Accepted Refusal → ℕ → Type 0
 IsStatusOf (Ok (to_lay_out job)) n = n ≡ 0
-IsStatusOf (Ok (to_judge inputs layout)) n = IsJudgement (Good inputs.rules inputs.design layout) n
+IsStatusOf (Ok (to_judge inputs layout)) n = IsJudgement (Good inputs.rules inputs.designs.drawn.design layout) n
 IsStatusOf (Err refusal) n = n ≡ refusal_status refusal

@@ -15,7 +15,7 @@ use Rattle.command_jobs.specs.Limits.{within_limits}
 -- the job of laying a design out under rules
 unfoldable pub job_verdict : Wanted → Inputs → Result Accepted Refusal
 job_verdict wanted inputs = do
-  job ← within_limits (job_of inputs.rules inputs.design wanted)
+  job ← within_limits (job_of inputs.rules inputs.designs wanted)
   Ok (to_lay_out job)
 
 -- the judgement of the layout that the bytes of a file are, for a design under rules
@@ -27,9 +27,9 @@ judgement_verdict inputs bytes = do
 -- the verdict on a command by what the files are told to hold: what is to be done, or the first refusal. There is none where a file that it comes to
 -- is untold
 unfoldable pub command_verdict : Command → (List ℕ → Option (List ℕ)) → Option (Result Accepted Refusal)
-command_verdict (route names) told = told_then (inputs_told names.rules names.design told) (λ inputs. Some (job_verdict names.wanted inputs))
+command_verdict (route names) told = told_then (inputs_told names.rules names.design names.wanted.ports told) (λ inputs. Some (job_verdict names.wanted inputs))
 command_verdict (check names) told =
-    told_then (inputs_told names.rules (from_file names.design) told) (λ inputs. option_map (judgement_verdict inputs) (told names.cif))
+    told_then (inputs_told names.rules (from_file names.design) names.ports told) (λ inputs. option_map (judgement_verdict inputs) (told names.cif))
 
 -- that on a command's words
 abbrev pub asked_verdict : Option Command → (List ℕ → Option (List ℕ)) → Option (Result Accepted Refusal)

@@ -21,12 +21,12 @@ use std::alloc::{AllocError, Global};
 // Finds what is wrong with a layout.
 fn judge_layout(alloc: Global, inputs: Inputs, layout: Layout) -> Result<Judged, AllocError>
     requires measured { IsMeasured layout }
-    requires room { HasRoom inputs.rules inputs.design }
+    requires room { HasRoom inputs.rules inputs.designs.drawn.design }
     ensures inputs { IfOk result (λ j. j.inputs ≡ inputs) }
     ensures layout { IfOk result (λ j. j.layout ≡ layout) }
     ensures found { IfOk result (λ j. AreFound j.inputs j.layout j.findings.items) }
 {
-    let findings = check(alloc, &layout, &inputs.design, &inputs.rules)?;
+    let findings = check(alloc, &layout, &inputs.designs.drawn.design, &inputs.rules)?;
     Ok(Judged {
         inputs,
         layout,
@@ -39,7 +39,8 @@ pub(crate) fn judge<S: Shelf>(alloc: Global, shelf: &mut S, names: &Check<'_>) -
     ensures { Carried (Some (asked.check (check_seen names.now))) (end_seen result) []
         (files (S.holds shelf.old) (S.read_faults shelf.old) (S.write_faults shelf.old)) (files (S.holds shelf.new) (S.read_faults shelf.new) (S.write_faults shelf.new)) }
 {
-    let inputs = load_inputs(alloc, shelf, names.rules, &Source::File(names.design))?;
+    let source = Source::File(names.design);
+    let inputs = load_inputs(alloc, shelf, names.rules, &source, names.ports)?;
     let layout = load_layout(alloc, shelf, names.cif)?;
     match judge_layout(alloc, inputs, layout) {
         Ok(judged) => Ok(Done::Judged(judged)),

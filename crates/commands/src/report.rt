@@ -23,7 +23,8 @@ fn report_judged<K: Sink>(out: &mut K, judged: &Judged) -> u8
         (K.written out.old) (K.written out.new) (K.faults out.old) (K.faults out.new) }
 {
     let findings = judged.findings.as_slice();
-    match put_judged(out, &judged.inputs.design, &judged.layout, findings) {
+    let design = &judged.inputs.designs.drawn.design;
+    match put_judged(out, design, &judged.layout, findings) {
         Ok(()) => status_of(judged),
         Err(Failed) => {
             print_line(out, &Stop::WriteFault);

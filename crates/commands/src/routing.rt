@@ -37,14 +37,15 @@ pub(crate) fn route<S: Shelf>(
         → AreKept styles.now (λ s. s.plan) (λ s. ⟦<Chooser as Chooses>⟧.answers s.chooser) (asked.route (seen names.now)) said kept.new.items }
 {
     let style = &styles[names.style];
-    let inputs = load_inputs(alloc, shelf, names.rules, &names.design)?;
+    let ports = names.wanted.ports;
+    let inputs = load_inputs(alloc, shelf, names.rules, &names.design, ports)?;
     let Inputs {
         rules,
         file,
-        design,
+        designs,
     } = inputs;
     drop(file);
-    match lay_out(alloc, design, rules, names.wanted, style) {
+    match lay_out(alloc, designs, rules, names.wanted, style) {
         Ok(prepared) => write_prepared(shelf, prepared, names.out, kept),
         Err(refusal) => Err(Stop::Refused(refusal)),
     }

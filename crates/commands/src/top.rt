@@ -4,7 +4,7 @@ ghost use Rattle.commands.specs.Causes.{IsQuiet, ReadFails, WriteFails};
 ghost use Rattle.command_words.specs.Command as asked;
 ghost use Rattle.command_words.specs.Command.{CheckNames, Names, command_of, writes_of};
 ghost use Rattle.commands.specs.Done.{IsStatusOf};
-ghost use Rattle.commands.specs.Headline.{Headline};
+ghost use Rattle.commands.specs.Headline.{Headline, PortedHeadline};
 ghost use Rattle.command_inputs.specs.Origin.{IsSourceText};
 ghost use Rattle.commands.specs.Outcome.{AreKept, EndsAs, Holds, HoldsFront};
 ghost use Rattle.command_ends.specs.Gains.{Gains};
@@ -36,22 +36,23 @@ pub struct Ended {
 
 /// Does the command that the words give.
 ///
-/// `route DESIGN RULES OUT [--seed N] [--rows K] [--style NAME]` reads the rules from the file RULES and the design in YAL from
+/// `route DESIGN RULES OUT [--seed N] [--rows K] [--style NAME] [--edge] [--ports]` reads the rules from the file RULES and the design in YAL from
 /// the file DESIGN, sets its cells in K rows, from 1 to 512, or in as many as make the layout about square, anneals the rows as the rules
 /// say with the seed N, below 2^64, or 1, sets feeds where nets cross rows, joins each net by wires in the channels between the rows, by the
 /// choices of the first of the styles that has the name NAME, or of the first of all, writes the layout in CIF into the file OUT, and prints it in
-/// short. There are one to sixteen styles.
+/// short. There are one to sixteen styles. With `--edge` channels without vertical constraints are routed by the left edges of their nets, and with `--ports` the terminals of the
+/// design's PARENT become cells, which are not annealed: the inputs in a further row below, the outputs in one above, each wired to its net.
 ///
 /// `make SEED N RULES OUT` does so for a design of N instances, from 1 to 20,000, that is made under the rules from SEED, which also anneals, in rows as
 /// usual and by the first of the styles.
 ///
-/// `check DESIGN RULES CIF` reads the rules and the design as `route` does, and a layout from the file CIF, and prints a line for each thing that is
+/// `check DESIGN RULES CIF [--ports]` reads the rules and the design as `route` does, and a layout from the file CIF, and prints a line for each thing that is
 /// wrong with the layout for this design under these rules, and then a line with their number: status 0 where there is none, and else 1.
 ///
 /// Every status but 0 and 1 prints one line, with the first cause, to the sink; if that fails the status stays. Where printing what was done or found fails,
 /// the line `write fault` is tried and the status is 9.
 ///
-/// What may refuse comes in this order: the words, reading RULES, the rules, reading DESIGN, YAL, the design, and then the
+/// What may refuse comes in this order: the words, reading RULES, the rules, reading DESIGN, YAL, the design, its ports, and then the
 /// limits of moves, grid, width and height, writing OUT, printing; or reading CIF, its text, its commands, checking, printing. Where the shelf tells the files that it
 /// comes to, the status is that of the verdict on them, unless it is 8 and a read count rose, 9 and OUT's write count or the sink's rose, or 10. On 0 OUT holds the text
 /// of the job with the wirings that are kept. Every status but 0 and 9 leaves all files as they were; after 9 OUT holds what it held, or a front of the
@@ -86,19 +87,24 @@ pub fn run<S: Shelf, K: Sink>(
     ensures written { (command : asked.Command) (said : _) (file : List ℕ) → Comes (map (λ s. s.chooser.name) styles.now) words.now (S.holds shelf.old) command said → writes_of command ≡ Some file
         → result.status ≡ 0 → Holds said result.kept.items (S.holds shelf.new file) }
 
-    // The headline: what `route` writes reads as a layout that is good for the design under the rules, and so does what `make` writes for the design that
-    // it makes.
+    // The headline: what `route` writes reads as a layout that is good for the design under the rules, with its ports where these are wished for, and so does what
+    // `make` writes for the design that it makes.
     ensures headline { (names : Names) (stated bytes held : List ℕ) → command_of (map (λ s. s.chooser.name) styles.now) words.now ≡ Some (asked.route names)
         → S.holds shelf.old names.rules ≡ Some stated → IsSourceText names.design (S.holds shelf.old) stated bytes
-        → result.status ≡ 0 → S.holds shelf.new names.out ≡ Some held → Headline stated bytes held }
+        → result.status ≡ 0 → S.holds shelf.new names.out ≡ Some held → Headline names.wanted.ports stated bytes held }
+
+    // Ports stand at the edges: those of the lower edge in the lowest row, and those of the upper edge in the highest.
+    ensures edges { (names : Names) (stated bytes held : List ℕ) → command_of (map (λ s. s.chooser.name) styles.now) words.now ≡ Some (asked.route names)
+        → names.wanted.ports ≡ true → S.holds shelf.old names.rules ≡ Some stated → IsSourceText names.design (S.holds shelf.old) stated bytes
+        → result.status ≡ 0 → S.holds shelf.new names.out ≡ Some held → PortedHeadline stated bytes held }
 
     // What `check` says of a layout: with status 0 that it is so, with status 1 that it is not.
     ensures good { (names : CheckNames) (stated bytes text : List ℕ) → command_of (map (λ s. s.chooser.name) styles.now) words.now ≡ Some (asked.check names)
         → S.holds shelf.old names.rules ≡ Some stated → S.holds shelf.old names.design ≡ Some bytes → S.holds shelf.old names.cif ≡ Some text
-        → result.status ≡ 0 → Headline stated bytes text }
+        → result.status ≡ 0 → Headline names.ports stated bytes text }
     ensures faulty { (names : CheckNames) (stated bytes text : List ℕ) → command_of (map (λ s. s.chooser.name) styles.now) words.now ≡ Some (asked.check names)
         → S.holds shelf.old names.rules ≡ Some stated → S.holds shelf.old names.design ≡ Some bytes → S.holds shelf.old names.cif ≡ Some text
-        → result.status ≡ 1 → Headline stated bytes text → ⊥ }
+        → result.status ≡ 1 → Headline names.ports stated bytes text → ⊥ }
 
     // Status 9 of a command that writes: there is a job, and the file to write holds what it held, or a front of that text; all of it where its count did not
     // rise.

@@ -9,6 +9,8 @@ pub mod GridLaws
 pub mod WordLaws
 -- rows with those of ports
 pub mod RowLaws
+-- the rows of ports are at the edges
+pub mod PortEdges
 -- what a design has that was made with its ports
 pub mod PortedMade
 -- the design with its ports is a good one

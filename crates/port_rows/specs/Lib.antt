@@ -8,6 +8,8 @@ pub mod Ported
 pub mod PortWords
 -- the rows of ports
 pub mod PortRows
+-- the design that is drawn, and the one that is placed
+pub mod Designs
 -- the names of ports by their sides
 pub mod PortNames
 pub mod PortsView

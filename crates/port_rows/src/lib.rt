@@ -4,6 +4,7 @@
 mod added;
 mod clashes;
 mod copies;
+mod designs;
 mod fault;
 mod kind_count;
 mod names;
@@ -13,6 +14,7 @@ mod ported;
 mod porting;
 mod rows;
 
+pub use designs::Designs;
 pub use fault::PortFault;
 pub use ported::Ported;
 pub use porting::ports;

@@ -1,6 +1,6 @@
 //! Rows of cells between a row of the ports at the lower edge and one of those at the upper.
 
-ghost use Rattle.port_rows.specs.PortRows.{cells_in, port_row, with_port_rows, HoldCells};
+ghost use Rattle.port_rows.specs.PortRows.{cells_in, port_row, with_port_rows, HaveEdges, HoldCells};
 ghost use Rattle.row_model.specs.Rows.{ArePlaced};
 ghost use Rattle.row_model.specs.Start.{seats_from};
 ghost use Rattle.std.specs.Prelude.{◌≡◌, ◌≤◌, ◌+◌, ◌++◌, length, IfOk, OnOk};
@@ -19,6 +19,7 @@ pub fn port_rows(alloc: Global, ported: &Ported, rows: &Rows) -> Result<Rows, Al
     requires { HoldCells ported.now rows.now }
     ensures is { IfOk result (λ made. made ≡ with_port_rows ported.now rows.now) }
     ensures placed { IfOk result (λ made. ArePlaced ported.now.design made) }
+    ensures edges { IfOk result (λ made. HaveEdges ported.now made) }
 {
     let first = cells_in(ported);
     let mut made = Vec::new(alloc);

@@ -7,11 +7,11 @@ use Rattle.command_inputs.proofs.stages.load_design.Goals as goal
 pub returns-in_err-bytes-clause-loads : goal.returns-in_err-bytes-clause-loads
 unfolding design_verdict
 returns-in_err-bytes-clause-loads g c =
-    loads-stop (λ (v : Vec ℕ Global). v.items) (λ (r : ReadDesign). r) (stated_design c.args.rules.now) c.in_err-bytes.field-0.0 c.from_residual.result
+    loads-stop (λ (v : Vec ℕ Global). v.items) (λ (r : ReadDesign). r) (stated_design c.args.rules.now c.args.ports) c.in_err-bytes.field-0.0 c.from_residual.result
     c.from_residual.ensures.1 c.in_err-bytes.ensures.loads
 
 pub returns-clause-loads : goal.returns-clause-loads
 unfolding design_verdict
 returns-clause-loads g c =
-    rw c.or_stop.ensures (loads-on (λ (v : Vec ℕ Global). v.items) (λ (r : ReadDesign). r) (stated_design c.args.rules.now) c.in_ok-bytes.bytes _ c.stated_design.result c.as_slice.ensures.value
+    rw c.or_stop.ensures (loads-on (λ (v : Vec ℕ Global). v.items) (λ (r : ReadDesign). r) (stated_design c.args.rules.now c.args.ports) c.in_ok-bytes.bytes _ c.stated_design.result c.as_slice.ensures.value
     c.in_ok-bytes.ensures.loads c.stated_design.ensures.says)

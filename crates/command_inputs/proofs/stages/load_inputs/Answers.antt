@@ -24,7 +24,7 @@ returns-in_err-read-clause-told g c = λ said is.
     handed-on _ c.from_residual-in_err-read.result _ _ c.from_residual-in_err-read.ensures.1
     (told-goes-on (λ (i : Inputs). i) (Err stop) _ c.in_ok-rules.rules _ said
     (of-file (λ (r : RuleValues). r) (Ok c.in_ok-rules.rules) rules_verdict _ c.in_ok-rules.ensures.told)
-    (of-file (λ (i : Inputs). i) (Err stop) (inputs_under c.in_ok-rules.rules) _
+    (of-file (λ (i : Inputs). i) (Err stop) (inputs_under c.in_ok-rules.rules c.args.ports) _
     (λ bytes told. stops (λ (d : ReadDesign). d) (λ (i : Inputs). i) stop _ _ ((loads-after c.in_ok-rules.ensures.read c.in_err-read.ensures.loads).told bytes told))) is)
 
 pub returns-in_err-read-clause-read : goal.returns-in_err-read-clause-read
@@ -35,12 +35,12 @@ returns-in_err-read-clause-read g c =
 
 pub returns : goal.returns
 returns g c =
-    let made : Inputs = record { rules = c.in_ok-rules.rules; file = c.in_ok-read.read.file; design = c.in_ok-read.read.design } in
+    let made : Inputs = record { rules = c.in_ok-rules.rules; file = c.in_ok-read.read.file; designs = c.in_ok-read.read.designs } in
     let loads = loads-after c.in_ok-rules.ensures.read c.in_ok-read.ensures.loads in
-    let are : AreRead c.args.rules.now (source_seen c.args.source.now) (g.S.Shelf.holds c.args.shelf.now) made =
-    record { stated = c.in_ok-rules.ensures.told; designed = loads.told; is = c.in_ok-read.ensures.is } in
+    let are : AreRead c.args.rules.now (source_seen c.args.source.now) c.args.ports (g.S.Shelf.holds c.args.shelf.now) made =
+    record { stated = c.in_ok-rules.ensures.told; designed = loads.told; is = c.in_ok-read.ensures.are } in
     record {
-      told = λ said is. read-told _ _ _ made said are is;
+      told = λ said is. read-told _ _ _ _ made said are is;
       are = are;
       read = read-also (λ (eight : 0 ≡ 8) fails. absurd (omega (arith, eight))) loads.read;
     }

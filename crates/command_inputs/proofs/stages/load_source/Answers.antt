@@ -6,4 +6,4 @@ use Rattle.command_inputs.proofs.stages.load_source.Goals as goal
 
 pub returns-in-Made-clause-loads : goal.returns-in-Made-clause-loads
 returns-in-Made-clause-loads g c =
-    rw (c.in-Made.is, c.or_stop.ensures) (loads-made (λ (r : ReadDesign). r) (design_verdict c.args.rules.now) _ c.make_source.result refl c.make_source.ensures.says)
+    rw (c.in-Made.is, c.or_stop.ensures) (loads-made (λ (r : ReadDesign). r) (design_verdict c.args.rules.now c.args.ports) _ c.make_source.result refl c.make_source.ensures.says)

@@ -1,4 +1,4 @@
-use Rattle.std.proofs.Common.{◌≡◌, List, ap, subst, sym, ◌∙◌, map}
+use Rattle.std.proofs.Common.{rules, ◌≡◌, List, ap, subst, sym, ◌∙◌, map}
 use Rattle.channel_stack.specs.Layouts.{layout_of}
 use Rattle.channel_stack.specs.Routed.{AreWired, IsRouted}
 use Rattle.channel_stack.specs.Stack.{laid_of, stack_of}
@@ -8,17 +8,19 @@ use Rattle.tech_rules.specs.Rules.{ValidRules}
 use Rattle.command_jobs.specs.Rows.{job_of}
 use Rattle.command_jobs.specs.Summarized.{line_of_channel}
 use Rattle.command_jobs.specs.Text.{wirings_of}
+use Rattle.command_jobs.proofs.PortCells.{ports-stand}
 use Rattle.command_jobs.proofs.SummaryLaws.{summary-from}
 use Rattle.command_jobs.proofs.prepared.ready.Goals as goal
 
 pub lay-requires-clause-routed : goal.lay-requires-clause-routed
 lay-requires-clause-routed c =
-    subst (λ (l : List Routed). IsRouted c.args.rules c.args.design c.args.fed (wirings_of l)) (sym c.as_slice-wirings.ensures.value) c.requires.rows.routed
+    subst (λ (l : List Routed). IsRouted c.args.rules c.args.designs.drawn.design c.args.fed (wirings_of l)) (sym c.as_slice-wirings.ensures.value) c.requires.rows.routed
 
 pub invariant_of-result : goal.invariant_of-result
 invariant_of-result c =
     let r = c.args.rules in
-    let d = c.args.design in
+    let d = c.args.designs.drawn.design in
+    let job = job_of c.args.rules c.args.designs c.args.wanted in
     let fed = c.args.fed in
     let kept = c.args.rows.routed.items in
     let slice = c.as_slice-wirings.ensures.value in
@@ -30,8 +32,9 @@ invariant_of-result c =
       laid = laid;
       good = subst (λ (l : List Routed). Good r d (layout_of r d (stack_of r d fed (wirings_of l)))) slice
           (c.in_ok-laid.ensures.good c.requires.high (subst (λ (l : List Routed). AreWired d fed (wirings_of l)) (sym slice) c.requires.rows.wired));
+      edges = ports-stand job fed kept (subst ValidRules c.rules.view_is c.rules.invariant) (search rules) c.requires.high c.requires.rows;
       told = c.summarized-summary.ensures
-          ∙ summary-from (job_of r d c.args.wanted) fed c.args.cost kept c.in_ok-lines.lines.items c.in_ok-laid.laid c.requires.rows.is c.requires.cost
+          ∙ summary-from job fed c.args.cost kept c.in_ok-lines.lines.items c.in_ok-laid.laid c.requires.rows.is c.requires.cost
           (c.in_ok-lines.ensures ∙ ap (map (line_of_channel fed.width)) slice) laid;
       symbols = c.in_ok-symbols.ensures.drawings;
       feeds = c.in_ok-symbols.ensures.heights;

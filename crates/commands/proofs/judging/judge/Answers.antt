@@ -1,4 +1,4 @@
-use Rattle.std.proofs.Common.{Err, [], inl, inr, refl, arith, ◌≡◌, ◌∙◌, ℕ, List, Some, None, Result, Ok, sym, ap, subst}
+use Rattle.std.proofs.Common.{Err, [], inl, inr, refl, arith, ◌≡◌, ◌↔◌, ◌∙◌, ℕ, List, Some, None, Result, Ok, sym, ap, subst}
 use Rattle.command_ends.proofs.FindsLaws.{told-stops, of-file, stops, told-goes-on}
 use Rattle.command_ends.specs.declared.refusal.Refusal.TheVariants.{Memory}
 use Rattle.command_ends.specs.declared.stop.Stop.TheVariants.{Refused}
@@ -23,16 +23,17 @@ use Rattle.command_inputs.specs.Reading.{Files, Loads}
 use Rattle.commands.specs.Carried.{Carried}
 use Rattle.commands.specs.Done.{AreFound, judged}
 use Rattle.commands.specs.Ends.{Ends}
+use Rattle.commands.specs.Headline.{Headline}
 use Rattle.commands.proofs.HeadlineLaws.{good-of, headline-of}
 use Rattle.commands.proofs.judging.judge.Goals as goal
 
 -- what is found of a layout for a command to check, where the rules and the design are read
 layout-found : (names : CheckNames) (inputs : Inputs) (result : Result Layout Stop) {Fails : (List ℕ → ℕ) → (List ℕ → ℕ) → Type 0} (old new : Files) (said : Result Accepted Refusal)
-    → AreRead names.rules (from_file names.design) old.holds inputs → Loads (λ (l : Layout). l) layout_verdict (λ told. told names.cif) Fails result old new
+    → AreRead names.rules (from_file names.design) names.ports old.holds inputs → Loads (λ (l : Layout). l) layout_verdict (λ told. told names.cif) Fails result old new
     → command_verdict (check names) old.holds ≡ Some said → Finds (to_judge inputs) result said
 unfolding command_verdict judgement_verdict
 layout-found names inputs result old new said read loads is =
-    told-goes-on (to_judge inputs) result _ inputs _ said (λ s at. read-told names.rules (from_file names.design) old.holds inputs s read at)
+    told-goes-on (to_judge inputs) result _ inputs _ said (λ s at. read-told names.rules (from_file names.design) names.ports old.holds inputs s read at)
     (of-file (to_judge inputs) result (judgement_verdict inputs) _ (λ bytes told. by result (layout_verdict bytes) (loads.told bytes told))) is
   where
     by : (result : Result Layout Stop) (found : Result Layout Refusal) → Finds (λ (l : Layout). l) result found
@@ -42,7 +43,7 @@ layout-found names inputs result old new said read loads is =
 
 -- what was done where it was judged
 judged-for : (names : CheckNames) (inputs : Inputs) (layout : Layout) (findings : List Finding) {Fails : (List ℕ → ℕ) → (List ℕ → ℕ) → Type 0} (old new : Files)
-    → AreRead names.rules (from_file names.design) old.holds inputs → Loads (λ (l : Layout). l) layout_verdict (λ told. told names.cif) Fails (Ok layout) old new
+    → AreRead names.rules (from_file names.design) names.ports old.holds inputs → Loads (λ (l : Layout). l) layout_verdict (λ told. told names.cif) Fails (Ok layout) old new
     → AreFound inputs layout findings → Carried (Some (check names)) (Ok (judged inputs layout findings)) [] old new
 judged-for names inputs layout findings old new read loads found = record {
   said = λ said says. record {
@@ -57,13 +58,15 @@ judged-for names inputs layout findings old new read loads found = record {
       loads.read.files loads.read.writes loads.read.quiet;
   cause = λ command same eight. absurd (omega (arith, eight));
   headline = λ other stated bytes held same states source zero told. absurd cc;
+  edges = λ other stated bytes held same ports states source zero told. absurd cc;
   judges = λ other stated bytes text same states design cif.
       let here : names ≡ other = cc in
-      let from = inputs-from names.rules (from_file names.design) old.holds inputs stated bytes read (ap (λ (m : CheckNames). old.holds m.rules) here ∙ states)
+      let from = inputs-from names.rules (from_file names.design) names.ports old.holds inputs stated bytes read (ap (λ (m : CheckNames). old.holds m.rules) here ∙ states)
       (ap (λ (m : CheckNames). old.holds m.design) here ∙ design) in
-      let reads = layout-reads text layout (loads.told text (ap (λ (m : CheckNames). old.holds m.cif) here ∙ cif)) in (
-        λ none. headline-of stated bytes text inputs from (record { layout = layout; reads = reads; good = found.good.0 none }),
-        λ headline. found.good.1 (good-of stated bytes text inputs from layout reads headline),
+      let reads = layout-reads text layout (loads.told text (ap (λ (m : CheckNames). old.holds m.cif) here ∙ cif)) in
+      subst (λ (m : CheckNames). (findings ≡ []) ↔ Headline m.ports stated bytes text) here (
+        λ none. headline-of stated bytes text names.ports inputs from (record { layout = layout; reads = reads; good = found.good.0 none }),
+        λ headline. found.good.1 (good-of stated bytes text names.ports inputs from layout reads headline),
       );
 }
 
@@ -82,7 +85,7 @@ returns-in_err-layout g c =
     let loads = loads-after c.in_ok-inputs.ensures.read c.in_err-layout.ensures.loads in
     stopped-early (to_judge inputs) (check names) stop c.from_residual-in_err-layout.result [] _ _ c.from_residual-in_err-layout.ensures.1
     (λ said says. layout-found names inputs (Err stop) _ _ said c.in_ok-inputs.ensures.are loads says)
-    (read-also (λ eight rose. inr (rose, (inputs.rules, read-passed names.rules (from_file names.design) _ inputs c.in_ok-inputs.ensures.are))) loads.read) refl
+    (read-also (λ eight rose. inr (rose, (inputs.rules, read-passed names.rules (from_file names.design) names.ports _ inputs c.in_ok-inputs.ensures.are))) loads.read) refl
 
 pub returns-in-Ok : goal.returns-in-Ok
 returns-in-Ok g c =

@@ -1,4 +1,4 @@
-use Rattle.std.proofs.Common.{◌∙◌, Ok, Err, refl, subst, sym, ◌≡◌, ◌<◌, ℕ, List, length, get_or, Option, Some, Bool, Result, slice_get, ap, arith}
+use Rattle.std.proofs.Common.{◌∙◌, Ok, Err, refl, subst, sym, ◌≡◌, ◌<◌, ℕ, List, length, get_or, Option, Some, Bool, true, Result, slice_get, ap, arith}
 use Rattle.command_ends.proofs.FindsLaws.{found-refusal, stops, told-stops, told-next}
 use Rattle.command_ends.specs.Answers.{Finds}
 use Rattle.command_ends.specs.declared.stop.Stop.TheVariants.{Refused}
@@ -20,40 +20,42 @@ use Rattle.command_ends.specs.Refusing.{◌>>=◌}
 use Rattle.command_ends.specs.declared.refusal.Refusal.{Refusal}
 use Rattle.command_ends.specs.declared.stop.Stop.{Stop}
 use Rattle.command_inputs.proofs.OriginLaws.{inputs-from, read-told}
-use Rattle.command_inputs.specs.Origin.{AreRead, IsSourceText}
+use Rattle.command_ends.specs.Status.{ending_status}
+use Rattle.command_inputs.specs.Origin.{AreInputsFrom, AreRead, IsSourceText}
 use Rattle.command_inputs.specs.Reading.{Files, OnlyRead}
 use Rattle.command_inputs.specs.Stated.{inputs_told}
 use Rattle.command_jobs.specs.Limits.{within_limits}
 use Rattle.command_jobs.specs.Rows.{job_of}
 use Rattle.command_jobs.specs.Text.{channels_of, job_text}
-use Rattle.command_jobs.specs.Written.{IsGoodText}
+use Rattle.command_jobs.specs.Written.{IsPortedText}
 use Rattle.command_words.specs.declared.command.Wanted.{Wanted}
 use Rattle.commands.specs.Carried.{Carried}
 use Rattle.commands.specs.Changes.{IsAsSaid, IsWritten}
 use Rattle.commands.specs.Done.{Done}
 use Rattle.commands.specs.Outcome.{IsRoutedSo}
-use Rattle.commands.proofs.HeadlineLaws.{headline-of}
+use Rattle.commands.specs.Headline.{Headline}
+use Rattle.commands.proofs.HeadlineLaws.{headline-of, ported-of}
 use Rattle.commands.proofs.routing.route.Goals as goal
 
 -- what is said of a command to route, where the rules and the design are read
-job-said : (names : Names) (told : List ℕ → Option (List ℕ)) (inputs : Inputs) (said : Result Accepted Refusal) → AreRead names.rules names.design told inputs
+job-said : (names : Names) (told : List ℕ → Option (List ℕ)) (inputs : Inputs) (said : Result Accepted Refusal) → AreRead names.rules names.design names.wanted.ports told inputs
     → command_verdict (route names) told ≡ Some said → said ≡ job_verdict names.wanted inputs
 unfolding command_verdict
 job-said names told inputs said read is =
     sym (same_Some (job_verdict names.wanted inputs) said
-    (told-next (inputs_told names.rules names.design told) inputs (λ (i : Inputs). Some (job_verdict names.wanted i)) said
-    (λ s at. read-told names.rules names.design told inputs s read at) is))
+    (told-next (inputs_told names.rules names.design names.wanted.ports told) inputs (λ (i : Inputs). Some (job_verdict names.wanted i)) said
+    (λ s at. read-told names.rules names.design names.wanted.ports told inputs s read at) is))
 
 -- and where the job passes the limits
-job-accepted : (wanted : Wanted) (inputs : Inputs) (job : Job) → within_limits (job_of inputs.rules inputs.design wanted) ≡ Ok job
+job-accepted : (wanted : Wanted) (inputs : Inputs) (job : Job) → within_limits (job_of inputs.rules inputs.designs wanted) ≡ Ok job
     → job_verdict wanted inputs ≡ Ok (to_lay_out job)
 unfolding job_verdict
 job-accepted wanted inputs job made = ap (λ (l : Result Job Refusal). l >>= (λ (j : Job). Ok (to_lay_out j))) made
 
 -- what was done where its text was written, or could not be
 written-for : (names : Names) (inputs : Inputs) (p : RoutedJob) (e : Result Done Stop) (kept : List Routed) {First : (List ℕ → ℕ) → (List ℕ → ℕ) → Type 0} (old mid new : Files)
-    → AreRead names.rules names.design old.holds inputs → p.job ≡ job_of inputs.rules inputs.design names.wanted
-    → within_limits (job_of inputs.rules inputs.design names.wanted) ≡ Ok p.job → OnlyRead 0 First old mid → IsWritten p.job p.kept names.out e kept mid new
+    → AreRead names.rules names.design names.wanted.ports old.holds inputs → p.job ≡ job_of inputs.rules inputs.designs names.wanted
+    → within_limits (job_of inputs.rules inputs.designs names.wanted) ≡ Ok p.job → OnlyRead 0 First old mid → IsWritten p.job p.kept names.out e kept mid new
     → Carried (Some (route names)) e kept old new
 written-for names inputs p e kept old mid new read is made first after =
     let written = subst (λ (m : Files). IsWritten p.job p.kept names.out e kept m new) (read-same old mid first) after in
@@ -67,16 +69,29 @@ written-for names inputs p e kept old mid new read is made first after =
       cause = λ command same eight. absurd (omega (arith, written.listed, eight));
       headline = λ other stated bytes held same states source zero told.
           let here : names ≡ other = cc in
-          let text : job_text p.job kept ≡ held =
-          same_Some (job_text p.job kept) held (written.said.written names.out refl zero held (ap (λ (m : Names). new.holds m.out) here ∙ told)) in
-          let routed : kept ≡ p.kept = written.routed_so in
-          headline-of stated bytes held inputs
-          (inputs-from names.rules names.design old.holds inputs stated bytes read (ap (λ (m : Names). old.holds m.rules) here ∙ states)
-          (subst (λ (m : Names). IsSourceText m.design old.holds stated bytes) (sym here) source))
-          (subst (λ (j : Job). IsGoodText j.rules j.drawn held) is
-          (subst (IsGoodText p.job.rules p.job.drawn) (ap (job_text p.job) (sym routed) ∙ text) written.good));
+          let ported = held-text held zero (ap (λ (m : Names). new.holds m.out) here ∙ told) written in
+          subst (λ (m : Names). Headline m.wanted.ports stated bytes held) here
+          (headline-of stated bytes held names.wanted.ports inputs
+          (inputs-from names.rules names.design names.wanted.ports old.holds inputs stated bytes read (ap (λ (m : Names). old.holds m.rules) here ∙ states)
+          (subst (λ (m : Names). IsSourceText m.design old.holds stated bytes) (sym here) source)) ported.is);
+      edges = λ other stated bytes held same ports states source zero told.
+          let here : names ≡ other = cc in
+          let wished : names.wanted.ports ≡ true = ap (λ (m : Names). m.wanted.ports) here ∙ ports in
+          let from = inputs-from names.rules names.design names.wanted.ports old.holds inputs stated bytes read (ap (λ (m : Names). old.holds m.rules) here ∙ states)
+          (subst (λ (m : Names). IsSourceText m.design old.holds stated bytes) (sym here) source) in
+          ported-of stated bytes held inputs (subst (λ (b : Bool). AreInputsFrom stated bytes b inputs) wished from)
+          (held-text held zero (ap (λ (m : Names). new.holds m.out) here ∙ told) written);
       judges = λ other stated bytes text same states design cif. absurd cc;
     }
+  where
+    -- what the file holds is a good text of the design that is drawn
+    held-text : (held : List ℕ) → ending_status e ≡ 0 → new.holds names.out ≡ Some held → IsWritten p.job p.kept names.out e kept old new
+        → IsPortedText inputs.rules inputs.designs.drawn held
+    held-text held zero told written =
+        let text : job_text p.job kept ≡ held = same_Some (job_text p.job kept) held (written.said.written names.out refl zero held told) in
+        let routed : kept ≡ p.kept = written.routed_so in
+        subst (λ (j : Job). IsPortedText j.rules j.drawn held) is
+        (subst (IsPortedText p.job.rules p.job.drawn) (ap (job_text p.job) (sym routed) ∙ text) written.good)
 
 -- routed so by the style that stands at its place
 chosen-so : {C : Type 0} (styles : List C) (edge : Bool) (plan : C → Plan) (may : C → List Candidate → ℕ → Type 0) (place : ℕ) (chosen d : C) (said : Result Accepted Refusal) (kept : List Routed)

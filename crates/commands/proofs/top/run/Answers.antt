@@ -30,6 +30,7 @@ returns g c =
       unkept = λ command is none. k.changes.none (λ begun. (changes-of k is).begun begun none);
       written = λ command said file comes writes zero. (said-of k comes).written file writes (omega (arith, told, zero));
       headline = λ names stated bytes held is states source zero. k.headline names stated bytes held is states source (omega (arith, told, zero));
+      edges = λ names stated bytes held is ports states source zero. k.edges names stated bytes held is ports states source (omega (arith, told, zero));
       good = λ names stated bytes text is states design cif. (tells-judged n _ _ _ _ e _ t (k.judges names stated bytes text is states design cif)).0;
       faulty = λ names stated bytes text is states design cif. (tells-judged n _ _ _ _ e _ t (k.judges names stated bytes text is states design cif)).1;
       front = λ command said file comes writes nine. elim told [

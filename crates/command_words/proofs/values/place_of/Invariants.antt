@@ -1,6 +1,6 @@
 use Rattle.std.proofs.Common.{◌≡◌, ◌+◌, ℕ, length, map, option_map}
 use Rattle.command_words.specs.Command.{place_of}
-use Rattle.command_words.proofs.command.place_of.Given as goal
+use Rattle.command_words.proofs.values.place_of.Given as goal
 
 abbrev pub invariant-loop-style : goal.invariant-loop-style
 invariant-loop-style g l = record {
