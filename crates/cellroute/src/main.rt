@@ -59,8 +59,20 @@ fn obeyed(rt: &HostRuntime, words: &[Word]) -> Result<u8, AllocError> {
         styles.push(styled(alloc, stock, choice)?)?;
     }
     let mut out = HostSink::new(rt);
+    let errors = rt.stderr();
+    let mut notes = HostSink::new(&errors);
     let mut shelf = HostShelf::new(alloc, rt);
-    Ok(run(alloc, words, &mut shelf, &mut out, styles.as_slice()).status)
+    Ok(
+        run(
+            alloc,
+            words,
+            &mut shelf,
+            &mut out,
+            &mut notes,
+            styles.as_slice(),
+        )
+        .status,
+    )
 }
 
 // The words after the program's name. Where one is no UTF-8 there are none, which make no command.

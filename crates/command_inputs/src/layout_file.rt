@@ -9,6 +9,7 @@ ghost use Rattle.layout_check.specs.Measured.{IsMeasured};
 ghost use Rattle.std.specs.Prelude.{◌<◌, ◌^◌, length, IfOk};
 
 use crate::stages::{load_within, or_stop};
+use crate::texts::Texts;
 use cif_reader::{ExpandFault, expand};
 use cif_text::{CifCommand, CifFault, read_commands};
 use command_ends::{Limited, Refusal, Stop};
@@ -30,18 +31,21 @@ fn read_text(alloc: Global, bytes: &[u8]) -> Result<Vec<CifCommand>, Refusal>
     }
 }
 
-// The commands of a file. Its bytes are given up.
+// The commands of a file, whose text is kept.
 fn load_commands<S: Shelf>(
     alloc: Global,
     shelf: &mut S,
     name: &str,
+    texts: &mut Texts,
 ) -> Result<Vec<CifCommand>, Stop>
     ensures loads { Loads (λ v. v.items) commands_verdict (λ told. told name.now) (FileFails name.now) result
         (files (S.holds shelf.old) (S.read_faults shelf.old) (S.write_faults shelf.old)) (files (S.holds shelf.new) (S.read_faults shelf.new) (S.write_faults shelf.new)) }
     ensures possible { IfOk result (λ v. AreExpandable v.items) }
 {
     let bytes = load_within(alloc, shelf, name, Limited::Cif, MOST_LAYOUT_BYTES)?;
-    or_stop(read_text(alloc, bytes.as_slice()))
+    let commands = or_stop(read_text(alloc, bytes.as_slice()));
+    texts.cif = Some(bytes);
+    commands
 }
 
 // The layout that commands give.
@@ -57,12 +61,17 @@ fn expand_commands(alloc: Global, commands: &[CifCommand]) -> Result<Layout, Ref
     }
 }
 
-/// The layout of a file of CIF, within the limits of the reader. The files stay as they are; ReadFault comes only where the file's read count rose.
-pub fn load_layout<S: Shelf>(alloc: Global, shelf: &mut S, name: &str) -> Result<Layout, Stop>
+/// The layout of a file of CIF, within the limits of the reader. The text is kept, a refused one too. The files stay as they are; ReadFault comes only where the file's read count rose.
+pub fn load_layout<S: Shelf>(
+    alloc: Global,
+    shelf: &mut S,
+    name: &str,
+    texts: &mut Texts,
+) -> Result<Layout, Stop>
     ensures loads { Loads (λ layout. layout) layout_verdict (λ told. told name.now) (FileFails name.now) result
         (files (S.holds shelf.old) (S.read_faults shelf.old) (S.write_faults shelf.old)) (files (S.holds shelf.new) (S.read_faults shelf.new) (S.write_faults shelf.new)) }
     ensures measured { IfOk result IsMeasured }
 {
-    let commands = load_commands(alloc, shelf, name)?;
+    let commands = load_commands(alloc, shelf, name, texts)?;
     or_stop(expand_commands(alloc, commands.as_slice()))
 }

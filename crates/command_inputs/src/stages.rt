@@ -12,6 +12,7 @@ ghost use Rattle.layout_report.specs.MadeText.{made_text};
 ghost use Rattle.std.specs.Prelude.{◌≡◌, ◌<◌, ◌≤◌, ◌^◌, length, Some, IfOk};
 
 use crate::outcome::{ReadDesign, stated_design, stated_rules};
+use crate::texts::Texts;
 use command_ends::{Limited, Refusal, Stop};
 use command_words::{MadeCount, Source};
 use layout_report::make_design;
@@ -53,29 +54,39 @@ pub(crate) fn load_within<S: Shelf>(
     }
 }
 
-// The rules of a file.
-fn load_rules<S: Shelf>(alloc: Global, shelf: &mut S, name: &str) -> Result<Rules, Stop>
+// The rules of a file, whose text is kept.
+fn load_rules<S: Shelf>(
+    alloc: Global,
+    shelf: &mut S,
+    name: &str,
+    texts: &mut Texts,
+) -> Result<Rules, Stop>
     ensures { Loads (λ rules. rules) rules_verdict (λ told. told name.now) (FileFails name.now) result
         (files (S.holds shelf.old) (S.read_faults shelf.old) (S.write_faults shelf.old)) (files (S.holds shelf.new) (S.read_faults shelf.new) (S.write_faults shelf.new)) }
 {
     let bytes = load_within(alloc, shelf, name, Limited::Rules, MOST_RULES_BYTES)?;
-    or_stop(stated_rules(alloc, bytes.as_slice()))
+    let rules = or_stop(stated_rules(alloc, bytes.as_slice()));
+    texts.rules = Some(bytes);
+    rules
 }
 
-// The designs of a file, drawn with ports where these are wished for.
+// The designs of a file, drawn with ports where these are wished for. Its text is kept.
 fn load_design<S: Shelf>(
     alloc: Global,
     shelf: &mut S,
     name: &str,
     rules: &Rules,
     ports: bool,
+    texts: &mut Texts,
 ) -> Result<ReadDesign, Stop>
     ensures loads { Loads (λ read. read) (design_verdict rules.now ports) (λ told. told name.now) (FileFails name.now) result
         (files (S.holds shelf.old) (S.read_faults shelf.old) (S.write_faults shelf.old)) (files (S.holds shelf.new) (S.read_faults shelf.new) (S.write_faults shelf.new)) }
     ensures are { IfOk result (λ read. AreDesignsFor rules.now ports read.file read.designs) }
 {
     let bytes = load_within(alloc, shelf, name, Limited::Design, MOST_DESIGN_BYTES)?;
-    or_stop(stated_design(alloc, bytes.as_slice(), rules, ports))
+    let read = or_stop(stated_design(alloc, bytes.as_slice(), rules, ports));
+    texts.design = Some(bytes);
+    read
 }
 
 /// Rules, a file of YAL, and the designs that it says under them.
@@ -112,25 +123,27 @@ fn load_source<S: Shelf>(
     source: &Source<'_>,
     rules: &Rules,
     ports: bool,
+    texts: &mut Texts,
 ) -> Result<ReadDesign, Stop>
     ensures loads { Loads (λ read. read) (design_verdict rules.now ports) (λ told. design_text (source_seen source.now) told rules.now) (SourceFails (source_seen source.now)) result
         (files (S.holds shelf.old) (S.read_faults shelf.old) (S.write_faults shelf.old)) (files (S.holds shelf.new) (S.read_faults shelf.new) (S.write_faults shelf.new)) }
     ensures are { IfOk result (λ read. AreDesignsFor rules.now ports read.file read.designs) }
 {
     match source {
-        Source::File(name) => load_design(alloc, shelf, name, rules, ports),
+        Source::File(name) => load_design(alloc, shelf, name, rules, ports, texts),
         Source::Made(seed, count) => or_stop(make_source(alloc, *seed, *count, rules, ports)),
     }
 }
 
 /// The rules of a file, and then the file and the designs from a source under them: the design is drawn with the ports of its PARENT where these are wished
-/// for. The files stay as they are; ReadFault comes only where a read count rose.
+/// for. The texts that are read are kept, refused ones too. The files stay as they are; ReadFault comes only where a read count rose.
 pub fn load_inputs<S: Shelf>(
     alloc: Global,
     shelf: &mut S,
     rules: &str,
     source: &Source<'_>,
     ports: bool,
+    texts: &mut Texts,
 ) -> Result<Inputs, Stop>
     ensures told { (said : _) → inputs_told rules.now (source_seen source.now) ports (S.holds shelf.old) ≡ Some said
         → Finds (λ inputs. inputs) result said }
@@ -138,8 +151,8 @@ pub fn load_inputs<S: Shelf>(
     ensures read { OnlyRead (ending_status result) (InputsFail rules.now (source_seen source.now) (S.holds shelf.old))
         (files (S.holds shelf.old) (S.read_faults shelf.old) (S.write_faults shelf.old)) (files (S.holds shelf.new) (S.read_faults shelf.new) (S.write_faults shelf.new)) }
 {
-    let rules = load_rules(alloc, shelf, rules)?;
-    let read = load_source(alloc, shelf, source, &rules, ports)?;
+    let rules = load_rules(alloc, shelf, rules, texts)?;
+    let read = load_source(alloc, shelf, source, &rules, ports, texts)?;
     Ok(Inputs {
         rules,
         file: read.file,

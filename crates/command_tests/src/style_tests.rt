@@ -101,7 +101,17 @@ fn ended_by(alloc: Global, text: &str, style: Style) -> Result<u8, AllocError> {
     let mut shelf = shelf_of(alloc, RULES, CELLS, CROSSED)?;
     let mut out = MemSink::new(alloc)?;
     let words = words(alloc, text)?;
-    Ok(run(alloc, words.as_slice(), &mut shelf, &mut out, &[style]).status)
+    Ok(
+        run(
+            alloc,
+            words.as_slice(),
+            &mut shelf,
+            &mut out,
+            &mut MemSink::new(alloc)?,
+            &[style],
+        )
+        .status,
+    )
 }
 
 /// How `route d r o --rows 2` ends over the crossed nets, with a chooser of the first candidate that counts how often it is asked.

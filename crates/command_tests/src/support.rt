@@ -125,7 +125,15 @@ pub(crate) fn ended(
     let near = stock_style(alloc, Stock::Near)?;
     let lean = stock_style(alloc, Stock::Lean)?;
     let high = stock_style(alloc, Stock::High)?;
-    Ok(run(alloc, words.as_slice(), shelf, out, &[near, lean, high]))
+    let mut notes = MemSink::new(alloc)?;
+    Ok(run(
+        alloc,
+        words.as_slice(),
+        shelf,
+        out,
+        &mut notes,
+        &[near, lean, high],
+    ))
 }
 
 /// Whether these words end with this status over this shelf, and the sink holds this line then.

@@ -48,7 +48,14 @@ fn written(alloc: Global, text: &str, stock: Stock) -> Result<(usize, u64), Allo
     let mut out = MemSink::new(alloc)?;
     let words = words(alloc, text)?;
     let style = stock_style(alloc, stock)?;
-    let _ended = run(alloc, words.as_slice(), &mut shelf, &mut out, &[style]);
+    let _ended = run(
+        alloc,
+        words.as_slice(),
+        &mut shelf,
+        &mut out,
+        &mut MemSink::new(alloc)?,
+        &[style],
+    );
     match shelf.get("o") {
         Some(bytes) => Ok((bytes.len(), checksum(bytes))),
         None => Ok((0, 0)),

@@ -5,6 +5,7 @@ pub mod Verdict
 pub mod Done
 pub mod Ends
 pub mod Causes
+pub mod Noted
 pub mod Outcome
 -- the headline: what is written reads as a good layout of the design
 pub mod Headline

@@ -16,6 +16,7 @@ use crate::judging::judge;
 use crate::routing::route;
 use choose_core::{Chooser, Chooses, Style};
 use command_ends::{Refusal, Stop};
+use command_inputs::Texts;
 use command_words::{Command, Word, WordsFault, read_command};
 use greedy_router::Routed;
 use shelf_io::Shelf;
@@ -27,6 +28,7 @@ fn obey<S: Shelf>(
     shelf: &mut S,
     command: &Command<'_>,
     styles: &[Style],
+    texts: &mut Texts,
     kept: &mut Vec<Routed>,
 ) -> Result<Done, Stop>
     requires style { IsOfStyle (length styles.now) (command_seen command.now) }
@@ -37,8 +39,8 @@ fn obey<S: Shelf>(
         → AreKept styles.now (λ s. s.plan) (λ s. ⟦<Chooser as Chooses>⟧.answers s.chooser) (command_seen command.now) said kept.new.items }
 {
     match command {
-        Command::Route(names) => route(alloc, shelf, names, styles, kept),
-        Command::Check(names) => judge(alloc, shelf, names),
+        Command::Route(names) => route(alloc, shelf, names, styles, texts, kept),
+        Command::Check(names) => judge(alloc, shelf, names, texts),
     }
 }
 
@@ -48,6 +50,7 @@ pub(crate) fn carry_out<S: Shelf>(
     words: &[Word],
     shelf: &mut S,
     styles: &[Style],
+    texts: &mut Texts,
     kept: &mut Vec<Routed>,
 ) -> Result<Done, Stop>
     requires some { 0 < length styles.now }
@@ -60,7 +63,7 @@ pub(crate) fn carry_out<S: Shelf>(
         → AreKept styles.now (λ s. s.plan) (λ s. ⟦<Chooser as Chooses>⟧.answers s.chooser) command said kept.new.items }
 {
     match read_command(alloc, styles, words) {
-        Ok(command) => obey(alloc, shelf, &command, styles, kept),
+        Ok(command) => obey(alloc, shelf, &command, styles, texts, kept),
         Err(WordsFault::Usage) => Err(Stop::Refused(Refusal::Usage)),
         Err(WordsFault::Memory) => Err(Stop::Refused(Refusal::Memory)),
     }

@@ -11,7 +11,7 @@ ghost use Rattle.std.specs.Prelude.{◌≡◌, [], Some, IfOk};
 
 use crate::done::{Done, Judged};
 use command_ends::{Refusal, Stop};
-use command_inputs::{Inputs, load_inputs, load_layout};
+use command_inputs::{Inputs, Texts, load_inputs, load_layout};
 use command_words::{Check, Source};
 use geom_core::Layout;
 use layout_check::check;
@@ -35,13 +35,18 @@ fn judge_layout(alloc: Global, inputs: Inputs, layout: Layout) -> Result<Judged,
 }
 
 /// Reads rules, a design and a layout, and finds what is wrong with it. The files stay as they are.
-pub(crate) fn judge<S: Shelf>(alloc: Global, shelf: &mut S, names: &Check<'_>) -> Result<Done, Stop>
+pub(crate) fn judge<S: Shelf>(
+    alloc: Global,
+    shelf: &mut S,
+    names: &Check<'_>,
+    texts: &mut Texts,
+) -> Result<Done, Stop>
     ensures { Carried (Some (asked.check (check_seen names.now))) (end_seen result) []
         (files (S.holds shelf.old) (S.read_faults shelf.old) (S.write_faults shelf.old)) (files (S.holds shelf.new) (S.read_faults shelf.new) (S.write_faults shelf.new)) }
 {
     let source = Source::File(names.design);
-    let inputs = load_inputs(alloc, shelf, names.rules, &source, names.ports)?;
-    let layout = load_layout(alloc, shelf, names.cif)?;
+    let inputs = load_inputs(alloc, shelf, names.rules, &source, names.ports, texts)?;
+    let layout = load_layout(alloc, shelf, names.cif, texts)?;
     match judge_layout(alloc, inputs, layout) {
         Ok(judged) => Ok(Done::Judged(judged)),
         Err(AllocError) => Err(Stop::Refused(Refusal::Memory)),

@@ -6,6 +6,7 @@ mod done;
 mod judging;
 mod report;
 mod routing;
+mod telling;
 mod top;
 mod writing;
 

@@ -14,7 +14,7 @@ use crate::done::Done;
 use crate::writing::write_prepared;
 use choose_core::{Chooser, Chooses, Style};
 use command_ends::Stop;
-use command_inputs::{Inputs, load_inputs};
+use command_inputs::{Inputs, Texts, load_inputs};
 use command_jobs::lay_out;
 use command_words::Route;
 use greedy_router::Routed;
@@ -27,6 +27,7 @@ pub(crate) fn route<S: Shelf>(
     shelf: &mut S,
     names: &Route<'_>,
     styles: &[Style],
+    texts: &mut Texts,
     kept: &mut Vec<Routed>,
 ) -> Result<Done, Stop>
     requires style { names.now.style < length styles.now }
@@ -38,7 +39,7 @@ pub(crate) fn route<S: Shelf>(
 {
     let style = &styles[names.style];
     let ports = names.wanted.ports;
-    let inputs = load_inputs(alloc, shelf, names.rules, &names.design, ports)?;
+    let inputs = load_inputs(alloc, shelf, names.rules, &names.design, ports, texts)?;
     let Inputs {
         rules,
         file,

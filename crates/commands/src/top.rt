@@ -4,6 +4,7 @@ ghost use Rattle.commands.specs.Causes.{IsQuiet, ReadFails, WriteFails};
 ghost use Rattle.command_words.specs.Command as asked;
 ghost use Rattle.command_words.specs.Command.{CheckNames, Names, command_of, writes_of};
 ghost use Rattle.commands.specs.Done.{IsStatusOf};
+ghost use Rattle.commands.specs.Noted.{Noted};
 ghost use Rattle.commands.specs.Headline.{Headline, PortedHeadline};
 ghost use Rattle.command_inputs.specs.Origin.{IsSourceText};
 ghost use Rattle.commands.specs.Outcome.{AreKept, EndsAs, Holds, HoldsFront};
@@ -17,9 +18,12 @@ ghost use Rattle.std.specs.Prelude.{◌≡◌, ◌≢◌, ◌⊎◌, ◌<◌, �
 
 use crate::doing::carry_out;
 use crate::report::report;
+use crate::telling::notes_on;
 use choose_core::{Chooser, Chooses, Style};
+use command_inputs::Texts;
 use command_words::Word;
 use greedy_router::Routed;
+use note_text::put_notes;
 use shelf_io::{Shelf, Sink};
 use std::alloc::Global;
 
@@ -58,11 +62,12 @@ pub struct Ended {
 /// of the job with the wirings that are kept. Every status but 0 and 9 leaves all files as they were; after 9 OUT holds what it held, or a front of the
 /// text, which is all of it where its write count did not rise. `check` leaves all files as they were. 10 may come for want of memory at any time before OUT is
 /// begun, or anything is printed.
-pub fn run<S: Shelf, K: Sink>(
+pub fn run<S: Shelf, K: Sink, N: Sink>(
     alloc: Global,
     words: &[Word],
     shelf: &mut S,
     out: &mut K,
+    notes: &mut N,
     styles: &[Style],
 ) -> Ended
     requires some { 0 < length styles.now }
@@ -142,11 +147,17 @@ pub fn run<S: Shelf, K: Sink>(
         (K.faults out.old) (K.faults out.new)
         → IsStatusOf said result.status ⊎ (result.status ≡ 10) }
 
+    // The notes, for people, are lines; whatever becomes of them, all else is as it is said here.
+    ensures notes { Noted (N.written notes.old) (N.written notes.new) (N.faults notes.old) (N.faults notes.new) }
+
     // Status 0 and 1 come only where the sink took all.
     ensures calm { (result.status ≡ 0) ⊎ (result.status ≡ 1) → K.faults out.new ≡ K.faults out.old }
 {
     let mut kept = Vec::new(alloc);
-    let ending = carry_out(alloc, words, shelf, styles, &mut kept);
+    let mut texts = Texts::new();
+    let ending = carry_out(alloc, words, shelf, styles, &mut texts, &mut kept);
     let status = report(out, &ending);
+    let told = notes_on(alloc, words, styles, &texts, &ending);
+    let _ = put_notes(notes, &told);
     Ended { status, kept }
 }
