@@ -3,6 +3,8 @@ use Rattle.std.specs.Prelude.{◌<◌, ℕ, suc, List, [], ◌∷◌, Bool, true
 use Rattle.std.specs.Str.{bytes_eq}
 use Rattle.command_words.specs.NumberWord.{count_in, number_of, rows_in}
 use Rattle.command_words.specs.declared.command.Wanted.{Wanted}
+use Rattle.command_words.specs.declared.topic.Topic.{Topic}
+use Rattle.command_words.specs.declared.topic.Topic.TheVariants.{CheckCommand, MakeCommand, Overview, RouteCommand, Version}
 use Rattle.clap.specs.Kinds.{Kinds}
 use Rattle.clap.specs.declared.builder.action.ArgAction.TheVariants.{SetTrue}
 use Rattle.clap.specs.Words.{App, Row, Rule, Text, fault_of, first_of, matches_of, new_app, new_rule, with_rule}
@@ -12,21 +14,24 @@ pub data Source : Type 0 where
   from_file : List ℕ → Source
   from_seed : ℕ → ℕ → Source
 
--- what a command to route says: where the design comes from, the rules file, the file to write, how the design is to be laid out, and the place of the style that
--- chooses
+-- what a command to route says: where the design comes from, the rules file, the file to write, how the design is to be laid out, the place of the style that
+-- chooses, and whether there are to be no notes
 pub record Names : Type 0 where
   pub design : Source
   pub rules : List ℕ
   pub out : List ℕ
   pub wanted : Wanted
   pub style : ℕ
+  pub quiet : Bool
 
--- what a command to check says: the design's file, the rules file, the file of the layout, and whether the terminals of the PARENT are to be ports
+-- what a command to check says: the design's file, the rules file, the file of the layout, whether the terminals of the PARENT are to be ports, and whether there are to
+-- be no notes
 pub record CheckNames : Type 0 where
   pub design : List ℕ
   pub rules : List ℕ
   pub cif : List ℕ
   pub ports : Bool
+  pub quiet : Bool
 
 -- an argument that has to be given, by its place
 abbrev pub positional_rule : Text → Rule
@@ -45,19 +50,27 @@ named_app name last = with_rule (with_rule (with_rule (new_app name)
 abbrev pub flag_rule : Text → Rule
 flag_rule id = record (new_rule id) { long = Some id; action = Some SetTrue }
 
--- `route` with three names, with a seed, a number of rows and a style, and with the wishes for left edges and for ports
-abbrev pub route_app : App
-route_app = with_rule (with_rule (with_rule (with_rule (with_rule (named_app (codes "route") (codes "out"))
-    (option_rule (codes "seed"))) (option_rule (codes "rows"))) (option_rule (codes "style"))) (flag_rule (codes "edge"))) (flag_rule (codes "ports"))
+-- the wish for no notes, also as `-q`
+abbrev pub quiet_rule : Rule
+quiet_rule = record (flag_rule (codes "quiet")) { short = Some 113 }
 
--- `check` with three names, and with the wish for ports
+-- `route` with three names, with a seed, a number of rows and a style, and with the wishes for left edges, for ports and for no notes
+abbrev pub route_app : App
+route_app = with_rule (with_rule (with_rule (with_rule (with_rule (with_rule (named_app (codes "route") (codes "out"))
+    (option_rule (codes "seed"))) (option_rule (codes "rows"))) (option_rule (codes "style"))) (flag_rule (codes "edge"))) (flag_rule (codes "ports"))) quiet_rule
+
+-- `check` with three names, and with the wishes for ports and for no notes
 abbrev pub check_app : App
-check_app = with_rule (named_app (codes "check") (codes "cif")) (flag_rule (codes "ports"))
+check_app = with_rule (with_rule (named_app (codes "check") (codes "cif")) (flag_rule (codes "ports"))) quiet_rule
 
 -- `make` with a seed, a number of instances and two names
-abbrev pub make_app : App
-make_app = with_rule (with_rule (with_rule (with_rule (new_app (codes "make"))
+abbrev pub seeded_app : App
+seeded_app = with_rule (with_rule (with_rule (with_rule (new_app (codes "make"))
     (positional_rule (codes "seed"))) (positional_rule (codes "count"))) (positional_rule (codes "rules"))) (positional_rule (codes "out"))
+
+-- the same with the wish for no notes
+abbrev pub make_app : App
+make_app = with_rule seeded_app quiet_rule
 
 -- the seed that is asked for: 1 where no value is given, and no answer where the value is no number below 2 ^ 64
 abbrev pub seed_given : Option Text → Option ℕ
@@ -90,14 +103,14 @@ abbrev pub style_given : List Text → Option Text → Option ℕ
 style_given styles None = Some 0
 style_given styles (Some text) = place_of styles text
 
-abbrev pub names_from : Option Text → Option Text → Option Text → Option Wanted → Option ℕ → Option Names
-names_from (Some design) (Some rules) (Some out) (Some wanted) (Some style) =
-    Some (record { design = from_file design; rules = rules; out = out; wanted = wanted; style = style })
-names_from (Some design) (Some rules) (Some out) (Some wanted) None = None
-names_from (Some design) (Some rules) (Some out) None style = None
-names_from (Some design) (Some rules) None wanted style = None
-names_from (Some design) None out wanted style = None
-names_from None rules out wanted style = None
+abbrev pub names_from : Option Text → Option Text → Option Text → Option Wanted → Option ℕ → Bool → Option Names
+names_from (Some design) (Some rules) (Some out) (Some wanted) (Some style) quiet =
+    Some (record { design = from_file design; rules = rules; out = out; wanted = wanted; style = style; quiet = quiet })
+names_from (Some design) (Some rules) (Some out) (Some wanted) None quiet = None
+names_from (Some design) (Some rules) (Some out) None style quiet = None
+names_from (Some design) (Some rules) None wanted style quiet = None
+names_from (Some design) None out wanted style quiet = None
+names_from None rules out wanted style quiet = None
 
 -- the seed, the rows and the flags among the values that words gave, and all that they say
 abbrev pub wanted_in : List Row → Option Wanted
@@ -106,33 +119,33 @@ wanted_in values = wanted_from (seed_given (first_of (codes "seed") values)) (ro
 
 abbrev pub names_in : List Text → List Row → Option Names
 names_in styles values = names_from (first_of (codes "design") values) (first_of (codes "rules") values) (first_of (codes "out") values) (wanted_in values)
-    (style_given styles (first_of (codes "style") values))
+    (style_given styles (first_of (codes "style") values)) (is_given (first_of (codes "quiet") values))
 
-abbrev pub check_from : Option Text → Option Text → Option Text → Bool → Option CheckNames
-check_from (Some design) (Some rules) (Some cif) ports = Some (record { design = design; rules = rules; cif = cif; ports = ports })
-check_from (Some design) (Some rules) None ports = None
-check_from (Some design) None cif ports = None
-check_from None rules cif ports = None
+abbrev pub check_from : Option Text → Option Text → Option Text → Bool → Bool → Option CheckNames
+check_from (Some design) (Some rules) (Some cif) ports quiet = Some (record { design = design; rules = rules; cif = cif; ports = ports; quiet = quiet })
+check_from (Some design) (Some rules) None ports quiet = None
+check_from (Some design) None cif ports quiet = None
+check_from None rules cif ports quiet = None
 
 abbrev pub check_in : List Row → Option CheckNames
 check_in values = check_from (first_of (codes "design") values) (first_of (codes "rules") values) (first_of (codes "cif") values)
-    (is_given (first_of (codes "ports") values))
+    (is_given (first_of (codes "ports") values)) (is_given (first_of (codes "quiet") values))
 
 -- a design that is made, and laid out by the same seed, in rows as usual, by the first style, without left edges and without ports
-abbrev pub make_names : ℕ → ℕ → Text → Text → Names
-make_names seed count rules out =
-    record { design = from_seed seed count; rules = rules; out = out; wanted = record { seed = seed; rows = None; edge = false; ports = false }; style = 0 }
+abbrev pub make_names : ℕ → ℕ → Text → Text → Bool → Names
+make_names seed count rules out quiet =
+    record { design = from_seed seed count; rules = rules; out = out; wanted = record { seed = seed; rows = None; edge = false; ports = false }; style = 0; quiet = quiet }
 
-abbrev pub make_from : Option ℕ → Option ℕ → Option Text → Option Text → Option Names
-make_from (Some seed) (Some count) (Some rules) (Some out) = Some (make_names seed count rules out)
-make_from (Some seed) (Some count) (Some rules) None = None
-make_from (Some seed) (Some count) None out = None
-make_from (Some seed) None rules out = None
-make_from None count rules out = None
+abbrev pub make_from : Option ℕ → Option ℕ → Option Text → Option Text → Bool → Option Names
+make_from (Some seed) (Some count) (Some rules) (Some out) quiet = Some (make_names seed count rules out quiet)
+make_from (Some seed) (Some count) (Some rules) None quiet = None
+make_from (Some seed) (Some count) None out quiet = None
+make_from (Some seed) None rules out quiet = None
+make_from None count rules out quiet = None
 
 abbrev pub make_in : List Row → Option Names
 make_in values = make_from (option_and_then number_of (first_of (codes "seed") values)) (option_and_then count_in (first_of (codes "count") values))
-    (first_of (codes "rules") values) (first_of (codes "out") values)
+    (first_of (codes "rules") values) (first_of (codes "out") values) (is_given (first_of (codes "quiet") values))
 
 abbrev pub unless_refused : {A : Type 0} → Kinds → Option A → Option A
 unless_refused [] given = given
@@ -142,10 +155,11 @@ unless_refused (kind ∷ kinds) given = None
 unfoldable pub given_by : {A : Type 0} → App → (List Row → Option A) → List Text → Option A
 given_by app given words = unless_refused (fault_of app words) (given (matches_of app words))
 
--- a command, by what it reads and writes
+-- a command, by what it reads and writes; one asks for a text of help
 pub data Command : Type 0 where
   route : Names → Command
   check : CheckNames → Command
+  help : Topic → Command
 
 -- the files that a source is read from
 abbrev pub files_of : Source → List (List ℕ)
@@ -156,10 +170,30 @@ files_of (from_seed seed count) = []
 abbrev pub reads_of : Command → List (List ℕ)
 reads_of (route names) = names.rules ∷ files_of names.design
 reads_of (check names) = names.rules ∷ names.design ∷ names.cif ∷ []
+reads_of (help topic) = []
 
 abbrev pub writes_of : Command → Option (List ℕ)
 writes_of (route names) = Some names.out
 writes_of (check names) = None
+writes_of (help topic) = None
+
+-- what a word asks for that stands alone, or behind `help`
+abbrev pub lone_topic : List ℕ → Option Topic
+lone_topic word =
+    if bytes_eq word (codes "help") then Some Overview else if bytes_eq word (codes "--help") then Some Overview else if bytes_eq word (codes "-h") then Some Overview else
+    if bytes_eq word (codes "version") then Some Version else if bytes_eq word (codes "--version") then Some Version else None
+
+abbrev pub command_topic : List ℕ → Option Topic
+command_topic word =
+    if bytes_eq word (codes "route") then Some RouteCommand else if bytes_eq word (codes "check") then Some CheckCommand else
+    if bytes_eq word (codes "make") then Some MakeCommand else None
+
+-- the text of help that words ask for: one word alone, or `help` and the name of a command
+unfoldable pub topic_of : List (List ℕ) → Option Topic
+topic_of [] = None
+topic_of (word ∷ []) = lone_topic word
+topic_of (word ∷ name ∷ []) = if bytes_eq word (codes "help") then command_topic name else None
+topic_of (word ∷ name ∷ other ∷ more) = None
 
 -- the command that words give where the styles have these names: the first is a command's name, and the others are its arguments
 unfoldable pub command_of : List Text → List (List ℕ) → Option Command
@@ -167,19 +201,28 @@ command_of styles [] = None
 command_of styles (word ∷ others) =
     if bytes_eq word (codes "route") then option_map route (given_by route_app (names_in styles) (word ∷ others)) else
     if bytes_eq word (codes "check") then option_map check (given_by check_app check_in (word ∷ others)) else
-    if bytes_eq word (codes "make") then option_map route (given_by make_app make_in (word ∷ others)) else None
+    if bytes_eq word (codes "make") then option_map route (given_by make_app make_in (word ∷ others)) else option_map help (topic_of (word ∷ others))
 
 -- a command wishes for left edges
 abbrev pub is_by_edge : Command → Bool
 is_by_edge (route names) = names.wanted.edge
 is_by_edge (check names) = false
+is_by_edge (help topic) = false
 
 -- the place of a command's style, if it has one
 abbrev pub style_of : Command → Option ℕ
 style_of (route names) = Some names.style
 style_of (check names) = None
+style_of (help topic) = None
 
 -- a command is of one of so many styles, if it has one
 abbrev pub IsOfStyle : ℕ → Command → Type 0
 IsOfStyle count (route names) = names.style < count
 IsOfStyle count (check names) = Unit {0}
+IsOfStyle count (help topic) = Unit {0}
+
+-- a command wishes for no notes
+abbrev pub is_quiet : Command → Bool
+is_quiet (route names) = names.quiet
+is_quiet (check names) = names.quiet
+is_quiet (help topic) = false

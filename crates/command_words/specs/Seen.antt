@@ -1,6 +1,6 @@
 -- the commands to route and to check as the names in them, and when a reading gives what the words say
 use Rattle.std.specs.Prelude.{◌≡◌, Option, Some, None, Result, Ok, Err}
-use Rattle.command_words.specs.Command.{CheckNames, Command, Names, Source, check, from_file, from_seed, route}
+use Rattle.command_words.specs.Command.{CheckNames, Command, Names, Source, check, from_file, from_seed, help, route}
 use Rattle.command_words.specs.declared.command.Check.{Check}
 use Rattle.command_words.specs.declared.command.Command as asked
 use Rattle.command_words.specs.declared.command.Command.TheVariants as commands
@@ -17,15 +17,16 @@ source_seen (sources.Made seed count) = from_seed seed count
 
 -- a command as its names and how the design is to be laid out
 abbrev pub seen : Route → Names
-seen names = record { design = source_seen names.design; rules = names.rules.now; out = names.out.now; wanted = names.wanted; style = names.style }
+seen names = record { design = source_seen names.design; rules = names.rules.now; out = names.out.now; wanted = names.wanted; style = names.style; quiet = names.quiet }
 
 -- the same of a command to check
 abbrev pub check_seen : Check → CheckNames
-check_seen names = record { design = names.design.now; rules = names.rules.now; cif = names.cif.now; ports = names.ports }
+check_seen names = record { design = names.design.now; rules = names.rules.now; cif = names.cif.now; ports = names.ports; quiet = names.quiet }
 
 abbrev pub command_seen : asked.Command → Command
 command_seen (commands.Route names) = route (seen names)
 command_seen (commands.Check names) = check (check_seen names)
+command_seen (commands.Help topic) = help topic
 
 -- what was read is what words give, seen so, both ways, want of memory aside
 abbrev pub Reads : {X Y : Type 0} → (X → Y) → Result X WordsFault → Option Y → Type 0

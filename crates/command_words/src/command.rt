@@ -1,12 +1,13 @@
 //! The command that words give.
 
 ghost use Rattle.clap.specs.Words.{found_of, rows_of};
-ghost use Rattle.command_words.specs.Command.{IsOfStyle, check, check_app, check_in, command_of, given_by, make_app, make_in, names_in, route, route_app, wanted_in};
+ghost use Rattle.command_words.specs.Command.{IsOfStyle, check, check_app, check_in, command_of, given_by, help, make_app, make_in, names_in, route, route_app, topic_of, wanted_in};
 ghost use Rattle.command_words.specs.Seen.{Reads, check_seen, command_seen, seen};
 ghost use Rattle.std.specs.Prelude.{◌≡◌, ◌<◌, ℕ, length, map, option_map, IfOk};
 
 use crate::number_word::{MadeCount, RowCount};
 use crate::parser::{check_parser, make_parser, matches_in, route_parser, value_of};
+use crate::topic::{Topic, topic_of};
 use crate::values::{count_given, is_given, number_given, rows_given, seed_given, style_given};
 use crate::word::Word;
 use choose_core::Style;
@@ -34,7 +35,7 @@ pub enum Source<'a> {
 }
 
 /// The command to route a design: where the design comes from, the names of the rules file and of the file to write, how it is to be laid out, and
-/// the place of the style that chooses, from 0 on.
+/// the place of the style that chooses, from 0 on, and whether there are to be no notes.
 #[derive(Clone, Copy, Debug)]
 pub struct Route<'a> {
     pub design: Source<'a>,
@@ -42,16 +43,18 @@ pub struct Route<'a> {
     pub out: &'a str,
     pub wanted: Wanted,
     pub style: usize,
+    pub quiet: bool,
 }
 
-/// The command to check a layout: the names of the design's file, of the rules file and of the layout's file, and whether the
-/// terminals of the PARENT are to be ports.
+/// The command to check a layout: the names of the design's file, of the rules file and of the layout's file, whether the
+/// terminals of the PARENT are to be ports, and whether there are to be no notes.
 #[derive(Clone, Copy, Debug)]
 pub struct Check<'a> {
     pub design: &'a str,
     pub rules: &'a str,
     pub cif: &'a str,
     pub ports: bool,
+    pub quiet: bool,
 }
 
 /// A command, and what its arguments are.
@@ -61,6 +64,8 @@ pub enum Command<'a> {
     Route(Route<'a>),
     /// To check a layout.
     Check(Check<'a>),
+    /// To print a text of help.
+    Help(Topic),
 }
 
 /// Why words gave no command.
@@ -94,6 +99,7 @@ fn route_of<'a>(styles: &[Style], matches: &ArgMatches<'a>) -> Option<Route<'a>>
         out: value_of(matches, "out")?,
         wanted: wanted_of(matches)?,
         style: style_given(styles, value_of(matches, "style"))?,
+        quiet: is_given(value_of(matches, "quiet")),
     })
 }
 
@@ -126,6 +132,7 @@ fn check_of<'a>(matches: &ArgMatches<'a>) -> Option<Check<'a>>
         rules: value_of(matches, "rules")?,
         cif: value_of(matches, "cif")?,
         ports: is_given(value_of(matches, "ports")),
+        quiet: is_given(value_of(matches, "quiet")),
     })
 }
 
@@ -162,6 +169,7 @@ fn make_of<'a>(matches: &ArgMatches<'a>) -> Option<Route<'a>>
             ports: false,
         },
         style: 0,
+        quiet: is_given(value_of(matches, "quiet")),
     })
 }
 
@@ -219,6 +227,17 @@ fn check_given<'w>(alloc: Global, words: &'w [Word]) -> Result<Command<'w>, Word
     }
 }
 
+// The command to print a text of help that words give.
+fn help_given<'w>(words: &'w [Word]) -> Result<Command<'w>, WordsFault>
+    ensures reads { Reads command_seen result (option_map help (topic_of words.now)) }
+    ensures style { IfOk result (λ command. (count : ℕ) → IsOfStyle count (command_seen command)) }
+{
+    match topic_of(words) {
+        Some(topic) => Ok(Command::Help(topic)),
+        None => Err(WordsFault::Usage),
+    }
+}
+
 /// The command that the words give: its name and what its arguments are, of which a style is the place of the first of its name. It errs
 /// with Usage exactly where there is none, and with Memory where memory runs out.
 #[tactic(auto, unfolding(crate::specs::Command::command_of))]
@@ -243,5 +262,5 @@ pub fn read_command<'w>(
     if word.text() == "make" {
         return make_given(alloc, words);
     }
-    Err(WordsFault::Usage)
+    help_given(words)
 }

@@ -1,7 +1,7 @@
 //! The parsers of the commands' words.
 
 ghost use Rattle.clap.specs.Words.{app_of, first_of, found_of, is_simple, is_simple_and_free, rows_of, rule_of, with_rule};
-ghost use Rattle.command_words.specs.Command.{check_app, flag_rule, make_app, named_app, option_rule, positional_rule, route_app};
+ghost use Rattle.command_words.specs.Command.{check_app, flag_rule, make_app, named_app, option_rule, positional_rule, quiet_rule, route_app, seeded_app};
 ghost use Rattle.command_words.specs.Taken.{IsTaken};
 ghost use Rattle.std.specs.Prelude.{◌≡◌, codes, false, option_map, true, IfOk};
 
@@ -33,6 +33,14 @@ fn flag<'a>(alloc: Global, id: &'a str) -> Arg<'a>
     ensures local { result.global ≡ false }
 {
     Arg::new(alloc, id).long(id).action(ArgAction::SetTrue)
+}
+
+// The wish for no notes.
+fn quiet_flag<'a>(alloc: Global) -> Arg<'a>
+    ensures rule { rule_of result ≡ quiet_rule }
+    ensures local { result.global ≡ false }
+{
+    flag(alloc, "quiet").short('q')
 }
 
 // The command with one more argument.
@@ -69,7 +77,8 @@ pub(crate) fn route_parser<'a>(alloc: Global) -> Result<Parser<'a>, AllocError>
     let command = named_parser(alloc, "route", "out")?;
     let command = with_options(alloc, command)?;
     let command = with_arg(command, flag(alloc, "edge"))?;
-    with_arg(command, flag(alloc, "ports"))
+    let command = with_arg(command, flag(alloc, "ports"))?;
+    with_arg(command, quiet_flag(alloc))
 }
 
 /// The command `check` with its arguments. The one error is want of memory.
@@ -77,18 +86,27 @@ pub(crate) fn check_parser<'a>(alloc: Global) -> Result<Parser<'a>, AllocError>
     ensures { IfOk result (λ c. app_of c ≡ check_app) }
 {
     let command = named_parser(alloc, "check", "cif")?;
-    with_arg(command, flag(alloc, "ports"))
+    let command = with_arg(command, flag(alloc, "ports"))?;
+    with_arg(command, quiet_flag(alloc))
 }
 
-/// The command `make` with its arguments. The one error is want of memory.
-pub(crate) fn make_parser<'a>(alloc: Global) -> Result<Parser<'a>, AllocError>
-    ensures { IfOk result (λ c. app_of c ≡ make_app) }
+// The command `make` with its seed, its number and its two names.
+fn seeded_parser<'a>(alloc: Global) -> Result<Parser<'a>, AllocError>
+    ensures { IfOk result (λ c. app_of c ≡ seeded_app) }
 {
     let command = Parser::new(alloc, "make");
     let command = with_arg(command, positional(alloc, "seed"))?;
     let command = with_arg(command, positional(alloc, "count"))?;
     let command = with_arg(command, positional(alloc, "rules"))?;
     with_arg(command, positional(alloc, "out"))
+}
+
+/// The command `make` with its arguments. The one error is want of memory.
+pub(crate) fn make_parser<'a>(alloc: Global) -> Result<Parser<'a>, AllocError>
+    ensures { IfOk result (λ c. app_of c ≡ make_app) }
+{
+    let command = seeded_parser(alloc)?;
+    with_arg(command, quiet_flag(alloc))
 }
 
 /// What a command makes of words, of which the first is its name. It errs with Usage exactly where it refuses them, and with Memory where

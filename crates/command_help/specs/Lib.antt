@@ -1,0 +1,2 @@
+-- the texts of help
+pub mod Texts
