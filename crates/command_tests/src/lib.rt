@@ -10,6 +10,8 @@ mod edge_tests;
 #[cfg(test)]
 mod height_tests;
 #[cfg(test)]
+mod help_tests;
+#[cfg(test)]
 mod limit_tests;
 #[cfg(test)]
 mod line_tests;

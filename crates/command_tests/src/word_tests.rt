@@ -23,7 +23,6 @@ ROUTE|d|r|o\n\
 rout|d|r|o\n\
 |d|r|o\n\
 d|route|r|o\n\
---help\n\
 --|route|d|r|o\n\
 route|--help\n\
 route|d|r|o|-h\n\
@@ -42,6 +41,18 @@ route|d|r|o|--style|near|--style|near\n\
 route|d|r|o|--ports|--ports\n\
 route|d|r|o|--ports=x\n\
 make|1|2|r|o|--ports\n\
+route|d|r|o|-q|-q\n\
+route|d|r|o|-q|--quiet\n\
+route|d|r|o|--quiet=1\n\
+-q|route|d|r|o\n\
+help|help\n\
+help|router\n\
+help|route|check\n\
+--help|route\n\
+-h|-h\n\
+version|route\n\
+Help\n\
+-v\n\
 route|d|r|-x";
 
 #[test]
@@ -66,7 +77,7 @@ fn is_lacking(alloc: Global, text: &str) -> Result<bool, AllocError> {
 }
 
 /// Words that are a command, and the file that it writes.
-const COMMANDS: [(&str, &str); 8] = [
+const COMMANDS: [(&str, &str); 10] = [
     ("route|--|d|r|o", "o"),
     ("route|d|--|r|o", "o"),
     ("route|d|r|--|--help", "--help"),
@@ -75,6 +86,8 @@ const COMMANDS: [(&str, &str); 8] = [
     ("route|d|r|o|--seed|18446744073709551615", "o"),
     ("route|--seed=0|d|r|o|--style|lean|--rows|1", "o"),
     ("route|d|r|o|--style=high", "o"),
+    ("route|-q|d|r|o", "o"),
+    ("route|d|r|o|--quiet", "o"),
 ];
 
 #[test]

@@ -1,4 +1,4 @@
-use Rattle.std.proofs.Common.{◌≡◌, ◌≢◌, ◌⊎◌, ◌∙◌, ℕ, List, [], Option, Some, None, option_and_then, Result, Ok, Err, IsErrAnd, sym, ap, subst, arith}
+use Rattle.std.proofs.Common.{◌≡◌, ◌≢◌, ◌⊎◌, ◌∙◌, ℕ, List, [], Option, Some, None, option_and_then, Result, Ok, Err, IsErrAnd, refl, sym, ap, subst, arith}
 use Rattle.std.proofs.lemmas.Option.{same_Some}
 use Rattle.greedy_router.specs.declared.sweep.Routed.{Routed}
 use Rattle.command_ends.proofs.StopLaws.{stop-above}
@@ -7,12 +7,13 @@ use Rattle.command_ends.specs.Status.{ending_status, stop_status}
 use Rattle.command_ends.specs.declared.refusal.Refusal.{Refusal}
 use Rattle.command_ends.specs.declared.stop.Stop.{Stop}
 use Rattle.command_inputs.specs.Reading.{Files, OnlyRead}
-use Rattle.command_words.specs.Command.{Command, command_of, writes_of}
-use Rattle.commands.specs.Accepted.{Accepted}
+use Rattle.command_words.specs.declared.topic.Topic.{Topic}
+use Rattle.command_words.specs.Command.{Command, command_of, help, writes_of}
+use Rattle.commands.specs.Accepted.{Accepted, to_help}
 use Rattle.commands.specs.Carried.{Carried}
 use Rattle.commands.specs.Causes.{ReadFails}
 use Rattle.commands.specs.Changes.{Changes, HasBegun, IsAsSaid}
-use Rattle.commands.specs.Done.{Done, end_seen}
+use Rattle.commands.specs.Done.{Done, end_seen, helped}
 use Rattle.commands.specs.Ends.{Ends}
 use Rattle.commands.specs.Verdict.{Comes, asked_verdict, command_verdict}
 use Rattle.commands.specs.declared.done.Done as seen
@@ -70,6 +71,24 @@ stopped-early view command stop result kept old new is found read empty =
     (stopped-so (Some command) stop kept old new (λ said says. stopped view kept stop said (found said says)) (λ two. absurd (read.command two)) (λ none. cc)
     read.unwritten empty read.files read.writes read.quiet
     (λ other same eight. subst (λ (k : Command). ReadFails k old.holds old.reads new.reads) (same_Some command other same) (read.cause eight)))
+
+-- what was done where a text of help is asked for
+pub helped-for : (topic : Topic) (kept : List Routed) (files : Files) → kept ≡ [] → Carried (Some (help topic)) (Ok (helped topic)) kept files files
+unfolding command_verdict
+helped-for topic kept files empty = record {
+  said = λ said says. record {
+    ends = subst (λ (s : Result Accepted Refusal). Ends kept (Ok (helped topic)) s) (same_Some (Ok (to_help topic)) said says) refl;
+    written = λ name is zero. absurd cc;
+    front = λ name is nine. absurd cc;
+  };
+  usage = λ two. absurd (omega (arith, two));
+  no_command = λ none. absurd cc;
+  changes = unchanged None (Ok (helped topic)) kept files files (λ begun. begun) (λ some zero. some refl) (λ nine. absurd (omega (arith, nine))) empty refl refl (λ other. refl);
+  cause = λ command same eight. absurd (omega (arith, eight));
+  headline = λ names stated bytes held same states source zero told. absurd cc;
+  edges = λ names stated bytes held same ports states source zero told. absurd cc;
+  judges = λ names stated bytes text same states design cif. absurd cc;
+}
 
 -- what was done for the command that words give
 pub said-of : {styles words : List (List ℕ)} {e : Result Done Stop} {kept : List Routed} {old new : Files} {command : Command} {said : Result Accepted Refusal}

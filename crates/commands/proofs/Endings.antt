@@ -13,11 +13,11 @@ use Rattle.command_ends.specs.declared.stop.Stop.TheVariants.{Refused, ReadFault
 use Rattle.command_inputs.specs.Failures.{InputsFail, SourceFails}
 use Rattle.command_inputs.specs.declared.stages.Inputs.{Inputs}
 use Rattle.command_jobs.specs.Text.{job_text}
-use Rattle.command_words.specs.Command.{Command, Source, check, files_of, from_file, from_seed, reads_of, route}
+use Rattle.command_words.specs.Command.{Command, Source, check, files_of, from_file, from_seed, help, reads_of, route}
 use Rattle.geom_core.specs.declared.layout.Layout.{Layout}
-use Rattle.commands.specs.Accepted.{Accepted, to_judge, to_lay_out}
+use Rattle.commands.specs.Accepted.{Accepted, to_help, to_judge, to_lay_out}
 use Rattle.commands.specs.Causes.{AreStill, IsStill, ReadFails, WriteFails}
-use Rattle.commands.specs.Done.{Done, IsJudgement, IsStatusOf, done_status, findings_status, judged, laid_out}
+use Rattle.commands.specs.Done.{Done, IsJudgement, IsStatusOf, done_status, findings_status, helped, judged, laid_out}
 use Rattle.commands.specs.Ends.{Ends}
 use Rattle.commands.specs.Outcome.{Holds, HoldsFront}
 
@@ -46,10 +46,15 @@ judged-number (f ∷ fs) good n is number = inr (number, λ holds. let none : f 
 pub done-said : (kept : List Routed) (done : Done) (said : Result Accepted Refusal) (n : ℕ) → Ends kept (Ok done) said → n ≡ done_status done → IsStatusOf said n
 done-said kept (laid_out summary) (Ok (to_lay_out job)) n ends number = number
 done-said kept (laid_out summary) (Ok (to_judge inputs layout)) n ends number = absurd ends
+done-said kept (laid_out summary) (Ok (to_help topic)) n ends number = absurd ends
 done-said kept (judged inputs layout findings) (Ok (to_lay_out job)) n ends number = absurd ends
 done-said kept (judged inputs layout findings) (Ok (to_judge asked shown)) n ends number =
     subst (λ (said : Result Accepted Refusal). IsStatusOf said n) (ap₂ (λ (i : Inputs) (l : Layout). Ok (to_judge i l)) ends.same_inputs ends.same_layout)
     (judged-number findings _ n ends.found.good number)
+done-said kept (judged inputs layout findings) (Ok (to_help topic)) n ends number = absurd ends
+done-said kept (helped topic) (Ok (to_lay_out job)) n ends number = absurd ends
+done-said kept (helped topic) (Ok (to_judge inputs layout)) n ends number = absurd ends
+done-said kept (helped topic) (Ok (to_help asked)) n ends number = number
 done-said kept done (Err refusal) n ends number = absurd ends
 
 pub rose-still : (old new : ℕ) → Rose old new → Still old new → ⊥
@@ -69,6 +74,7 @@ pub command-still : (command : Command) (told : List ℕ → Option (List ℕ)) 
 command-still (route names) told old new still fails = inputs-still names.rules names.design told old new still.0 still.1 fails
 command-still (check names) told old new still (inl failed) = inputs-still names.rules (from_file names.design) told old new still.0 (still.1.0, tt) failed
 command-still (check names) told old new still (inr rose) = rose-still _ _ rose.0 still.1.1.0
+command-still (help topic) told old new still fails = absurd fails
 
 -- of the file that is written, if one is: why writing it failed, and that it did not
 pub fails-there : (file : Option (List ℕ)) (old new : List ℕ → ℕ) (sink_old sink_new : ℕ) → file ≢ None → ((name : List ℕ) → file ≡ Some name → Rose (old name) (new name))
@@ -90,6 +96,7 @@ whole-front (Ok (to_lay_out job)) kept before told holds = λ held at.
     let same : job_text job kept ≡ held = same_Some (job_text job kept) held (holds held at) in
     inr (length (job_text job kept), sym same ∙ sym (take_all (length (job_text job kept)) (job_text job kept) (omega arith)))
 whole-front (Ok (to_judge inputs layout)) kept before told holds = absurd holds
+whole-front (Ok (to_help topic)) kept before told holds = absurd holds
 whole-front (Err refusal) kept before told holds = absurd holds
 
 -- what holds of what is said, where anything is

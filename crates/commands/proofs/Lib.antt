@@ -6,3 +6,5 @@ pub mod Tellings
 pub mod HeadlineLaws
 -- what was done where a command was stopped early, and for the command that words give
 pub mod CarriedLaws
+-- what was put of notes
+pub mod NotedLaws

@@ -13,7 +13,7 @@ use Rattle.command_ends.specs.declared.stop.Stop.TheVariants.{Refused, ReadFault
 use Rattle.commands.specs.Accepted.{Accepted}
 use Rattle.commands.specs.Carried.{IsJudgedBy}
 use Rattle.commands.specs.Changes.{HasBegun}
-use Rattle.commands.specs.Done.{Done, IsStatusOf, done_status, judged, laid_out}
+use Rattle.commands.specs.Done.{Done, IsStatusOf, done_status, helped, judged, laid_out}
 use Rattle.commands.specs.Ends.{Ends}
 use Rattle.commands.specs.Outcome.{GainsFronts, Tells}
 use Rattle.commands.proofs.Endings.{done-said, judged-number, rose-still, stop-said}
@@ -42,11 +42,13 @@ done-few : (done : Done) → done_status done ≤ 1
 done-few (laid_out summary) = omega arith
 done-few (judged inputs layout []) = omega arith
 done-few (judged inputs layout (f ∷ fs)) = omega arith
+done-few (helped topic) = omega arith
 
 done-listed : (done : Done) → is_status (done_status done) ≡ true
 done-listed (laid_out summary) = refl
 done-listed (judged inputs layout []) = refl
 done-listed (judged inputs layout (f ∷ fs)) = refl
+done-listed (helped topic) = refl
 
 -- of what stops a command, a write fault alone has status 9 and has begun a file
 pub stop-begun : (stop : Stop) → HasBegun (Err stop) → stop_status stop ≡ 9
@@ -88,11 +90,13 @@ module _ (n : ℕ) (before after : Option (List ℕ)) (old new : ℕ) where
   pub tells-begun : (e : Result Done Stop) → Tells e n before after old new → HasBegun e → (n ≡ 0) ⊎ (n ≡ 9)
   tells-begun (Ok (laid_out summary)) tells begun = elim tells [ inl printed ↦ inl printed.number | inr cut ↦ inr cut.number ]
   tells-begun (Ok (judged inputs layout findings)) tells begun = absurd begun
+  tells-begun (Ok (helped topic)) tells begun = absurd begun
   tells-begun (Err stop) tells begun = inr (tells.number ∙ stop-begun stop begun)
 
   -- a layout that was judged has status 0 only where this holds, and status 1 only where it does not
   pub tells-judged : (e : Result Done Stop) (good : Type 0) → Tells e n before after old new → IfOk e (IsJudgedBy good) → (n ≡ 0 → good) × (n ≡ 1 → good → ⊥)
   tells-judged (Ok (laid_out summary)) good tells is = absurd is
+  tells-judged (Ok (helped topic)) good tells is = absurd is
   tells-judged (Ok (judged inputs layout findings)) good tells is = elim tells [
     | inl printed ↦ elim (judged-number findings good n is printed.number) [
       | inl none ↦ (λ zero. none.1, λ one. absurd (omega (arith, one, none.0)))

@@ -1,9 +1,11 @@
 -- what a command comes to, and the verdict on words and files
 use Rattle.geom_core.specs.declared.layout.Layout.{Layout}
 use Rattle.command_inputs.specs.declared.stages.Inputs.{Inputs}
+use Rattle.command_words.specs.declared.topic.Topic.{Topic}
 use Rattle.command_jobs.specs.Job.{Job}
 
--- what a command comes to where nothing is refused: a job to be done, or a layout to be judged for a design and rules
+-- what a command comes to where nothing is refused: a job to be done, a layout to be judged for a design and rules, or a text of help to be printed
 pub data Accepted : Type 0 where
   to_lay_out : Job → Accepted
   to_judge : Inputs → Layout → Accepted
+  to_help : Topic → Accepted

@@ -7,7 +7,7 @@ use Rattle.command_inputs.specs.Reading.{Files}
 use Rattle.command_words.specs.Command.{CheckNames, Command, Names, check, route, writes_of}
 use Rattle.commands.specs.Causes.{ReadFails}
 use Rattle.commands.specs.Changes.{Changes, IsAsSaid}
-use Rattle.commands.specs.Done.{Done, judged, laid_out}
+use Rattle.commands.specs.Done.{Done, helped, judged, laid_out}
 use Rattle.commands.specs.Headline.{Headline, PortedHeadline}
 use Rattle.commands.specs.Verdict.{asked_verdict}
 use Rattle.greedy_router.specs.declared.sweep.Routed.{Routed}
@@ -16,6 +16,7 @@ use Rattle.greedy_router.specs.declared.sweep.Routed.{Routed}
 abbrev pub IsJudgedBy : Type 0 → Done → Type 0
 IsJudgedBy good (laid_out summary) = ⊥
 IsJudgedBy good (judged inputs layout findings) = (findings ≡ []) ↔ good
+IsJudgedBy good (helped topic) = ⊥
 
 -- what was done for a command that is asked, or for none, that ended so and keeps this: what files tell before and after
 pub record Carried (asked : Option Command) (ending : Result Done Stop) (kept : List Routed) (old new : Files) : Type 0 where

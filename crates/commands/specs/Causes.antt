@@ -1,7 +1,7 @@
 -- why reading or writing failed in a command, by the counts of failures of its files and the sink
 use Rattle.std.specs.Prelude.{◌⊎◌, ℕ, List, [], ◌∷◌, Option, Some, None}
 use Rattle.shelf_io.specs.Count.{Rose, Still}
-use Rattle.command_words.specs.Command.{Command, check, from_file, reads_of, route, writes_of}
+use Rattle.command_words.specs.Command.{Command, check, from_file, help, reads_of, route, writes_of}
 use Rattle.tech_rules.specs.Rules.{RuleValues}
 use Rattle.command_inputs.specs.Failures.{ArePassed, InputsFail}
 
@@ -12,6 +12,7 @@ ReadFails (route names) told old new = InputsFail names.rules names.design told 
 ReadFails (check names) told old new =
     InputsFail names.rules (from_file names.design) told old new
     ⊎ (Rose (old names.cif) (new names.cif) × ((under : RuleValues) × ArePassed names.rules (from_file names.design) names.ports told under))
+ReadFails (help topic) told old new = ⊥
 
 -- why its writing failed: the write count of the file that it writes rose, or that of the sink as it printed what it had done
 abbrev pub WriteFails : Option (List ℕ) → (List ℕ → ℕ) → (List ℕ → ℕ) → ℕ → ℕ → Type 0

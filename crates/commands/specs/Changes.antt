@@ -9,7 +9,7 @@ use Rattle.command_jobs.specs.Job.{Job}
 use Rattle.command_jobs.specs.Text.{job_text}
 use Rattle.command_jobs.specs.Written.{IsPortedText}
 use Rattle.commands.specs.Accepted.{Accepted, to_lay_out}
-use Rattle.commands.specs.Done.{Done, judged, laid_out}
+use Rattle.commands.specs.Done.{Done, helped, judged, laid_out}
 use Rattle.commands.specs.Ends.{Ends}
 use Rattle.commands.specs.Outcome.{Holds, HoldsFront}
 use Rattle.greedy_router.specs.declared.sweep.Routed.{Routed}
@@ -19,6 +19,7 @@ use Rattle.shelf_io.specs.Count.{Rose}
 abbrev pub HasBegun : Result Done Stop → Type 0
 HasBegun (Ok (laid_out summary)) = Unit {0}
 HasBegun (Ok (judged inputs layout findings)) = ⊥
+HasBegun (Ok (helped topic)) = ⊥
 HasBegun (Err (Refused refusal)) = ⊥
 HasBegun (Err ReadFault) = ⊥
 HasBegun (Err WriteFault) = Unit {0}

@@ -8,8 +8,10 @@ use Rattle.greedy_router.specs.declared.sweep.Routed.{Routed}
 use Rattle.layout_report.specs.SummaryText.{summary_text}
 use Rattle.layout_report.specs.declared.summary.Summary.{Summary}
 use Rattle.command_ends.specs.FindingLines.{judged_text}
-use Rattle.commands.specs.Accepted.{Accepted, to_judge, to_lay_out}
+use Rattle.commands.specs.Accepted.{Accepted, to_help, to_judge, to_lay_out}
 use Rattle.command_ends.specs.Status.{refusal_status}
+use Rattle.command_help.specs.Texts.{text_on}
+use Rattle.command_words.specs.declared.topic.Topic.{Topic}
 use Rattle.command_jobs.specs.Summarized.{summary_of}
 use Rattle.command_ends.specs.declared.refusal.Refusal.{Refusal}
 use Rattle.command_inputs.specs.declared.stages.Inputs.{Inputs}
@@ -17,10 +19,11 @@ use Rattle.command_ends.specs.declared.stop.Stop.{Stop}
 use Rattle.commands.specs.declared.done.Done as seen
 use Rattle.commands.specs.declared.done.Done.TheVariants as dones
 
--- what a command has done: it has laid a design out, of which this is told, or found this of a layout
+-- what a command has done: it has laid a design out, of which this is told, or found this of a layout; or a text of help is asked for
 pub data Done : Type 0 where
   laid_out : Summary → Done
   judged : Inputs → Layout → List Finding → Done
+  helped : Topic → Done
 
 -- findings of a layout for a design under rules: there are none exactly where it is good
 pub record AreFound (inputs : Inputs) (layout : Layout) (findings : List Finding) : Type 0 where
@@ -37,12 +40,18 @@ pub record IsJudged (inputs : Inputs) (layout : Layout) (findings : List Finding
 abbrev pub Does : List Routed → Done → Accepted → Type 0
 Does kept (laid_out summary) (to_lay_out job) = summary ≡ summary_of job kept
 Does kept (laid_out summary) (to_judge inputs layout) = ⊥
+Does kept (laid_out summary) (to_help topic) = ⊥
 Does kept (judged inputs layout findings) (to_lay_out job) = ⊥
 Does kept (judged inputs layout findings) (to_judge asked shown) = IsJudged inputs layout findings asked shown
+Does kept (judged inputs layout findings) (to_help topic) = ⊥
+Does kept (helped topic) (to_lay_out job) = ⊥
+Does kept (helped topic) (to_judge inputs layout) = ⊥
+Does kept (helped topic) (to_help asked) = topic ≡ asked
 
 abbrev pub IsToLayOut : Accepted → Type 0
 IsToLayOut (to_lay_out job) = Unit {0}
 IsToLayOut (to_judge inputs layout) = ⊥
+IsToLayOut (to_help topic) = ⊥
 
 -- the status of a layout of which this was found
 abbrev pub findings_status : List Finding → ℕ
@@ -53,15 +62,18 @@ findings_status (finding ∷ more) = 1
 abbrev pub done_status : Done → ℕ
 done_status (laid_out summary) = 0
 done_status (judged inputs layout findings) = findings_status findings
+done_status (helped topic) = 0
 
 abbrev pub done_text : Done → List ℕ
 done_text (laid_out summary) = summary_text summary
 done_text (judged inputs layout findings) = judged_text inputs.designs.drawn.design layout findings
+done_text (helped topic) = text_on topic
 
 -- what a command has done as contracts see it, and how it ended
 abbrev pub done_seen : seen.Done → Done
 done_seen (dones.LaidOut summary) = laid_out summary
 done_seen (dones.Judged j) = judged j.inputs j.layout j.findings.items
+done_seen (dones.Helped topic) = helped topic
 
 abbrev pub end_seen : Result seen.Done Stop → Result Done Stop
 end_seen (Ok done) = Ok (done_seen done)
@@ -75,4 +87,5 @@ IsJudgement good n = ((n ≡ 0) × good) ⊎ ((n ≡ 1) × (good → ⊥))
 abbrev pub IsStatusOf : Result Accepted Refusal → ℕ → Type 0
 IsStatusOf (Ok (to_lay_out job)) n = n ≡ 0
 IsStatusOf (Ok (to_judge inputs layout)) n = IsJudgement (Good inputs.rules inputs.designs.drawn.design layout) n
+IsStatusOf (Ok (to_help topic)) n = n ≡ 0
 IsStatusOf (Err refusal) n = n ≡ refusal_status refusal

@@ -6,7 +6,7 @@ use Rattle.commands.specs.Ends.{Ends}
 use Rattle.cif_writer.specs.LayoutText as written
 use Rattle.commands.specs.Done.{Done, done_status, done_text}
 use Rattle.command_ends.specs.Gains.{Gains}
-use Rattle.commands.specs.Accepted.{Accepted, to_judge, to_lay_out}
+use Rattle.commands.specs.Accepted.{Accepted, to_help, to_judge, to_lay_out}
 use Rattle.command_jobs.specs.Job.{Job}
 use Rattle.command_ends.specs.Line.{line_of}
 use Rattle.command_ends.specs.Status.{stop_status}
@@ -24,6 +24,7 @@ use Rattle.command_ends.specs.declared.stop.Stop.TheVariants.{WriteFault}
 abbrev pub IsJobAnd : Result Accepted Refusal → (Job → Type 0) → Type 0
 IsJobAnd (Ok (to_lay_out job)) P = P job
 IsJobAnd (Ok (to_judge inputs layout)) P = ⊥
+IsJobAnd (Ok (to_help topic)) P = ⊥
 IsJobAnd (Err refusal) P = ⊥
 
 -- a file that is told holds just the text of the job that is accepted, with these routed channels; one is

@@ -1,7 +1,7 @@
--- what a command's words and files ask for: a design to lay out, a layout to judge, or the first refusal
+-- what a command's words and files ask for: a design to lay out, a layout to judge, a text of help, or the first refusal
 use Rattle.std.specs.Prelude.{◌≡◌, ℕ, List, Option, Some, None, option_map, Result, Ok, Err}
-use Rattle.command_words.specs.Command.{Command, check, command_of, from_file, route}
-use Rattle.commands.specs.Accepted.{Accepted, to_judge, to_lay_out}
+use Rattle.command_words.specs.Command.{Command, check, command_of, from_file, help, route}
+use Rattle.commands.specs.Accepted.{Accepted, to_help, to_judge, to_lay_out}
 use Rattle.command_ends.specs.Refusing.{◌>>=◌, told_then}
 use Rattle.command_jobs.specs.Rows.{job_of}
 use Rattle.command_words.specs.declared.command.Wanted.{Wanted}
@@ -30,6 +30,7 @@ unfoldable pub command_verdict : Command → (List ℕ → Option (List ℕ)) �
 command_verdict (route names) told = told_then (inputs_told names.rules names.design names.wanted.ports told) (λ inputs. Some (job_verdict names.wanted inputs))
 command_verdict (check names) told =
     told_then (inputs_told names.rules (from_file names.design) names.ports told) (λ inputs. option_map (judgement_verdict inputs) (told names.cif))
+command_verdict (help topic) told = Some (Ok (to_help topic))
 
 -- that on a command's words
 abbrev pub asked_verdict : Option Command → (List ℕ → Option (List ℕ)) → Option (Result Accepted Refusal)

@@ -12,11 +12,11 @@ ghost use Rattle.commands.specs.Verdict.{command_verdict};
 ghost use Rattle.std.specs.Prelude.{◌≡◌, ◌<◌, ◌≤◌, [], Some, length, map};
 
 use crate::done::Done;
+use crate::heard::Heard;
 use crate::judging::judge;
 use crate::routing::route;
 use choose_core::{Chooser, Chooses, Style};
 use command_ends::{Refusal, Stop};
-use command_inputs::Texts;
 use command_words::{Command, Word, WordsFault, read_command};
 use greedy_router::Routed;
 use shelf_io::Shelf;
@@ -28,7 +28,7 @@ fn obey<S: Shelf>(
     shelf: &mut S,
     command: &Command<'_>,
     styles: &[Style],
-    texts: &mut Texts,
+    heard: &mut Heard,
     kept: &mut Vec<Routed>,
 ) -> Result<Done, Stop>
     requires style { IsOfStyle (length styles.now) (command_seen command.now) }
@@ -39,8 +39,9 @@ fn obey<S: Shelf>(
         → AreKept styles.now (λ s. s.plan) (λ s. ⟦<Chooser as Chooses>⟧.answers s.chooser) (command_seen command.now) said kept.new.items }
 {
     match command {
-        Command::Route(names) => route(alloc, shelf, names, styles, texts, kept),
-        Command::Check(names) => judge(alloc, shelf, names, texts),
+        Command::Route(names) => route(alloc, shelf, names, styles, heard, kept),
+        Command::Check(names) => judge(alloc, shelf, names, heard),
+        Command::Help(topic) => Ok(Done::Helped(*topic)),
     }
 }
 
@@ -50,7 +51,7 @@ pub(crate) fn carry_out<S: Shelf>(
     words: &[Word],
     shelf: &mut S,
     styles: &[Style],
-    texts: &mut Texts,
+    heard: &mut Heard,
     kept: &mut Vec<Routed>,
 ) -> Result<Done, Stop>
     requires some { 0 < length styles.now }
@@ -63,7 +64,7 @@ pub(crate) fn carry_out<S: Shelf>(
         → AreKept styles.now (λ s. s.plan) (λ s. ⟦<Chooser as Chooses>⟧.answers s.chooser) command said kept.new.items }
 {
     match read_command(alloc, styles, words) {
-        Ok(command) => obey(alloc, shelf, &command, styles, texts, kept),
+        Ok(command) => obey(alloc, shelf, &command, styles, heard, kept),
         Err(WordsFault::Usage) => Err(Stop::Refused(Refusal::Usage)),
         Err(WordsFault::Memory) => Err(Stop::Refused(Refusal::Memory)),
     }

@@ -1,6 +1,7 @@
 //! What a command has done.
 
 use command_inputs::Inputs;
+use command_words::Topic;
 use geom_core::Layout;
 use layout_check::Finding;
 use layout_report::Summary;
@@ -13,9 +14,10 @@ pub(crate) struct Judged {
     pub(crate) findings: Vec<Finding>,
 }
 
-/// What a command has done: it has laid a design out, of which this is told, or judged a layout.
+/// What a command has done: it has laid a design out, of which this is told, or judged a layout; or a text of help is asked for.
 #[derive(Drop)]
 pub(crate) enum Done {
     LaidOut(Summary),
     Judged(Judged),
+    Helped(Topic),
 }

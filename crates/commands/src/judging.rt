@@ -10,8 +10,9 @@ ghost use Rattle.layout_check.specs.Measured.{IsMeasured};
 ghost use Rattle.std.specs.Prelude.{◌≡◌, [], Some, IfOk};
 
 use crate::done::{Done, Judged};
+use crate::heard::Heard;
 use command_ends::{Refusal, Stop};
-use command_inputs::{Inputs, Texts, load_inputs, load_layout};
+use command_inputs::{Inputs, load_inputs, load_layout};
 use command_words::{Check, Source};
 use geom_core::Layout;
 use layout_check::check;
@@ -39,14 +40,21 @@ pub(crate) fn judge<S: Shelf>(
     alloc: Global,
     shelf: &mut S,
     names: &Check<'_>,
-    texts: &mut Texts,
+    heard: &mut Heard,
 ) -> Result<Done, Stop>
     ensures { Carried (Some (asked.check (check_seen names.now))) (end_seen result) []
         (files (S.holds shelf.old) (S.read_faults shelf.old) (S.write_faults shelf.old)) (files (S.holds shelf.new) (S.read_faults shelf.new) (S.write_faults shelf.new)) }
 {
     let source = Source::File(names.design);
-    let inputs = load_inputs(alloc, shelf, names.rules, &source, names.ports, texts)?;
-    let layout = load_layout(alloc, shelf, names.cif, texts)?;
+    let inputs = load_inputs(
+        alloc,
+        shelf,
+        names.rules,
+        &source,
+        names.ports,
+        &mut heard.texts,
+    )?;
+    let layout = load_layout(alloc, shelf, names.cif, &mut heard.texts)?;
     match judge_layout(alloc, inputs, layout) {
         Ok(judged) => Ok(Done::Judged(judged)),
         Err(AllocError) => Err(Stop::Refused(Refusal::Memory)),

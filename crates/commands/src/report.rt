@@ -7,6 +7,8 @@ ghost use Rattle.std.specs.Prelude.{◌≡◌, Ok};
 
 use crate::done::{Done, Judged};
 use command_ends::{Stop, print_line, put_judged};
+use command_help::put_help;
+use command_words::Topic;
 use layout_report::{Summary, print_summary};
 use shelf_io::{Failed, Sink};
 
@@ -46,6 +48,19 @@ fn report_laid<K: Sink>(out: &mut K, summary: &Summary) -> u8
     }
 }
 
+// Prints a text of help, and gives the status: 9 where the sink failed. Takes no memory.
+fn report_help<K: Sink>(out: &mut K, topic: Topic) -> u8
+    ensures { Tells (Ok (done.helped topic)) result (K.written out.old) (K.written out.new) (K.faults out.old) (K.faults out.new) }
+{
+    match put_help(out, topic) {
+        Ok(()) => 0,
+        Err(Failed) => {
+            print_line(out, &Stop::WriteFault);
+            9
+        }
+    }
+}
+
 // Prints the line of what stopped a command, as far as the sink takes it, and gives the status. Takes no memory.
 fn report_stop<K: Sink>(out: &mut K, stop: &Stop) -> u8
     ensures { IsStopped stop.now result (K.written out.old) (K.written out.new) (K.faults out.old) (K.faults out.new) }
@@ -61,6 +76,7 @@ pub(crate) fn report<K: Sink>(out: &mut K, ending: &Result<Done, Stop>) -> u8
     match ending {
         Ok(Done::LaidOut(summary)) => report_laid(out, summary),
         Ok(Done::Judged(judged)) => report_judged(out, judged),
+        Ok(Done::Helped(topic)) => report_help(out, *topic),
         Err(stop) => report_stop(out, stop),
     }
 }

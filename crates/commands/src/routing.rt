@@ -11,12 +11,14 @@ ghost use Rattle.commands.specs.Verdict.{command_verdict};
 ghost use Rattle.std.specs.Prelude.{◌≡◌, ◌<◌, [], Some, length};
 
 use crate::done::Done;
+use crate::heard::Heard;
 use crate::writing::write_prepared;
 use choose_core::{Chooser, Chooses, Style};
 use command_ends::Stop;
-use command_inputs::{Inputs, Texts, load_inputs};
+use command_inputs::{Inputs, load_inputs};
 use command_jobs::lay_out;
 use command_words::Route;
+use design_notes::note_design;
 use greedy_router::Routed;
 use shelf_io::Shelf;
 use std::alloc::Global;
@@ -27,7 +29,7 @@ pub(crate) fn route<S: Shelf>(
     shelf: &mut S,
     names: &Route<'_>,
     styles: &[Style],
-    texts: &mut Texts,
+    heard: &mut Heard,
     kept: &mut Vec<Routed>,
 ) -> Result<Done, Stop>
     requires style { names.now.style < length styles.now }
@@ -39,7 +41,20 @@ pub(crate) fn route<S: Shelf>(
 {
     let style = &styles[names.style];
     let ports = names.wanted.ports;
-    let inputs = load_inputs(alloc, shelf, names.rules, &names.design, ports, texts)?;
+    let inputs = load_inputs(
+        alloc,
+        shelf,
+        names.rules,
+        &names.design,
+        ports,
+        &mut heard.texts,
+    )?;
+    note_design(
+        alloc,
+        &mut heard.notes,
+        &inputs.file,
+        inputs.designs.placed(),
+    );
     let Inputs {
         rules,
         file,

@@ -1,14 +1,19 @@
 //! What people are told of a command.
 
-ghost use Rattle.std.specs.Prelude.{◌<◌, length};
+ghost use Rattle.command_words.specs.Command as asked;
+ghost use Rattle.command_words.specs.Command.{command_of, is_quiet};
+ghost use Rattle.command_words.specs.Seen.{command_seen};
+ghost use Rattle.commands.specs.Noted.{Noted};
+ghost use Rattle.std.specs.Prelude.{◌≡◌, ◌<◌, Some, length, map, true};
 
 use crate::done::Done;
 use choose_core::Style;
 use command_ends::Stop;
 use command_inputs::Texts;
-use command_words::{Word, read_command};
+use command_words::{Command, Word, WordsFault, read_command};
 use fault_notes::{Reached, note_stop};
-use note_text::Notes;
+use note_text::{Notes, put_notes};
+use shelf_io::Sink;
 use std::alloc::Global;
 
 // The bytes of a text, if there is one.
@@ -19,27 +24,70 @@ fn bytes_of(text: &Option<Vec<u8>>) -> Option<&[u8]> {
     }
 }
 
-/// The notes on how a command of these words ended, which has read these texts. What memory has no room for is left out.
-pub(crate) fn notes_on(
+// Puts what was noted, and the notes on how a command ended that has come so far.
+fn put_told<N: Sink>(
     alloc: Global,
-    words: &[Word],
-    styles: &[Style],
-    texts: &Texts,
+    reached: &Reached<'_>,
     ending: &Result<Done, Stop>,
-) -> Notes
-    requires { 0 < length styles.now }
+    noted: Notes,
+    notes: &mut N,
+)
+    ensures { Noted (N.written notes.old) (N.written notes.new) (N.faults notes.old) (N.faults notes.new) }
 {
-    let mut notes = Notes::new(alloc);
-    let reached = Reached {
+    let mut told = noted;
+    if let Err(stop) = ending {
+        note_stop(alloc, &mut told, reached, stop);
+    }
+    let _ = put_notes(notes, &told);
+}
+
+// Whether a command wishes for no notes.
+fn is_quiet(command: &Command<'_>) -> bool
+    ensures { result ≡ is_quiet (command_seen command.now) }
+{
+    match command {
+        Command::Route(names) => names.quiet,
+        Command::Check(names) => names.quiet,
+        Command::Help(_) => false,
+    }
+}
+
+/// Puts what was noted of the command of these words, which has read these texts, and the notes on how it ended, unless it wishes for none. What memory has no room for is left out.
+pub(crate) fn tell<'a, N: Sink>(
+    alloc: Global,
+    words: &'a [Word],
+    styles: &'a [Style],
+    texts: &'a Texts,
+    noted: Notes,
+    ending: &Result<Done, Stop>,
+    notes: &mut N,
+)
+    requires { 0 < length styles.now }
+    ensures noted { Noted (N.written notes.old) (N.written notes.new) (N.faults notes.old) (N.faults notes.new) }
+    ensures quiet { (command : asked.Command) → command_of (map (λ s. s.chooser.name) styles.now) words.now ≡ Some command → is_quiet command ≡ true → notes.new ≡ notes.old }
+{
+    let unknown = None;
+    let rules = bytes_of(&texts.rules);
+    let design = bytes_of(&texts.design);
+    let cif = bytes_of(&texts.cif);
+    let mut reached = Reached {
         words,
         styles,
-        command: read_command(alloc, styles, words).ok(),
-        rules: bytes_of(&texts.rules),
-        design: bytes_of(&texts.design),
-        cif: bytes_of(&texts.cif),
+        command: unknown,
+        rules,
+        design,
+        cif,
     };
-    if let Err(stop) = ending {
-        note_stop(alloc, &mut notes, &reached, stop);
+    match read_command(alloc, styles, words) {
+        Ok(command) => {
+            if is_quiet(&command) {
+                return;
+            }
+            let known = Some(command);
+            reached.command = known;
+            put_told(alloc, &reached, ending, noted, notes);
+        }
+        Err(WordsFault::Usage) => put_told(alloc, &reached, ending, noted, notes),
+        Err(WordsFault::Memory) => {}
     }
-    notes
 }

@@ -2,7 +2,7 @@
 
 ghost use Rattle.commands.specs.Causes.{IsQuiet, ReadFails, WriteFails};
 ghost use Rattle.command_words.specs.Command as asked;
-ghost use Rattle.command_words.specs.Command.{CheckNames, Names, command_of, writes_of};
+ghost use Rattle.command_words.specs.Command.{CheckNames, Names, command_of, is_quiet, writes_of};
 ghost use Rattle.commands.specs.Done.{IsStatusOf};
 ghost use Rattle.commands.specs.Noted.{Noted};
 ghost use Rattle.commands.specs.Headline.{Headline, PortedHeadline};
@@ -17,13 +17,12 @@ ghost use Rattle.shelf_io.specs.Count.{Still};
 ghost use Rattle.std.specs.Prelude.{◌≡◌, ◌≢◌, ◌⊎◌, ◌<◌, ◌≤◌, List, [], ℕ, length, map, Some, None, true};
 
 use crate::doing::carry_out;
+use crate::heard::Heard;
 use crate::report::report;
-use crate::telling::notes_on;
+use crate::telling::tell;
 use choose_core::{Chooser, Chooses, Style};
-use command_inputs::Texts;
 use command_words::Word;
 use greedy_router::Routed;
-use note_text::put_notes;
 use shelf_io::{Shelf, Sink};
 use std::alloc::Global;
 
@@ -147,17 +146,22 @@ pub fn run<S: Shelf, K: Sink, N: Sink>(
         (K.faults out.old) (K.faults out.new)
         → IsStatusOf said result.status ⊎ (result.status ≡ 10) }
 
-    // The notes, for people, are lines; whatever becomes of them, all else is as it is said here.
+    // The notes, for people, are lines, and there are none where the command wishes for none. Whatever becomes of them, all else is as it is said here.
     ensures notes { Noted (N.written notes.old) (N.written notes.new) (N.faults notes.old) (N.faults notes.new) }
+    ensures quiet { (command : asked.Command) → command_of (map (λ s. s.chooser.name) styles.now) words.now ≡ Some command → is_quiet command ≡ true
+        → notes.new ≡ notes.old }
 
     // Status 0 and 1 come only where the sink took all.
     ensures calm { (result.status ≡ 0) ⊎ (result.status ≡ 1) → K.faults out.new ≡ K.faults out.old }
 {
     let mut kept = Vec::new(alloc);
-    let mut texts = Texts::new();
-    let ending = carry_out(alloc, words, shelf, styles, &mut texts, &mut kept);
+    let mut heard = Heard::new(alloc);
+    let ending = carry_out(alloc, words, shelf, styles, &mut heard, &mut kept);
     let status = report(out, &ending);
-    let told = notes_on(alloc, words, styles, &texts, &ending);
-    let _ = put_notes(notes, &told);
+    let Heard {
+        texts,
+        notes: noted,
+    } = heard;
+    tell(alloc, words, styles, &texts, noted, &ending, notes);
     Ended { status, kept }
 }

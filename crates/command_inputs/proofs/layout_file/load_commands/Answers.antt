@@ -14,5 +14,5 @@ returns-in_err-bytes-clause-loads g c =
 pub returns-clause-loads : goal.returns-clause-loads
 unfolding commands_verdict
 returns-clause-loads g c =
-    rw c.or_stop.ensures (loads-on (λ (v : Vec ℕ Global). v.items) (λ (v : Vec CifCommand Global). v.items) (λ (whole : List ℕ). cif_said (cif_reads whole)) c.in_ok-bytes.bytes _ c.read_text.result c.as_slice.ensures.value
+    rw c.or_stop-commands.ensures (loads-on (λ (v : Vec ℕ Global). v.items) (λ (v : Vec CifCommand Global). v.items) (λ (whole : List ℕ). cif_said (cif_reads whole)) c.in_ok-bytes.bytes _ c.read_text.result c.as_slice.ensures.value
     c.in_ok-bytes.ensures.loads c.read_text.ensures.says)

@@ -13,5 +13,5 @@ returns-in_err-bytes-clause-loads g c =
 pub returns-clause-loads : goal.returns-clause-loads
 unfolding design_verdict
 returns-clause-loads g c =
-    rw c.or_stop.ensures (loads-on (λ (v : Vec ℕ Global). v.items) (λ (r : ReadDesign). r) (stated_design c.args.rules.now c.args.ports) c.in_ok-bytes.bytes _ c.stated_design.result c.as_slice.ensures.value
+    rw c.or_stop-read.ensures (loads-on (λ (v : Vec ℕ Global). v.items) (λ (r : ReadDesign). r) (stated_design c.args.rules.now c.args.ports) c.in_ok-bytes.bytes _ c.stated_design.result c.as_slice.ensures.value
     c.in_ok-bytes.ensures.loads c.stated_design.ensures.says)

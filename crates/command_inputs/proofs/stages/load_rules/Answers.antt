@@ -13,5 +13,5 @@ returns-in_err-bytes g c =
 pub returns : goal.returns
 unfolding rules_verdict
 returns g c =
-    rw c.or_stop.ensures (loads-on (λ (v : Vec ℕ Global). v.items) (λ (r : RuleValues). r) stated_rules c.in_ok-bytes.bytes _ c.stated_rules.result c.as_slice.ensures.value
+    rw c.or_stop-rules.ensures (loads-on (λ (v : Vec ℕ Global). v.items) (λ (r : RuleValues). r) stated_rules c.in_ok-bytes.bytes _ c.stated_rules.result c.as_slice.ensures.value
     c.in_ok-bytes.ensures.loads c.stated_rules.ensures)

@@ -56,5 +56,7 @@ returns g c =
       complete = λ command said comes quiet.
           tells-said n _ _ _ _ e _ said t (said-of k comes).ends quiet.sink (λ eight. command-still command _ _ _ quiet.reads (k.cause command comes.asked eight))
           (λ nine. file-still _ _ _ quiet.writes ((changes-of k comes.asked).begun (nine-begun e nine)) ((changes-of k comes.asked).cause nine));
+      notes = c.tell.ensures.noted;
+      quiet = c.tell.ensures.quiet;
       calm = λ few. tells-calm n _ _ _ _ e t (omega (arith, few));
     }

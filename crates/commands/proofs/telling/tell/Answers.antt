@@ -1,0 +1,2 @@
+use Rattle.commands.proofs.NotedLaws.{noted-none}
+use Rattle.commands.proofs.telling.tell.Goals as goal
