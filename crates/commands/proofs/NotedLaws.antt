@@ -1,10 +1,14 @@
-use Rattle.std.proofs.Common.{ℕ, List, [], Bool, Option, Some, None, Result, refl, ap, sym, ◌≡◌, ◌∙◌}
+use Rattle.std.proofs.Common.{◌+◌, ◌++◌, ◌∷◌, length, take, true, append_assoc, subst, arith, ℕ, List, [], Bool, false, Option, Some, None, Result, Ok, Err, is_ok, refl, ap, sym, ◌≡◌, ◌∙◌}
 use Rattle.std.proofs.lemmas.List.{append-nil}
-use Rattle.shelf_io.specs.Told.{appended}
+use Rattle.shelf_io.specs.Told.{Refines, appended}
+use Rattle.shelf_io.specs.Lines.{line}
+use Rattle.std.proofs.Math.Seq.{take-append-add}
+use Rattle.shelf_io.specs.Count.{Still}
+use Rattle.command_ends.specs.Gains.{Gains}
 use Rattle.shelf_io.specs.Wrote.{Puts}
 use Rattle.command_ends.proofs.Puts.{gained}
 use Rattle.note_text.specs.Lines.{lines_text}
-use Rattle.commands.specs.Noted.{Noted}
+use Rattle.commands.specs.Noted.{Noted, NotedSo}
 
 -- the text of some lines was put, whole or not
 pub noted-put : {T E : Type 0} (result : Result T E) (lines : List (List ℕ)) {before after : Option (List ℕ)} {old new : ℕ} {L : Type 0} {S : Bool → Type 0}
@@ -16,11 +20,68 @@ same-appended None = refl
 same-appended (Some held) = ap Some (append-nil held)
 
 -- nothing was put
-pub noted-none : (before : Option (List ℕ)) (count : ℕ) → Noted before before count count
-noted-none before count = record {
-  lines = [];
-  gains = record {
-    front = λ held at. (0, same-appended before ∙ at);
-    whole = λ still held at. same-appended before ∙ at;
-  };
+gains-none : (before : Option (List ℕ)) (count : ℕ) → Gains [] before before count count
+gains-none before count = record {
+  front = λ held at. (0, same-appended before ∙ at);
+  whole = λ still held at. same-appended before ∙ at;
 }
+
+pub noted-none : (before : Option (List ℕ)) (count : ℕ) → Noted before before count count
+noted-none before count = record { lines = []; gains = gains-none before count }
+
+-- lines, and then others
+lines-append : (first second : List (List ℕ)) → lines_text (first ++ second) ≡ lines_text first ++ lines_text second
+lines-append [] second = refl
+lines-append (text ∷ more) second =
+    ap (λ l. line (text ∷ []) ++ l) (lines-append more second) ∙ sym (append_assoc (line (text ∷ [])) (lines_text more) (lines_text second))
+
+appended-twice : (before : Option (List ℕ)) (first second : List ℕ) → appended (appended before first) second ≡ appended before (first ++ second)
+appended-twice None first second = refl
+appended-twice (Some held) first second = ap Some (append_assoc held first second)
+
+-- what a sink is told to hold behind a text that was put whole
+behind : (before mid : Option (List ℕ)) (first more held : List ℕ) → Refines mid (appended before first) → appended mid more ≡ Some held
+    → appended before (first ++ more) ≡ Some held
+behind before None first more held whole at = absurd cc
+behind before (Some m) first more held whole at =
+    sym (appended-twice before first more) ∙ ap (λ (told : Option (List ℕ)). appended told more) (whole m refl) ∙ at
+
+-- a text that was put whole, and then another
+gains-both : (before mid after : Option (List ℕ)) (first second : List ℕ) (old between new : ℕ) → Refines mid (appended before first) → between ≡ old
+    → Gains second mid after between new → Gains (first ++ second) before after old new
+gains-both before mid after first second old between new whole calm gains = record {
+  front = λ held at.
+      let found = gains.front held at in
+      (length first + found.0, ap (appended before) (take-append-add first second found.0) ∙ behind before mid first (take found.0 second) held whole found.1);
+  whole = λ still held at.
+      behind before mid first second held whole (gains.whole (subst (λ (count : ℕ). Still count new) (sym calm) still) held at);
+}
+
+noted-both : (before mid after : Option (List ℕ)) (old between new : ℕ) → NotedSo true before mid old between → Noted mid after between new → Noted before after old new
+noted-both before mid after old between new first second = record {
+  lines = first.lines ++ second.lines;
+  gains = subst (λ (text : List ℕ). Gains text before after old new) (sym (lines-append first.lines second.lines))
+      (gains-both before mid after (lines_text first.lines) (lines_text second.lines) old between new (first.whole refl) (first.calm refl) second.gains);
+}
+
+-- what was noted before and after, where nothing follows what could not be put whole
+pub noted-run : {N : Type 0} (written : N → Option (List ℕ)) (faults : N → ℕ) (going : Bool) (x y z : N) → NotedSo going (written x) (written y) (faults x) (faults y)
+    → (going ≡ false → z ≡ y) → Noted (written y) (written z) (faults y) (faults z) → Noted (written x) (written z) (faults x) (faults z)
+noted-run written faults true x y z first silent second = noted-both _ _ _ _ _ _ first second
+noted-run written faults false x y z first silent second =
+    subst (λ n. Noted (written x) (written n) (faults x) (faults n)) (sym (silent refl)) (record { lines = first.lines; gains = first.gains })
+
+-- nothing was put, and more may follow
+pub so-none : (before : Option (List ℕ)) (count : ℕ) → NotedSo true before before count count
+so-none before count = record {
+  lines = [];
+  gains = gains-none before count;
+  whole = λ going held at. same-appended before ∙ at;
+  calm = λ going. refl;
+}
+
+-- lines were put, whole or not
+pub so-put : {T E : Type 0} (result : Result T E) (lines : List (List ℕ)) {before after : Option (List ℕ)} {old new : ℕ} {L : Type 0} {S : Bool → Type 0}
+    → Puts result (lines_text lines) before after old new L S → NotedSo (is_ok result) before after old new
+so-put (Ok done) lines put = record { lines = lines; gains = gained (Ok done) put; whole = λ going. put.ended.whole; calm = λ going. put.ended.quiet }
+so-put (Err failed) lines put = record { lines = lines; gains = gained (Err failed) put; whole = λ going. absurd cc; calm = λ going. absurd cc }

@@ -3,6 +3,7 @@
 
 mod doing;
 mod done;
+mod forewarning;
 mod heard;
 mod judging;
 mod report;

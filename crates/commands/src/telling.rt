@@ -4,7 +4,7 @@ ghost use Rattle.command_words.specs.Command as asked;
 ghost use Rattle.command_words.specs.Command.{command_of, is_quiet};
 ghost use Rattle.command_words.specs.Seen.{command_seen};
 ghost use Rattle.commands.specs.Noted.{Noted};
-ghost use Rattle.std.specs.Prelude.{◌≡◌, ◌<◌, Some, length, map, true};
+ghost use Rattle.std.specs.Prelude.{◌≡◌, ◌<◌, Some, false, length, map, true};
 
 use crate::done::Done;
 use choose_core::Style;
@@ -52,7 +52,7 @@ fn is_quiet(command: &Command<'_>) -> bool
     }
 }
 
-/// Puts what was noted of the command of these words, which has read these texts, and the notes on how it ended, unless it wishes for none. What memory has no room for is left out.
+/// Puts what was noted of the command of these words, which has read these texts, and the notes on how it ended, unless it wishes for none, or no more may follow. What memory has no room for is left out.
 pub(crate) fn tell<'a, N: Sink>(
     alloc: Global,
     words: &'a [Word],
@@ -60,12 +60,17 @@ pub(crate) fn tell<'a, N: Sink>(
     texts: &'a Texts,
     noted: Notes,
     ending: &Result<Done, Stop>,
+    going: bool,
     notes: &mut N,
 )
     requires { 0 < length styles.now }
+    ensures silent { going ≡ false → notes.new ≡ notes.old }
     ensures noted { Noted (N.written notes.old) (N.written notes.new) (N.faults notes.old) (N.faults notes.new) }
     ensures quiet { (command : asked.Command) → command_of (map (λ s. s.chooser.name) styles.now) words.now ≡ Some command → is_quiet command ≡ true → notes.new ≡ notes.old }
 {
+    if !going {
+        return;
+    }
     let unknown = None;
     let rules = bytes_of(&texts.rules);
     let design = bytes_of(&texts.design);

@@ -17,6 +17,7 @@ ghost use Rattle.shelf_io.specs.Count.{Still};
 ghost use Rattle.std.specs.Prelude.{◌≡◌, ◌≢◌, ◌⊎◌, ◌<◌, ◌≤◌, List, [], ℕ, length, map, Some, None, true};
 
 use crate::doing::carry_out;
+use crate::forewarning::forewarn;
 use crate::heard::Heard;
 use crate::report::report;
 use crate::telling::tell;
@@ -156,12 +157,13 @@ pub fn run<S: Shelf, K: Sink, N: Sink>(
 {
     let mut kept = Vec::new(alloc);
     let mut heard = Heard::new(alloc);
+    let going = forewarn(alloc, words, styles, notes);
     let ending = carry_out(alloc, words, shelf, styles, &mut heard, &mut kept);
     let status = report(out, &ending);
     let Heard {
         texts,
         notes: noted,
     } = heard;
-    tell(alloc, words, styles, &texts, noted, &ending, notes);
+    tell(alloc, words, styles, &texts, noted, &ending, going, notes);
     Ended { status, kept }
 }

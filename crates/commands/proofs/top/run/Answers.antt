@@ -1,8 +1,9 @@
-use Rattle.std.proofs.Common.{◌≢◌, inl, inr, ap, arith}
+use Rattle.std.proofs.Common.{◌≢◌, ◌∙◌, inl, inr, ap, arith}
 use Rattle.command_ends.specs.Status.{ending_status}
 use Rattle.commands.specs.Changes.{HasBegun}
 use Rattle.commands.specs.Done.{end_seen}
 use Rattle.commands.proofs.CarriedLaws.{changes-of, said-of}
+use Rattle.commands.proofs.NotedLaws.{noted-run}
 use Rattle.commands.proofs.Endings.{command-still, fails-there, file-still, if-said, rose-still, sink-fails, whole-front}
 use Rattle.commands.proofs.Tellings.{IsTold, nine-begun, tells-begun, tells-calm, tells-fault, tells-judged, tells-listed, tells-number, tells-rose, tells-said}
 use Rattle.commands.proofs.top.run.Goals as goal
@@ -56,7 +57,7 @@ returns g c =
       complete = λ command said comes quiet.
           tells-said n _ _ _ _ e _ said t (said-of k comes).ends quiet.sink (λ eight. command-still command _ _ _ quiet.reads (k.cause command comes.asked eight))
           (λ nine. file-still _ _ _ quiet.writes ((changes-of k comes.asked).begun (nine-begun e nine)) ((changes-of k comes.asked).cause nine));
-      notes = c.tell.ensures.noted;
-      quiet = c.tell.ensures.quiet;
+      notes = noted-run g.N.Sink.written g.N.Sink.faults c.forewarn-going.result _ _ _ c.forewarn-going.ensures.noted c.tell.ensures.silent c.tell.ensures.noted;
+      quiet = λ command is quiet. c.tell.ensures.quiet command is quiet ∙ c.forewarn-going.ensures.quiet command is quiet;
       calm = λ few. tells-calm n _ _ _ _ e t (omega (arith, few));
     }
