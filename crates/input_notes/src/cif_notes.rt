@@ -3,8 +3,8 @@
 use cif_reader::ExpandKind;
 use cif_text::CifKind;
 use limits::{DEEPEST, FARTHEST, MOST_NUMBER, MOST_SHAPES};
-use text_places::{Shown, Told, command_at, next_command};
 use std::alloc::{AllocError, Global};
+use text_places::{Shown, Told, command_at, next_command};
 
 // The form of the command that begins with this byte.
 fn form_of(first: u8) -> &'static str {
@@ -24,7 +24,9 @@ fn form_of(first: u8) -> &'static str {
 // A command that has none of the forms.
 fn bad_command(alloc: Global, text: &[u8], at: usize) -> Result<String, AllocError> {
     if text.starts_with(b"MODULE") {
-        return format!(in alloc; "this looks like a design, and a layout in CIF is wanted; the words are check DESIGN RULES CIF");
+        return format!(in alloc;
+            "this looks like a design, and a layout in CIF is wanted; the words are check DESIGN RULES CIF"
+        );
     }
     let command = match next_command(text, at) {
         Some(command) => command.text,
@@ -46,7 +48,9 @@ fn no_end(alloc: Global, text: &[u8], at: usize) -> Result<String, AllocError> {
 // A command that is not read.
 fn left_out(alloc: Global, letter: u8) -> Result<String, AllocError> {
     if letter == b'R' {
-        return format!(in alloc; "R draws a round flash, which is not read; boxes (B), wires (W) and polygons (P) are");
+        return format!(in alloc;
+            "R draws a round flash, which is not read; boxes (B), wires (W) and polygons (P) are"
+        );
     }
     format!(in alloc; "DD deletes definitions, which is not read")
 }
@@ -74,7 +78,9 @@ pub fn told_of_text(
         CifKind::NoEnd => no_end(alloc, text, at)?,
         CifKind::LeftOut(letter) => left_out(alloc, letter)?,
         CifKind::Turned => {
-            format!(in alloc; "a direction or a side of a path lies aslant; along x or along y is wanted")?
+            format!(in alloc;
+                "a direction or a side of a path lies aslant; along x or along y is wanted"
+            )?
         }
     };
     Ok(Told::at(at, what))
@@ -84,11 +90,15 @@ pub fn told_of_text(
 fn meaning(alloc: Global, kind: ExpandKind) -> Result<String, AllocError> {
     match kind {
         ExpandKind::Undefined(n) => {
-            format!(in alloc; "symbol {n} is called, and no definition DS {n} .. DF; has ended before")
+            format!(in alloc;
+                "symbol {n} is called, and no definition DS {n} .. DF; has ended before"
+            )
         }
         ExpandKind::Twice(n) => format!(in alloc; "symbol {n} is defined a second time"),
         ExpandKind::Inexact => {
-            format!(in alloc; "a number is no whole number of half centimicrons under the scale of its definition, DS N A B")
+            format!(in alloc;
+                "a number is no whole number of half centimicrons under the scale of its definition, DS N A B"
+            )
         }
         ExpandKind::TooFar(n) => {
             format!(in alloc; "a coordinate is {n} half centimicrons; {FARTHEST} at most may be")
@@ -101,7 +111,9 @@ fn meaning(alloc: Global, kind: ExpandKind) -> Result<String, AllocError> {
             format!(in alloc; "a shape has no layer; a command L NAME; is wanted before it")
         }
         ExpandKind::NoSymbolName => {
-            format!(in alloc; "a call with a name (91) is of a symbol without one; 9 NAME; is wanted in its definition")
+            format!(in alloc;
+                "a call with a name (91) is of a symbol without one; 9 NAME; is wanted in its definition"
+            )
         }
         ExpandKind::TooDeep => format!(in alloc; "calls nest deeper than {DEEPEST}"),
     }

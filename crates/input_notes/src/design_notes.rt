@@ -1,6 +1,8 @@
 //! Notes on a file that is no design: its PARENT and the calls of it.
 
-use crate::design_again::{Design, Terminals, TextsRead, broken_behind, design_again, kind_word, terminals_of};
+use crate::design_again::{
+    Design, Terminals, TextsRead, broken_behind, design_again, kind_word, terminals_of,
+};
 use crate::module_notes::told_of_module;
 use crate::yal_notes::module_shown;
 use geom_core::Name;
@@ -13,9 +15,13 @@ use yal_reader::{Call, Module};
 // A design without a PARENT.
 fn no_parent(alloc: Global, design: &Design<'_>) -> Result<Told, AllocError> {
     if design.modules().is_empty() {
-        return Ok(Told::whole(format!(in alloc; "the file has no module; one of TYPE PARENT is wanted, whose NETWORK calls the cells")?));
+        return Ok(Told::whole(format!(in alloc;
+            "the file has no module; one of TYPE PARENT is wanted, whose NETWORK calls the cells"
+        )?));
     }
-    Ok(Told::whole(format!(in alloc; "no module is of TYPE PARENT; one is wanted, whose NETWORK calls the cells")?))
+    Ok(Told::whole(format!(in alloc;
+        "no module is of TYPE PARENT; one is wanted, whose NETWORK calls the cells"
+    )?))
 }
 
 // A design with a second PARENT.
@@ -25,7 +31,9 @@ fn many_parents(alloc: Global, design: &Design<'_>) -> Result<Told, AllocError> 
     let one = module_shown(&first.before);
     let other = module_shown(&second.before);
     let line = line_of(design.text, Sought::Parent(0));
-    let text = format!(in alloc; "{other} is a second module of TYPE PARENT, and {one} at line {line} is the first; one alone may be")?;
+    let text = format!(in alloc;
+        "{other} is a second module of TYPE PARENT, and {one} at line {line} is the first; one alone may be"
+    )?;
     Ok(Told::perhaps_at(place_of(design.text, Sought::Parent(1)), text))
 }
 
@@ -57,7 +65,9 @@ fn not_standard(alloc: Global, design: &Design<'_>, call: &Call) -> Result<Strin
         Some((_, module)) => kind_word(module.kind),
         None => "?",
     };
-    format!(in alloc; "{name} calls {module}, which is of TYPE {kind}; only modules of TYPE STANDARD can be called")
+    format!(in alloc;
+        "{name} calls {module}, which is of TYPE {kind}; only modules of TYPE STANDARD can be called"
+    )
 }
 
 // The letter behind a count of several.
@@ -96,7 +106,9 @@ fn broken(
         if let Some(word) = broken_behind(design.text, from, statements) {
             let line = place_at(design.text, word.at as u64).line;
             let word = Shown(word.text);
-            return format!(in alloc; "; a ; is perhaps missing behind {word} at the end of line {line}");
+            return format!(in alloc;
+                "; a ; is perhaps missing behind {word} at the end of line {line}"
+            );
         }
     }
     Ok(String::new(alloc))
@@ -137,7 +149,9 @@ fn signal_count(
     let wanted = terminals_of(alloc, called.1.lines.items())?.all.len();
     let terminals = several(wanted);
     let cure = signals_cure(alloc, design, i, given, called)?;
-    format!(in alloc; "{name} calls {module}, which has {wanted} terminal{terminals}, but gives {given} signal{signals}{cure}")
+    format!(in alloc;
+        "{name} calls {module}, which has {wanted} terminal{terminals}, but gives {given} signal{signals}{cure}"
+    )
 }
 
 // What is wrong with a call, by its number.
@@ -176,9 +190,8 @@ pub fn told_of_design(
     match fault {
         DesignFault::NoParent => no_parent(alloc, &design),
         DesignFault::ManyParents => many_parents(alloc, &design),
-        DesignFault::UnknownModule(i)
-        | DesignFault::NotStandard(i)
-        | DesignFault::SignalCount(i) => told_of_call(alloc, &design, fault, i),
+        DesignFault::UnknownModule(i) | DesignFault::NotStandard(i) | DesignFault::SignalCount(i) =>
+            told_of_call(alloc, &design, fault, i),
         DesignFault::NoShape(n)
         | DesignFault::OffGrid(n)
         | DesignFault::TooLow(n)
@@ -197,9 +210,13 @@ pub fn told_of_port_clash(
     let text = read.design.unwrap_or(&[]);
     let shown = Shown(name.items());
     if name.items().starts_with(b"port:") {
-        let what = format!(in alloc; "an instance is named {shown}, as --ports names one of its own; another name is wanted")?;
+        let what = format!(in alloc;
+            "an instance is named {shown}, as --ports names one of its own; another name is wanted"
+        )?;
         return Ok(Told::perhaps_at(place_of(text, Sought::Calling(name.items())), what));
     }
-    let what = format!(in alloc; "a module is named {shown}, as --ports names one of its own; another name is wanted")?;
+    let what = format!(in alloc;
+        "a module is named {shown}, as --ports names one of its own; another name is wanted"
+    )?;
     Ok(Told::perhaps_at(place_of(text, Sought::Named(name.items())), what))
 }

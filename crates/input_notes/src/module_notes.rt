@@ -42,12 +42,18 @@ fn no_shape(alloc: Global, module: &Module) -> Result<String, AllocError> {
     let count = module.corners.items().len();
     let example = "as DIMENSIONS 0 0 8 0 8 40 0 40;";
     if count == 0 {
-        return format!(in alloc; "{name} has no DIMENSIONS; the four corners of its rectangle are wanted, {example}");
+        return format!(in alloc;
+            "{name} has no DIMENSIONS; the four corners of its rectangle are wanted, {example}"
+        );
     }
     if count == 8 {
-        return format!(in alloc; "DIMENSIONS of {name} are not the corners of a rectangle one behind another, {example}");
+        return format!(in alloc;
+            "DIMENSIONS of {name} are not the corners of a rectangle one behind another, {example}"
+        );
     }
-    format!(in alloc; "DIMENSIONS of {name} have {count} numbers; 8 are wanted, the x and y of four corners, {example}")
+    format!(in alloc;
+        "DIMENSIONS of {name} have {count} numbers; 8 are wanted, the x and y of four corners, {example}"
+    )
 }
 
 /// A line with a spot that counts, and its number among the lines of its module.
@@ -124,7 +130,9 @@ fn inside(
     let y = units(alloc, pin.spot.y, decimals)?;
     let low = units(alloc, outline.low, decimals)?;
     let high = units(alloc, outline.low.saturating_add(outline.height), decimals)?;
-    format!(in alloc; "pin {terminal} of {name} stands at y {y}; pins stand at an edge of their cell, y {low} or {high}")
+    format!(in alloc;
+        "pin {terminal} of {name} stands at y {y}; pins stand at an edge of their cell, y {low} or {high}"
+    )
 }
 
 // A pin that is not in the middle of a column.
@@ -140,7 +148,9 @@ fn beside(
     let x = units(alloc, pin.spot.x, design.rules.decimals)?;
     let pitch = i64::from(design.rules.grid.column);
     let middles = middles(alloc, design, outline, pitch)?;
-    format!(in alloc; "pin {terminal} of {name} stands at x {x}; columns of this width have their middle at {middles}")
+    format!(in alloc;
+        "pin {terminal} of {name} stands at x {x}; columns of this width have their middle at {middles}"
+    )
 }
 
 // The first pin of a module that is off the grid.
@@ -197,13 +207,24 @@ fn off_grid(
     let name = Shown(module.name.items());
     let width = units(alloc, outline.width, decimals)?;
     let column = units(alloc, pitch, decimals)?;
-    let below = units(alloc, outline.width.saturating_sub(outline.width % pitch), decimals)?;
-    let text = format!(in alloc; "{name} is {width} wide; a whole number of columns of {column} is wanted (grid.column), as {below}")?;
+    let below = units(
+        alloc,
+        outline.width.saturating_sub(outline.width % pitch),
+        decimals,
+    )?;
+    let text = format!(in alloc;
+        "{name} is {width} wide; a whole number of columns of {column} is wanted (grid.column), as {below}"
+    )?;
     Ok(Told::perhaps_at(dimensions_place(design, n), text))
 }
 
 // A module that is too low.
-fn too_low(alloc: Global, design: &Design<'_>, n: u32, module: &Module) -> Result<Told, AllocError> {
+fn too_low(
+    alloc: Global,
+    design: &Design<'_>,
+    n: u32,
+    module: &Module,
+) -> Result<Told, AllocError> {
     let Some(outline) = outline_of(module) else {
         return plain(alloc);
     };
@@ -214,7 +235,9 @@ fn too_low(alloc: Global, design: &Design<'_>, n: u32, module: &Module) -> Resul
     let height = units(alloc, outline.height, decimals)?;
     let least = pin.saturating_add(pin).saturating_add(space);
     let least = units(alloc, least, decimals)?;
-    let text = format!(in alloc; "{name} is {height} high; {least} at least are wanted, two pins and the space between them (2*{pin} + {space}: grid.pin and vertical.space)")?;
+    let text = format!(in alloc;
+        "{name} is {height} high; {least} at least are wanted, two pins and the space between them (2*{pin} + {space}: grid.pin and vertical.space)"
+    )?;
     Ok(Told::perhaps_at(dimensions_place(design, n), text))
 }
 
@@ -254,7 +277,9 @@ fn clash(
         if spot.x == pin.spot.x && spot.y == pin.spot.y && number != pin.number {
             let first = Shown(line.name.items());
             let at = line_of(design.text, Sought::Line(n as usize, number, 1));
-            let text = format!(in alloc; "pin {terminal} of {name} stands at x {x}, y {y}, where {first} stands too, at line {at}")?;
+            let text = format!(in alloc;
+                "pin {terminal} of {name} stands at x {x}, y {y}, where {first} stands too, at line {at}"
+            )?;
             return Ok(Told::perhaps_at(place, text));
         }
     }
@@ -305,7 +330,9 @@ fn wrong_layer(
         let terminal = Shown(line.name.items());
         let layer = Shown(pin.spot.layer.items());
         let wanted = Shown(word);
-        let text = format!(in alloc; "pin {terminal} of {name} is on {layer}; the rules want pins on {wanted} (yal)")?;
+        let text = format!(in alloc;
+            "pin {terminal} of {name} is on {layer}; the rules want pins on {wanted} (yal)"
+        )?;
         let place = place_of(design.text, Sought::Line(n as usize, number, 6));
         return Ok(Told::perhaps_at(place, text));
     }

@@ -54,10 +54,14 @@ fn is_next(text: &[u8], last: Option<Token<'_>>, token: Token<'_>) -> bool {
 fn pointed(alloc: Global, word: Shown<'_>, numbers: Option<Numbers>) -> Result<String, AllocError> {
     match numbers {
         Some(Numbers::Decimal(decimals)) => {
-            format!(in alloc; "{word} is no number of {decimals} decimals, of magnitude at most {MOST_COORDINATE} units; the rules say decimals = {decimals}")
+            format!(in alloc;
+                "{word} is no number of {decimals} decimals, of magnitude at most {MOST_COORDINATE} units; the rules say decimals = {decimals}"
+            )
         }
         _ => {
-            format!(in alloc; "{word} has a point, and under version = 1 of the rules numbers are whole; with version = 2 and decimals = 1 to 4 they may have one")
+            format!(in alloc;
+                "{word} has a point, and under version = 1 of the rules numbers are whole; with version = 2 and decimals = 1 to 4 they may have one"
+            )
         }
     }
 }
@@ -76,13 +80,19 @@ pub(crate) fn bad_number(
     };
     let last = token_shown(found.before.last);
     if is_next(text, found.before.last, token) {
-        return format!(in alloc; "{word} is no number, and {wanted} is wanted here; a ; is perhaps missing behind {last}");
+        return format!(in alloc;
+            "{word} is no number, and {wanted} is wanted here; a ; is perhaps missing behind {last}"
+        );
     }
     if is_pointed(token.text) {
         return pointed(alloc, word, numbers);
     }
     if is_whole(token.text) {
-        return format!(in alloc; "{word} is too far; numbers are from -{MOST_COORDINATE} to {MOST_COORDINATE} units");
+        return format!(in alloc;
+            "{word} is too far; numbers are from -{MOST_COORDINATE} to {MOST_COORDINATE} units"
+        );
     }
-    format!(in alloc; "{word} is no number, and {wanted} is wanted here: digits, perhaps behind a -")
+    format!(in alloc;
+        "{word} is no number, and {wanted} is wanted here: digits, perhaps behind a -"
+    )
 }

@@ -6,18 +6,24 @@ use limits::{
     MOST_DECIMALS, MOST_LENGTH, MOST_MOVES, MOST_STAGES, MOST_TEMPERATURE, MOST_WEIGHT, MOST_WORD,
 };
 use std::alloc::{AllocError, Global};
-use text_places::{Shown, Told, line_of_key, misplaced, near_key, near_table, place_of_table, section_of};
 use tech_rules::Key;
+use text_places::{
+    Shown, Told, line_of_key, misplaced, near_key, near_table, place_of_table, section_of,
+};
 
 // What is wanted as the value of a key.
 fn wanted(alloc: Global, key: Key) -> Result<String, AllocError> {
     let (low, high) = match key {
         Key::Version => return format!(in alloc; "1 or 2 is wanted"),
         Key::Yal => {
-            return format!(in alloc; "1 to {MOST_WORD} letters, digits or _ in quotes are wanted, as \"POLY\"");
+            return format!(in alloc;
+                "1 to {MOST_WORD} letters, digits or _ in quotes are wanted, as \"POLY\""
+            );
         }
         Key::HorizontalLayer | Key::VerticalLayer | Key::CutLayer | Key::OutlineLayer => {
-            return format!(in alloc; "1 to 4 digits or upper-case letters in quotes are wanted, as \"NM\"");
+            return format!(in alloc;
+                "1 to 4 digits or upper-case letters in quotes are wanted, as \"NM\""
+            );
         }
         Key::AnnealStart => return format!(in alloc; "\"width\" or \"count\" is wanted"),
         Key::Decimals => (0, MOST_DECIMALS),
@@ -42,7 +48,9 @@ fn is_like_design(text: &[u8]) -> bool {
 // A text that is no TOML.
 fn no_toml(alloc: Global, text: &[u8]) -> Result<Told, AllocError> {
     if is_like_design(text) {
-        return Ok(Told::whole(format!(in alloc; "this looks like a design, and rules are wanted; the words are route DESIGN RULES OUT, and check DESIGN RULES CIF")?));
+        return Ok(Told::whole(format!(in alloc;
+            "this looks like a design, and rules are wanted; the words are route DESIGN RULES OUT, and check DESIGN RULES CIF"
+        )?));
     }
     let Ok(letters) = str::from_utf8(text) else {
         return Ok(Told::whole(format!(in alloc; "the text is not in UTF-8, and so no TOML")?));
@@ -73,14 +81,20 @@ fn missing_here(alloc: Global, text: &[u8], key: Key) -> Result<Told, AllocError
     let wanted = wanted(alloc, key)?;
     if key.section().is_some() {
         let section = section_of(key);
-        let what = format!(in alloc; "{name} is missing: a line {word} = .. in the table [{section}]; {wanted}")?;
+        let what = format!(in alloc;
+            "{name} is missing: a line {word} = .. in the table [{section}]; {wanted}"
+        )?;
         return Ok(Told::in_line(place_of_table(text, section), what));
     }
     let what = match key {
         Key::Decimals => {
-            format!(in alloc; "{name} is missing, which version = 2 wants: a line {word} = .. before the first table; {wanted}")?
+            format!(in alloc;
+                "{name} is missing, which version = 2 wants: a line {word} = .. before the first table; {wanted}"
+            )?
         }
-        _ => format!(in alloc; "{name} is missing: a line {word} = .. before the first table; {wanted}")?,
+        _ => format!(in alloc;
+            "{name} is missing: a line {word} = .. before the first table; {wanted}"
+        )?,
     };
     Ok(Told::whole(what))
 }
@@ -92,10 +106,14 @@ fn missing(alloc: Global, text: &[u8], key: Key) -> Result<Told, AllocError> {
         let section = Shown(other.section);
         let what = match key.section() {
             Some(wanted) => {
-                format!(in alloc; "{name} is missing; this line stands before all tables, and has to stand in the table [{wanted}]")?
+                format!(in alloc;
+                    "{name} is missing; this line stands before all tables, and has to stand in the table [{wanted}]"
+                )?
             }
             None => {
-                format!(in alloc; "{name} is missing; this line stands in the table [{section}], and has to stand before the first table")?
+                format!(in alloc;
+                    "{name} is missing; this line stands in the table [{section}], and has to stand before the first table"
+                )?
             }
         };
         return Ok(Told::in_line(Some(other.at), what));
@@ -106,7 +124,9 @@ fn missing(alloc: Global, text: &[u8], key: Key) -> Result<Told, AllocError> {
     }
     if let Some(near) = near_table(alloc, text, section)? {
         let other = Shown(near.section);
-        let what = format!(in alloc; "{name} is missing, as is the table [{section}]; did you mean it by [{other}]?")?;
+        let what = format!(in alloc;
+            "{name} is missing, as is the table [{section}]; did you mean it by [{other}]?"
+        )?;
         return Ok(Told::in_line(Some(near.at), what));
     }
     let what = format!(in alloc; "{name} is missing, as is its table [{section}]")?;
@@ -131,11 +151,7 @@ fn out_of_range(alloc: Global, text: &[u8], key: Key) -> Result<Told, AllocError
 }
 
 /// What is wrong with a rules file.
-pub fn told_of_rules(
-    alloc: Global,
-    text: &[u8],
-    refusal: &Refusal,
-) -> Result<Told, AllocError> {
+pub fn told_of_rules(alloc: Global, text: &[u8], refusal: &Refusal) -> Result<Told, AllocError> {
     match refusal {
         Refusal::Toml => no_toml(alloc, text),
         Refusal::Missing(key) => missing(alloc, text, *key),

@@ -56,7 +56,9 @@ fn wide(alloc: Global, values: &Values, key: Key) -> Result<(Key, String), Alloc
     let width = values.number(key);
     let most = values.pad();
     let pad = pad_shown(alloc, values)?;
-    let what = format!(in alloc; "{name} is {width}; the rule pad >= {name} wants {most} at most ({pad})")?;
+    let what = format!(in alloc;
+        "{name} is {width}; the rule pad >= {name} wants {most} at most ({pad})"
+    )?;
     Ok((key, what))
 }
 
@@ -72,7 +74,9 @@ fn narrow(
     let number = values.number(pitch);
     let least = values.pad().saturating_add(values.number(space));
     let pad = pad_shown(alloc, values)?;
-    let what = format!(in alloc; "{name} is {number}; the rule {name} >= pad + {other} wants {least} at least ({pad})")?;
+    let what = format!(in alloc;
+        "{name} is {number}; the rule {name} >= pad + {other} wants {least} at least ({pad})"
+    )?;
     Ok((pitch, what))
 }
 
@@ -87,7 +91,9 @@ fn narrow_for_cuts(
     let size = values.number(Key::CutSize);
     let space = values.number(Key::CutSpace);
     let least = size.saturating_add(space);
-    let what = format!(in alloc; "{name} is {number}; the rule {name} >= cut.size + cut.space wants {least} at least ({size} + {space})")?;
+    let what = format!(in alloc;
+        "{name} is {number}; the rule {name} >= cut.size + cut.space wants {least} at least ({size} + {space})"
+    )?;
     Ok((pitch, what))
 }
 
@@ -106,7 +112,9 @@ fn uneven(
         number
     };
     let above = below.saturating_add(step);
-    let what = format!(in alloc; "{name} is {number}; it has to be a multiple of {step}, as {below} and {above} are")?;
+    let what = format!(in alloc;
+        "{name} is {number}; it has to be a multiple of {step}, as {below} and {above} are"
+    )?;
     Ok((key, what))
 }
 
@@ -114,7 +122,9 @@ fn uneven(
 fn short(alloc: Global, values: &Values) -> Result<(Key, String), AllocError> {
     let pin = values.number(Key::GridPin);
     let least = values.number(Key::VerticalWidth);
-    let what = format!(in alloc; "grid.pin is {pin}; the rule grid.pin >= vertical.width wants {least} at least")?;
+    let what = format!(in alloc;
+        "grid.pin is {pin}; the rule grid.pin >= vertical.width wants {least} at least"
+    )?;
     Ok((Key::GridPin, what))
 }
 
@@ -133,7 +143,9 @@ fn same(alloc: Global, values: &Values) -> Result<(Key, String), AllocError> {
         if layer == values.text(other) {
             let first = one.name();
             let second = other.name();
-            let what = format!(in alloc; "{second} is {layer}, and so is {first}; the four layers want different names")?;
+            let what = format!(in alloc;
+                "{second} is {layer}, and so is {first}; the four layers want different names"
+            )?;
             return Ok((other, what));
         }
     }

@@ -1,13 +1,22 @@
 //! Notes on a word or a semicolon of a YAL text that stands where none such may.
 
 use crate::yal_notes::{module_shown, token_shown};
-use text_places::{Found, Part, Shown, Token, Walk, meant};
 use std::alloc::{AllocError, Global};
+use text_places::{Found, Part, Shown, Token, Walk, meant};
 
 /// The words that begin sections of a module, and those that begin and end modules.
 const KEYWORDS: &[&str] = &[
-    "DIMENSIONS", "IOLIST", "NETWORK", "ENDMODULE", "PROFILE", "CURRENT", "VOLTAGE", "PLACEMENT",
-    "CRITICALNETS", "MODULE", "TYPE",
+    "DIMENSIONS",
+    "IOLIST",
+    "NETWORK",
+    "ENDMODULE",
+    "PROFILE",
+    "CURRENT",
+    "VOLTAGE",
+    "PLACEMENT",
+    "CRITICALNETS",
+    "MODULE",
+    "TYPE",
 ];
 
 /// The types of modules.
@@ -34,10 +43,14 @@ fn is_like_layout(text: &[u8]) -> bool {
 // A word outside of modules.
 fn outside(alloc: Global, text: &[u8], word: Shown<'_>) -> Result<String, AllocError> {
     if is_like_layout(text) {
-        return format!(in alloc; "MODULE is wanted here, not {word}; this looks like a layout in CIF: the words are route DESIGN RULES OUT, and check DESIGN RULES CIF");
+        return format!(in alloc;
+            "MODULE is wanted here, not {word}; this looks like a layout in CIF: the words are route DESIGN RULES OUT, and check DESIGN RULES CIF"
+        );
     }
     let meant = meant(alloc, word.0, &["MODULE"])?;
-    format!(in alloc; "MODULE is wanted here, not {word}, which stands outside of all modules{meant}")
+    format!(in alloc;
+        "MODULE is wanted here, not {word}, which stands outside of all modules{meant}"
+    )
 }
 
 // A word that begins no section.
@@ -54,7 +67,9 @@ fn no_section(alloc: Global, walk: &Walk<'_>, token: Token<'_>) -> Result<String
         return format!(in alloc; "{word} stands here without a NETWORK; before it");
     }
     let meant = meant(alloc, token.text, KEYWORDS)?;
-    format!(in alloc; "{word} begins no section of module {module}; DIMENSIONS, IOLIST, NETWORK and some more do, and ENDMODULE; ends it{meant}")
+    format!(in alloc;
+        "{word} begins no section of module {module}; DIMENSIONS, IOLIST, NETWORK and some more do, and ENDMODULE; ends it{meant}"
+    )
 }
 
 // What a statement outside of lists wants next.
@@ -66,14 +81,18 @@ fn in_module(alloc: Global, walk: &Walk<'_>, token: Token<'_>) -> Result<String,
     }
     if walk.is_at("TYPE", 1) {
         let meant = meant(alloc, token.text, KINDS)?;
-        return format!(in alloc; "{word} is no type of a module; STANDARD, PAD, GENERAL and PARENT are{meant}");
+        return format!(in alloc;
+            "{word} is no type of a module; STANDARD, PAD, GENERAL and PARENT are{meant}"
+        );
     }
     if walk.words > 0 {
         let last = token_shown(walk.last);
         return format!(in alloc; "a ; is missing behind {last}, before {word}");
     }
     if walk.kind.is_none() {
-        return format!(in alloc; "TYPE is wanted behind MODULE {module};, not {word}: each module begins MODULE NAME; TYPE KIND;");
+        return format!(in alloc;
+            "TYPE is wanted behind MODULE {module};, not {word}: each module begins MODULE NAME; TYPE KIND;"
+        );
     }
     no_section(alloc, walk, token)
 }
@@ -94,16 +113,22 @@ fn in_line(alloc: Global, walk: &Walk<'_>, token: Token<'_>) -> Result<String, A
     let first = token_shown(walk.first);
     let module = module_shown(walk);
     if walk.words == 1 && is_keyword(walk.first) {
-        return format!(in alloc; "ENDIOLIST; is missing before {first}: the IOLIST of {module} goes on here");
+        return format!(in alloc;
+            "ENDIOLIST; is missing before {first}: the IOLIST of {module} goes on here"
+        );
     }
     if walk.words == 1 && token.is_end() {
         return format!(in alloc; "{first} has no flow; a line of an IOLIST is NAME FLOW .. ;");
     }
     if walk.words == 1 {
-        return format!(in alloc; "{word} is no flow of {first}; I, O, B, PI, PO, PB, F, PWR and GND are");
+        return format!(in alloc;
+            "{word} is no flow of {first}; I, O, B, PI, PO, PB, F, PWR and GND are"
+        );
     }
     let lacked = part_after(walk.words);
-    format!(in alloc; "the line of {first} lacks {lacked}; a line of a STANDARD module is NAME FLOW X Y WIDTH LAYER ;")
+    format!(in alloc;
+        "the line of {first} lacks {lacked}; a line of a STANDARD module is NAME FLOW X Y WIDTH LAYER ;"
+    )
 }
 
 // What a call of a NETWORK wants next.
@@ -111,13 +136,19 @@ fn in_call(alloc: Global, walk: &Walk<'_>) -> Result<String, AllocError> {
     let first = token_shown(walk.first);
     let module = module_shown(walk);
     if is_keyword(walk.first) {
-        return format!(in alloc; "ENDNETWORK; is missing before {first}: the NETWORK of {module} goes on here");
+        return format!(in alloc;
+            "ENDNETWORK; is missing before {first}: the NETWORK of {module} goes on here"
+        );
     }
     format!(in alloc; "{first} calls no module; a call is NAME MODULE SIGNAL .. ;")
 }
 
 /// What is wrong with a word or a semicolon that stands where none such may.
-pub(crate) fn bad_word(alloc: Global, text: &[u8], found: &Found<'_>) -> Result<String, AllocError> {
+pub(crate) fn bad_word(
+    alloc: Global,
+    text: &[u8],
+    found: &Found<'_>,
+) -> Result<String, AllocError> {
     let walk = &found.before;
     let Some(token) = found.token else {
         return format!(in alloc; "a word is wanted here");

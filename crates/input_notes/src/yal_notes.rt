@@ -9,7 +9,9 @@ use yal_reader::{Numbers, YalKind};
 // A byte that is not ASCII.
 fn foreign(alloc: Global, text: &[u8], at: usize) -> Result<String, AllocError> {
     let byte = text.get(at).copied().unwrap_or(0);
-    format!(in alloc; "byte {byte} is no ASCII character; a design has ASCII alone, in its comments too")
+    format!(in alloc;
+        "byte {byte} is no ASCII character; a design has ASCII alone, in its comments too"
+    )
 }
 
 /// The name of the module that is open.
@@ -59,15 +61,21 @@ fn twice(alloc: Global, text: &[u8], found: &Found<'_>) -> Result<String, AllocE
     let module = module_shown(before);
     if before.part == Part::Network {
         let line = line_of(text, Sought::Calling(bytes));
-        return format!(in alloc; "an instance named {word} stands at line {line} already; each needs a name of its own");
+        return format!(in alloc;
+            "an instance named {word} stands at line {line} already; each needs a name of its own"
+        );
     }
     if before.words == 0 {
         let number = before.modules.saturating_sub(1);
         let line = line_of(text, Sought::Section(number, bytes));
-        return format!(in alloc; "module {module} has {word} at line {line} already; it may stand once in a module");
+        return format!(in alloc;
+            "module {module} has {word} at line {line} already; it may stand once in a module"
+        );
     }
     let line = line_of(text, Sought::Named(bytes));
-    format!(in alloc; "a module named {word} stands at line {line} already; each needs a name of its own")
+    format!(in alloc;
+        "a module named {word} stands at line {line} already; each needs a name of its own"
+    )
 }
 
 /// What is wrong with a text that is no YAL, for this reason at this byte, where its numbers are written so.
