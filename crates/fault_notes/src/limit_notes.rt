@@ -9,17 +9,23 @@ use limits::{
     MOST_RULES_BYTES, MOST_SIZE,
 };
 use std::alloc::{AllocError, Global};
-use text_places::{Told, place_of_key};
 use tech_rules::Key;
+use text_places::{Told, place_of_key};
 
 // A file that is too long.
 fn too_long(alloc: Global, most: u64) -> Result<Told, AllocError> {
-    Ok(Told::whole(format!(in alloc; "the file has more than {most} bytes, the most that it may have")?))
+    Ok(Told::whole(format!(in alloc;
+        "the file has more than {most} bytes, the most that it may have"
+    )?))
 }
 
 // That ports are among what is counted, if they are.
 fn with_ports(reached: &Reached<'_>) -> &'static str {
-    if wants_ports(reached.command) { ", those of ports (--ports) among them" } else { "" }
+    if wants_ports(reached.command) {
+        ", those of ports (--ports) among them"
+    } else {
+        ""
+    }
 }
 
 // Too many instances or pins.
@@ -31,19 +37,19 @@ fn too_many(
     most: usize,
 ) -> Result<Told, AllocError> {
     let ports = with_ports(reached);
-    Ok(Told::whole(format!(in alloc; "the design has {number} {what}{ports}; {most} at most may be, so split it")?))
+    Ok(Told::whole(format!(in alloc;
+        "the design has {number} {what}{ports}; {most} at most may be, so split it"
+    )?))
 }
 
 // Too many changes of annealing.
-fn too_many_changes(
-    alloc: Global,
-    reached: &Reached<'_>,
-    number: u64,
-) -> Result<Told, AllocError> {
+fn too_many_changes(alloc: Global, reached: &Reached<'_>, number: u64) -> Result<Told, AllocError> {
     let text = reached.rules.unwrap_or(&[]);
     let place = place_of_key(text, Key::AnnealMoves);
     let Some(rules) = rules_again(alloc, reached.read()) else {
-        return Ok(Told::whole(format!(in alloc; "annealing would try {number} changes; {MOST_CHANGES} at most may be")?));
+        return Ok(Told::whole(format!(in alloc;
+            "annealing would try {number} changes; {MOST_CHANGES} at most may be"
+        )?));
     };
     let stages = rules.annealing.stages;
     let moves = rules.annealing.moves;
@@ -51,21 +57,21 @@ fn too_many_changes(
     let instances = number.checked_div(each).unwrap_or(0);
     let others = u64::from(stages).saturating_mul(instances);
     let most = MOST_CHANGES.checked_div(others).unwrap_or(0);
-    let what = format!(in alloc; "annealing would try {number} changes (anneal.stages {stages} * anneal.moves {moves} * {instances} instances); {MOST_CHANGES} at most may be, as with anneal.moves {most}")?;
+    let what = format!(in alloc;
+        "annealing would try {number} changes (anneal.stages {stages} * anneal.moves {moves} * {instances} instances); {MOST_CHANGES} at most may be, as with anneal.moves {most}"
+    )?;
     Ok(Told::in_line(place, what))
 }
 
 // A layout with too many columns.
-fn too_many_columns(
-    alloc: Global,
-    reached: &Reached<'_>,
-    number: u64,
-) -> Result<Told, AllocError> {
+fn too_many_columns(alloc: Global, reached: &Reached<'_>, number: u64) -> Result<Told, AllocError> {
     let cure = match rows_wanted(reached.command) {
         Some(_) => "fewer rows (--rows) or fewer instances have less",
         None => "fewer rows than are chosen by themselves (--rows K) have less",
     };
-    Ok(Told::whole(format!(in alloc; "all channels together have {number} columns; {MOST_COLUMNS} at most may be: {cure}")?))
+    Ok(Told::whole(format!(in alloc;
+        "all channels together have {number} columns; {MOST_COLUMNS} at most may be: {cure}"
+    )?))
 }
 
 // A layout that is too wide or too high.
@@ -80,7 +86,9 @@ fn too_large(
         Some(rules) => rules.grid.centi,
         None => 0,
     };
-    Ok(Told::whole(format!(in alloc; "the layout would be {number} centimicrons {side}; {MOST_SIZE} at most may be: {cure} (--rows K), or a smaller grid.centi, which is {centi}")?))
+    Ok(Told::whole(format!(in alloc;
+        "the layout would be {number} centimicrons {side}; {MOST_SIZE} at most may be: {cure} (--rows K), or a smaller grid.centi, which is {centi}"
+    )?))
 }
 
 /// Which file passes a limit, or makes the layout pass it.

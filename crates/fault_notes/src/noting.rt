@@ -3,8 +3,8 @@
 use command_ends::{Stop, print_line};
 use note_text::{Notes, line_at, place_at, push_shown};
 use shelf_io::MemSink;
-use text_places::{FileName, Spot, Told};
 use std::alloc::{AllocError, Global};
+use text_places::{FileName, Spot, Told};
 
 /// How many bytes of a line of a text are shown.
 const WIDE: usize = 100;

@@ -6,10 +6,13 @@ use crate::noting::{Subject, note_told};
 use crate::reached::Reached;
 use crate::usage_notes::note_usage;
 use command_ends::{Refusal, Stop};
-use input_notes::{numbers_again, told_of_command, told_of_design, told_of_port_clash, told_of_rules, told_of_text, told_of_yal};
+use input_notes::{
+    numbers_again, told_of_command, told_of_design, told_of_port_clash, told_of_rules,
+    told_of_text, told_of_yal,
+};
 use note_text::Notes;
-use text_places::Told;
 use std::alloc::{AllocError, Global};
+use text_places::Told;
 
 // What is wrong by a refusal that is not one of the words, and with which file.
 fn told_of(
@@ -23,16 +26,28 @@ fn told_of(
     Ok(match refusal {
         Refusal::Yal(kind, at) => {
             let numbers = numbers_again(alloc, reached.read());
-            (FileOf::Design, told_of_yal(alloc, design, *kind, *at, numbers)?)
+            (
+                FileOf::Design,
+                told_of_yal(alloc, design, *kind, *at, numbers)?,
+            )
         }
-        Refusal::Design(fault, _) => (FileOf::Design, told_of_design(alloc, reached.read(), *fault)?),
-        Refusal::PortClash(name) => (FileOf::Design, told_of_port_clash(alloc, reached.read(), name)?),
+        Refusal::Design(fault, _) => (
+            FileOf::Design,
+            told_of_design(alloc, reached.read(), *fault)?,
+        ),
+        Refusal::PortClash(name) => (
+            FileOf::Design,
+            told_of_port_clash(alloc, reached.read(), name)?,
+        ),
         Refusal::Cif(kind, at) => (FileOf::Layout, told_of_text(alloc, layout, *kind, *at)?),
         Refusal::Meaning(kind, at) => {
             (FileOf::Layout, told_of_command(alloc, layout, *kind, *at)?)
         }
         Refusal::Limit(what, number) => {
-            (file_of_limit(*what), told_of_limit(alloc, reached, *what, *number)?)
+            (
+                file_of_limit(*what),
+                told_of_limit(alloc, reached, *what, *number)?,
+            )
         }
         _ => (FileOf::Rules, told_of_rules(alloc, rules, refusal)?),
     })
@@ -77,7 +92,13 @@ fn note_all(
         Stop::Refused(refusal) => note_refusal(alloc, notes, reached, stop, refusal),
         Stop::ReadFault => {
             let told = Told::whole(format!(in alloc; "no such file, or not readable")?);
-            note_told(alloc, notes, &subject_of(reached, unread(reached)), &told, stop)
+            note_told(
+                alloc,
+                notes,
+                &subject_of(reached, unread(reached)),
+                &told,
+                stop,
+            )
         }
         Stop::WriteFault => {
             let told = Told::whole(format!(in alloc; "not writable, or the disk is full")?);

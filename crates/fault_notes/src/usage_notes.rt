@@ -8,8 +8,8 @@ use choose_core::Style;
 use command_ends::Stop;
 use command_words::Word;
 use note_text::Notes;
-use text_places::{Shown, Told, meant};
 use std::alloc::{AllocError, Global};
+use text_places::{Shown, Told, word_meant};
 
 /// How far the words behind a command's name have been gone through: how many names stood, which options stood, an option whose value is to come, and whether
 /// all that follows is names.
@@ -43,14 +43,18 @@ fn options_shown(alloc: Global, form: Form) -> Result<String, AllocError> {
 fn unknown_option(alloc: Global, form: Form, word: &str) -> Wrong {
     let shown = Shown(word.as_bytes());
     let command = form.word;
-    let options = options_shown(alloc, form)?;
-    let mut near = String::new(alloc);
-    for option in form.options {
-        if near.is_empty() {
-            near = meant(alloc, word.as_bytes(), &[option.word])?;
-        }
+    if word == "--help" || word == "-h" {
+        return Ok(Some(format!(in alloc; "{shown} stands behind {command}, whose help follows")?));
     }
-    Ok(Some(format!(in alloc; "{shown} is no option of {command}; its options are {options}{near}")?))
+    let options = options_shown(alloc, form)?;
+    let mut words = Vec::new(alloc);
+    for option in form.options {
+        words.push(option.word)?;
+    }
+    let near = word_meant(alloc, word.as_bytes(), words.as_slice())?;
+    Ok(Some(format!(in alloc;
+        "{shown} is no option of {command}; its options are {options}{near}"
+    )?))
 }
 
 // The name of an option's value.
@@ -213,7 +217,7 @@ pub(crate) fn note_usage(
     let word = first.text();
     let Some(form) = form_of(word) else {
         let shown = Shown(word.as_bytes());
-        let near = meant(alloc, word.as_bytes(), COMMANDS)?;
+        let near = word_meant(alloc, word.as_bytes(), COMMANDS)?;
         let what = format!(in alloc; "{shown} is no command; route, check and make are{near}")?;
         return note_with_help(alloc, notes, "cellroute", what, HELP, stop);
     };

@@ -2,8 +2,8 @@
 
 use choose_core::Style;
 use limits::{MOST_INSTANCES, MOST_ROWS};
-use text_places::{Shown, is_near};
 use std::alloc::{AllocError, Global};
+use text_places::{Shown, meant};
 
 // The number below 2^64 that a word of one to twenty digits writes.
 fn number_in(word: &str) -> Option<u64> {
@@ -64,14 +64,11 @@ fn styles_shown(alloc: Global, styles: &[Style]) -> Result<String, AllocError> {
 
 // A question whether another style was meant, if there is one whose name is near.
 fn style_meant(alloc: Global, styles: &[Style], word: &str) -> Result<String, AllocError> {
+    let mut names = Vec::new(alloc);
     for style in styles {
-        let name = style.chooser.name().items();
-        if is_near(alloc, word.as_bytes(), name)? {
-            let name = Shown(name);
-            return format!(in alloc; "; did you mean {name}?");
-        }
+        names.push(style.chooser.name().items())?;
     }
-    Ok(String::new(alloc))
+    meant(alloc, word.as_bytes(), names.as_slice())
 }
 
 // What is wrong with a word that is to be the name of a style.

@@ -9,7 +9,7 @@ use geom_core::Name;
 use netlist_core::DesignFault;
 use note_text::place_at;
 use std::alloc::{AllocError, Global};
-use text_places::{Shown, Sought, Told, find, is_near, line_of, place_of};
+use text_places::{Shown, Sought, Told, find, meant, line_of, place_of};
 use yal_reader::{Call, Module};
 
 // A design without a PARENT.
@@ -39,22 +39,19 @@ fn many_parents(alloc: Global, design: &Design<'_>) -> Result<Told, AllocError> 
 
 // A question whether another module was meant, if there is one whose name is near.
 fn module_meant(alloc: Global, design: &Design<'_>, name: &[u8]) -> Result<String, AllocError> {
+    let mut names = Vec::new(alloc);
     for module in design.modules() {
-        let other = module.name.items();
-        if is_near(alloc, name, other)? {
-            let other = Shown(other);
-            return format!(in alloc; "; did you mean {other}?");
-        }
+        names.push(module.name.items())?;
     }
-    Ok(String::new(alloc))
+    meant(alloc, name, names.as_slice())
 }
 
 // A call of a module that is not there.
 fn unknown_module(alloc: Global, design: &Design<'_>, call: &Call) -> Result<String, AllocError> {
     let name = Shown(call.name.items());
     let module = Shown(call.module.items());
-    let meant = module_meant(alloc, design, call.module.items())?;
-    format!(in alloc; "{name} calls {module}, and no module has this name{meant}")
+    let near = module_meant(alloc, design, call.module.items())?;
+    format!(in alloc; "{name} calls {module}, and no module has this name{near}")
 }
 
 // A call of a module that is no cell.

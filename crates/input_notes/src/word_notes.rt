@@ -2,7 +2,7 @@
 
 use crate::yal_notes::{module_shown, token_shown};
 use std::alloc::{AllocError, Global};
-use text_places::{Found, Part, Shown, Token, Walk, meant};
+use text_places::{Found, Part, Shown, Token, Walk, word_meant};
 
 /// The words that begin sections of a module, and those that begin and end modules.
 const KEYWORDS: &[&str] = &[
@@ -47,7 +47,10 @@ fn outside(alloc: Global, text: &[u8], word: Shown<'_>) -> Result<String, AllocE
             "MODULE is wanted here, not {word}; this looks like a layout in CIF: the words are route DESIGN RULES OUT, and check DESIGN RULES CIF"
         );
     }
-    let meant = meant(alloc, word.0, &["MODULE"])?;
+    if word.0.starts_with(b"#") || word.0.starts_with(b"//") {
+        return format!(in alloc; "MODULE is wanted here, not {word}; comments stand between /* and */");
+    }
+    let meant = word_meant(alloc, word.0, &["MODULE"])?;
     format!(in alloc;
         "MODULE is wanted here, not {word}, which stands outside of all modules{meant}"
     )
@@ -66,7 +69,7 @@ fn no_section(alloc: Global, walk: &Walk<'_>, token: Token<'_>) -> Result<String
     if token.is("ENDNETWORK") {
         return format!(in alloc; "{word} stands here without a NETWORK; before it");
     }
-    let meant = meant(alloc, token.text, KEYWORDS)?;
+    let meant = word_meant(alloc, token.text, KEYWORDS)?;
     format!(in alloc;
         "{word} begins no section of module {module}; DIMENSIONS, IOLIST, NETWORK and some more do, and ENDMODULE; ends it{meant}"
     )
@@ -80,7 +83,7 @@ fn in_module(alloc: Global, walk: &Walk<'_>, token: Token<'_>) -> Result<String,
         return format!(in alloc; "MODULE wants the name of the module behind it, not {word}");
     }
     if walk.is_at("TYPE", 1) {
-        let meant = meant(alloc, token.text, KINDS)?;
+        let meant = word_meant(alloc, token.text, KINDS)?;
         return format!(in alloc;
             "{word} is no type of a module; STANDARD, PAD, GENERAL and PARENT are{meant}"
         );
@@ -114,7 +117,7 @@ fn in_line(alloc: Global, walk: &Walk<'_>, token: Token<'_>) -> Result<String, A
     let module = module_shown(walk);
     if walk.words == 1 && is_keyword(walk.first) {
         return format!(in alloc;
-            "ENDIOLIST; is missing before {first}: the IOLIST of {module} goes on here"
+            "ENDIOLIST; is missing before {first}: the IOLIST of {module} has no end"
         );
     }
     if walk.words == 1 && token.is_end() {
@@ -137,7 +140,7 @@ fn in_call(alloc: Global, walk: &Walk<'_>) -> Result<String, AllocError> {
     let module = module_shown(walk);
     if is_keyword(walk.first) {
         return format!(in alloc;
-            "ENDNETWORK; is missing before {first}: the NETWORK of {module} goes on here"
+            "ENDNETWORK; is missing before {first}: the NETWORK of {module} has no end"
         );
     }
     format!(in alloc; "{first} calls no module; a call is NAME MODULE SIGNAL .. ;")

@@ -12,7 +12,7 @@ mod yal_walk;
 
 pub use cif_text_places::{CommandText, command_at, next_command};
 pub use lengths::units;
-pub use near::{is_near, meant, nearest};
+pub use near::{difference, meant, nearest, word_meant};
 pub use rules_text::{
     Stated, line_of_key, misplaced, near_key, near_table, place_of_key, place_of_table, section_of,
 };

@@ -1,6 +1,6 @@
 //! The lines of a rules file that state tables and keys, as far as any text has them.
 
-use crate::near::is_near;
+use crate::near::difference;
 use crate::yal_tokens::from_byte;
 use std::alloc::{AllocError, Global};
 use tech_rules::Key;
@@ -159,7 +159,7 @@ pub fn near_key<'a>(
         };
         if stated.is_below(key)
             && !stated.word.is_empty()
-            && is_near(alloc, key.word().as_bytes(), stated.word)?
+            && difference(alloc, key.word().as_bytes(), stated.word)?.is_some()
         {
             return Ok(Some(stated));
         }
@@ -190,7 +190,7 @@ pub fn near_table<'a>(
         let Some(stated) = lines.next_stated() else {
             return Ok(None);
         };
-        if stated.word.is_empty() && is_near(alloc, section.as_bytes(), stated.section)? {
+        if stated.word.is_empty() && difference(alloc, section.as_bytes(), stated.section)?.is_some() {
             return Ok(Some(stated));
         }
     }
