@@ -1,6 +1,6 @@
 //! Notes on limits that are passed.
 
-use crate::naming::{FileOf, rows_wanted, wants_ports};
+use crate::naming::{FileOf, wants_ports, wants_rows};
 use crate::reached::Reached;
 use command_ends::Limited;
 use input_notes::rules_again;
@@ -21,7 +21,7 @@ fn too_long(alloc: Global, most: u64) -> Result<Told, AllocError> {
 
 // That ports are among what is counted, if they are.
 fn with_ports(reached: &Reached<'_>) -> &'static str {
-    if wants_ports(reached.command) {
+    if wants_ports(reached) {
         ", those of ports (--ports) among them"
     } else {
         ""
@@ -65,9 +65,10 @@ fn too_many_changes(alloc: Global, reached: &Reached<'_>, number: u64) -> Result
 
 // A layout with too many columns.
 fn too_many_columns(alloc: Global, reached: &Reached<'_>, number: u64) -> Result<Told, AllocError> {
-    let cure = match rows_wanted(reached.command) {
-        Some(_) => "fewer rows (--rows) or fewer instances have less",
-        None => "fewer rows than are chosen by themselves (--rows K) have less",
+    let cure = if wants_rows(reached) {
+        "fewer rows (--rows) or fewer instances have less"
+    } else {
+        "fewer rows than are chosen by themselves (--rows K) have less"
     };
     Ok(Told::whole(format!(in alloc;
         "all channels together have {number} columns; {MOST_COLUMNS} at most may be: {cure}"

@@ -2,7 +2,7 @@
 
 use crate::noting::Subject;
 use crate::reached::Reached;
-use command_words::{Command, RowCount, Source};
+use command_words::{Command, Source};
 
 /// One of the files of a command.
 #[derive(Clone, Copy, PartialEq, Eq)]
@@ -16,19 +16,19 @@ pub(crate) enum FileOf {
 }
 
 // The name of a design by its source.
-fn source_name<'a>(source: Source<'a>) -> &'a str {
+fn source_name<'a>(source: &Source<'a>) -> &'a str {
     match source {
-        Source::File(name) => name,
+        Source::File(name) => *name,
         Source::Made(..) => "the design that is made",
     }
 }
 
 // The name of a file of a command.
-fn name_of<'a>(command: Command<'a>, file: FileOf) -> &'a str {
+fn name_of<'a>(command: &Command<'a>, file: FileOf) -> &'a str {
     match command {
         Command::Route(names) => match file {
             FileOf::Rules => names.rules,
-            FileOf::Design => source_name(names.design),
+            FileOf::Design => source_name(&names.design),
             FileOf::Layout | FileOf::Out => names.out,
         },
         Command::Check(names) => match file {
@@ -51,7 +51,7 @@ fn nameless(file: FileOf) -> &'static str {
 
 /// A file of a command, with its text if it was read.
 pub(crate) fn subject_of<'a>(reached: &Reached<'a>, file: FileOf) -> Subject<'a> {
-    let name = match reached.command {
+    let name = match &reached.command {
         Some(command) => name_of(command, file),
         None => nameless(file),
     };
@@ -65,27 +65,30 @@ pub(crate) fn subject_of<'a>(reached: &Reached<'a>, file: FileOf) -> Subject<'a>
 }
 
 /// Whether a command makes its design.
-pub(crate) fn is_made(command: Option<Command<'_>>) -> bool {
-    match command {
-        Some(Command::Route(names)) => matches!(names.design, Source::Made(..)),
+pub(crate) fn is_made(reached: &Reached<'_>) -> bool {
+    match &reached.command {
+        Some(Command::Route(names)) => match &names.design {
+            Source::Made(..) => true,
+            Source::File(_) => false,
+        },
         _ => false,
     }
 }
 
 /// Whether a command wants ports.
-pub(crate) fn wants_ports(command: Option<Command<'_>>) -> bool {
-    match command {
+pub(crate) fn wants_ports(reached: &Reached<'_>) -> bool {
+    match &reached.command {
         Some(Command::Route(names)) => names.wanted.ports,
         Some(Command::Check(names)) => names.ports,
         None => false,
     }
 }
 
-/// The rows that a command asks for.
-pub(crate) fn rows_wanted(command: Option<Command<'_>>) -> Option<RowCount> {
-    match command {
-        Some(Command::Route(names)) => names.wanted.rows,
-        _ => None,
+/// Whether a command asks for a number of rows.
+pub(crate) fn wants_rows(reached: &Reached<'_>) -> bool {
+    match &reached.command {
+        Some(Command::Route(names)) => names.wanted.rows.is_some(),
+        _ => false,
     }
 }
 
@@ -94,7 +97,7 @@ pub(crate) fn unread(reached: &Reached<'_>) -> FileOf {
     if reached.rules.is_none() {
         return FileOf::Rules;
     }
-    if reached.design.is_none() && !is_made(reached.command) {
+    if reached.design.is_none() && !is_made(reached) {
         return FileOf::Design;
     }
     FileOf::Layout

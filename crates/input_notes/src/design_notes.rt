@@ -9,7 +9,7 @@ use geom_core::Name;
 use netlist_core::DesignFault;
 use note_text::place_at;
 use std::alloc::{AllocError, Global};
-use text_places::{Shown, Sought, Told, find, meant, line_of, place_of};
+use text_places::{Shown, Sought, Told, find, line_of, meant, place_of};
 use yal_reader::{Call, Module};
 
 // A design without a PARENT.

@@ -48,7 +48,9 @@ fn outside(alloc: Global, text: &[u8], word: Shown<'_>) -> Result<String, AllocE
         );
     }
     if word.0.starts_with(b"#") || word.0.starts_with(b"//") {
-        return format!(in alloc; "MODULE is wanted here, not {word}; comments stand between /* and */");
+        return format!(in alloc;
+            "MODULE is wanted here, not {word}; comments stand between /* and */"
+        );
     }
     let meant = word_meant(alloc, word.0, &["MODULE"])?;
     format!(in alloc;

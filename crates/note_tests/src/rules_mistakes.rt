@@ -12,7 +12,7 @@ const MISTAKES: &[(&str, &str)] = &[
     ),
     (
         "yal = \"POLY\" => yal = \"POLY",
-        "rules.toml:2:7: the text is no TOML: invalid string [rules Toml]",
+        "rules.toml:2:12: the text is no TOML: invalid string [rules Toml]",
     ),
     (
         "column = 8 => column = 8\ncolumn = 8",

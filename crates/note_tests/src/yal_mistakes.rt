@@ -26,11 +26,11 @@ const MISTAKES: &[(&str, &str)] = &[
     ),
     (
         "n1 PI;\nENDIOLIST;\n => n1 PI;\n",
-        "my.yal:17:8: ENDIOLIST; is missing before NETWORK: the IOLIST of top has no end [yal Word 243]",
+        "my.yal:17:8: ENDIOLIST; is missing before NETWORK: the IOLIST of top has no end [yal Word 236]",
     ),
     (
         "ENDNETWORK;\n => ",
-        "my.yal:21:10: ENDNETWORK; is missing before ENDMODULE: the NETWORK of top has no end [yal Word 317]",
+        "my.yal:21:10: ENDNETWORK; is missing before ENDMODULE: the NETWORK of top has no end [yal Word 310]",
     ),
     (
         "ENDIOLIST;\nENDMODULE;\n => ENDIOLIST;\n",
@@ -38,11 +38,15 @@ const MISTAKES: &[(&str, &str)] = &[
     ),
     (
         "ENDNETWORK;\nENDMODULE;\n => ENDNETWORK;\n",
-        "my.yal:22:1: the text ends inside module top: ENDMODULE; is missing [yal Ends 320]",
+        "my.yal:22:1: the text ends inside module top: ENDMODULE; is missing [yal Ends 313]",
     ),
     (
         "vdd vss;\nENDNETWORK;\nENDMODULE;\n => vdd vss;\n",
-        "my.yal:19:26: the text ends inside module top: a ; is missing behind vss [yal Ends 281]",
+        "my.yal:21:1: the text ends inside module top: ENDNETWORK; is missing, and ENDMODULE; behind it [yal Ends 301]",
+    ),
+    (
+        "vdd vss;\nENDNETWORK;\nENDMODULE;\n => vdd vss",
+        "my.yal:20:25: the text ends inside module top: a ; is missing behind vss [yal Ends 299]",
     ),
     // A word of its own making.
     (
@@ -55,7 +59,7 @@ const MISTAKES: &[(&str, &str)] = &[
     ),
     (
         "NETWORK; => NETWROK;",
-        "my.yal:18:1: NETWROK begins no section of module top; DIMENSIONS, IOLIST, NETWORK and some more do, and ENDMODULE; ends it; did you mean NETWORK? [yal Word 247]",
+        "my.yal:18:1: NETWROK begins no section of module top; DIMENSIONS, IOLIST, NETWORK and some more do, and ENDMODULE; ends it; did you mean NETWORK? [yal Word 240]",
     ),
     (
         "MODULE AND2; => # gates\nMODULE AND2;",
@@ -76,7 +80,7 @@ const MISTAKES: &[(&str, &str)] = &[
     ),
     (
         "g1 AND2 n1 n2 n3 vdd vss; => g1;",
-        "my.yal:19:3: g1 calls no module; a call is NAME MODULE SIGNAL .. ; [yal Word 258]",
+        "my.yal:19:3: g1 calls no module; a call is NAME MODULE SIGNAL .. ; [yal Word 251]",
     ),
     // Numbers that are none.
     (
@@ -98,11 +102,11 @@ const MISTAKES: &[(&str, &str)] = &[
     ),
     (
         "g2 AND2 => g1 AND2",
-        "my.yal:20:1: an instance named g1 stands at line 19 already; each needs a name of its own [yal Twice 282]",
+        "my.yal:20:1: an instance named g1 stands at line 19 already; each needs a name of its own [yal Twice 275]",
     ),
     (
         "ENDNETWORK;\n => ENDNETWORK;\nNETWORK;\nENDNETWORK;\n",
-        "my.yal:22:1: module top has NETWORK at line 18 already; it may stand once in a module [yal Twice 320]",
+        "my.yal:22:1: module top has NETWORK at line 18 already; it may stand once in a module [yal Twice 313]",
     ),
     // Bytes and comments.
     (

@@ -17,11 +17,7 @@ fn most_wrong(word: &[u8]) -> usize {
 }
 
 /// How many letters of a word differ from another one, where it is perhaps meant: none where only the case of letters does, and else one or two.
-pub fn difference(
-    alloc: Global,
-    word: &[u8],
-    other: &[u8],
-) -> Result<Option<usize>, AllocError> {
+pub fn difference(alloc: Global, word: &[u8], other: &[u8]) -> Result<Option<usize>, AllocError> {
     if word.len() > MOST_COMPARED || other.len() > MOST_COMPARED {
         return Ok(None);
     }

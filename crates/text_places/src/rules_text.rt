@@ -190,7 +190,9 @@ pub fn near_table<'a>(
         let Some(stated) = lines.next_stated() else {
             return Ok(None);
         };
-        if stated.word.is_empty() && difference(alloc, section.as_bytes(), stated.section)?.is_some() {
+        if stated.word.is_empty()
+            && difference(alloc, section.as_bytes(), stated.section)?.is_some()
+        {
             return Ok(Some(stated));
         }
     }
