@@ -1,8 +1,14 @@
 //! Notes for people on what stopped a command: where it is, what is wrong, and what would cure it.
 #![tactic(auto)]
 
+mod limit_notes;
+mod naming;
+mod noting;
 mod reached;
 mod stopping;
+mod usage;
+mod usage_notes;
+mod value_notes;
 
 pub use reached::Reached;
 pub use stopping::note_stop;

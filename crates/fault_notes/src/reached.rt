@@ -2,6 +2,7 @@
 
 use choose_core::Style;
 use command_words::{Command, Word};
+use input_notes::TextsRead;
 
 /// How far a command has come: its words, the styles that there are, the command that the words give, if they give one, and the texts that it has read.
 #[derive(Clone, Copy)]
@@ -15,4 +16,14 @@ pub struct Reached<'a> {
     pub design: Option<&'a [u8]>,
     /// The text of the layout's file.
     pub cif: Option<&'a [u8]>,
+}
+
+impl<'a> Reached<'a> {
+    // The texts of rules and of a design that it has read.
+    pub(crate) fn read(&self) -> TextsRead<'a> {
+        TextsRead {
+            rules: self.rules,
+            design: self.design,
+        }
+    }
 }

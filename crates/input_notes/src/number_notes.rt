@@ -1,0 +1,98 @@
+//! Notes on a word of a YAL text that stands where a number is wanted.
+
+use crate::yal_notes::token_shown;
+use limits::MOST_COORDINATE;
+use std::alloc::{AllocError, Global};
+use text_places::{Found, Part, Shown, Token, are_on_two_lines};
+use yal_reader::Numbers;
+
+// A word without its sign.
+fn without_sign(word: &[u8]) -> &[u8] {
+    word.strip_prefix(b"-").unwrap_or(word)
+}
+
+// Whether a word has digits alone, perhaps behind a sign.
+fn is_whole(word: &[u8]) -> bool {
+    let digits = without_sign(word);
+    !digits.is_empty() && digits.iter().all(|byte| byte.is_ascii_digit())
+}
+
+// Whether a word has digits and one point between them, perhaps behind a sign.
+fn is_pointed(word: &[u8]) -> bool {
+    let text = without_sign(word);
+    let mut points = 0u8;
+    for byte in text {
+        if *byte == b'.' {
+            points = points.saturating_add(1);
+        } else if !byte.is_ascii_digit() {
+            return false;
+        }
+    }
+    points == 1 && !text.starts_with(b".") && !text.ends_with(b".")
+}
+
+// Which number of a statement is wanted behind so many words.
+fn number_wanted(found: &Found<'_>) -> &'static str {
+    if found.before.part != Part::IoList {
+        return "a number of DIMENSIONS";
+    }
+    if found.before.words == 2 { "X" } else { "Y" }
+}
+
+// Whether a word may well begin the next statement.
+fn is_next(text: &[u8], last: Option<Token<'_>>, token: Token<'_>) -> bool {
+    match last {
+        Some(last) => {
+            let first = token.text.first().copied().unwrap_or(b'0');
+            first.is_ascii_alphabetic() && are_on_two_lines(text, last, token)
+        }
+        None => false,
+    }
+}
+
+// A number with a point.
+fn pointed(alloc: Global, word: Shown<'_>, numbers: Option<Numbers>) -> Result<String, AllocError> {
+    match numbers {
+        Some(Numbers::Decimal(decimals)) => {
+            format!(in alloc;
+                "{word} is no number of {decimals} decimals, of magnitude at most {MOST_COORDINATE} units; the rules say decimals = {decimals}"
+            )
+        }
+        _ => {
+            format!(in alloc;
+                "{word} has a point, and under version = 1 of the rules numbers are whole; with version = 2 and decimals = 1 to 4 they may have one"
+            )
+        }
+    }
+}
+
+/// What is wrong with a word that is no number where one is wanted.
+pub(crate) fn bad_number(
+    alloc: Global,
+    text: &[u8],
+    found: &Found<'_>,
+    numbers: Option<Numbers>,
+) -> Result<String, AllocError> {
+    let word = token_shown(found.token);
+    let wanted = number_wanted(found);
+    let Some(token) = found.token else {
+        return format!(in alloc; "{wanted} is wanted here");
+    };
+    let last = token_shown(found.before.last);
+    if is_next(text, found.before.last, token) {
+        return format!(in alloc;
+            "{word} is no number, and {wanted} is wanted here; a ; is perhaps missing behind {last}"
+        );
+    }
+    if is_pointed(token.text) {
+        return pointed(alloc, word, numbers);
+    }
+    if is_whole(token.text) {
+        return format!(in alloc;
+            "{word} is too far; numbers are from -{MOST_COORDINATE} to {MOST_COORDINATE} units"
+        );
+    }
+    format!(in alloc;
+        "{word} is no number, and {wanted} is wanted here: digits, perhaps behind a -"
+    )
+}

@@ -1,0 +1,19 @@
+//! Tests of the notes for people: the mistakes of beginners, and what they are told.
+#![tactic(auto)]
+
+#[cfg(test)]
+mod design_mistakes;
+#[cfg(test)]
+mod excerpt_tests;
+#[cfg(test)]
+mod file_mistakes;
+#[cfg(test)]
+mod layout_mistakes;
+#[cfg(test)]
+mod rules_mistakes;
+#[cfg(test)]
+mod support;
+#[cfg(test)]
+mod word_mistakes;
+#[cfg(test)]
+mod yal_mistakes;
