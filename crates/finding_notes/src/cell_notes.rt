@@ -31,9 +31,10 @@ pub(crate) fn first_of(cell: &Cell) -> Option<u32> {
 
 // The shape by which a cell is found: its first outline, and else its first shape.
 fn mark_of<'a>(judged: &JudgedLayout<'a>, cell: &Cell) -> Option<&'a Shape> {
+    let rules = judged.rules;
     let shapes = shapes_of(judged, cell);
     for shape in shapes {
-        if shape.layer.text() == judged.rules.outline.layer.text() {
+        if shape.layer.text() == rules.outline.layer.text() {
             return Some(shape);
         }
     }

@@ -176,7 +176,7 @@ fn words_for(
 
 // The instance of a name.
 fn instance_of<'a>(judged: &JudgedLayout<'a>, name: &[u8]) -> Result<&'a Inst, Untold> {
-    for instance in judged.design.instances.items() {
+    for instance in judged.instances() {
         if instance.name.items() == name {
             return Ok(instance);
         }

@@ -56,7 +56,8 @@ fn bare_words(
     rect: &Rect,
 ) -> Result<String, AllocError> {
     let most = most_margin(judged.layout.shapes.items(), layer, rect);
-    let wanted = length_of(judged.rules, judged.rules.cut.enclose);
+    let rules = judged.rules;
+    let wanted = length_of(rules, rules.cut.enclose);
     layer_words(alloc, layer, most, wanted)
 }
 
@@ -70,8 +71,9 @@ pub(crate) fn bare_cut(
     let shape = judged.shape(i)?;
     let place = shape_text(alloc, shape)?;
     let net = net_words(alloc, judged, nets, i)?;
-    let horizontal = bare_words(alloc, judged, &judged.rules.horizontal.layer, &shape.rect)?;
-    let vertical = bare_words(alloc, judged, &judged.rules.vertical.layer, &shape.rect)?;
+    let rules = judged.rules;
+    let horizontal = bare_words(alloc, judged, &rules.horizontal.layer, &shape.rect)?;
+    let vertical = bare_words(alloc, judged, &rules.vertical.layer, &shape.rect)?;
     Ok(Told {
         text: format!(in alloc; "{place}{net}{horizontal}{vertical}")?,
         first: Some(i),

@@ -16,6 +16,24 @@ pub struct JudgedLayout<'a> {
 }
 
 impl<'a> JudgedLayout<'a> {
+    /// The kinds of the design.
+    pub(crate) fn kinds(&self) -> &'a [CellKind] {
+        let design = self.design;
+        design.kinds.items()
+    }
+
+    /// The instances of the design.
+    pub(crate) fn instances(&self) -> &'a [Inst] {
+        let design = self.design;
+        design.instances.items()
+    }
+
+    /// The pins of the design.
+    pub(crate) fn pins(&self) -> &'a [Pin] {
+        let design = self.design;
+        design.pins.items()
+    }
+
     /// The shape of this number.
     pub(crate) fn shape(&self, n: u32) -> Result<&'a Shape, Untold> {
         self.layout.shapes.items().get(n as usize).ok_or(Untold)
@@ -28,29 +46,23 @@ impl<'a> JudgedLayout<'a> {
 
     /// The instance of this number.
     pub(crate) fn instance(&self, n: u32) -> Result<&'a Inst, Untold> {
-        self.design.instances.items().get(n as usize).ok_or(Untold)
+        self.instances().get(n as usize).ok_or(Untold)
     }
 
     /// The kind of an instance.
     pub(crate) fn kind(&self, instance: &Inst) -> Result<&'a CellKind, Untold> {
-        let kinds = self.design.kinds.items();
-        kinds.get(instance.kind as usize).ok_or(Untold)
+        self.kinds().get(instance.kind as usize).ok_or(Untold)
     }
 
     /// The pin of this number.
     pub(crate) fn pin(&self, n: u32) -> Result<Pin, Untold> {
-        self.design
-            .pins
-            .items()
-            .get(n as usize)
-            .copied()
-            .ok_or(Untold)
+        self.pins().get(n as usize).copied().ok_or(Untold)
     }
 
     /// The signal of the net of this number, from 1.
     pub(crate) fn signal(&self, net: u32) -> Result<&'a [u8], Untold> {
-        let nets = self.design.nets.items();
-        match nets.get((net as usize).wrapping_sub(1)) {
+        let design = self.design;
+        match design.nets.items().get((net as usize).wrapping_sub(1)) {
             Some(name) => Ok(name.items()),
             None => Err(Untold),
         }

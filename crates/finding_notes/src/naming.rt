@@ -56,7 +56,7 @@ pub(crate) fn cell_like<'a>(judged: &JudgedLayout<'a>, name: &[u8]) -> Option<&'
 
 /// The first instance's name that differs from this one in case alone.
 pub(crate) fn instance_like<'a>(judged: &JudgedLayout<'a>, name: &[u8]) -> Option<&'a [u8]> {
-    for instance in judged.design.instances.items() {
+    for instance in judged.instances() {
         if are_alike(instance.name.items(), name) {
             return Some(instance.name.items());
         }

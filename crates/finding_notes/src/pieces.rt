@@ -27,7 +27,7 @@ fn members_of(
 ) -> Result<Vec<Member>, Untold> {
     let mut members = Vec::new(alloc);
     let mut number: u32 = 0;
-    for pin in judged.design.pins.items() {
+    for pin in judged.pins() {
         if pin.net == net {
             let class = nets.class_of_pin(number).ok_or(Untold)?;
             members.push(Member { pin: number, class })?;

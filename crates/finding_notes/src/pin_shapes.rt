@@ -63,7 +63,7 @@ fn starts_of(alloc: Global, judged: &JudgedLayout<'_>) -> Result<Vec<u32>, Alloc
     let names = cell_names(alloc, judged)?;
     let cells = judged.layout.cells.items();
     let mut starts = Vec::new(alloc);
-    for instance in judged.design.instances.items() {
+    for instance in judged.instances() {
         let start = match cells.get(place_of(&names, instance.name.items())) {
             Some(cell) => cell.first.saturating_add(1),
             None => NONE,
@@ -79,7 +79,7 @@ pub(crate) fn pin_shapes(
     judged: &JudgedLayout<'_>,
 ) -> Result<PinShapes, AllocError> {
     Ok(PinShapes {
-        firsts: all_first_places(alloc, judged.design.kinds.items())?,
+        firsts: all_first_places(alloc, judged.kinds())?,
         starts: starts_of(alloc, judged)?,
     })
 }
@@ -135,7 +135,7 @@ impl PinShapes {
         judged: &JudgedLayout<'_>,
     ) -> Result<Vec<(u32, u32)>, Untold> {
         let mut ties = Vec::new(alloc);
-        let instances = judged.design.instances.items();
+        let instances = judged.instances();
         for (instance, start) in instances.iter().zip(self.starts.as_slice()) {
             let kind = judged.kind(instance)?;
             let firsts = self.firsts_of(instance.kind);

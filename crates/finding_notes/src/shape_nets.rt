@@ -34,9 +34,16 @@ fn is_in_reach(n: i64) -> bool
 fn is_shape_in_reach(shape: &Shape) -> bool
     ensures { IsTrue result → IsShapeInReach shape.now }
 {
-    let low = is_in_reach(shape.rect.x0) && is_in_reach(shape.rect.y0);
-    let high = is_in_reach(shape.rect.x1) && is_in_reach(shape.rect.y1);
-    low && high
+    if !is_in_reach(shape.rect.x0) {
+        return false;
+    }
+    if !is_in_reach(shape.rect.y0) {
+        return false;
+    }
+    if !is_in_reach(shape.rect.x1) {
+        return false;
+    }
+    is_in_reach(shape.rect.y1)
 }
 
 // Whether the sides of all shapes lie within reach.
@@ -88,7 +95,7 @@ fn nets_in(alloc: Global, judged: &JudgedLayout<'_>) -> Result<ShapeNets, Untold
     let classes = classes_of(alloc, judged, ties.as_slice())?;
     let mut pins = Vec::new(alloc);
     let mut nets = BTreeMap::new(alloc);
-    for pin in judged.design.pins.items() {
+    for pin in judged.pins() {
         let shape = drawn.shape_of(judged, *pin)?;
         pins.push(shape)?;
         if let Some(class) = classes.as_slice().get(shape as usize) {
