@@ -144,7 +144,7 @@ pub fn note_findings(
     }
     note_each(alloc, notes, judged, &findings[..MOST_TOLD]);
     let more = findings.len() - MOST_TOLD;
-    if let Ok(line) = format!(in alloc; "and {more} findings more") {
+    if let Ok(line) = format!(in alloc; "and {more} more") {
         notes.note(line);
     }
 }

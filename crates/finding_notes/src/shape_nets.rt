@@ -31,6 +31,7 @@ fn is_in_reach(n: i64) -> bool
 }
 
 // Whether the sides of a shape lie within reach.
+#[tactic(auto, using(std_laws::proofs::Integers::read_back))]
 fn is_shape_in_reach(shape: &Shape) -> bool
     ensures { IsTrue result → IsShapeInReach shape.now }
 {
