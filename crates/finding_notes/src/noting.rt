@@ -46,6 +46,15 @@ fn are_nets_told(findings: &[Finding]) -> bool {
     !with_cells && with_wires
 }
 
+// The first of the findings, at most so many.
+fn first_of(findings: &[Finding], most: usize) -> &[Finding] {
+    if findings.len() > most {
+        &findings[..most]
+    } else {
+        findings
+    }
+}
+
 // What is known where these findings are told.
 fn known_for(alloc: Global, judged: &JudgedLayout<'_>, findings: &[Finding]) -> Known {
     let nets = if are_nets_told(findings) {
@@ -136,14 +145,14 @@ pub fn note_findings(
     judged: &JudgedLayout<'_>,
     findings: &[Finding],
 ) {
-    if findings.len() <= MOST_TOLD {
-        if !findings.is_empty() {
-            note_each(alloc, notes, judged, findings);
-        }
+    if findings.is_empty() {
         return;
     }
-    note_each(alloc, notes, judged, &findings[..MOST_TOLD]);
-    let more = findings.len() - MOST_TOLD;
+    note_each(alloc, notes, judged, first_of(findings, MOST_TOLD));
+    let more = findings.len().saturating_sub(MOST_TOLD);
+    if more == 0 {
+        return;
+    }
     if let Ok(line) = format!(in alloc; "and {more} more") {
         notes.note(line);
     }
