@@ -32,7 +32,9 @@ use command_ends::Refusal;
 use command_words::Wanted;
 use feed_cells::{FedRows, insert_feeds, place};
 use greedy_router::Routed;
+use layout_notes::{LaidLayout, note_layout};
 use layout_report::Summary;
+use note_text::Notes;
 use port_rows::Designs;
 use shelf_io::{Failed, Shelf};
 use std::alloc::{AllocError, Global};
@@ -153,6 +155,18 @@ impl Prepared {
             rules: &self.rules,
         };
         write_layout(shelf, out, &routed)
+    }
+
+    /// Notes what people are told of the layout that is to be written to a file of this name. What memory has no room for is left out.
+    pub fn note(&self, alloc: Global, notes: &mut Notes, out: &str) {
+        let laid = LaidLayout {
+            out_name: out,
+            design: &self.designs.drawn.design,
+            rules: &self.rules,
+            summary: &self.summary,
+            routed: self.kept.as_slice(),
+        };
+        note_layout(alloc, notes, &laid);
     }
 
     /// Its routed channels, and the layout in short. Takes no memory.

@@ -62,7 +62,10 @@ pub(crate) fn route<S: Shelf>(
     } = inputs;
     drop(file);
     match lay_out(alloc, designs, rules, names.wanted, style) {
-        Ok(prepared) => write_prepared(shelf, prepared, names.out, kept),
+        Ok(prepared) => {
+            prepared.note(alloc, &mut heard.notes, names.out);
+            write_prepared(shelf, prepared, names.out, kept)
+        }
         Err(refusal) => Err(Stop::Refused(refusal)),
     }
 }

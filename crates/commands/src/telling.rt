@@ -6,12 +6,13 @@ ghost use Rattle.command_words.specs.Seen.{command_seen};
 ghost use Rattle.commands.specs.Noted.{Noted};
 ghost use Rattle.std.specs.Prelude.{◌≡◌, ◌<◌, Some, false, length, map, true};
 
-use crate::done::Done;
+use crate::done::{Done, Judged};
 use choose_core::Style;
 use command_ends::Stop;
 use command_inputs::Texts;
 use command_words::{Command, Word, WordsFault, read_command};
 use fault_notes::{Reached, note_stop};
+use finding_notes::{JudgedLayout, note_findings};
 use note_text::{Notes, put_notes};
 use shelf_io::Sink;
 use std::alloc::Global;
@@ -24,19 +25,38 @@ fn bytes_of(text: &Option<Vec<u8>>) -> Option<&[u8]> {
     }
 }
 
+// Notes what was found of a layout that was judged.
+fn note_judged<'a>(alloc: Global, notes: &mut Notes, reached: &Reached<'a>, judged: &'a Judged) {
+    let cif_name = match reached.command {
+        Some(Command::Check(names)) => names.cif,
+        _ => "",
+    };
+    let text = reached.cif;
+    let layout = JudgedLayout {
+        cif_name,
+        text,
+        design: &judged.inputs.designs.drawn.design,
+        rules: &judged.inputs.rules,
+        layout: &judged.layout,
+    };
+    note_findings(alloc, notes, &layout, judged.findings.as_slice());
+}
+
 // Puts what was noted, and the notes on how a command ended that has come so far.
-fn put_told<N: Sink>(
+fn put_told<'a, N: Sink>(
     alloc: Global,
-    reached: &Reached<'_>,
-    ending: &Result<Done, Stop>,
+    reached: &Reached<'a>,
+    ending: &'a Result<Done, Stop>,
     noted: Notes,
     notes: &mut N,
 )
     ensures { Noted (N.written notes.old) (N.written notes.new) (N.faults notes.old) (N.faults notes.new) }
 {
     let mut told = noted;
-    if let Err(stop) = ending {
-        note_stop(alloc, &mut told, reached, stop);
+    match ending {
+        Ok(Done::Judged(judged)) => note_judged(alloc, &mut told, reached, judged),
+        Ok(_) => {}
+        Err(stop) => note_stop(alloc, &mut told, reached, stop),
     }
     let _ = put_notes(notes, &told);
 }
@@ -59,7 +79,7 @@ pub(crate) fn tell<'a, N: Sink>(
     styles: &'a [Style],
     texts: &'a Texts,
     noted: Notes,
-    ending: &Result<Done, Stop>,
+    ending: &'a Result<Done, Stop>,
     going: bool,
     notes: &mut N,
 )

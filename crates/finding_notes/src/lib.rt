@@ -1,0 +1,24 @@
+//! Notes for people on the findings of a layout: where each stands, what it concerns, what was measured and what the rules want.
+#![tactic(auto)]
+
+mod cell_notes;
+mod drawing_notes;
+mod drawn_shapes;
+mod enclosing;
+mod heads;
+mod judged;
+mod lengths;
+mod naming;
+mod net_notes;
+mod noting;
+mod pieces;
+mod pin_shapes;
+mod shape_lines;
+mod shape_nets;
+mod shape_notes;
+mod text_lines;
+mod told;
+mod untold;
+
+pub use judged::JudgedLayout;
+pub use noting::note_findings;
