@@ -62,10 +62,7 @@ pub(crate) fn route<S: Shelf>(
     } = inputs;
     drop(file);
     match lay_out(alloc, designs, rules, names.wanted, style) {
-        Ok(prepared) => {
-            prepared.note(alloc, &mut heard.notes, names.out);
-            write_prepared(shelf, prepared, names.out, kept)
-        }
+        Ok(prepared) => write_prepared(alloc, shelf, prepared, names.out, &mut heard.notes, kept),
         Err(refusal) => Err(Stop::Refused(refusal)),
     }
 }

@@ -8,23 +8,34 @@ use crate::done::Done;
 use command_ends::Stop;
 use command_jobs::Prepared;
 use greedy_router::Routed;
+use note_text::Notes;
 use shelf_io::{Failed, Shelf};
+use std::alloc::Global;
 
-/// Writes a design that is laid out into a file, keeps its routed channels, and gives it in short. Takes no memory.
+/// Writes a design that is laid out into a file, keeps its routed channels, gives it in short, and notes what people are told of it where it was written. Takes no memory but for the notes,
+/// of which is left out what memory has no room for.
 pub(crate) fn write_prepared<S: Shelf>(
+    alloc: Global,
     shelf: &mut S,
     prepared: Prepared,
     out: &str,
+    notes: &mut Notes,
     kept: &mut Vec<Routed>,
 ) -> Result<Done, Stop>
     ensures { IsWritten prepared.job prepared.kept out.now (end_seen result) kept.new.items
         (files (S.holds shelf.old) (S.read_faults shelf.old) (S.write_faults shelf.old)) (files (S.holds shelf.new) (S.read_faults shelf.new) (S.write_faults shelf.new)) }
 {
-    let ending = prepared.write(shelf, out);
-    let told = prepared.told();
-    *kept = told.kept;
-    match ending {
-        Ok(()) => Ok(Done::LaidOut(told.summary)),
-        Err(Failed) => Err(Stop::WriteFault),
+    match prepared.write(shelf, out) {
+        Ok(()) => {
+            prepared.note(alloc, notes, out);
+            let written = prepared.told();
+            *kept = written.kept;
+            Ok(Done::LaidOut(written.summary))
+        }
+        Err(Failed) => {
+            let cut = prepared.told();
+            *kept = cut.kept;
+            Err(Stop::WriteFault)
+        }
     }
 }

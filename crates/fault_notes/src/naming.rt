@@ -36,6 +36,7 @@ fn name_of<'a>(command: &Command<'a>, file: FileOf) -> &'a str {
             FileOf::Design => names.design,
             FileOf::Layout | FileOf::Out => names.cif,
         },
+        Command::Help(_) => "",
     }
 }
 
@@ -80,7 +81,7 @@ pub(crate) fn wants_ports(reached: &Reached<'_>) -> bool {
     match &reached.command {
         Some(Command::Route(names)) => names.wanted.ports,
         Some(Command::Check(names)) => names.ports,
-        None => false,
+        Some(Command::Help(_)) | None => false,
     }
 }
 

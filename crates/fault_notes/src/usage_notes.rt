@@ -2,11 +2,12 @@
 
 use crate::noting::{Subject, note_told};
 use crate::reached::Reached;
-use crate::usage::{COMMANDS, Form, HELP, OptionForm, form_of};
+use crate::usage::{COMMANDS, Form, OptionForm, form_of, is_lone};
 use crate::value_notes::bad_value;
 use choose_core::Style;
 use command_ends::Stop;
-use command_words::Word;
+use command_help::help_text;
+use command_words::{Topic, Word};
 use note_text::Notes;
 use std::alloc::{AllocError, Global};
 use text_places::{Shown, Told, word_meant};
@@ -62,6 +63,11 @@ fn value_name(option: OptionForm) -> &'static str {
     option.value.unwrap_or("")
 }
 
+// An option's name after two dashes.
+fn long_name(name: &str) -> &str {
+    if name == "-q" { "--quiet" } else { name }
+}
+
 // Goes past an option, and says what is wrong with it.
 fn past_option(
     alloc: Global,
@@ -71,8 +77,8 @@ fn past_option(
     word: &str,
 ) -> Wrong {
     let (name, value) = match word.split_once('=') {
-        Some((name, value)) => (name, Some(value)),
-        None => (word, None),
+        Some((name, value)) => (long_name(name), Some(value)),
+        None => (long_name(word), None),
     };
     for (i, option) in form.options.iter().enumerate() {
         if option.word != name {
@@ -192,13 +198,15 @@ fn note_with_help(
     notes: &mut Notes,
     name: &str,
     what: String,
-    help: &[&str],
+    topic: Topic,
     stop: &Stop,
 ) -> Result<(), AllocError> {
     let subject = Subject { name, text: None };
     note_told(alloc, notes, &subject, &Told::whole(what), stop)?;
-    for line in help {
-        notes.note(String::from_str(alloc, *line)?);
+    for line in help_text(topic).split('\n') {
+        if !line.is_empty() {
+            notes.note(String::from_str(alloc, line)?);
+        }
     }
     Ok(())
 }
@@ -211,18 +219,26 @@ pub(crate) fn note_usage(
     stop: &Stop,
 ) -> Result<(), AllocError> {
     let Some((first, rest)) = reached.words.split_first() else {
-        let what = format!(in alloc; "a command is wanted: route, check or make")?;
-        return note_with_help(alloc, notes, "cellroute", what, HELP, stop);
+        let what = format!(in alloc; "a command is wanted: route, check, make or help")?;
+        return note_with_help(alloc, notes, "cellroute", what, Topic::Overview, stop);
     };
     let word = first.text();
+    if is_lone(word) {
+        let what = format!(in alloc;
+            "{word} stands alone; help may have the name of one command behind it: route, check or make"
+        )?;
+        return note_with_help(alloc, notes, "cellroute", what, Topic::Overview, stop);
+    }
     let Some(form) = form_of(word) else {
         let shown = Shown(word.as_bytes());
         let near = word_meant(alloc, word.as_bytes(), COMMANDS)?;
-        let what = format!(in alloc; "{shown} is no command; route, check and make are{near}")?;
-        return note_with_help(alloc, notes, "cellroute", what, HELP, stop);
+        let what = format!(in alloc;
+            "{shown} is no command; route, check, make, help and version are{near}"
+        )?;
+        return note_with_help(alloc, notes, "cellroute", what, Topic::Overview, stop);
     };
     let command = form.word;
     let name = format!(in alloc; "cellroute {command}")?;
     let what = wrong_words(alloc, form, reached.styles, rest)?;
-    note_with_help(alloc, notes, name.as_str(), what, form.help, stop)
+    note_with_help(alloc, notes, name.as_str(), what, form.topic, stop)
 }

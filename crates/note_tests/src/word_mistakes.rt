@@ -8,15 +8,15 @@ use std::test::Fail;
 const MISTAKES: &[(&str, &str)] = &[
     (
         "",
-        "cellroute: a command is wanted: route, check or make [usage]",
+        "cellroute: a command is wanted: route, check, make or help [usage]",
     ),
     (
         "rout|d|r|o",
-        "cellroute: rout is no command; route, check and make are; did you mean route? [usage]",
+        "cellroute: rout is no command; route, check, make, help and version are; did you mean route? [usage]",
     ),
     (
         "d.yal|r.toml|o.cif",
-        "cellroute: d.yal is no command; route, check and make are [usage]",
+        "cellroute: d.yal is no command; route, check, make, help and version are [usage]",
     ),
     (
         "route|d|r",
@@ -32,19 +32,27 @@ const MISTAKES: &[(&str, &str)] = &[
     ),
     (
         "route|d|r|o|--row|3",
-        "cellroute route: --row is no option of route; its options are --seed, --rows, --style, --edge, --ports; did you mean --rows? [usage]",
+        "cellroute route: --row is no option of route; its options are --seed, --rows, --style, --edge, --ports, --quiet; did you mean --rows? [usage]",
     ),
     (
         "check|d|r|c|--rows|2",
-        "cellroute check: --rows is no option of check; its options are --ports [usage]",
+        "cellroute check: --rows is no option of check; its options are --ports, --quiet [usage]",
     ),
     (
         "make|1|5|r|o|--edge",
-        "cellroute make: --edge is no option of make; its options are none [usage]",
+        "cellroute make: --edge is no option of make; its options are --quiet [usage]",
     ),
     (
         "route|d|r|o|-s|5",
-        "cellroute route: -s is no option of route; its options are --seed, --rows, --style, --edge, --ports [usage]",
+        "cellroute route: -s is no option of route; its options are --seed, --rows, --style, --edge, --ports, --quiet [usage]",
+    ),
+    (
+        "help|rout",
+        "cellroute: help stands alone; help may have the name of one command behind it: route, check or make [usage]",
+    ),
+    (
+        "route|d|r|o|-q|--quiet",
+        "cellroute route: --quiet stands twice; it may stand once [usage]",
     ),
     (
         "route|--help",
@@ -110,11 +118,11 @@ fn the_help_of_the_command_follows(rt: HostRuntime) -> Result<(), Fail> {
         notes.as_str(),
         "\
 cellroute check: CIF is missing behind check [usage]
-usage: cellroute check DESIGN RULES CIF [--ports]
-  DESIGN   the file of the design, in YAL
-  RULES    the file of the rules, in TOML
-  CIF      the file of the layout to be checked, in CIF
-  --ports  the terminals of the PARENT are cells at the edges
+cellroute check DESIGN RULES CIF [OPTIONS]
+Judges the layout in CIF for the design in DESIGN under the rules in RULES: prints a line
+for each thing that is wrong with it, and their number. It writes no file.
+  --ports        judge it for the design with the terminals of the PARENT as cells
+  -q, --quiet    no notes on the standard error
 "
     );
     Ok(())

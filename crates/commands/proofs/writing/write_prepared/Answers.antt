@@ -29,15 +29,15 @@ begun-changes file ending kept old new begun others cause writes reads = record 
 
 pub returns-in-Ok : goal.returns-in-Ok
 returns-in-Ok g c =
-    let kept = c.told-told.ensures.kept in
+    let kept = c.told-written.ensures.kept in
     let e = c.in-Ok.ensures in
     record {
       listed = inl refl;
       said = record {
-        ends = c.told-told.ensures.summary ∙ ap (summary_of c.args.prepared.job) (sym kept);
+        ends = c.told-written.ensures.summary ∙ ap (summary_of c.args.prepared.job) (sym kept);
         written = λ name is zero bytes at.
             ap (λ (k : List Routed). Some (job_text c.args.prepared.job k)) kept
-            ∙ e.whole bytes (ap (g.S.Shelf.holds c.write-ending.new.shelf) (same_Some _ name is) ∙ at);
+            ∙ e.whole bytes (ap (g.S.Shelf.holds c.write.new.shelf) (same_Some _ name is) ∙ at);
         front = λ name is nine. absurd (omega (arith, nine));
       };
       changes = begun-changes _ _ _ _ _ tt e.others.others (λ nine. absurd (omega (arith, nine))) (λ other. e.others.same_writes refl) e.others.same_reads;
@@ -45,9 +45,9 @@ returns-in-Ok g c =
       good = e.good;
     }
 
-pub returns-in-Err : goal.returns-in-Err
-returns-in-Err g c =
-    let kept = c.told-told.ensures.kept in
+pub returns : goal.returns
+returns g c =
+    let kept = c.told-cut.ensures.kept in
     let e = c.in-Err.ensures in
     record {
       listed = inr refl;
@@ -55,8 +55,8 @@ returns-in-Err g c =
         ends = tt;
         written = λ name is zero. absurd (omega (arith, zero));
         front = λ name is nine.
-            subst (λ (file : List ℕ). HoldsFront (job_text c.args.prepared.job c.told-told.result.kept.items) (g.S.Shelf.holds c.args.shelf.now file)
-            (g.S.Shelf.holds c.write-ending.new.shelf file)) (same_Some _ name is) (rw kept e.front);
+            subst (λ (file : List ℕ). HoldsFront (job_text c.args.prepared.job c.told-cut.result.kept.items) (g.S.Shelf.holds c.args.shelf.now file)
+            (g.S.Shelf.holds c.write.new.shelf file)) (same_Some _ name is) (rw kept e.front);
       };
       changes = begun-changes _ _ _ _ _ tt e.others.others (λ nine. e.cause) (λ other. absurd (other refl)) e.others.same_reads;
       routed_so = kept;
