@@ -4,4 +4,8 @@
 #[cfg(test)]
 mod comb_tests;
 #[cfg(test)]
+mod every_tests;
+#[cfg(test)]
+mod plain;
+#[cfg(test)]
 mod row_tests;
