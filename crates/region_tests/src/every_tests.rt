@@ -1,6 +1,7 @@
 //! Every closed path of up to eight corners on a grid of four by four points.
 
-use crate::plain::{digit, is_cut_into, plain_blocks};
+use crate::blocks::is_cut_into;
+use crate::plain::{digit, plain_blocks};
 use geom_core::Corner;
 use region_cut::CutFault;
 use std::alloc::Global;

@@ -1,17 +1,8 @@
 //! The maximal blocks of paths on a small grid by a plain count: of all blocks, those that are filled and lie in no other filled one.
 
-use geom_core::{Corner, Rect};
-use region_cut::{CutFault, cut};
+use crate::blocks::Block;
+use geom_core::Corner;
 use std::alloc::{AllocError, Global};
-
-/// A block, by its sides.
-#[derive(Clone, Copy, PartialEq, Eq)]
-pub(crate) struct Block {
-    pub(crate) low: i64,
-    pub(crate) left: i64,
-    pub(crate) high: i64,
-    pub(crate) right: i64,
-}
 
 /// A coordinate of the grid: the last digit of a number in the system of base 4.
 pub(crate) fn digit(n: u32) -> i64 {
@@ -141,38 +132,4 @@ fn outer_blocks(alloc: Global, blocks: &[Block]) -> Result<Vec<Block>, AllocErro
 pub(crate) fn plain_blocks(alloc: Global, path: &[Corner]) -> Result<Vec<Block>, AllocError> {
     let filled = filled_blocks(alloc, path, 256)?;
     outer_blocks(alloc, filled.as_slice())
-}
-
-/// Whether a rectangle has these sides.
-fn is_at(rect: &Rect, block: &Block) -> bool {
-    rect.y0 == block.low && rect.x0 == block.left && rect.y1 == block.high && rect.x1 == block.right
-}
-
-/// Whether rectangles are these blocks, in order.
-fn are_at(rects: &[Rect], blocks: &[Block]) -> bool {
-    for (rect, block) in rects.iter().zip(blocks) {
-        if !is_at(rect, block) {
-            return false;
-        }
-    }
-    rects.len() == blocks.len()
-}
-
-/// Whether more than so many maximal blocks are refused.
-fn is_refused(alloc: Global, path: &[Corner], most: usize) -> bool {
-    matches!(&cut(alloc, path, most as u64), Err(CutFault::TooMany))
-}
-
-/// Whether a path gives these blocks where as many are asked for, and is refused where one fewer is.
-pub(crate) fn is_cut_into(
-    alloc: Global,
-    path: &[Corner],
-    blocks: &[Block],
-) -> Result<bool, CutFault> {
-    let rects = cut(alloc, path, blocks.len() as u64)?;
-    let refused = match blocks.len().checked_sub(1) {
-        Some(fewer) => is_refused(alloc, path, fewer),
-        None => true,
-    };
-    Ok(refused && are_at(rects.as_slice(), blocks))
 }
