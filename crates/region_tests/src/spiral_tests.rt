@@ -1,8 +1,8 @@
-//! A spiral: a corridor two wide and two apart, as a polygon of 2,000 points and as a wire of 1,000.
+//! A spiral: a corridor two wide and two apart, as a polygon of 2,000 points and as a wire of 1,000; and a wire that reaches far.
 
 ghost use Rattle.region_cut.specs.Strokes.{IsCornerInReach};
 ghost use Rattle.std.specs.List.{AllByRecursion};
-ghost use Rattle.std.specs.Prelude.{IfOk};
+ghost use Rattle.std.specs.Prelude.{◌≡◌, IfOk};
 
 use crate::blocks::{Block, are_at, is_cut_into};
 use crate::row_tests::corner_in_reach;
@@ -11,7 +11,9 @@ use region_cut::strokes;
 use std::alloc::{AllocError, Global};
 use std::test::Fail;
 
-fn corner(x: i64, y: i64) -> Corner {
+fn corner(x: i64, y: i64) -> Corner
+    ensures { result ≡ record { x = x; y = y } }
+{
     Corner { x, y }
 }
 
@@ -139,5 +141,30 @@ fn a_wire_gives_the_arms_of_a_spiral(rt: HostRuntime) -> Result<(), Fail> {
     let blocks = arms_in_turn(rt.alloc(), 250)?;
     assert!(rt; path.len() == 1_000 && blocks.len() == 999);
     assert!(rt; are_at(rects.as_slice(), blocks.as_slice()));
+    Ok(())
+}
+
+/// As far as the points of a wire and half its width may reach.
+const FAR: i64 = 1_000_000_000_000_000;
+
+#[test]
+fn a_wire_as_far_as_it_may_reach(rt: HostRuntime) -> Result<(), Fail> {
+    let path = [corner(FAR, -FAR), corner(FAR, FAR), corner(-FAR, FAR)];
+    let rects = strokes(rt.alloc(), &path, FAR)?;
+    let blocks = [
+        Block {
+            low: -2 * FAR,
+            left: 0,
+            high: 2 * FAR,
+            right: 2 * FAR,
+        },
+        Block {
+            low: 0,
+            left: -2 * FAR,
+            high: 2 * FAR,
+            right: 2 * FAR,
+        },
+    ];
+    assert!(rt; are_at(rects.as_slice(), &blocks));
     Ok(())
 }
