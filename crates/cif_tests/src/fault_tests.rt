@@ -4,7 +4,7 @@ use crate::shown::are_shown;
 use std::test::Fail;
 
 /// Texts, and the kind and the place of the fault of each.
-const FAULTS: [(&str, &str); 84] = [
+const FAULTS: [(&str, &str); 93] = [
     // each fault
     ("", "NoEnd 0"),
     (" ;\n", "NoEnd 3"),
@@ -68,6 +68,10 @@ const FAULTS: [(&str, &str); 84] = [
     ("W 2000000000000 0 0;E", "Number 2"),
     ("W 1 0 0 2000000000000;E", "Number 8"),
     ("W 1 0 0 0 0 3 4;E", "Turned 0"),
+    ("W -1 0 0;E", "BadCommand 0"),
+    ("W 1 0 0 4 0 1000000000001 0 5 5;E", "Number 12"),
+    ("DS 1;W 2 0 0 0 4 1 5;DF;E", "Turned 5"),
+    ("L NM; W 2 0 0 4;E", "BadCommand 6"),
     // polygons
     ("L NM; P 0 0 4 4 8 0; E", "Turned 6"),
     ("P 0 0 4 0 4 4;E", "Turned 0"),
@@ -76,6 +80,11 @@ const FAULTS: [(&str, &str); 84] = [
     ("P 1 1 2 2;E", "BadCommand 0"),
     ("P 0 0 4 0 4 4 0;E", "BadCommand 0"),
     ("P 0 0 4 0 4 2000000000000;E", "Number 12"),
+    ("P 0 0 4 4 -1000000000001;E", "Number 10"),
+    ("DS 1;P 0 0 0 0 2000000000000 0;DF;E", "Number 15"),
+    ("L NM; P 0 0 4 0;E", "BadCommand 6"),
+    (" ;P 0 0 4 0 4 4 0 3 Q;E", "Turned 2"),
+    ("P 0 0 4 0 4 4 0 4 --1 0;E", "BadCommand 0"),
     // the whole offset of a call
     (" C 1 T 1000000000000 0 T 1 0;E", "Number 1"),
     ("C 1 T 0 -1000000000000 T 0 -1;E", "Number 0"),

@@ -9,7 +9,7 @@ use std::alloc::{AllocError, Global};
 use std::test::Fail;
 
 /// Two buffers of one net.
-const JOINED: &str = "u1 BUF n1;\nu2 BUF n1;\n";
+pub(crate) const JOINED: &str = "u1 BUF n1;\nu2 BUF n1;\n";
 
 /// A shelf with the sample rules, the design of these calls of buffers and the text of a layout.
 fn checked_shelf(alloc: Global, calls: &str, text: &str) -> Result<MemShelf, AllocError> {
@@ -19,7 +19,7 @@ fn checked_shelf(alloc: Global, calls: &str, text: &str) -> Result<MemShelf, All
 }
 
 /// Whether `check d r c` over the design of these calls of buffers and this layout ends so and prints these lines.
-fn is_checked(
+pub(crate) fn is_checked(
     alloc: Global,
     calls: &str,
     text: &str,
@@ -53,7 +53,7 @@ B 200 200 1200 5600;/B 200 200 1300 5600;/BareCut 12\nfindings 1\n|\
 B 200 200 1200 5600;\n//Open u1 y u2 y\nfindings 1\n";
 
 /// Whether a case prints its lines.
-fn is_case(alloc: Global, case: &str) -> Result<bool, AllocError> {
+pub(crate) fn is_case(alloc: Global, case: &str) -> Result<bool, AllocError> {
     let Some((old, change)) = case.split_once("/") else {
         return Ok(false);
     };
@@ -101,7 +101,7 @@ X; E/BadCommand 0|\
 \u{e9}/NotAscii 0";
 
 /// Whether a text is refused with its kind and place.
-fn is_refused_text(alloc: Global, case: &str) -> Result<bool, AllocError> {
+pub(crate) fn is_refused_text(alloc: Global, case: &str) -> Result<bool, AllocError> {
     let Some((text, fault)) = case.split_once("/") else {
         return Ok(false);
     };

@@ -2,6 +2,14 @@
 #![tactic(auto)]
 
 #[cfg(test)]
-mod comb_tests;
+mod blocks;
+#[cfg(test)]
+mod every_tests;
+#[cfg(test)]
+mod large_tests;
+#[cfg(test)]
+mod plain;
 #[cfg(test)]
 mod row_tests;
+#[cfg(test)]
+mod spiral_tests;

@@ -25,7 +25,7 @@ struct Row {
 
 const ELL: &[(i32, i32)] = &[(0, 0), (20, 0), (20, 8), (8, 8), (8, 20), (0, 20)];
 
-const ROWS: [Row; 17] = [
+const ROWS: [Row; 18] = [
     Row {
         path: ELL,
         asked: Asked::Blocks(2),
@@ -74,6 +74,24 @@ const ROWS: [Row; 17] = [
             (4, 2),
             (2, 2),
             (0, 2),
+        ],
+        asked: Asked::Blocks(4),
+        answer: "0 0 6 2 / 0 0 2 6 / 4 0 6 6 / 0 4 6 6",
+    },
+    // the same ring by a way in from the lower side, the hole the other way round
+    Row {
+        path: &[
+            (0, 0),
+            (2, 0),
+            (2, 2),
+            (2, 4),
+            (4, 4),
+            (4, 2),
+            (2, 2),
+            (2, 0),
+            (6, 0),
+            (6, 6),
+            (0, 6),
         ],
         asked: Asked::Blocks(4),
         answer: "0 0 6 2 / 0 0 2 6 / 4 0 6 6 / 0 4 6 6",
@@ -183,7 +201,7 @@ const ROWS: [Row; 17] = [
     },
 ];
 
-fn corner(x: i32, y: i32) -> Corner
+pub(crate) fn corner_in_reach(x: i32, y: i32) -> Corner
     ensures { IsCornerInReach result }
 {
     Corner {
@@ -198,7 +216,7 @@ fn corners(alloc: Global, points: &[(i32, i32)]) -> Result<Vec<Corner>, AllocErr
     let mut path = Vec::new(alloc);
     let mut rest = points;
     while let Some(((x, y), later)) = rest.split_first() {
-        path.push(corner(*x, *y))?;
+        path.push(corner_in_reach(*x, *y))?;
         rest = later;
     }
     Ok(path)
