@@ -45,8 +45,8 @@ returns-in-Ok g c =
       good = e.good;
     }
 
-pub returns : goal.returns
-returns g c =
+pub returns-in-Err : goal.returns-in-Err
+returns-in-Err g c =
     let kept = c.told-cut.ensures.kept in
     let e = c.in-Err.ensures in
     record {
