@@ -57,7 +57,7 @@ fn left_out(alloc: Global, letter: u8) -> Result<String, AllocError> {
 }
 
 /// What is wrong with a text that is no CIF, for this reason at this byte.
-pub fn told_of_text(
+pub(crate) fn told_of_text(
     alloc: Global,
     text: &[u8],
     kind: CifKind,
@@ -161,7 +161,7 @@ fn meaning(alloc: Global, text: &[u8], kind: ExpandKind) -> Result<String, Alloc
 }
 
 /// What is wrong with the command of this number.
-pub fn told_of_command(
+pub(crate) fn told_of_command(
     alloc: Global,
     text: &[u8],
     kind: ExpandKind,
