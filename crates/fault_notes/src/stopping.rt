@@ -1,15 +1,13 @@
 //! The note on what stopped a command.
 
+use crate::cif_notes::{told_of_command, told_of_text};
 use crate::limit_notes::{file_of_limit, told_of_limit};
 use crate::naming::{FileOf, subject_of, unread};
 use crate::noting::{Subject, note_told};
 use crate::reached::Reached;
 use crate::usage_notes::note_usage;
 use command_ends::{Refusal, Stop};
-use input_notes::{
-    numbers_again, told_of_command, told_of_design, told_of_port_clash, told_of_rules,
-    told_of_text, told_of_yal,
-};
+use input_notes::{numbers_again, told_of_design, told_of_port_clash, told_of_rules, told_of_yal};
 use note_text::Notes;
 use std::alloc::{AllocError, Global};
 use text_places::Told;

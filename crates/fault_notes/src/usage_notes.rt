@@ -132,6 +132,16 @@ fn valueless(alloc: Global, option: OptionForm) -> Wrong {
     Ok(Some(format!(in alloc; "{name} wants a value behind it, {name} {value}")?))
 }
 
+// An option behind which a word with a dash stands.
+fn dashed_value(alloc: Global, option: OptionForm, word: &str) -> Wrong {
+    let name = option.word;
+    let value = value_name(option);
+    let shown = Shown(word.as_bytes());
+    Ok(Some(format!(in alloc;
+        "{name} wants a value behind it, {name} {value}, and {shown} begins with a dash"
+    )?))
+}
+
 // Goes past a word, and says what is wrong with it.
 fn past_word(
     alloc: Global,
@@ -142,7 +152,7 @@ fn past_word(
 ) -> Wrong {
     if let Some(option) = passed.open {
         if is_dashed(word) {
-            return valueless(alloc, option);
+            return dashed_value(alloc, option, word);
         }
         passed.open = None;
         return bad_value(alloc, styles, option.word, word);

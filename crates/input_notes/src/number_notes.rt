@@ -3,7 +3,7 @@
 use crate::yal_notes::token_shown;
 use limits::MOST_COORDINATE;
 use std::alloc::{AllocError, Global};
-use text_places::{Found, Part, Shown, Token, are_on_two_lines};
+use text_places::{Found, Part, Shown, Token, are_on_two_lines, from_byte};
 use yal_reader::Numbers;
 
 // A word without its sign.
@@ -50,20 +50,39 @@ fn is_next(text: &[u8], last: Option<Token<'_>>, token: Token<'_>) -> bool {
     }
 }
 
-// A number with a point.
-fn pointed(alloc: Global, word: Shown<'_>, numbers: Option<Numbers>) -> Result<String, AllocError> {
-    match numbers {
-        Some(Numbers::Decimal(decimals)) => {
-            format!(in alloc;
-                "{word} is no number of {decimals} decimals, of magnitude at most {MOST_COORDINATE} units; the rules say decimals = {decimals}"
-            )
-        }
-        _ => {
-            format!(in alloc;
-                "{word} has a point, and under version = 1 of the rules numbers are whole; with version = 2 and decimals = 1 to 4 they may have one"
-            )
+// How many digits behind the point of a word count: those up to the last that is not 0.
+fn places_of(word: &[u8]) -> usize {
+    let whole = word.iter().take_while(|byte| **byte != b'.').count();
+    let fraction = from_byte(word, whole.saturating_add(1));
+    let mut places = 0;
+    for (i, byte) in fraction.iter().enumerate() {
+        if *byte != b'0' {
+            places = i.saturating_add(1);
         }
     }
+    places
+}
+
+// A number that is too great.
+fn too_far(alloc: Global, word: Shown<'_>) -> Result<String, AllocError> {
+    format!(in alloc;
+        "{word} is too far; numbers are from -{MOST_COORDINATE} to {MOST_COORDINATE} units"
+    )
+}
+
+// A number with a point.
+fn pointed(alloc: Global, word: Shown<'_>, numbers: Option<Numbers>) -> Result<String, AllocError> {
+    let Some(Numbers::Decimal(decimals)) = numbers else {
+        return format!(in alloc;
+            "{word} has a point, and under version = 1 of the rules numbers are whole; with version = 2 and decimals = 1 to 4 they may have one"
+        );
+    };
+    if places_of(word.0) as u64 > u64::from(decimals) {
+        return format!(in alloc;
+            "{word} has more decimals than the rules allow, decimals = {decimals}"
+        );
+    }
+    too_far(alloc, word)
 }
 
 /// What is wrong with a word that is no number where one is wanted.
@@ -88,9 +107,7 @@ pub(crate) fn bad_number(
         return pointed(alloc, word, numbers);
     }
     if is_whole(token.text) {
-        return format!(in alloc;
-            "{word} is too far; numbers are from -{MOST_COORDINATE} to {MOST_COORDINATE} units"
-        );
+        return too_far(alloc, word);
     }
     format!(in alloc;
         "{word} is no number, and {wanted} is wanted here: digits, perhaps behind a -"

@@ -1,8 +1,9 @@
 //! Notes on a word or a semicolon of a YAL text that stands where none such may.
 
 use crate::yal_notes::{module_shown, token_shown};
+use note_text::place_at;
 use std::alloc::{AllocError, Global};
-use text_places::{Found, Part, Shown, Token, Walk, word_meant};
+use text_places::{Found, Part, Shown, Sought, Token, Walk, find, word_meant};
 
 /// The words that begin sections of a module, and those that begin and end modules.
 const KEYWORDS: &[&str] = &[
@@ -112,15 +113,35 @@ fn part_after(words: usize) -> &'static str {
     }
 }
 
-// What a line of an IOLIST wants next.
-fn in_line(alloc: Global, walk: &Walk<'_>, token: Token<'_>) -> Result<String, AllocError> {
-    let word = Shown(token.text);
+// A list that goes on over its end, since its last line or call has no semicolon, or has no end.
+fn endless(alloc: Global, text: &[u8], walk: &Walk<'_>) -> Result<String, AllocError> {
+    let stop = walk.part.stop();
+    let list = walk.part.keyword();
     let first = token_shown(walk.first);
     let module = module_shown(walk);
-    if walk.words == 1 && is_keyword(walk.first) {
+    let swallowed = find(text, Sought::Swallowed);
+    if let Some(token) = swallowed.token {
+        let line = place_at(text, token.at as u64).line;
+        let last = token_shown(swallowed.before.last);
+        let word = Shown(token.text);
         return format!(in alloc;
-            "ENDIOLIST; is missing before {first}: the IOLIST of {module} has no end"
+            "the {list} of {module} has no end before {first}: a ; is missing behind {last}, before {word} in line {line}"
         );
+    }
+    format!(in alloc; "{stop}; is missing before {first}: the {list} of {module} has no end")
+}
+
+// What a line of an IOLIST wants next.
+fn in_line(
+    alloc: Global,
+    text: &[u8],
+    walk: &Walk<'_>,
+    token: Token<'_>,
+) -> Result<String, AllocError> {
+    let word = Shown(token.text);
+    let first = token_shown(walk.first);
+    if walk.words == 1 && is_keyword(walk.first) {
+        return endless(alloc, text, walk);
     }
     if walk.words == 1 && token.is_end() {
         return format!(in alloc; "{first} has no flow; a line of an IOLIST is NAME FLOW .. ;");
@@ -137,13 +158,10 @@ fn in_line(alloc: Global, walk: &Walk<'_>, token: Token<'_>) -> Result<String, A
 }
 
 // What a call of a NETWORK wants next.
-fn in_call(alloc: Global, walk: &Walk<'_>) -> Result<String, AllocError> {
+fn in_call(alloc: Global, text: &[u8], walk: &Walk<'_>) -> Result<String, AllocError> {
     let first = token_shown(walk.first);
-    let module = module_shown(walk);
     if is_keyword(walk.first) {
-        return format!(in alloc;
-            "ENDNETWORK; is missing before {first}: the NETWORK of {module} has no end"
-        );
+        return endless(alloc, text, walk);
     }
     format!(in alloc; "{first} calls no module; a call is NAME MODULE SIGNAL .. ;")
 }
@@ -164,8 +182,8 @@ pub(crate) fn bad_word(
         return format!(in alloc; "a ; is missing behind {stop}, before {word}");
     }
     match walk.part {
-        Part::IoList => in_line(alloc, walk, token),
-        Part::Network => in_call(alloc, walk),
+        Part::IoList => in_line(alloc, text, walk, token),
+        Part::Network => in_call(alloc, text, walk),
         Part::Placement | Part::CriticalNets => {
             format!(in alloc; "{stop}; is wanted behind this section")
         }

@@ -151,7 +151,7 @@ fn lengths_have_the_decimals_of_the_design(rt: HostRuntime) -> Result<(), Fail> 
     let notes = noted(rt.alloc(), ROUTE, &mut shelf)?;
     assert_eq!(rt;
         first_line(notes.as_str()),
-        "my.yal:5:5: 0.45 is no number of 1 decimals, of magnitude at most 100000000 units; the rules say decimals = 1 [yal Number 76]"
+        "my.yal:5:5: 0.45 has more decimals than the rules allow, decimals = 1 [yal Number 73]"
     );
     Ok(())
 }

@@ -56,8 +56,8 @@ const MISTAKES: &[(&str, &str)] = &[
         "o.cif:2:1: symbol 2 is called, and no definition DS 2 .. DF; has ended before [cif Undefined 1]",
     ),
     (
-        "DS 1; DF; DS 1; DF; E",
-        "o.cif:1:11: symbol 1 is defined a second time [cif Twice 2]",
+        "DS 2; DF;\nDS 1; DF; DS 1; DF; E",
+        "o.cif:2:11: symbol 1 is defined a second time; line 2 has its first definition [cif Twice 4]",
     ),
     (
         "B 4 4 0 0;E",

@@ -1,6 +1,6 @@
 //! Commands over files in memory, and the notes on them.
 
-ghost use Rattle.choose_core.specs.Asked.{IsAsked};
+ghost use Rattle.choose_core.specs.Answers.{IsAsked};
 ghost use Rattle.std.specs.Prelude.{◌<◌, length};
 
 use choose_core::{Candidate, Choice, Chooser, Style};

@@ -64,7 +64,7 @@ const MISTAKES: &[(&str, &str)] = &[
     ),
     (
         "route|d|r|o|--seed|-1",
-        "cellroute route: --seed wants a value behind it, --seed N [usage]",
+        "cellroute route: --seed wants a value behind it, --seed N, and -1 begins with a dash [usage]",
     ),
     (
         "route|d|r|o|--seed=x",

@@ -19,6 +19,15 @@ const MISTAKES: &[(&str, &str)] = &[
         "IOLIST;\na => IOLIST\na",
         "my.yal:5:1: a ; is missing behind IOLIST, before a [yal Word 67]",
     ),
+    // It is forgotten before an end, which then is none.
+    (
+        "vss GND;\nENDIOLIST; => vss GND\nENDIOLIST;",
+        "my.yal:11:10: the IOLIST of AND2 has no end before ENDMODULE: a ; is missing behind GND, before ENDIOLIST in line 10 [yal Word 156]",
+    ),
+    (
+        "n4 vdd vss;\nENDNETWORK; => n4 vdd vss\nENDNETWORK;",
+        "my.yal:22:10: the NETWORK of top has no end before ENDMODULE: a ; is missing behind vss, before ENDNETWORK in line 21 [yal Word 321]",
+    ),
     // An end is forgotten.
     (
         "vss GND;\nENDIOLIST;\n => vss GND;\n",

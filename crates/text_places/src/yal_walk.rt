@@ -25,6 +25,17 @@ impl Part {
         }
     }
 
+    /// The keyword that begins the part.
+    pub fn keyword(self) -> &'static str {
+        match self {
+            Part::Bare => "MODULE",
+            Part::IoList => "IOLIST",
+            Part::Network => "NETWORK",
+            Part::Placement => "PLACEMENT",
+            Part::CriticalNets => "CRITICALNETS",
+        }
+    }
+
     // The part behind a statement that begins with this word.
     fn behind(self, first: Token<'_>) -> Part {
         if self != Part::Bare {
@@ -196,6 +207,8 @@ pub enum Sought<'t> {
     Call(usize, usize),
     /// The name of the first call of this name in a PARENT.
     Calling(&'t [u8]),
+    /// The first word that would end its part, but is not the first of a statement.
+    Swallowed,
 }
 
 impl<'t> Sought<'t> {
@@ -224,6 +237,9 @@ impl<'t> Sought<'t> {
                 walk.is_call() && walk.statements == call.saturating_add(1) && walk.words == word
             }
             Sought::Calling(name) => walk.is_call() && walk.words == 1 && token.text == name,
+            Sought::Swallowed => {
+                walk.part != Part::Bare && walk.words > 1 && token.is(walk.part.stop())
+            }
         }
     }
 }

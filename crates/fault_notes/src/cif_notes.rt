@@ -3,8 +3,9 @@
 use cif_reader::ExpandKind;
 use cif_text::CifKind;
 use limits::{DEEPEST, FARTHEST, MOST_NUMBER, MOST_SHAPES};
+use note_text::place_at;
 use std::alloc::{AllocError, Global};
-use text_places::{Shown, Told, command_at, next_command};
+use text_places::{Shown, Told, command_at, from_byte, next_command};
 
 // The form of the command that begins with this byte.
 fn form_of(first: u8) -> &'static str {
@@ -56,7 +57,7 @@ fn left_out(alloc: Global, letter: u8) -> Result<String, AllocError> {
 }
 
 /// What is wrong with a text that is no CIF, for this reason at this byte.
-pub fn told_of_text(
+pub(crate) fn told_of_text(
     alloc: Global,
     text: &[u8],
     kind: CifKind,
@@ -86,15 +87,55 @@ pub fn told_of_text(
     Ok(Told::at(at, what))
 }
 
+// The number of the symbol whose definition a command begins.
+fn defined_in(command: &[u8]) -> Option<u64> {
+    let behind = command.strip_prefix(b"D")?;
+    let blanks = behind.iter().take_while(|byte| **byte != b'S').count();
+    let behind = from_byte(behind, blanks.saturating_add(1));
+    let separators = behind
+        .iter()
+        .take_while(|byte| !byte.is_ascii_digit())
+        .count();
+    let mut number: u64 = 0;
+    for byte in from_byte(behind, separators) {
+        if !byte.is_ascii_digit() {
+            return Some(number);
+        }
+        let digit = u64::from(byte.saturating_sub(b'0'));
+        number = number.saturating_mul(10).saturating_add(digit);
+    }
+    None
+}
+
+// The line, from 1, in which the first definition of a symbol begins; 0 where there is none.
+fn line_of_definition(text: &[u8], n: u64) -> u64 {
+    let mut from = 0;
+    for _ in 0..text.len() {
+        let Some(command) = next_command(text, from) else {
+            return 0;
+        };
+        if defined_in(command.text) == Some(n) {
+            return place_at(text, command.at as u64).line;
+        }
+        from = command.at.saturating_add(command.text.len());
+    }
+    0
+}
+
 // What is wrong with a command.
-fn meaning(alloc: Global, kind: ExpandKind) -> Result<String, AllocError> {
+fn meaning(alloc: Global, text: &[u8], kind: ExpandKind) -> Result<String, AllocError> {
     match kind {
         ExpandKind::Undefined(n) => {
             format!(in alloc;
                 "symbol {n} is called, and no definition DS {n} .. DF; has ended before"
             )
         }
-        ExpandKind::Twice(n) => format!(in alloc; "symbol {n} is defined a second time"),
+        ExpandKind::Twice(n) => {
+            let line = line_of_definition(text, n);
+            format!(in alloc;
+                "symbol {n} is defined a second time; line {line} has its first definition"
+            )
+        }
         ExpandKind::Inexact => {
             format!(in alloc;
                 "a number is no whole number of half centimicrons under the scale of its definition, DS N A B"
@@ -120,13 +161,13 @@ fn meaning(alloc: Global, kind: ExpandKind) -> Result<String, AllocError> {
 }
 
 /// What is wrong with the command of this number.
-pub fn told_of_command(
+pub(crate) fn told_of_command(
     alloc: Global,
     text: &[u8],
     kind: ExpandKind,
     number: u32,
 ) -> Result<Told, AllocError> {
-    let why = meaning(alloc, kind)?;
+    let why = meaning(alloc, text, kind)?;
     match command_at(text, number) {
         Some(command) => Ok(Told::at(command.at, why)),
         None => Ok(Told::whole(why)),
