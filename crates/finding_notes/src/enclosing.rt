@@ -1,8 +1,9 @@
 //! What is told of a cut that is not enclosed: the layers that do not enclose it, by how much they do, and what is wanted.
 
 use crate::judged::JudgedLayout;
-use crate::lengths::{length_of, microns, shape_text, shown};
-use crate::shape_nets::{ShapeNets, net_words};
+use crate::lengths::{length_of, microns, shown};
+use crate::owners::wire_text;
+use crate::shape_nets::ShapeNets;
 use crate::told::Told;
 use crate::untold::Untold;
 use geom_core::{LayerName, Rect, Shape};
@@ -69,13 +70,12 @@ pub(crate) fn bare_cut(
     i: u32,
 ) -> Result<Told, Untold> {
     let shape = judged.shape(i)?;
-    let place = shape_text(alloc, shape)?;
-    let net = net_words(alloc, judged, nets, i)?;
+    let place = wire_text(alloc, judged, nets, i)?;
     let rules = judged.rules;
     let horizontal = bare_words(alloc, judged, &rules.horizontal.layer, &shape.rect)?;
     let vertical = bare_words(alloc, judged, &rules.vertical.layer, &shape.rect)?;
     Ok(Told {
-        text: format!(in alloc; "{place}{net}{horizontal}{vertical}")?,
+        text: format!(in alloc; "{place}{horizontal}{vertical}")?,
         first: Some(i),
         second: None,
     })

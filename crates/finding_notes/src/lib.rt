@@ -11,6 +11,7 @@ mod lengths;
 mod naming;
 mod net_notes;
 mod noting;
+mod owners;
 mod pieces;
 mod pin_shapes;
 mod shape_lines;

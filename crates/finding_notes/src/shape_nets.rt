@@ -4,7 +4,6 @@ ghost use Rattle.geom_core.specs.Reach.{IsInReach, IsShapeInReach};
 ghost use Rattle.std.specs.Prelude.{◌<◌, length, All, IsTrue};
 
 use crate::judged::JudgedLayout;
-use crate::lengths::shown;
 use crate::pin_shapes::pin_shapes;
 use crate::untold::Untold;
 use geom_core::Shape;
@@ -135,21 +134,4 @@ impl ShapeNets {
     pub(crate) fn net_of(&self, shape: u32) -> Option<u32> {
         self.nets.get(&self.class_of(shape)?).copied()
     }
-}
-
-/// The words for the net of a shape, where the nets are known.
-pub(crate) fn net_words(
-    alloc: Global,
-    judged: &JudgedLayout<'_>,
-    nets: Option<&ShapeNets>,
-    shape: u32,
-) -> Result<String, Untold> {
-    let Some(nets) = nets else {
-        return Ok(String::new(alloc));
-    };
-    let Some(net) = nets.net_of(shape) else {
-        return Ok(String::from_str(alloc, " of no net")?);
-    };
-    let signal = shown(alloc, judged.signal(net)?)?;
-    Ok(format!(in alloc; " of net {signal}")?)
 }

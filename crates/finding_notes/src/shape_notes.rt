@@ -1,35 +1,14 @@
 //! What is told of outlines that overlap or are out of row, of narrow shapes, and of shapes that are too close.
 
 use crate::judged::JudgedLayout;
-use crate::lengths::{length_of, microns, shape_text, shown};
-use crate::shape_nets::{ShapeNets, net_words};
+use crate::lengths::{length_of, microns};
+use crate::owners::{outline_text, wire_text};
+use crate::shape_nets::ShapeNets;
 use crate::told::Told;
 use crate::untold::Untold;
-use geom_core::{Cell, Rect, Shape};
+use geom_core::{Rect, Shape};
 use std::alloc::{AllocError, Global};
 use tech_rules::Rules;
-
-// The cell that a shape is of.
-fn cell_of<'a>(judged: &JudgedLayout<'a>, shape: u32) -> Option<&'a Cell> {
-    for cell in judged.layout.cells.items() {
-        if cell.first <= shape && shape.saturating_sub(cell.first) < cell.count {
-            return Some(cell);
-        }
-    }
-    None
-}
-
-// An outline, with the cell that it is of.
-fn outline_text(alloc: Global, judged: &JudgedLayout<'_>, n: u32) -> Result<String, Untold> {
-    let shape = shape_text(alloc, judged.shape(n)?)?;
-    match cell_of(judged, n) {
-        Some(cell) => {
-            let name = shown(alloc, cell.name.items())?;
-            Ok(format!(in alloc; "{shape} of cell {name}")?)
-        }
-        None => Ok(format!(in alloc; "{shape} of no cell")?),
-    }
-}
 
 // How far two stretches share points: above 0 where they do.
 fn shared(low: i64, high: i64, other_low: i64, other_high: i64) -> i64 {
@@ -114,13 +93,12 @@ pub(crate) fn narrow(
     i: u32,
 ) -> Result<Told, Untold> {
     let shape = judged.shape(i)?;
-    let place = shape_text(alloc, shape)?;
-    let net = net_words(alloc, judged, nets, i)?;
+    let place = wire_text(alloc, judged, nets, i)?;
     let across = microns(alloc, apart(shape.rect.x0, shape.rect.x1))?;
     let up = microns(alloc, apart(shape.rect.y0, shape.rect.y1))?;
     let wanted = size_words(alloc, judged.rules, shape)?;
     Ok(Told {
-        text: format!(in alloc; "{place}{net} is {across} by {up} um, {wanted}")?,
+        text: format!(in alloc; "{place} is {across} by {up} um, {wanted}")?,
         first: Some(i),
         second: None,
     })
@@ -159,19 +137,15 @@ pub(crate) fn too_close(
 ) -> Result<Told, Untold> {
     let shape = judged.shape(i)?;
     let other = judged.shape(j)?;
-    let place = shape_text(alloc, shape)?;
-    let other_place = shape_text(alloc, other)?;
-    let net = net_words(alloc, judged, nets, i)?;
-    let other_net = net_words(alloc, judged, nets, j)?;
+    let place = wire_text(alloc, judged, nets, i)?;
+    let other_place = wire_text(alloc, judged, nets, j)?;
     let gap = gap_words(alloc, &shape.rect, &other.rect)?;
     let space = microns(
         alloc,
         length_of(judged.rules, space_of(judged.rules, shape)),
     )?;
     Ok(Told {
-        text: format!(in alloc;
-            "{place}{net} and {other_place}{other_net}, {gap}, {space} wanted"
-        )?,
+        text: format!(in alloc; "{place} and {other_place}, {gap}, {space} wanted")?,
         first: Some(i),
         second: Some(j),
     })

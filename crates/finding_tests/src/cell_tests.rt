@@ -3,7 +3,7 @@
 use crate::telling::{CELLS, Case, ONE_NET, SYMBOL, WIRE, told_in};
 use std::test::Fail;
 
-const CASES: [Case; 11] = [
+const CASES: [Case; 12] = [
     (
         "nothing is told of a good layout",
         ONE_NET,
@@ -97,6 +97,12 @@ const CASES: [Case; 11] = [
             WIRE,
         ],
         "Drawing u2: it is upside down, and cells stand upright, mirrored by M X at most [o.cif:3]\n",
+    ),
+    (
+        "where a cell is wrong nets are not told",
+        "u1 BUF n1;",
+        &[SYMBOL, CELLS, WIRE, "L NM; B 100 1000 5000 5000;\n"],
+        "Strange u2: no instance has the name of this cell of symbol BUF, XP (8.0, 8.0)-(16.0, 48.0) [o.cif:3]\nNarrow 13: NM (49.5, 45.0)-(50.5, 55.0) is 1.0 by 10.0 um, 3.0 each way wanted [o.cif:8]\n",
     ),
 ];
 

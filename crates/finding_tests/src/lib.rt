@@ -4,6 +4,8 @@
 #[cfg(test)]
 mod cell_tests;
 #[cfg(test)]
+mod large_tests;
+#[cfg(test)]
 mod long_tests;
 #[cfg(test)]
 mod net_tests;

@@ -1,6 +1,6 @@
 //! What is told of many findings, and of texts with comments, wires and polygons.
 
-use crate::telling::{ONE_NET, SYMBOL, WIRE, told_of};
+use crate::telling::{ONE_NET, SYMBOL, WIRE, many_told, told_of};
 use samples::BUFFER;
 use std::alloc::{AllocError, Global};
 use std::test::Fail;
@@ -27,20 +27,6 @@ fn mixed(alloc: Global) -> Result<String, AllocError> {
     Ok(text)
 }
 
-// So many buffers in one net, and a row of them without a wire.
-fn many(alloc: Global, count: u32) -> Result<Option<String>, AllocError> {
-    let mut calls = String::new(alloc);
-    let mut text = String::new(alloc);
-    text.push_str(SYMBOL)?;
-    for n in 0..count {
-        let x = n.saturating_mul(800);
-        calls.push_str(format!(in alloc; "c{n} BUF net;\n")?.as_str())?;
-        text.push_str(format!(in alloc; "91 c{n};\nC 1 T {x} 800;\n")?.as_str())?;
-    }
-    text.push_str("E\n")?;
-    told_of(alloc, BUFFER, calls.as_str(), text.as_bytes(), true)
-}
-
 #[test]
 fn a_shape_behind_wires_and_polygons(rt: HostRuntime) -> Result<(), Fail> {
     let text = mixed(rt.alloc())?;
@@ -65,14 +51,14 @@ fn a_shape_behind_wires_and_polygons(rt: HostRuntime) -> Result<(), Fail> {
 
 #[test]
 fn the_first_hundred_findings(rt: HostRuntime) -> Result<(), Fail> {
-    let Some(told) = many(rt.alloc(), 103)? else {
+    let Some(told) = many_told(rt.alloc(), 103)? else {
         assert!(rt; false, "no layout");
         return Ok(());
     };
     assert_eq!(rt; told.as_str().lines().count(), 101);
     assert!(rt;
         told.as_str().starts_with(
-            "Open c0 y c1 y: net net hangs in 103 pieces: c0 y | c1 y | c2 y | c3 y | c4 y | c5 y | c6 y | c7 y | and 95 pieces more; c0 y is NP (2.5, 44.0)-(5.5, 48.0), c1 y is NP (10.5, 44.0)-(13.5, 48.0) [o.cif:3, o.cif:5]\n"
+            "Open c0 y c1 y: net net hangs in 103 pieces: c0 y | c1 y | c2 y | c3 y | c4 y | c5 y | c6 y | c7 y | and 95 pieces more; c0 y is NP (2.5, 36.0)-(5.5, 40.0), c1 y is NP (10.5, 36.0)-(13.5, 40.0) [o.cif:3, o.cif:5]\n"
         )
     );
     assert!(rt;

@@ -65,7 +65,7 @@ const CASES: [Case; 9] = [
             CELLS,
             "L NP; B 500 400 400 4900; B 300 400 950 4900; B 300 400 1200 4900;\n",
         ],
-        "Close 1 5: NP (2.5, 44.0)-(5.5, 48.0) of net n1 and NP (8.0, 47.0)-(11.0, 51.0) of net n2, 2.5 um apart, 3.0 wanted [o.cif:2, o.cif:4]\nClose 4 5: NP (1.5, 47.0)-(6.5, 51.0) of net n1 and NP (8.0, 47.0)-(11.0, 51.0) of net n2, 1.5 um apart, 3.0 wanted [o.cif:4]\n",
+        "Close 1 5: NP (2.5, 44.0)-(5.5, 48.0) in cell u1 of net n1 and NP (8.0, 47.0)-(11.0, 51.0) of net n2, 2.5 um apart, 3.0 wanted [o.cif:2, o.cif:4]\nClose 4 5: NP (1.5, 47.0)-(6.5, 51.0) of net n1 and NP (8.0, 47.0)-(11.0, 51.0) of net n2, 1.5 um apart, 3.0 wanted [o.cif:4]\n",
     ),
     (
         "a bare cut",

@@ -123,3 +123,23 @@ pub(crate) fn told_in(
     text.push_str("E")?;
     told_of(alloc, samples::BUFFER, calls, text.as_bytes(), true)
 }
+
+/// The notes on so many buffers in one net, in rows of a thousand without a wire.
+pub(crate) fn many_told(alloc: Global, count: u32) -> Result<Option<String>, AllocError> {
+    let mut calls = String::new(alloc);
+    let mut text = String::new(alloc);
+    text.push_str(SYMBOL)?;
+    for n in 0..count {
+        let (x, y) = (n % 1000 * 800, (n / 1000).saturating_mul(8000));
+        calls.push_str(format!(in alloc; "c{n} BUF net;\n")?.as_str())?;
+        text.push_str(format!(in alloc; "91 c{n};\nC 1 T {x} {y};\n")?.as_str())?;
+    }
+    text.push_str("E\n")?;
+    told_of(
+        alloc,
+        samples::BUFFER,
+        calls.as_str(),
+        text.as_bytes(),
+        true,
+    )
+}
