@@ -17,11 +17,19 @@ use choose_core::{Chooser, Chooses, Style};
 use command_ends::Stop;
 use command_inputs::{Inputs, load_inputs};
 use command_jobs::lay_out;
-use command_words::Route;
+use command_words::{Route, Source};
 use design_notes::note_design;
 use greedy_router::Routed;
+use note_text::Notes;
 use shelf_io::Shelf;
 use std::alloc::Global;
+
+// Notes what is unusual about a design, unless it is one that was made.
+fn note_inputs(alloc: Global, notes: &mut Notes, source: &Source<'_>, inputs: &Inputs) {
+    if let Source::File(_) = source {
+        note_design(alloc, notes, &inputs.file, inputs.designs.placed());
+    }
+}
 
 /// Routes a design from its source under the rules of a file into another file, by the choices of its style, and gives the layout in short.
 pub(crate) fn route<S: Shelf>(
@@ -49,12 +57,7 @@ pub(crate) fn route<S: Shelf>(
         ports,
         &mut heard.texts,
     )?;
-    note_design(
-        alloc,
-        &mut heard.notes,
-        &inputs.file,
-        inputs.designs.placed(),
-    );
+    note_inputs(alloc, &mut heard.notes, &names.design, &inputs);
     let Inputs {
         rules,
         file,

@@ -161,15 +161,15 @@ const CALLS: &str = "u1 BUF b; u2 BUF a; u3 INV a; u4 INV b;";
 const LINES: &str = "o.cif: 24.0 by 128.0 um, 3072 square um, of which cells fill 41.6 percent
 wire in channels: 32.0 um of NM, 64.0 um of NP, 6 cuts; feeds in rows: 0
 longest nets in channels: b 56.0 um, a 40.0 um
-channel 0: 0 tracks, 0 at least, by the greedy router
-channel 1: 3 tracks, 2 at least, by the greedy router
+channel 0: tracks 0, 0 at least, by the greedy router
+channel 1: tracks 3, 2 at least, by the greedy router
 cost of the rows: 10
 ";
 
 /// The same without wires.
 const BARE_LINES: &str = "o.cif: 24.0 by 128.0 um, 3072 square um, of which cells fill 41.6 percent
 wire in channels: 0.0 um of NM, 0.0 um of NP, 0 cuts; feeds in rows: 0
-channel 0: 0 tracks, 0 at least, by the greedy router
+channel 0: tracks 0, 0 at least, by the greedy router
 cost of the rows: 10
 ";
 

@@ -53,7 +53,7 @@ fn channel_line(alloc: Global, number: u32, routed: &Routed) -> Result<String, A
     let tracks = routed.wiring.tracks;
     let least = least_tracks(alloc, &routed.wiring)?;
     let router = router_words(routed.by);
-    format!(in alloc; "channel {number}: {tracks} tracks, {least} at least, by the {router} router")
+    format!(in alloc; "channel {number}: tracks {tracks}, {least} at least, by the {router} router")
 }
 
 // Notes a line, if there is one.
