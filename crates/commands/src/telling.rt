@@ -11,7 +11,7 @@ use choose_core::Style;
 use command_ends::Stop;
 use command_inputs::Texts;
 use command_words::{Command, Word, WordsFault, read_command};
-use fault_notes::{Reached, note_stop};
+use fault_notes::{Reached, note_stop, note_unread};
 use finding_notes::{JudgedLayout, note_findings};
 use note_text::{Notes, put_notes};
 use shelf_io::Sink;
@@ -54,8 +54,11 @@ fn put_told<'a, N: Sink>(
 {
     let mut told = noted;
     match ending {
-        Ok(Done::Judged(judged)) => note_judged(alloc, &mut told, reached, judged),
-        Ok(_) => {}
+        Ok(Done::Judged(judged)) => {
+            note_unread(alloc, &mut told, reached);
+            note_judged(alloc, &mut told, reached, judged);
+        }
+        Ok(_) => note_unread(alloc, &mut told, reached),
         Err(stop) => note_stop(alloc, &mut told, reached, stop),
     }
     let _ = put_notes(notes, &told);

@@ -7,9 +7,11 @@ mod naming;
 mod noting;
 mod reached;
 mod stopping;
+mod unread_notes;
 mod usage;
 mod usage_notes;
 mod value_notes;
 
 pub use reached::Reached;
 pub use stopping::note_stop;
+pub use unread_notes::note_unread;

@@ -7,6 +7,7 @@ mod near;
 mod rules_text;
 mod shown;
 mod told;
+mod unread;
 mod yal_tokens;
 mod yal_walk;
 
@@ -14,9 +15,11 @@ pub use cif_text_places::{CommandText, command_at, next_command};
 pub use lengths::units;
 pub use near::{difference, meant, nearest, word_meant};
 pub use rules_text::{
-    Stated, line_of_key, misplaced, near_key, near_table, place_of_key, place_of_table, section_of,
+    Lines, Stated, line_of_key, misplaced, near_key, near_table, place_of_key, place_of_table,
+    section_of,
 };
 pub use shown::{FileName, Shown};
 pub use told::{Spot, Told};
+pub use unread::{next_unread, words_of};
 pub use yal_tokens::{Token, are_on_two_lines, from_byte, next_token};
 pub use yal_walk::{Found, Part, Sought, Walk, find, line_of, place_of};

@@ -69,6 +69,11 @@ impl<'a> Lines<'a> {
         }
     }
 
+    /// How many bytes the text has.
+    pub fn len(&self) -> usize {
+        self.text.len()
+    }
+
     // What a line states, if anything.
     fn stated(&mut self, line: &'a [u8], at: usize) -> Option<Stated<'a>> {
         let bare = line.trim_ascii_start();
