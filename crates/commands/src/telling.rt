@@ -42,7 +42,7 @@ fn note_judged<'a>(alloc: Global, notes: &mut Notes, reached: &Reached<'a>, judg
     note_findings(alloc, notes, &layout, judged.findings.as_slice());
 }
 
-// Puts what was noted, and the notes on how a command ended that has come so far.
+// Puts what was noted, and the notes on how a command ended that has come so far; on what stopped it alone where it was stopped.
 fn put_told<'a, N: Sink>(
     alloc: Global,
     reached: &Reached<'a>,
@@ -59,7 +59,10 @@ fn put_told<'a, N: Sink>(
             note_judged(alloc, &mut told, reached, judged);
         }
         Ok(_) => note_unread(alloc, &mut told, reached),
-        Err(stop) => note_stop(alloc, &mut told, reached, stop),
+        Err(stop) => {
+            told = Notes::new(alloc);
+            note_stop(alloc, &mut told, reached, stop);
+        }
     }
     let _ = put_notes(notes, &told);
 }

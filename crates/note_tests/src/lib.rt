@@ -14,6 +14,8 @@ mod rules_mistakes;
 #[cfg(test)]
 mod support;
 #[cfg(test)]
+mod warning_tests;
+#[cfg(test)]
 mod word_mistakes;
 #[cfg(test)]
 mod yal_mistakes;
