@@ -26,7 +26,7 @@ fn is_noted(
 }
 
 /// What is changed in the rules and in the design, and a note.
-const WARNINGS: [(&str, &str, &str); 9] = [
+const WARNINGS: [(&str, &str, &str); 7] = [
     ("", "", "warning: net n4 has one pin alone, y of g2"),
     (
         "",
@@ -54,16 +54,10 @@ const WARNINGS: [(&str, &str, &str); 9] = [
         "warning: rules.toml:1: nobody reads the key speed",
     ),
     (
-        "row_cost = 4 => row_cost = 4\n[extra]\nwidth = 3",
+        "length_cost = 1 => length_cost = 1\n[extra]\nwidth = 3",
         "",
-        "warning: rules.toml:28: nobody reads the key extra.width",
+        "warning: rules.toml:30: nobody reads the key extra.width",
     ),
-    (
-        "",
-        "",
-        "channel 0: tracks 0, 0 at least, by the greedy router",
-    ),
-    ("", "", "cost of the rows: 0"),
 ];
 
 #[test]
