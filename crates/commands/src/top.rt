@@ -1,4 +1,4 @@
-//! The top call: a command's words, a shelf with the files, and a sink for lines.
+//! The top call: a command's words, a shelf with the files, a sink for lines, and one for notes.
 
 ghost use Rattle.commands.specs.Causes.{IsQuiet, ReadFails, WriteFails};
 ghost use Rattle.command_words.specs.Command as asked;
@@ -40,7 +40,7 @@ pub struct Ended {
 
 /// Does the command that the words give.
 ///
-/// `route DESIGN RULES OUT [--seed N] [--rows K] [--style NAME] [--edge] [--ports]` reads the rules from the file RULES and the design in YAL from
+/// `route DESIGN RULES OUT [--seed N] [--rows K] [--style NAME] [--edge] [--ports] [-q]` reads the rules from the file RULES and the design in YAL from
 /// the file DESIGN, sets its cells in K rows, from 1 to 512, or in as many as make the layout about square, anneals the rows as the rules
 /// say with the seed N, below 2^64, or 1, sets feeds where nets cross rows, joins each net by wires in the channels between the rows, by the
 /// choices of the first of the styles that has the name NAME, or of the first of all, writes the layout in CIF into the file OUT, and prints it in
@@ -53,8 +53,13 @@ pub struct Ended {
 /// `check DESIGN RULES CIF [--ports]` reads the rules and the design as `route` does, and a layout from the file CIF, and prints a line for each thing that is
 /// wrong with the layout for this design under these rules, and then a line with their number: status 0 where there is none, and else 1.
 ///
+/// `help`, `--help` and `-h` print the commands in short, `help` and a command's name that command with its options, `version` and `--version` the version of the program.
+///
 /// Every status but 0 and 1 prints one line, with the first cause, to the sink; if that fails the status stays. Where printing what was done or found fails,
 /// the line `write fault` is tried and the status is 9.
+///
+/// To `notes` go lines for people: warnings of names before anything is read, and at the end what is unusual, what was found or made, or where and why the command was stopped. With `-q`
+/// (`--quiet`) there are none. Whatever becomes of them, statuses, lines, files and kept channels are the same.
 ///
 /// What may refuse comes in this order: the words, reading RULES, the rules, reading DESIGN, YAL, the design, its ports, and then the
 /// limits of moves, grid, width and height, writing OUT, printing; or reading CIF, its text, its commands, checking, printing. Where the shelf tells the files that it
