@@ -12,7 +12,7 @@ use command_ends::Stop;
 use command_inputs::Texts;
 use command_words::{Command, Word, WordsFault, read_command};
 use fault_notes::{Reached, note_stop, note_unread};
-use finding_notes::{JudgedLayout, note_findings};
+use finding_notes::{JudgedLayout, note_findings, note_layers};
 use note_text::{Notes, put_notes};
 use shelf_io::Sink;
 use std::alloc::Global;
@@ -25,7 +25,7 @@ fn bytes_of(text: &Option<Vec<u8>>) -> Option<&[u8]> {
     }
 }
 
-// Notes what was found of a layout that was judged.
+// Notes what was found of a layout that was judged, and what is unusual about it.
 fn note_judged<'a>(alloc: Global, notes: &mut Notes, reached: &Reached<'a>, judged: &'a Judged) {
     let cif_name = match reached.command {
         Some(Command::Check(names)) => names.cif,
@@ -40,6 +40,7 @@ fn note_judged<'a>(alloc: Global, notes: &mut Notes, reached: &Reached<'a>, judg
         layout: &judged.layout,
     };
     note_findings(alloc, notes, &layout, judged.findings.as_slice());
+    note_layers(alloc, notes, &layout);
 }
 
 // Puts what was noted, and the notes on how a command ended that has come so far; on what stopped it alone where it was stopped.

@@ -7,6 +7,7 @@ mod drawn_shapes;
 mod enclosing;
 mod heads;
 mod judged;
+mod layer_warnings;
 mod lengths;
 mod naming;
 mod net_notes;
@@ -20,6 +21,8 @@ mod shape_notes;
 mod text_lines;
 mod told;
 mod untold;
+mod ways;
 
 pub use judged::JudgedLayout;
+pub use layer_warnings::note_layers;
 pub use noting::note_findings;

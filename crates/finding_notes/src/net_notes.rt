@@ -7,6 +7,7 @@ use crate::pieces::pieces_text;
 use crate::shape_nets::ShapeNets;
 use crate::told::Told;
 use crate::untold::Untold;
+use crate::ways::way_text;
 use std::alloc::Global;
 
 // Where a pin is drawn: the shape of its first position.
@@ -41,7 +42,7 @@ pub(crate) fn opened(
     })
 }
 
-/// What is told of two pins that are joined and are of different nets: both nets, and where the pins are.
+/// What is told of two pins that are joined and are of different nets: both nets, where the pins are, and the shapes that join them.
 pub(crate) fn shorted(
     alloc: Global,
     judged: &JudgedLayout<'_>,
@@ -53,8 +54,9 @@ pub(crate) fn shorted(
     let other = shown(alloc, judged.signal(judged.pin(q)?.net)?)?;
     let first = pin_place(alloc, judged, nets, p)?;
     let second = pin_place(alloc, judged, nets, q)?;
+    let way = way_text(alloc, judged, nets, p, q)?;
     Ok(Told {
-        text: format!(in alloc; "net {net} and net {other} are joined; {first}, {second}")?,
+        text: format!(in alloc; "net {net} and net {other} are joined; {first}, {second}{way}")?,
         first: nets.shape_of_pin(p),
         second: nets.shape_of_pin(q),
     })

@@ -134,4 +134,18 @@ impl ShapeNets {
     pub(crate) fn net_of(&self, shape: u32) -> Option<u32> {
         self.nets.get(&self.class_of(shape)?).copied()
     }
+
+    /// The numbers of the shapes that are joined with a shape, in order, it among them. The one error is want of memory.
+    pub(crate) fn joined_with(&self, alloc: Global, shape: u32) -> Result<Vec<u32>, Untold> {
+        let wanted = self.class_of(shape).ok_or(Untold)?;
+        let mut members = Vec::new(alloc);
+        let mut number: u32 = 0;
+        for class in self.classes.as_slice() {
+            if *class == wanted {
+                members.push(number)?;
+            }
+            number = number.saturating_add(1);
+        }
+        Ok(members)
+    }
 }

@@ -32,7 +32,7 @@ const CASES: [Case; 4] = [
         "short nets",
         TWO_NETS,
         &[SYMBOL, CELLS, WIRE],
-        "Short u1 y u2 y: net n1 and net n2 are joined; u1 y is NP (2.5, 44.0)-(5.5, 48.0), u2 y is NP (10.5, 44.0)-(13.5, 48.0) [o.cif:2, o.cif:3]\n",
+        "Short u1 y u2 y: net n1 and net n2 are joined; u1 y is NP (2.5, 44.0)-(5.5, 48.0), u2 y is NP (10.5, 44.0)-(13.5, 48.0); joined by NP (2.5, 48.0)-(5.5, 58.0), NC (3.0, 55.0)-(5.0, 57.0), NM (2.0, 54.5)-(14.0, 57.5), NC (11.0, 55.0)-(13.0, 57.0), NP (10.5, 48.0)-(13.5, 58.0) [o.cif:2, o.cif:3]\n",
     ),
     (
         "a net in three pieces, that of the finding second",

@@ -1,6 +1,6 @@
 //! Warnings: what is allowed, and most likely not meant.
 
-use crate::support::{GATES, ROUTE, changed, noted, shelf_with};
+use crate::support::{CHECK, GATES, ROUTE, changed, noted, shelf_with};
 use samples::RULES;
 use std::alloc::{AllocError, Global};
 use std::test::Fail;
@@ -93,6 +93,54 @@ fn names_that_surprise(rt: HostRuntime) -> Result<(), Fail> {
             !is_noted(rt.alloc(), quiet.as_str(), "", "", note)?,
             "{words}"
         );
+    }
+    Ok(())
+}
+
+/// Layouts of shapes on some layers, and the lines on the layers that they never use.
+const LAYERS: [(&str, [Option<&str>; 4]); 3] = [
+    (
+        "L NM; B 4 4 0 0; E",
+        [
+            None,
+            Some("warning: o.cif: no shape is on NP, the vertical.layer of the rules"),
+            Some("warning: o.cif: no shape is on NC, the cut.layer of the rules"),
+            Some("warning: o.cif: no shape is on XP, the outline.layer of the rules"),
+        ],
+    ),
+    (
+        "L NP; B 4 4 0 0; L NC; B 4 4 0 0; L XP; B 4 4 0 0; E",
+        [
+            Some("warning: o.cif: no shape is on NM, the horizontal.layer of the rules"),
+            None,
+            None,
+            None,
+        ],
+    ),
+    ("E", [None; 4]),
+];
+
+/// How many lines of a text are warnings of layers.
+fn layer_warnings(text: &str) -> usize {
+    text.split('\n')
+        .filter(|line| line.starts_with("warning: o.cif: no shape is on "))
+        .count()
+}
+
+#[test]
+fn layers_that_a_layout_never_uses(rt: HostRuntime) -> Result<(), Fail> {
+    for (layout, lines) in LAYERS {
+        let mut shelf = shelf_with(rt.alloc(), RULES, GATES)?;
+        shelf.set("o.cif", layout.as_bytes())?;
+        let notes = noted(rt.alloc(), CHECK, &mut shelf)?;
+        let mut count: usize = 0;
+        for line in lines {
+            if let Some(line) = line {
+                assert!(rt; has_line(notes.as_str(), line), "{line}");
+                count = count.saturating_add(1);
+            }
+        }
+        assert_eq!(rt; layer_warnings(notes.as_str()), count);
     }
     Ok(())
 }
