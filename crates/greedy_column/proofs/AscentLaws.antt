@@ -136,3 +136,13 @@ pub window_options : (window : Window) (spans : List Span) (net line : ℕ) (fre
 window_options window spans net line free are tells =
     filter-same (is_within window) (λ other. is_clear spans (piece_between net line other)) free
     (λ other member. tells other (omega (arith, (are.on_tracks.each other member).1)))
+
+-- no line lies within a window whose lowest line lies above its highest one
+nothing_within : (low high x : ℕ) → high < low → (leb low x && leb x high) ≡ false
+nothing_within low high x less = grind (arith, nat_tests)
+
+pub none_within : (window : Window) (lines : List ℕ) → window.high < window.low → [] ≡ filter (is_within window) lines
+none_within window [] less = refl
+none_within window (x ∷ xs) less =
+    none_within window xs less
+    ∙ ap (λ b. cond b (x ∷ filter (is_within window) xs) (filter (is_within window) xs)) (sym (nothing_within window.low window.high x less))

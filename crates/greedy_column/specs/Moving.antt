@@ -29,6 +29,10 @@ move_options spans net line free = filter (λ other. is_clear spans (piece_betwe
 abbrev pub is_within : Window → ℕ → Bool
 is_within window line = nat_le window.low line && nat_le line window.high
 
+-- the lines that a vertical covers
+abbrev pub lines_of : Span → Window
+lines_of s = record { low = s.low; high = s.high }
+
 -- a track of a net on a line has one of some free lines to go to
 abbrev pub has_option : List Span → List ℕ → ℕ → ℕ → Bool
 has_option spans free net line = nat_lt 0 (length (move_options spans net line free))

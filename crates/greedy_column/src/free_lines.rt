@@ -76,6 +76,9 @@ fn lines_within(lines: &[u32], window: Window) -> &[u32]
     requires { IsNonDecreasing lines.now }
     ensures { result.now ≡ filter (is_within window) lines.now }
 {
+    if window.low > window.high {
+        return &[];
+    }
     up_to_line(from_line(lines, window.low), window.high)
 }
 

@@ -160,25 +160,25 @@ pub(crate) fn carry(tracks: &mut [Track], moves: &[(u32, u32)])
     let mut rest = moves;
     while let Some((step, later)) = rest.split_first() {
         let net = held_by(tracks, step.0);
-        pass_on(tracks, step.0, step.1, net);
+        hold_both(tracks, step.0, 0, step.1, net);
         rest = later;
     }
 }
 
-// Frees the track of one id, and gives that of another to a net, in one pass.
-fn pass_on(tracks: &mut [Track], from: u32, to: u32, net: u32)
-    ensures { tracks.new ≡ hold to net (hold from 0 tracks.old) }
+// Gives the track of an id to a net, and then that of another id to another net, in one pass.
+pub(crate) fn hold_both(tracks: &mut [Track], id: u32, net: u32, other: u32, other_net: u32)
+    ensures { tracks.new ≡ hold other other_net (hold id net tracks.old) }
 {
     for track in tracks.iter_mut() {
-        *track = passed_on(from, to, net, *track);
+        *track = given_both(id, net, other, other_net, *track);
     }
 }
 
 // The same for one track.
-fn passed_on(from: u32, to: u32, net: u32, track: Track) -> Track
-    ensures { result ≡ given to net (given from 0 track) }
+fn given_both(id: u32, net: u32, other: u32, other_net: u32, track: Track) -> Track
+    ensures { result ≡ given other other_net (given id net track) }
 {
-    given(to, net, given(from, 0, track))
+    given(other, other_net, given(id, net, track))
 }
 
 /// The net that holds the track of an id, 0 where there is none. Takes no memory.
@@ -195,16 +195,7 @@ pub fn held_by(tracks: &[Track], id: u32) -> u32
     0
 }
 
-// Gives the track of an id to a net.
-pub(crate) fn hold(tracks: &mut [Track], id: u32, net: u32)
-    ensures { tracks.new ≡ hold id net tracks.old }
-{
-    for track in tracks.iter_mut() {
-        *track = given(id, net, *track);
-    }
-}
-
-// The same for one track.
+// One track, given to a net where it has this id.
 fn given(id: u32, net: u32, track: Track) -> Track
     ensures { result ≡ given id net track }
 {

@@ -94,7 +94,7 @@ pub(crate) fn neighbours_by(
     ensures others { IsBlankBut tracks.now above.new.items }
 {
     let all = tracks.list();
-    let mut list = Vec::with_capacity(alloc, all.len())?;
+    let mut list = Vec::with_capacity(alloc, all.len().min(32))?;
     let mut place = all.len();
     while place > 0 {
         let line = place as u32;

@@ -7,7 +7,7 @@ ghost use Rattle.std.specs.Prelude.{◌≡◌, ℕ, IfOk, length};
 
 use crate::column::{Column, Track};
 use crate::freeing::freed;
-use crate::moving::{carry, hold};
+use crate::moving::{carry, hold_both};
 use crate::stepping::{pin_in, with_made};
 use channel_model::Channel;
 use std::alloc::{AllocError, Global};
@@ -25,12 +25,13 @@ pub fn entered(
     ensures { IfOk result (λ tracks. tracks.items ≡ entered channel.now column done.now before.now) }
 {
     let mut tracks = with_made(before.to_vec(alloc)?, done.made.items())?;
-    hold(
+    hold_both(
         &mut tracks,
         done.bottom,
         pin_in(channel.bottom.items(), column),
+        done.top,
+        pin_in(channel.top.items(), column),
     );
-    hold(&mut tracks, done.top, pin_in(channel.top.items(), column));
     Ok(tracks)
 }
 

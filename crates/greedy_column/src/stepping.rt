@@ -20,7 +20,7 @@ use crate::desk::Desk;
 use crate::entering::{EnteringPin, Entries};
 use crate::going_on::Outcome;
 use crate::moment::Moment;
-use crate::moving::hold;
+use crate::moving::hold_both;
 use crate::span::pin_spans;
 use crate::tracks::Tracks;
 use channel_model::Channel;
@@ -75,8 +75,7 @@ fn entered(
     ensures long { IfOk result (λ tracks. length tracks.items ≡ length before + length entries.now.made) }
 {
     let mut tracks = with_made(before.into_list(), entries.made.items())?;
-    hold(&mut tracks, entries.bottom, bottom);
-    hold(&mut tracks, entries.top, top);
+    hold_both(&mut tracks, entries.bottom, bottom, entries.top, top);
     Ok(tracks)
 }
 

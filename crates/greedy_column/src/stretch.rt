@@ -1,9 +1,9 @@
-//! Stretches between the verticals of a column: the tracks on the lines of one stretch whose nets have none of these verticals have the same free
-//! lines to go to, so that one answer serves for all of them.
+//! Stretches between and on the verticals of a column: the tracks on the lines of one stretch whose nets have none of these verticals have the same
+//! free lines to go to, so that one answer serves for all of them.
 
-ghost use Rattle.greedy_column.specs.Moving.{IsStretch, has_option, is_apart_from, is_foreign, is_movable};
+ghost use Rattle.greedy_column.specs.Moving.{IsStretch, has_option, is_apart_from, is_foreign, is_movable, is_within, lines_of};
 ghost use Rattle.greedy_column.specs.declared.span.Span.{Span as Vertical};
-ghost use Rattle.std.specs.Prelude.{◌≡◌, ◌==◌, ◌++◌, ◌∷◌, [], ℕ, List, IfOk, OnOk, filter, if◌then◌else◌, not, true};
+ghost use Rattle.std.specs.Prelude.{◌≡◌, ◌==◌, ◌++◌, ◌∷◌, [], ℕ, List, IfOk, OnOk, filter, find, if◌then◌else◌, not, true};
 
 use crate::free_lines::{FreeLines, has_line_within};
 use crate::lines::push_where;
@@ -39,6 +39,30 @@ impl Span {
     {
         self.net != net && self.low <= self.high
     }
+
+    // The lines that this vertical covers.
+    fn lines(self) -> Window
+        ensures { result ≡ lines_of self }
+    {
+        Window {
+            low: self.low,
+            high: self.high,
+        }
+    }
+}
+
+// The first of these verticals that covers a line, where there is one.
+fn covering(verticals: &[Span], line: u32) -> Option<Span>
+    ensures { result ≡ find (λ s. is_within (lines_of s) line) verticals.now }
+{
+    let mut rest = verticals;
+    while let Some((vertical, others)) = rest.split_first() {
+        if vertical.lines().has(line) {
+            return Some(*vertical);
+        }
+        rest = others;
+    }
+    None
 }
 
 // Whether all verticals are so.
@@ -61,7 +85,23 @@ impl FreeLines {
         if before.window.has(line) {
             return before;
         }
-        self.stretch_at(spans, net, line)
+        self.stretch_of(spans, net, line)
+    }
+
+    // The stretch of a line whose net has none of these verticals: the lines of one that covers it, past which there are no free ones, or
+    // those between them.
+    fn stretch_of(&self, spans: &[Span], net: u32, line: u32) -> Stretch
+        requires { is_foreign spans.now net ≡ true }
+        ensures stretch { IsStretch spans.now self.now result }
+        ensures here { result.has_free ≡ has_option spans.now self.now net line }
+    {
+        match covering(spans, line) {
+            Some(vertical) => Stretch {
+                window: vertical.lines(),
+                has_free: false,
+            },
+            None => self.stretch_at(spans, net, line),
+        }
     }
 
     // Adds a line of this net where its kept track has a free line to go to, and none where it is free; and the stretch that tells it.
@@ -87,7 +127,7 @@ impl FreeLines {
         Ok(stretch)
     }
 
-    // The stretch of a line whose net has none of these verticals.
+    // The stretch between these verticals of a line whose net has none of them.
     fn stretch_at(&self, spans: &[Span], net: u32, line: u32) -> Stretch
         requires { is_foreign spans.now net ≡ true }
         ensures stretch { IsStretch spans.now self.now result }

@@ -175,8 +175,11 @@ impl Moment<'_> {
     fn meets(&self, id: u32, span: Span) -> bool
         ensures { result ≡ meets_by self.now.order.now self.now.nets.now id span }
     {
+        if span.net != entry(self.nets, id) {
+            return false;
+        }
         let line = self.order.line(id);
-        span.net == entry(self.nets, id) && (span.low <= line && line <= span.high)
+        span.low <= line && line <= span.high
     }
 
     // Whether a piece of some pin meets a track of its net.

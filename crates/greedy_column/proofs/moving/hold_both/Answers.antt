@@ -5,20 +5,20 @@ use Rattle.std.proofs.lemmas.Grind.{common_steps}
 use Rattle.greedy_column.specs.declared.column.Track.{Track}
 use Rattle.greedy_column.specs.Tracks.{given}
 use Rattle.std_laws.proofs.Images.{map-map}
-use Rattle.greedy_column.proofs.moving.pass_on.Goals as goal
+use Rattle.greedy_column.proofs.moving.hold_both.Goals as goal
 
 pub loop-track-preserved : goal.loop-track-preserved
 loop-track-preserved c =
-    rw c.passed_on.ensures
-    (map_over_more (λ (t : Track). given c.args.to c.args.net (given c.args.from 0 t)) c.args.tracks.now c.loop-track.tracks c.loop-track.track-index _
+    rw c.given_both.ensures
+    (map_over_more (λ (t : Track). given c.args.other c.args.other_net (given c.args.id c.args.net t)) c.args.tracks.now c.loop-track.tracks c.loop-track.track-index _
     c.loop-track-test.true c.loop-track.invariant (grind (arith, common_steps)))
 
 pub returns : goal.returns
 returns c =
     let tracks = c.args.tracks.now in
     let index = c.loop-track.track-index in
-    let passed = λ (t : Track). given c.args.to c.args.net (given c.args.from 0 t) in
+    let passed = λ (t : Track). given c.args.other c.args.other_net (given c.args.id c.args.net t) in
     let all : length tracks ≤ index = omega (arith, c.loop-track-test.false) in
     c.loop-track.invariant ∙ ap (λ (l : List Track). map passed l ++ drop index tracks) (take_all index tracks all)
     ∙ ap (λ (l : List Track). map passed tracks ++ l) (drop_all index tracks all) ∙ append-nil (map passed tracks)
-    ∙ sym (map-map (given c.args.from 0) (given c.args.to c.args.net) tracks)
+    ∙ sym (map-map (given c.args.id c.args.net) (given c.args.other c.args.other_net) tracks)
