@@ -1,10 +1,10 @@
 #!/usr/bin/env python3
 """What the built program answers where the outside fails it.
 
-    python3 bench/faults.py PROGRAM [--only PART,..]
+    python3 bench/faults.py PROGRAM [--only PART,..] [--seconds 120]
 
 PROGRAM is a built cellroute. Each case runs it in a folder of its own and compares the status, what is printed, and each file with what has to come; what does not is told, and the
-last line counts: `N tried, M differ`. What could not be tried here, as a disk for which nobody may mount a folder, is told too, and not counted.
+last line counts: `N tried, M differ`. A case that takes longer than so many seconds differs. What could not be tried here, as a disk for which nobody may mount a folder, is told too, and not counted.
 
 files: DESIGN, RULES, CIF and OUT that are lacking, folders, pipes, devices, not to be read or written, or one file by two names.
 outputs: the standard output and the standard error closed, full, or a pipe that nobody reads.
@@ -146,8 +146,9 @@ int posix_memalign(void **p, size_t a, size_t n) {
 class Tries:
     """What was tried, and what did not come as it has to."""
 
-    def __init__(self, program):
+    def __init__(self, program, seconds):
         self.program = os.path.abspath(program)
+        self.seconds = seconds
         self.tried = 0
         self.differ = 0
         self.left_out = []
@@ -170,7 +171,10 @@ class Tries:
         more.setdefault("stderr", subprocess.PIPE)
         more.setdefault("stdin", subprocess.DEVNULL)
         words = [word if isinstance(word, bytes) else os.fsencode(word) for word in words]
-        done = subprocess.run([os.fsencode(self.program), *words], cwd=folder, timeout=120, **more)
+        try:
+            done = subprocess.run([os.fsencode(self.program), *words], cwd=folder, timeout=self.seconds, **more)
+        except subprocess.TimeoutExpired:
+            return "none in time", b"", b""
         return done.returncode, done.stdout, done.stderr
 
     def case(self, name, words, status, printed, files=None, prepare=None, **more):
@@ -526,8 +530,9 @@ def main():
     parser = argparse.ArgumentParser(description=__doc__, formatter_class=argparse.RawDescriptionHelpFormatter)
     parser.add_argument("program")
     parser.add_argument("--only", default=",".join(PARTS))
+    parser.add_argument("--seconds", type=int, default=120)
     asked = parser.parse_args()
-    tries = Tries(asked.program)
+    tries = Tries(asked.program, asked.seconds)
     for part in asked.only.split(","):
         for each in PARTS[part]:
             each(tries)
