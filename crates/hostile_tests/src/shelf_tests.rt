@@ -9,9 +9,9 @@ use std::alloc::{AllocError, Global};
 use std::test::Fail;
 
 // A shelf with the design of two joined buffers, of which a put takes at most so many bytes, and whose call of this number fails.
-fn failing_shelf(alloc: Global, most: u16, call: u64) -> Result<MemShelf, AllocError> {
+fn failing_shelf(alloc: Global, most: usize, call: u64) -> Result<MemShelf, AllocError> {
     let mut shelf = joined_shelf(alloc)?;
-    shelf.most(usize::from(most).max(1));
+    shelf.most(most.max(1));
     shelf.fail_at(call)?;
     Ok(shelf)
 }
@@ -109,7 +109,7 @@ fn each_call_of_check_fails_once(rt: HostRuntime) -> Result<(), Fail> {
 }
 
 /// How many bytes of a made layout are put at once.
-const MADE_PIECE: u16 = 200;
+const MADE_PIECE: usize = 200;
 
 /// The words that make a design of three cells.
 const MAKE: &str = "make|5|3|r|o";
@@ -138,7 +138,7 @@ fn each_call_of_make_fails_once(rt: HostRuntime) -> Result<(), Fail> {
     assert!(rt; is_made_so(rt.alloc(), 2, 9, b"old")?);
     let mut put = 0;
     let mut call = 3u64;
-    for piece in text.chunks(usize::from(MADE_PIECE)) {
+    for piece in text.chunks(MADE_PIECE) {
         let held = text.get(..put).unwrap_or(text);
         assert!(rt; is_made_so(rt.alloc(), call, 9, held)?, "{call}");
         put = piece.len().saturating_add(put);
