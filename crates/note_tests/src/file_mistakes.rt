@@ -103,5 +103,14 @@ fn large_layouts_have_notes(rt: HostRuntime) -> Result<(), Fail> {
         many.as_str(),
         "my.yal: all channels together have 627500502 columns; 4000000 at most may be: fewer rows than are chosen by themselves (--rows K) have less [limit Grid 627500502]\n"
     );
+    let module =
+        "MODULE H;\nTYPE STANDARD;\nDIMENSIONS 0 0 8 0 8 10000000 0 10000000;\nIOLIST;\nENDIOLIST;\nENDMODULE;\n";
+    let design = design_text(rt.alloc(), module, "u1 H;\n")?;
+    let mut shelf = shelf_with(rt.alloc(), RULES, design.as_str())?;
+    let high = noted(rt.alloc(), ROUTE, &mut shelf)?;
+    assert_eq!(rt;
+        high.as_str(),
+        "my.yal: the layout would be 1000001600 centimicrons high; 1000000000 at most may be: fewer rows (--rows K), or a smaller grid.centi, which is 100 [limit Height 1000001600]\n"
+    );
     Ok(())
 }

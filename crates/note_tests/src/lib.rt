@@ -10,6 +10,8 @@ mod file_mistakes;
 #[cfg(test)]
 mod layout_mistakes;
 #[cfg(test)]
+mod limit_mistakes;
+#[cfg(test)]
 mod rules_mistakes;
 #[cfg(test)]
 mod support;
