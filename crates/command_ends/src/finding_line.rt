@@ -56,8 +56,8 @@ fn name_of_terminal(design: &Design, i: u32, t: u32) -> &[u8]
     }
 }
 
-// The name of the instance of a pin.
-fn instance_of_pin(design: &Design, p: u32) -> &[u8]
+/// The name of the instance of a pin, without bytes where there is no pin of this number. Takes no memory.
+pub fn instance_of_pin(design: &Design, p: u32) -> &[u8]
     ensures { result.now ≡ instance_of_pin design.now (slice_get design.now.pins p) }
 {
     match design.pins.items().get(p as usize) {
