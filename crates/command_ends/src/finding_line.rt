@@ -5,7 +5,7 @@ ghost use Rattle.design_model.specs.PinOrder.{instance_terminals};
 ghost use Rattle.shelf_io.specs.Lines.{line, word_text};
 ghost use Rattle.shelf_io.specs.Wrote.{Puts, Writes};
 ghost use Rattle.std.specs.Fmt.{decimal};
-ghost use Rattle.std.specs.Prelude.{◌≡◌, ◌∷◌, [], map, slice_get};
+ghost use Rattle.std.specs.Prelude.{◌≡◌, ◌≤◌, ◌∷◌, [], map, slice_get, take};
 
 use design_model::{Design, Terminal};
 use geom_core::Layout;
@@ -56,8 +56,8 @@ fn name_of_terminal(design: &Design, i: u32, t: u32) -> &[u8]
     }
 }
 
-// The name of the instance of a pin.
-fn instance_of_pin(design: &Design, p: u32) -> &[u8]
+/// The name of the instance of a pin, without bytes where there is no pin of this number. Takes no memory.
+pub fn instance_of_pin(design: &Design, p: u32) -> &[u8]
     ensures { result.now ≡ instance_of_pin design.now (slice_get design.now.pins p) }
 {
     match design.pins.items().get(p as usize) {
@@ -76,28 +76,74 @@ fn terminal_of_pin(design: &Design, p: u32) -> &[u8]
     }
 }
 
-// A word and two numbers.
-fn shape_words(word: &[u8], i: u32, j: u32) -> [LineWord<'_>; 3]
-    ensures { map word_text result ≡ word.now ∷ decimal i ∷ decimal j ∷ [] }
+// A word and one more.
+fn two_words<'w>(word: &'w [u8], name: LineWord<'w>) -> ([LineWord<'w>; 5], usize)
+    ensures few { result.1 ≤ 5 }
+    ensures words { map word_text (take result.1 result.0) ≡ word.now ∷ word_text name.entry ∷ [] }
 {
-    [Text(word), Number(i as u64), Number(j as u64)]
+    ([Text(word), name, Text(b""), Text(b""), Text(b"")], 2)
+}
+
+// A word and two numbers.
+fn shape_words<'w>(word: &'w [u8], i: u32, j: u32) -> ([LineWord<'w>; 5], usize)
+    ensures few { result.1 ≤ 5 }
+    ensures words { map word_text (take result.1 result.0) ≡ word.now ∷ decimal i ∷ decimal j ∷ [] }
+{
+    (
+        [
+            Text(word),
+            Number(i as u64),
+            Number(j as u64),
+            Text(b""),
+            Text(b""),
+        ],
+        3,
+    )
 }
 
 // A word and two pins.
-fn pin_words<'w>(design: &'w Design, word: &'w [u8], p: u32, q: u32) -> [LineWord<'w>; 5]
-    ensures { map word_text result ≡ pin_words design.now word.now p q }
+fn pin_words<'w>(design: &'w Design, word: &'w [u8], p: u32, q: u32) -> ([LineWord<'w>; 5], usize)
+    ensures few { result.1 ≤ 5 }
+    ensures words { map word_text (take result.1 result.0) ≡ pin_words design.now word.now p q }
 {
-    [
-        Text(word),
-        Text(instance_of_pin(design, p)),
-        Text(terminal_of_pin(design, p)),
-        Text(instance_of_pin(design, q)),
-        Text(terminal_of_pin(design, q)),
-    ]
+    (
+        [
+            Text(word),
+            Text(instance_of_pin(design, p)),
+            Text(terminal_of_pin(design, p)),
+            Text(instance_of_pin(design, q)),
+            Text(terminal_of_pin(design, q)),
+        ],
+        5,
+    )
+}
+
+/// The words of a finding's line and how many of these they are: its kind, and the names or the numbers of what it tells of. Takes no memory.
+#[tactic(auto, unfolding(crate::specs::FindingLines::finding_words))]
+pub fn finding_words<'w>(
+    design: &'w Design,
+    layout: &'w Layout,
+    finding: Finding,
+) -> ([LineWord<'w>; 5], usize)
+    ensures few { result.1 ≤ 5 }
+    ensures words { map word_text (take result.1 result.0) ≡ finding_words design.now layout.now finding }
+{
+    match finding {
+        Finding::Missing(i) => two_words(b"Missing", Text(name_of_instance(design, i))),
+        Finding::Doubled(c, _) => two_words(b"Doubled", Text(name_of_cell(layout, c))),
+        Finding::Strange(c) => two_words(b"Strange", Text(name_of_cell(layout, c))),
+        Finding::Drawing(c) => two_words(b"Drawing", Text(name_of_cell(layout, c))),
+        Finding::Overlap(i, j) => shape_words(b"Overlap", i, j),
+        Finding::OutOfRow(i, j) => shape_words(b"OutOfRow", i, j),
+        Finding::Narrow(i) => two_words(b"Narrow", Number(i as u64)),
+        Finding::Close(i, j) => shape_words(b"Close", i, j),
+        Finding::BareCut(i) => two_words(b"BareCut", Number(i as u64)),
+        Finding::Opened(p, q) => pin_words(design, b"Open", p, q),
+        Finding::Short(p, q) => pin_words(design, b"Short", p, q),
+    }
 }
 
 // Puts the line of a finding behind what is buffered.
-#[tactic(auto, unfolding(crate::specs::FindingLines::finding_words))]
 fn append_finding<K: Sink>(
     buffer: &mut Buffer,
     out: &mut K,
@@ -107,35 +153,8 @@ fn append_finding<K: Sink>(
 ) -> Result<(), Failed>
     ensures { Writes result (line (finding_words design.now layout.now finding)) buffer.old buffer.new (K.written out.old) (K.written out.new) (K.faults out.old) (K.faults out.new) (K.same_place out.old out.new) (K.else_same out.old out.new) }
 {
-    match finding {
-        Finding::Missing(i) => append_line(
-            buffer,
-            out,
-            &[Text(b"Missing"), Text(name_of_instance(design, i))],
-        ),
-        Finding::Doubled(c, _) => append_line(
-            buffer,
-            out,
-            &[Text(b"Doubled"), Text(name_of_cell(layout, c))],
-        ),
-        Finding::Strange(c) => append_line(
-            buffer,
-            out,
-            &[Text(b"Strange"), Text(name_of_cell(layout, c))],
-        ),
-        Finding::Drawing(c) => append_line(
-            buffer,
-            out,
-            &[Text(b"Drawing"), Text(name_of_cell(layout, c))],
-        ),
-        Finding::Overlap(i, j) => append_line(buffer, out, &shape_words(b"Overlap", i, j)),
-        Finding::OutOfRow(i, j) => append_line(buffer, out, &shape_words(b"OutOfRow", i, j)),
-        Finding::Narrow(i) => append_line(buffer, out, &[Text(b"Narrow"), Number(i as u64)]),
-        Finding::Close(i, j) => append_line(buffer, out, &shape_words(b"Close", i, j)),
-        Finding::BareCut(i) => append_line(buffer, out, &[Text(b"BareCut"), Number(i as u64)]),
-        Finding::Opened(p, q) => append_line(buffer, out, &pin_words(design, b"Open", p, q)),
-        Finding::Short(p, q) => append_line(buffer, out, &pin_words(design, b"Short", p, q)),
-    }
+    let (words, count) = finding_words(design, layout, finding);
+    append_line(buffer, out, &words[..count])
 }
 
 // Puts a line for each finding behind what is buffered.

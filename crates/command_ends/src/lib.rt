@@ -6,7 +6,7 @@ mod line;
 mod refusal;
 mod stop;
 
-pub use finding_line::put_judged;
+pub use finding_line::{finding_words, instance_of_pin, put_judged};
 pub use line::print_line;
 pub use refusal::{Limited, Refusal};
 pub use stop::Stop;

@@ -1,4 +1,4 @@
-//! Tests of the notes on findings: layouts with each kind, the lines of their texts, and how many are told.
+//! Tests of the notes on findings and of their markers: layouts with each kind, the texts, and how many are told.
 #![tactic(auto)]
 
 #[cfg(test)]
@@ -7,6 +7,8 @@ mod cell_tests;
 mod large_tests;
 #[cfg(test)]
 mod long_tests;
+#[cfg(test)]
+mod marker_tests;
 #[cfg(test)]
 mod net_tests;
 #[cfg(test)]

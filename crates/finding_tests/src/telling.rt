@@ -34,8 +34,8 @@ pub(crate) const ONE_NET: &str = "u1 BUF n1; u2 BUF n1;";
 /// Two buffers in two nets.
 pub(crate) const TWO_NETS: &str = "u1 BUF n1; u2 BUF n2;";
 
-// The layout of a text of CIF, or None where it has none.
-fn layout_of(alloc: Global, text: &[u8]) -> Result<Option<Layout>, AllocError>
+/// The layout of a text of CIF, or None where it has none.
+pub(crate) fn layout_of(alloc: Global, text: &[u8]) -> Result<Option<Layout>, AllocError>
     ensures { IfOk result (λ found. IfSome found IsMeasured) }
 {
     if text.len() >= 1 << 24 {
@@ -50,8 +50,12 @@ fn layout_of(alloc: Global, text: &[u8]) -> Result<Option<Layout>, AllocError>
     }
 }
 
-// The design of these modules and calls under the sample rules, or None where there is none.
-fn sampled(alloc: Global, modules: &str, calls: &str) -> Result<Option<Design>, AllocError>
+/// The design of these modules and calls under the sample rules, or None where there is none.
+pub(crate) fn sampled(
+    alloc: Global,
+    modules: &str,
+    calls: &str,
+) -> Result<Option<Design>, AllocError>
     ensures { IfOk result (λ found. IfSome found (HasRoom sample)) }
 {
     match designed(alloc, modules, calls) {

@@ -1,0 +1,2 @@
+-- what is escaped is plain
+pub mod PlainLaws

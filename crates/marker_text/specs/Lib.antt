@@ -1,0 +1,6 @@
+-- bytes between the quotes of a text value
+pub mod Escaped
+-- lengths in microns
+pub mod Microns
+-- the value of a box
+pub mod Boxes
