@@ -1,0 +1,1 @@
+use Rattle.yal_writer.proofs.printing.append_heading.Goals as goal
