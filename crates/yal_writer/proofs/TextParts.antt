@@ -1,7 +1,7 @@
 use Rattle.std.proofs.Common.{◌≡◌, ℕ, List, [], ◌∷◌, ◌++◌, map, refl, sym, ap, ◌∙◌, append_assoc, codes}
 use Rattle.yal_reader.specs.declared.file.Call.{Call}
 use Rattle.yal_reader.specs.declared.file.Module.{Module}
-use Rattle.yal_writer.specs.ParentText.{call_words, calls_text, end_words, heading_text, heading_words, line_words, lines_text, middle_words, parent_text, parent_words, statement, statements, word_end}
+use Rattle.yal_writer.specs.ParentText.{call_words, calls_text, end_words, heading_text, heading_words, line_words, lines_text, middle_words, parent_text, statement, statements, word_end}
 
 -- statements in two parts
 pub statements-append : (xs ys : List (List (List ℕ))) → statements (xs ++ ys) ≡ statements xs ++ statements ys
