@@ -1,6 +1,7 @@
-use Rattle.std.proofs.Common.{◌≡◌, ℕ, zero, suc, ◌+◌, ◌^◌, ◌<◌, ◌≤◌, Bool, true, false, cond, not, ◌&&◌, ◌||◌, List, [], ◌∷◌, ◌++◌, find, length, map, append_assoc, append-nil, refl, sym, ap, ap₂, subst, ◌∙◌, Option, None, Some, IfSome, Result, Ok, Err, codes, arith, ◌==◌}
+use Rattle.std.proofs.Common.{◌≡◌, ℕ, zero, suc, ◌+◌, ◌^◌, ◌<◌, ◌≤◌, Bool, true, false, cond, not, ◌&&◌, ◌||◌, List, [], ◌∷◌, ◌++◌, find, length, map, append_assoc, append-nil, refl, sym, ap, ap₂, subst, ◌∙◌, Option, None, Some, IfSome, Result, Ok, Err, codes, arith, nat_le, ◌==◌}
 use Rattle.std.proofs.lemmas.Bool.{and_from, and_parts}
 use Rattle.std.proofs.lemmas.Bool.Decides.{nat_tests}
+use borrow.Author.Tests.{le-leb}
 use Rattle.std.specs.Char.{is_ascii_digit}
 use Rattle.std.specs.Fmt.{decimal}
 use Rattle.std.proofs.lemmas.Fmt.{decimal_is_IsNumeral}
@@ -30,7 +31,7 @@ use Rattle.yal_reader.specs.declared.file.Line.{Line}
 use Rattle.yal_reader.specs.declared.file.Module.{Module}
 use Rattle.yal_reader.specs.declared.file.YalFile.{YalFile}
 use Rattle.yal_writer.specs.Writable.{IsWord, IsWritable, IsWritableCall, IsWritableLine, begins, has_comment}
-use Rattle.netlist_import.proofs.CallLaws.{bind-ok, cell-is, net-is, passed, same-ok}
+use Rattle.netlist_import.proofs.CallLaws.{bind-ok, net-is, passed, same-ok}
 use Rattle.netlist_import.specs.Calls.{call_of, calls_of, fitting_pins, found_cell, name_in, name_of, net_word, pin_at, pin_word, terminal_word, word_at, words_of}
 use Rattle.netlist_import.specs.Cells.{cell_named, ground_word, is_ground_line, is_supply_line, power_word, supply_word, terminal_names}
 use Rattle.netlist_import.specs.Constants.{undriven_of}
@@ -168,7 +169,10 @@ digits-all (d ∷ ds) digits =
 numbered-word : (n : ℕ) → n < 2 ^ 64 → IsWord (codes "g" ++ decimal n)
 numbered-word n small =
     let all : list_all is_ascii_digit (decimal n) ≡ true = digits-all (decimal n) (decimal_is_IsNumeral n small).0.1 in
-    record { name = list_all-weaker is_ascii_digit is_name_byte digit-name (decimal n) all; plain = digits-plain (decimal n) all }
+    record {
+      name = and_from (nat_le 1 (length (103 ∷ decimal n))) _ (le-leb 1 (length (103 ∷ decimal n)) (omega arith)) (list_all-weaker is_ascii_digit is_name_byte digit-name (decimal n) all);
+      plain = digits-plain (decimal n) all;
+    }
 
 -- a gate with its number that is kept, and whose name does not end the network
 record IsKeptNumbered (g : ℕ × Gate) : Type 0 where
@@ -285,14 +289,10 @@ passed-all rs undriven b modules h is =
     let two = bind-ok (free_model modules b.model) _ tt one.2 in
     let three = bind-ok (all_terminals rs undriven b) _ tt two.2 in
     record {
-      free = model-free (is_among (module_names modules) b.model.text) two.1;
+      free = (passed (is_among (module_names modules) b.model.text) _ _ _ two.1).0;
       lines = all-lines rs undriven b three.0 h three.1;
       names = three.2;
     }
-  where
-    model-free : (t : Bool) → {e : ImportFlaw} → {u : Unit {0}} → cond t (Err e) (Ok tt) ≡ Ok u → t ≡ false
-    model-free true is = let never : ⊥ = cc in absurd never
-    model-free false is = refl
 
 -- a PARENT that was made of a netlist that was read can be written, and its name is none of the cells'
 pub parent-writable : (b : BlifFile) (cells : YalFile) (m : Module) → parent_of b cells ≡ Ok m → kept.IsKept b → length b.gates < 2 ^ 64
