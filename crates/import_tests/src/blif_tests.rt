@@ -75,13 +75,22 @@ fn answer(alloc: Global, text: &[u8]) -> Result<String, AllocError> {
 const TEXTS: [(&[u8], &str); 36] = [
     (b".model m\n.end\n", "m@7 ; ; ; ; ; "),
     (b"\n\t.model m\r\n.end", "m@9 ; ; ; ; ; "),
-    (b"# caf\xc3\xa9 ; /*\n.model m # n\n.end # \\\n", "m@20 ; ; ; ; ; "),
-    (b".model m\n.inputs a \\\n b\n.outputs\n.inputs c\\\r\nd\n.outputs y\n.end\n", "m@7 ; a@17 b@22 c@41 d@45 ; y@56 ; ; ; "),
+    (
+        b"# caf\xc3\xa9 ; /*\n.model m # n\n.end # \\\n",
+        "m@20 ; ; ; ; ; ",
+    ),
+    (
+        b".model m\n.inputs a \\\n b\n.outputs\n.inputs c\\\r\nd\n.outputs y\n.end\n",
+        "m@7 ; a@17 b@22 c@41 d@45 ; y@56 ; ; ; ",
+    ),
     (
         b".model m\n.gate X A=a[0] Y=$abc$2$auto$blifparse.cc:386:parse_blif$210\n\n.cname u\n.gate Z Q=b=c\n.end\n",
         "m@7 ; ; ; 15:X u@78 A=a[0]@17 Y=$abc$2$auto$blifparse.cc:386:parse_blif$210@24 ; 86:Z Q=b=c@88 ; ; ; ",
     ),
-    (b".model m\n.names $false\n.names $true\n1\n.names a b\n1 1\n.end\n", "m@7 ; ; ; a@45 b@47 ; $false@16 $true@30 ; "),
+    (
+        b".model m\n.names $false\n.names $true\n1\n.names a b\n1 1\n.end\n",
+        "m@7 ; ; ; a@45 b@47 ; $false@16 $true@30 ; ",
+    ),
     (b"", "Ends 0"),
     (b"# m\n", "Ends 4"),
     (b".inputs a\n", "Word 0"),

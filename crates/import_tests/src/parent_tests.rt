@@ -10,7 +10,8 @@ use yal_reader::{Module, Numbers, YalFile, read_yal};
 use yal_writer::print_parent;
 
 /// A cell, a module that is none, and nothing else.
-const CELLS: &[u8] = b"MODULE INV; TYPE STANDARD; DIMENSIONS 0 0 16 0 16 40 0 40;\nIOLIST; A I 4 0 3 POLY; Y O 12 40 3 POLY; vdd PWR; gnd GND; ENDIOLIST; ENDMODULE;\nMODULE frame; TYPE PAD; ENDMODULE;";
+const CELLS: &[u8] =
+    b"MODULE INV; TYPE STANDARD; DIMENSIONS 0 0 16 0 16 40 0 40;\nIOLIST; A I 4 0 3 POLY; Y O 12 40 3 POLY; vdd PWR; gnd GND; ENDIOLIST; ENDMODULE;\nMODULE frame; TYPE PAD; ENDMODULE;";
 
 /// The text of a PARENT, or what it can't be put for.
 fn printed(alloc: Global, parent: &Module) -> Result<MemSink, Fail> {
@@ -49,19 +50,43 @@ const NETLISTS: [(&[u8], &[u8]); 16] = [
         b"\nMODULE top;\nTYPE PARENT;\nIOLIST;\na PI;\ny PO;\nENDIOLIST;\nNETWORK;\nu INV a y VDD GND;\ng1 INV y k VDD GND;\nENDNETWORK;\nENDMODULE;\n",
     ),
     (b".model INV\n.end\n", b"Model INV 7"),
-    (b".model top\n.outputs endIOlist\n.end\n", b"Keyword endIOlist 20"),
+    (
+        b".model top\n.outputs endIOlist\n.end\n",
+        b"Keyword endIOlist 20",
+    ),
     (b".model top\n.inputs a a\n.end\n", b"Net a 21"),
-    (b".model top\n.inputs a\n.outputs y\n.names a y\n1 1\n.end\n", b"Net y 30"),
+    (
+        b".model top\n.inputs a\n.outputs y\n.names a y\n1 1\n.end\n",
+        b"Net y 30",
+    ),
     (b".model top\n.inputs VDD\n.end\n", b"Power VDD 19"),
-    (b".model top\n.outputs y\n.names y\n.end\n", b"Constant y 20"),
-    (b".model top\n.gate INV A=a Y=b\n.cname EndNetwork\n.end\n", b"Keyword EndNetwork 36"),
-    (b".model top\n.gate INV A=a Y=b\n.cname g1\n.gate INV A=b Y=c\n.end\n", b"Name g1 45"),
+    (
+        b".model top\n.outputs y\n.names y\n.end\n",
+        b"Constant y 20",
+    ),
+    (
+        b".model top\n.gate INV A=a Y=b\n.cname EndNetwork\n.end\n",
+        b"Keyword EndNetwork 36",
+    ),
+    (
+        b".model top\n.gate INV A=a Y=b\n.cname g1\n.gate INV A=b Y=c\n.end\n",
+        b"Name g1 45",
+    ),
     (b".model top\n.gate frame A=a Y=b\n.end\n", b"Cell frame 17"),
-    (b".model top\n.gate INV A=a Y=b vdd=c\n.end\n", b"Pin vdd 29"),
+    (
+        b".model top\n.gate INV A=a Y=b vdd=c\n.end\n",
+        b"Pin vdd 29",
+    ),
     (b".model top\n.gate INV A=a A=b\n.end\n", b"Twice A 25"),
     (b".model top\n.gate INV A=a\n.end\n", b"Missing Y 17"),
-    (b".model top\n.gate INV A=a Y=b\n.names GND b\n1 1\n.end\n", b"Power b 25"),
-    (b".model top\n.gate INV A=a Y=b\n.names $false\n.names $false a\n1 1\n.end\n", b"Constant a 21"),
+    (
+        b".model top\n.gate INV A=a Y=b\n.names GND b\n1 1\n.end\n",
+        b"Power b 25",
+    ),
+    (
+        b".model top\n.gate INV A=a Y=b\n.names $false\n.names $false a\n1 1\n.end\n",
+        b"Constant a 21",
+    ),
 ];
 
 #[test]
@@ -75,7 +100,11 @@ fn netlists_become_parents(rt: HostRuntime) -> Result<(), Fail> {
 
 #[test]
 fn cells_have_no_parent(rt: HostRuntime) -> Result<(), Fail> {
-    let cells = read_yal(rt.alloc(), b"MODULE p; TYPE PARENT; ENDMODULE;", Numbers::Whole)?;
+    let cells = read_yal(
+        rt.alloc(),
+        b"MODULE p; TYPE PARENT; ENDMODULE;",
+        Numbers::Whole,
+    )?;
     assert!(rt; is_answer(rt.alloc(), &cells, b".model top\n.end\n", b"Parent p 7")?);
     Ok(())
 }

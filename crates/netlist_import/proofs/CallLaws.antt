@@ -1,9 +1,8 @@
-use Rattle.std.proofs.Common.{◌≡◌, ◌↔◌, ℕ, zero, suc, ◌+◌, Bool, true, false, cond, not, ◌||◌, List, [], ◌∷◌, ◌++◌, length, find, refl, sym, ap, subst, ◌∙◌, Option, None, Some, is_some, Result, Ok, Err, codes, arith}
-use Rattle.std.proofs.lemmas.Bool.{both_ways, cases_Bool}
+use Rattle.std.proofs.Common.{◌≡◌, ℕ, zero, suc, ◌+◌, Bool, true, false, cond, not, ◌||◌, List, [], ◌∷◌, ◌++◌, length, find, refl, sym, ap, subst, ◌∙◌, Option, None, Some, is_some, Result, Ok, Err, codes, arith}
 use Rattle.std.proofs.lemmas.List.Folds.{list_any-append}
-use Rattle.std.specs.List.{AllByRecursion, enumerate_from, list_any, slice_get}
+use Rattle.std.specs.List.{AllByRecursion, enumerate_from, slice_get}
 use Rattle.std.specs.Str.{bytes_eq}
-use Rattle.std_laws.proofs.Bytes.{bytes_flip, bytes_one, bytes_same}
+use Rattle.std_laws.proofs.Bytes.{bytes_one, bytes_same}
 use Rattle.std_laws.proofs.Every.{every-get}
 use Rattle.std_laws.proofs.Tests.{or-first-false, or-second-false}
 use Rattle.list_facts.proofs.Mentioned.{get-place}
@@ -21,15 +20,13 @@ use Rattle.yal_reader.specs.declared.file.Module.{Module}
 use Rattle.yal_reader.specs.declared.file.YalFile.{YalFile}
 use Rattle.netlist_import.proofs.EachLaws.{each-at, each-length, enumerate-at}
 use Rattle.netlist_import.proofs.NetLaws.{signals-one}
-use Rattle.netlist_import.specs.Calls.{call_of, calls_of, fitting_pins, found_cell, is_power_word, name_of, net_word, pin_at, pin_word, terminal_word, word_at, words_of}
+use Rattle.netlist_import.specs.Calls.{call_of, calls_of, fitting_pins, found_cell, is_power_word, name_of, net_word, pin_at, terminal_word, words_of}
 use Rattle.netlist_import.specs.Carries.{Carries, IsCall, IsPin, IsTerminal, input, output, terminals_in, word_for}
 use Rattle.netlist_import.specs.Cells.{cell_named, power_word, terminal_names}
 use Rattle.netlist_import.specs.Constants.{undriven_of}
-use Rattle.netlist_import.specs.Faults.{each, refused}
-use Rattle.netlist_import.specs.Nets.{Joined, Rename, renamed, renames_of, signal}
-use Rattle.netlist_import.specs.Parent.{all_terminals, fitting_names, fitting_terminal, fitting_terminals, free_model, is_parent_module, no_parent, parent_in, parent_of, parent_with, tested}
+use Rattle.netlist_import.specs.Nets.{Rename, renamed, renames_of, signal}
+use Rattle.netlist_import.specs.Parent.{all_terminals, fitting_terminal, fitting_terminals, free_model, is_parent_module, no_parent, parent_in, parent_of, parent_with, tested}
 use Rattle.netlist_import.specs.declared.fault.ImportFlaw.{ImportFlaw}
-use Rattle.netlist_import.specs.declared.fault.ImportKind.{ImportKind}
 
 -- a step that gave something
 pub bind-ok : {A B : Type 0} (r : Result A ImportFlaw) (f : A → Result B ImportFlaw) (z : B) → (r >>= f) ≡ Ok z → (x : A) × (r ≡ Ok x) × (f x ≡ Ok z)
@@ -79,7 +76,7 @@ fits-each terminals lines seen (q ∷ qs) zero p is at =
     let two = passed (is_some (power_word lines q.terminal)) _ _ tt one.1 in
     let three = passed (is_among seen q.terminal) _ _ tt two.1 in
     let here : FitsAt terminals lines (q ∷ qs) q × (is_among seen q.terminal ≡ false) =
-        (record { among = not-true (is_among terminals q.terminal) one.0; signal = is-none (power_word lines q.terminal) two.0; found = rw (bytes_same q.terminal) refl }, three.0) in
+    (record { among = not-true (is_among terminals q.terminal) one.0; signal = is-none (power_word lines q.terminal) two.0; found = rw (bytes_same q.terminal) refl }, three.0) in
     subst (λ (r : Pin). FitsAt terminals lines (q ∷ qs) r × (is_among seen r.terminal ≡ false)) same here
   where
     there : Some q ≡ Some p → q ≡ p

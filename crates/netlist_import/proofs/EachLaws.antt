@@ -1,4 +1,4 @@
-use Rattle.std.proofs.Common.{◌≡◌, ℕ, zero, suc, ◌+◌, List, [], ◌∷◌, ◌++◌, length, refl, sym, ap, subst, ◌∙◌, append_assoc, append-nil, Some, Result, Ok, Err, arith}
+use Rattle.std.proofs.Common.{◌≡◌, ℕ, zero, suc, ◌+◌, List, [], ◌∷◌, ◌++◌, length, refl, sym, ap, ◌∙◌, append_assoc, append-nil, Some, Result, Ok, Err, arith}
 use Rattle.std.specs.List.{enumerate_from, slice_get}
 use Rattle.read_base.specs.Answers.{Fails}
 use Rattle.read_base.specs.Steps.{◌>>=◌}

@@ -1,10 +1,9 @@
-use Rattle.std.proofs.Common.{◌≡◌, ℕ, ◌≤◌, Bool, true, false, List, [], ◌∷◌, ◌++◌, length, drop, map, refl, sym, ap, subst, ◌∙◌, append_assoc, append-nil, Result, Ok, Err}
+use Rattle.std.proofs.Common.{◌≡◌, ℕ, ◌≤◌, true, false, List, [], ◌∷◌, ◌++◌, length, drop, refl, sym, ap, ◌∙◌, append_assoc, append-nil, Result, Ok}
 use Rattle.std.proofs.lemmas.List.{drop_all, map-append}
 use Rattle.std.specs.Borrow.{Bor}
 use Rattle.list_facts.proofs.TextLaws.{texts-append}
 use Rattle.list_facts.specs.Texts.{texts}
-use Rattle.read_base.specs.Answers.{AnswersAs, Fails}
-use Rattle.read_base.specs.Steps.{◌>>=◌}
+use Rattle.read_base.specs.Answers.{Fails}
 use Rattle.blif_reader.specs.declared.file.BlifFile.{BlifFile}
 use Rattle.blif_reader.specs.declared.file.BlifWord.{BlifWord}
 use Rattle.blif_reader.specs.declared.file.Gate.{Gate}
@@ -12,7 +11,7 @@ use Rattle.blif_reader.specs.declared.file.Join.{Join}
 use Rattle.yal_reader.specs.declared.file.Module.{Module}
 use Rattle.netlist_import.specs.Constants.{is_driven, undriven_in}
 use Rattle.netlist_import.specs.Faults.{told_of}
-use Rattle.netlist_import.specs.Nets.{Rename, all_seen, rename_of, renamed, renames_behind, renames_of, seen}
+use Rattle.netlist_import.specs.Nets.{Rename, all_seen, rename_of, renamed, renames_behind, seen}
 use Rattle.netlist_import.specs.Parent.{fitting_name, fitting_names, fitting_terminal, fitting_terminals}
 use Rattle.netlist_import.specs.declared.fault.ImportFault.{ImportFault}
 use Rattle.netlist_import.specs.declared.fault.ImportFault.TheVariants.{Bad, Memory}

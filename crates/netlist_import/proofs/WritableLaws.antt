@@ -1,11 +1,10 @@
-use Rattle.std.proofs.Common.{◌≡◌, ℕ, zero, suc, ◌+◌, ◌^◌, ◌<◌, ◌≤◌, Bool, true, false, cond, not, ◌&&◌, ◌||◌, List, [], ◌∷◌, ◌++◌, find, length, map, append_assoc, append-nil, refl, sym, ap, ap₂, subst, ◌∙◌, Option, None, Some, IfSome, Result, Ok, Err, codes, arith, nat_le, ◌==◌}
+use Rattle.std.proofs.Common.{◌≡◌, ℕ, ◌+◌, ◌^◌, ◌<◌, Bool, true, false, cond, not, ◌&&◌, ◌||◌, List, [], ◌∷◌, ◌++◌, find, length, map, append_assoc, append-nil, refl, sym, ap, ap₂, subst, ◌∙◌, Option, None, Some, IfSome, Result, Ok, codes, arith, nat_le, ◌==◌}
 use Rattle.std.proofs.lemmas.Bool.{and_from, and_parts}
 use Rattle.std.proofs.lemmas.Bool.Decides.{nat_tests}
 use borrow.Author.Tests.{le-leb}
 use Rattle.std.specs.Char.{is_ascii_digit}
 use Rattle.std.specs.Fmt.{decimal}
 use Rattle.std.proofs.lemmas.Fmt.{decimal_is_IsNumeral}
-use Rattle.std.proofs.lemmas.List.{map-append}
 use Rattle.std.proofs.lemmas.Str.Parse.{digit_from_value}
 use Rattle.std.specs.Str.Parse.{AllDigits}
 use Rattle.std.specs.List.{AllByRecursion, IsDistinct, enumerate_from, list_all, list_any}
@@ -13,8 +12,7 @@ use Rattle.std.specs.Str.{bytes_eq}
 use Rattle.std_laws.proofs.Distinct.{distinct-none, distinct-push}
 use Rattle.std_laws.proofs.Searches.{list_all-weaker}
 use Rattle.geom_core.specs.Names.{is_name_byte}
-use Rattle.std_laws.proofs.Every.{every-append, every-map, every-push}
-use Rattle.read_base.specs.Steps.{◌>>=◌}
+use Rattle.std_laws.proofs.Every.{every-append, every-push}
 use Rattle.blif_reader.specs.Kept as kept
 use Rattle.blif_reader.specs.declared.file.BlifFile.{BlifFile}
 use Rattle.blif_reader.specs.declared.file.BlifWord.{BlifWord}
@@ -30,9 +28,9 @@ use Rattle.yal_reader.specs.declared.file.Flow.TheVariants as flows
 use Rattle.yal_reader.specs.declared.file.Line.{Line}
 use Rattle.yal_reader.specs.declared.file.Module.{Module}
 use Rattle.yal_reader.specs.declared.file.YalFile.{YalFile}
-use Rattle.yal_writer.specs.Writable.{IsWord, IsWritable, IsWritableCall, IsWritableLine, begins, has_comment}
+use Rattle.yal_writer.specs.Writable.{IsWord, IsWritable, IsWritableCall, IsWritableLine, has_comment}
 use Rattle.netlist_import.proofs.CallLaws.{bind-ok, net-is, passed, same-ok}
-use Rattle.netlist_import.specs.Calls.{call_of, calls_of, fitting_pins, found_cell, name_in, name_of, net_word, pin_at, pin_word, terminal_word, word_at, words_of}
+use Rattle.netlist_import.specs.Calls.{call_of, calls_of, fitting_pins, found_cell, name_in, name_of, pin_at, pin_word, terminal_word, word_at, words_of}
 use Rattle.netlist_import.specs.Cells.{cell_named, ground_word, is_ground_line, is_supply_line, power_word, supply_word, terminal_names}
 use Rattle.netlist_import.specs.Constants.{undriven_of}
 use Rattle.netlist_import.specs.Faults.{each}
@@ -231,9 +229,10 @@ names-different taken (w ∷ ws) different is =
 numbered-kept : (n : ℕ) (gates : List Gate) → n + length gates < 2 ^ 64 → AllByRecursion kept.IsKeptGate gates → AreOpen (map instance_of (enumerate_from n gates))
     → AllByRecursion IsKeptNumbered (enumerate_from n gates)
 numbered-kept n [] small all open_names = tt
-numbered-kept n (g ∷ gs) small all open_names =
-    (record { kept = all.0; name = name-word n g.name (omega (arith, small)) all.0.name; open_network = open_names.0 },
-    numbered-kept (n + 1) gs (omega (arith, small)) all.1 open_names.1)
+numbered-kept n (g ∷ gs) small all open_names = (
+  record { kept = all.0; name = name-word n g.name (omega (arith, small)) all.0.name; open_network = open_names.0 },
+  numbered-kept (n + 1) gs (omega (arith, small)) all.1 open_names.1,
+)
 
 -- the names of calls are those of the instances
 calls-names : (modules : List Module) (rs : List Rename) (undriven : List (List ℕ)) (gs : List (ℕ × Gate)) (calls : List Call) → each (call_of modules rs undriven) gs ≡ Ok calls

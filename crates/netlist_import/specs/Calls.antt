@@ -1,7 +1,7 @@
 -- gates as calls
 use Rattle.std.specs.Prelude.{ℕ, List, [], ◌∷◌, ◌++◌, find, Bool, not, ◌||◌, codes, Option, None, Some, is_some, Result, Ok, if◌then◌else◌}
 use Rattle.std.specs.Fmt.{decimal}
-use Rattle.std.specs.List.{enumerate_from, list_any}
+use Rattle.std.specs.List.{enumerate_from}
 use Rattle.std.specs.Str.{bytes_eq}
 use Rattle.read_base.specs.Steps.{◌>>=◌}
 use Rattle.blif_reader.specs.declared.file.BlifWord.{BlifWord}

@@ -1,7 +1,7 @@
 -- the PARENT of a netlist
 use Rattle.std.specs.Prelude.{ℕ, List, [], ◌∷◌, ◌++◌, find, map, Bool, not, codes, Option, None, Some, Result, Ok, if◌then◌else◌}
 use Rattle.std.specs.List.{enumerate_from}
-use Rattle.std.specs.Str.{bytes_eq, str_eq_ignore_ascii_case}
+use Rattle.std.specs.Str.{bytes_eq}
 use Rattle.read_base.specs.Steps.{◌>>=◌}
 use Rattle.blif_reader.specs.declared.file.BlifFile.{BlifFile}
 use Rattle.blif_reader.specs.declared.file.BlifWord.{BlifWord}

@@ -168,12 +168,7 @@ fn call_of(
     ensures { Answers (λ call. call) result (call_of modules.now (all_seen renamings.now) (texts undriven.now) (number, gate.now)) }
 {
     let Some(cell) = cell_named(modules, gate.module.items()) else {
-        return Err(refused(
-            alloc,
-            ImportKind::Cell,
-            gate.module.items(),
-            gate.at,
-        ));
+        return Err(refused(alloc, ImportKind::Cell, gate.module.items(), gate.at));
     };
     let words = words_of(alloc, renamings, undriven, cell.lines.items(), gate)?;
     Ok(Call {

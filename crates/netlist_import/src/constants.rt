@@ -20,12 +20,7 @@ fn does_pin_drive(renamings: &[Renaming<'_>], lines: &[Line], net: &[u8], pin: &
 }
 
 /// Whether one of these pins of a gate with these lines drives this net.
-fn do_pins_drive(
-    renamings: &[Renaming<'_>],
-    lines: &[Line],
-    net: &[u8],
-    pins: &[Pin],
-) -> bool
+fn do_pins_drive(renamings: &[Renaming<'_>], lines: &[Line], net: &[u8], pins: &[Pin]) -> bool
     ensures { result ≡ list_any (pin_drives (all_seen renamings.now) lines.now net.now) pins.now }
 {
     pins.iter()
@@ -33,12 +28,7 @@ fn do_pins_drive(
 }
 
 /// Whether a gate drives this net.
-fn does_gate_drive(
-    renamings: &[Renaming<'_>],
-    modules: &[Module],
-    net: &[u8],
-    gate: &Gate,
-) -> bool
+fn does_gate_drive(renamings: &[Renaming<'_>], modules: &[Module], net: &[u8], gate: &Gate) -> bool
     ensures { result ≡ gate_drives (all_seen renamings.now) modules.now net.now gate.now }
 {
     match cell_named(modules, gate.module.items()) {
@@ -48,12 +38,7 @@ fn does_gate_drive(
 }
 
 /// Whether one of these gates drives this net.
-fn is_driven(
-    renamings: &[Renaming<'_>],
-    modules: &[Module],
-    gates: &[Gate],
-    net: &[u8],
-) -> bool
+fn is_driven(renamings: &[Renaming<'_>], modules: &[Module], gates: &[Gate], net: &[u8]) -> bool
     ensures { result ≡ is_driven (all_seen renamings.now) modules.now gates.now net.now }
 {
     gates

@@ -76,12 +76,7 @@ fn check_model(alloc: Global, modules: &[Module], model: &BlifWord) -> Result<()
     ensures { Answers (λ x. x) result (free_model modules.now model.now) }
 {
     if is_module(modules, model.text.items()) {
-        return Err(refused(
-            alloc,
-            ImportKind::Model,
-            model.text.items(),
-            model.at,
-        ));
+        return Err(refused(alloc, ImportKind::Model, model.text.items(), model.at));
     }
     Ok(())
 }
@@ -119,11 +114,7 @@ fn check_all(
 }
 
 /// The PARENT of a netlist with these lines and calls. The one error is want of memory.
-fn parent_with(
-    alloc: Global,
-    netlist: &BlifFile,
-    calls: Vec<Call>,
-) -> Result<Module, AllocError>
+fn parent_with(alloc: Global, netlist: &BlifFile, calls: Vec<Call>) -> Result<Module, AllocError>
     ensures { IfOk result (λ parent. parent ≡ parent_with netlist.now calls.items) }
 {
     let name = netlist.model.text.copied(alloc)?;
@@ -155,11 +146,7 @@ fn parent_in(
 
 /// The PARENT of a netlist over the modules of its cells, or the first flaw.
 #[tactic(auto, unfolding(crate::specs::Parent::parent_of))]
-fn parent_made(
-    alloc: Global,
-    netlist: &BlifFile,
-    cells: &YalFile,
-) -> Result<Module, ImportFault>
+fn parent_made(alloc: Global, netlist: &BlifFile, cells: &YalFile) -> Result<Module, ImportFault>
     ensures { Answers (λ parent. parent) result (parent_of netlist.now cells.now) }
 {
     let renamings = renamings_of(alloc, netlist)?;
@@ -182,11 +169,7 @@ fn parent_made(
 /// The PARENT of a netlist over the modules of its cells, which has the model's inputs and outputs as its terminals and calls a cell for each gate, in their
 /// order, with the words of its nets in the order of the cell's terminals; or the first flaw of the netlist, or want of memory. A net goes by the terminal of the
 /// model on it, if there is one, else by one of its words; power terminals have the words VDD and GND. Where the netlist was read, the PARENT can be written behind its cells.
-pub fn parent_of(
-    alloc: Global,
-    netlist: &BlifFile,
-    cells: &YalFile,
-) -> Result<Module, ImportFault>
+pub fn parent_of(alloc: Global, netlist: &BlifFile, cells: &YalFile) -> Result<Module, ImportFault>
     ensures is { Answers (λ parent. parent) result (parent_of netlist.now cells.now) }
     ensures carries { IfOk result (λ parent. Carries netlist.now cells.now.modules parent) }
     ensures writable { IfOk result (λ parent. CanBeWritten netlist.now cells.now parent) }
