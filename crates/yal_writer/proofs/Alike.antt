@@ -1,4 +1,4 @@
-use Rattle.std.proofs.Common.{◌≡◌, ℕ, Bool, true, false, cond, List, [], ◌∷◌, ◌++◌, refl, sym, ap, ◌∙◌, Option, None, Some, Result, Ok, Err, IfOk}
+use Rattle.std.proofs.Common.{◌≡◌, Bool, true, false, cond, List, [], ◌∷◌, refl, Option, None, Some, Result, Ok, Err, IfOk}
 use Rattle.std.specs.Prelude.{IsOkAnd}
 use Rattle.read_base.specs.Steps.{◌>>=◌}
 use Rattle.yal_reader.specs.Flaws.{Flaw}

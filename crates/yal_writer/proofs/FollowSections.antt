@@ -1,21 +1,18 @@
-use Rattle.std.proofs.Common.{◌≡◌, ℕ, ℤ, zero, suc, ◌+◌, ◌<◌, ◌≤◌, Bool, true, false, not, ◌&&◌, List, [], ◌∷◌, ◌++◌, refl, sym, ap, ap₂, subst, ◌∙◌, Option, None, Some, is_some, Result, Ok, Err, codes, arith}
+use Rattle.std.proofs.Common.{◌≡◌, ℕ, zero, suc, ◌+◌, ◌<◌, ◌≤◌, Bool, true, false, List, [], ◌∷◌, ◌++◌, refl, sym, ap, subst, ◌∙◌, None, Some, is_some, Result, Ok, Err, codes, arith}
 use Rattle.read_base.specs.Steps.{◌>>=◌}
 use Rattle.yal_reader.specs.Flaws.{Flaw}
 use Rattle.yal_reader.specs.Kept.{call_names, has_spot, is_parent, is_standard, module_names}
-use Rattle.yal_reader.specs.Lists.{a_spot, call_after, calls_of, calls_until, io_list, is_among, items_until, keeps_lines, line_after, lines_of, lines_until, network, spot_after, unless_taken, without_items}
-use Rattle.yal_reader.specs.Numbers.{a_number, number_run}
-use Rattle.yal_reader.specs.Sections.{calls_after, corners_after, dimensions, lines_after, no_parts, once, passed_after, passed_until, passes_words, section_after, sections}
+use Rattle.yal_reader.specs.Lists.{a_spot, call_after, calls_of, io_list, is_among, items_until, keeps_lines, line_after, lines_of, network, spot_after, unless_taken, without_items}
+use Rattle.yal_reader.specs.Numbers.{a_number}
+use Rattle.yal_reader.specs.Sections.{calls_after, corners_after, dimensions, lines_after, no_parts, passed_after, passed_until, passes_words, section_after, sections}
 use Rattle.yal_reader.specs.Tokens.{Spelled, Token, word, semicolon}
-use Rattle.yal_reader.specs.Words.{a_flow, a_kind, a_word, after_stop, an_end, bad, is_empty, is_word, past_words, spells, statement, the_word, words}
+use Rattle.yal_reader.specs.Words.{a_flow, a_kind, a_word, after_stop, an_end, is_empty, is_word, past_words, spells, statement, the_word, words}
 use Rattle.yal_reader.specs.YalReads.{a_module, heading, module_of, modules}
-use Rattle.yal_reader.specs.declared.fault.YalKind.TheVariants as faults
-use Rattle.yal_reader.specs.declared.file.Call.{Call}
 use Rattle.yal_reader.specs.declared.file.Flow.{Flow}
 use Rattle.yal_reader.specs.declared.file.Kind.{Kind}
-use Rattle.yal_reader.specs.declared.file.Line.{Line}
 use Rattle.yal_reader.specs.declared.file.Module.{Module}
 use Rattle.yal_reader.specs.declared.notation.Numbers.{Numbers}
-use Rattle.yal_writer.proofs.Alike.{Alike, Follows, Same, SameWord, Says, both, either, given, next, none, ok}
+use Rattle.yal_writer.proofs.Alike.{Alike, Follows, Same, either, given, next, none, ok}
 use Rattle.yal_writer.proofs.FollowWords.{no-statement, same-end, same-first, same-flow, same-keyword, same-kind, same-number, same-numbers, same-past, same-statement, same-stop, same-word, same-words}
 
 -- a spot, and a line
@@ -248,7 +245,7 @@ modules-onward numbers tail (suc n) (suc m) before found ts us le h is = by (is_
     more (Ok x) one some rest onward =
         let alike = same-statement tail ts us some h in
         let there = given (a_module numbers (suc n) (module_names before) (statement ts)) (a_module numbers (suc m) (module_names before) (statement us)) x
-            (same-module tail numbers (suc n) (suc m) (module_names before) (statement ts) (statement us) le alike) one in
+        (same-module tail numbers (suc n) (suc m) (module_names before) (statement ts) (statement us) le alike) one in
         let on = onward x there.0 there.2.0 there.2.1 rest in
         record {
           fuel = on.fuel;

@@ -1,16 +1,10 @@
-use Rattle.std.proofs.Common.{◌≡◌, ℕ, ℤ, zero, suc, ◌≤◌, Bool, true, false, not, ◌&&◌, List, [], ◌∷◌, ◌++◌, refl, sym, ap, ap₂, ◌∙◌, Option, None, Some, Result, Ok, Err, codes, arith}
-use Rattle.read_base.specs.Steps.{◌>>=◌}
-use Rattle.yal_reader.specs.Flaws.{Flaw}
-use Rattle.yal_reader.specs.Kept.{has_spot, is_parent}
-use Rattle.yal_reader.specs.Lists.{a_spot, call_after, calls_of, calls_until, io_list, is_among, items_until, keeps_lines, line_after, lines_of, lines_until, network, spot_after, without_items}
+use Rattle.std.proofs.Common.{◌≡◌, ℕ, ℤ, Bool, true, false, ◌&&◌, List, [], ◌∷◌, refl, ap, ap₂}
 use Rattle.yal_reader.specs.Numbers.{a_number, number, number_run}
-use Rattle.yal_reader.specs.Tokens.{Spelled, Token, word, semicolon}
+use Rattle.yal_reader.specs.Tokens.{Token, word, semicolon}
 use Rattle.yal_reader.specs.Words.{a_flow, a_kind, a_word, after_stop, an_end, flow_of, is_empty, is_word, kind_of, or_bad, past_words, spells, statement, the_word, words}
 use Rattle.yal_reader.specs.declared.fault.YalKind.TheVariants as faults
-use Rattle.yal_reader.specs.declared.file.Flow.{Flow}
-use Rattle.yal_reader.specs.declared.file.Kind.{Kind}
 use Rattle.yal_reader.specs.declared.notation.Numbers.{Numbers}
-use Rattle.yal_writer.proofs.Alike.{Alike, Follows, Same, SameWord, Says, both, either, next, none, ok}
+use Rattle.yal_writer.proofs.Alike.{Alike, Follows, Same, SameWord, both, either, next, none, ok}
 
 -- a word
 pub same-word : (tail ts us : List Token) → Alike tail ts us → Follows (SameWord tail) (a_word ts) (a_word us)

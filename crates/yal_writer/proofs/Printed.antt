@@ -1,18 +1,17 @@
-use Rattle.std.proofs.Common.{◌≡◌, ℕ, zero, suc, ◌≤◌, Bool, true, false, not, ◌&&◌, ◌||◌, List, [], ◌∷◌, ◌++◌, length, take, drop, refl, sym, ap, subst, ◌∙◌, Option, append_assoc, append-nil, length-append, inl, inr, Result, Ok, Err, None, Some, codes, arith, nat_lt, ◌==◌, ◌<◌}
+use Rattle.std.proofs.Common.{◌≡◌, ℕ, suc, Bool, true, false, ◌&&◌, List, [], ◌∷◌, ◌++◌, length, take, drop, refl, sym, ap, subst, ◌∙◌, Option, append_assoc, append-nil, Result, Ok, Err, None, Some, arith, nat_lt, ◌==◌}
 use Rattle.std.proofs.Math.Bool.{true≢false}
-use Rattle.std.proofs.lemmas.Bool.{and_parts, cases_Bool}
+use Rattle.std.proofs.lemmas.Bool.{and_parts}
 use Rattle.std.proofs.lemmas.Bool.Decides.{nat_tests}
 use Rattle.std.specs.List.{AllByRecursion, list_all, prefix_len}
 use Rattle.std_laws.proofs.Searches.{prefix-off, prefix-on}
 use Rattle.std_laws.proofs.Tests.{or-first-false, or-second-false}
 use Rattle.geom_core.specs.Names.{is_name_byte}
-use Rattle.read_base.specs.Steps.{◌>>=◌}
-use Rattle.yal_reader.proofs.Lexing.{tokens-blank, tokens-semicolon, tokens-word, word_byte-parts}
+use Rattle.yal_reader.proofs.Lexing.{tokens-blank, tokens-semicolon, tokens-word}
 use Rattle.yal_reader.specs.Flaws.{Flaw}
 use Rattle.yal_reader.specs.Text.{ascii, onto, uncommented}
 use Rattle.yal_reader.specs.Tokens.{Spelled, Token, goes_on, is_blank, is_word_byte, onto_word, semicolon, spelled, token_onto, tokens, word}
-use Rattle.yal_writer.proofs.Alike.{Alike, Says}
-use Rattle.yal_writer.specs.ParentText.{statement, statements, word_end}
+use Rattle.yal_writer.proofs.Alike.{Says}
+use Rattle.yal_writer.specs.ParentText.{statement, statements}
 use Rattle.yal_writer.specs.Writable.{IsWord, begins, has_comment}
 
 -- the tokens of a text with another behind it that begins with a blank
@@ -98,12 +97,12 @@ statement-says : (ws : List (List ℕ)) (more : List ℕ) (ts : List Token) (w :
 statement-says [] more ts w is all says =
     let shape : statement (w ∷ []) ++ more ≡ w ++ 59 ∷ (10 ∷ more) = append_assoc w (59 ∷ 10 ∷ []) more in
     let read : tokens (w ++ 59 ∷ (10 ∷ more)) ≡ word (spelled w (length (w ++ 59 ∷ (10 ∷ more)))) ∷ semicolon (length (59 ∷ (10 ∷ more))) ∷ tokens more =
-        tokens-name w 59 (10 ∷ more) is refl ∙ ap (λ (us : List Token). word (spelled w (length (w ++ 59 ∷ (10 ∷ more)))) ∷ us) (tokens-semicolon (10 ∷ more) ∙ ap (λ (us : List Token). semicolon (length (59 ∷ (10 ∷ more))) ∷ us) (feed-passes more)) in
+    tokens-name w 59 (10 ∷ more) is refl ∙ ap (λ (us : List Token). word (spelled w (length (w ++ 59 ∷ (10 ∷ more)))) ∷ us) (tokens-semicolon (10 ∷ more) ∙ ap (λ (us : List Token). semicolon (length (59 ∷ (10 ∷ more))) ∷ us) (feed-passes more)) in
     subst (λ (us : List Token). Says [] (stated (w ∷ []) ts) us) (sym (ap tokens shape ∙ read)) (refl, says)
 statement-says (v ∷ vs) more ts w is all says =
     let shape : statement (w ∷ v ∷ vs) ++ more ≡ w ++ 32 ∷ (statement (v ∷ vs) ++ more) = append_assoc w (32 ∷ statement (v ∷ vs)) more in
     let read : tokens (w ++ 32 ∷ (statement (v ∷ vs) ++ more)) ≡ word (spelled w (length (w ++ 32 ∷ (statement (v ∷ vs) ++ more)))) ∷ tokens (statement (v ∷ vs) ++ more) =
-        tokens-name w 32 (statement (v ∷ vs) ++ more) is refl ∙ ap (λ (us : List Token). word (spelled w (length (w ++ 32 ∷ (statement (v ∷ vs) ++ more)))) ∷ us) (blank-passes (statement (v ∷ vs) ++ more)) in
+    tokens-name w 32 (statement (v ∷ vs) ++ more) is refl ∙ ap (λ (us : List Token). word (spelled w (length (w ++ 32 ∷ (statement (v ∷ vs) ++ more)))) ∷ us) (blank-passes (statement (v ∷ vs) ++ more)) in
     subst (λ (us : List Token). Says [] (stated (w ∷ v ∷ vs) ts) us) (sym (ap tokens shape ∙ read)) (refl, statement-says vs more ts v all.0 all.1 says)
 
 -- words of a statement, at least one

@@ -1,4 +1,4 @@
-use Rattle.std.proofs.Common.{◌≡◌, ℕ, zero, suc, ◌+◌, ◌<◌, ◌≤◌, true, false, Bool, List, [], ◌∷◌, ◌++◌, length, map, refl, sym, ap, subst, ◌∙◌, None, Some, Result, Ok, Err, codes, arith, length-append}
+use Rattle.std.proofs.Common.{◌≡◌, ℕ, zero, suc, ◌+◌, ◌<◌, ◌≤◌, false, List, [], ◌∷◌, ◌++◌, length, map, refl, sym, ap, subst, ◌∙◌, None, Result, Ok, Err, arith, length-append}
 use Rattle.std.proofs.lemmas.List.{length-map}
 use Rattle.std.specs.List.{AllByRecursion}
 use Rattle.std_laws.proofs.Every.{every-append, every-map, every-weaker}
@@ -10,7 +10,7 @@ use Rattle.yal_reader.specs.Kept.{module_names}
 use Rattle.yal_reader.specs.Lists.{is_among}
 use Rattle.yal_reader.specs.Text.{ascii, uncommented}
 use Rattle.yal_reader.specs.Tokens.{Token, tokens}
-use Rattle.yal_reader.specs.Words.{is_empty, statement}
+use Rattle.yal_reader.specs.Words.{statement}
 use Rattle.yal_reader.specs.YalReads.{a_module, file_of, modules, yal_reads}
 use Rattle.yal_reader.specs.declared.fault.YalKind.{YalKind}
 use Rattle.yal_reader.specs.declared.file.Call.{Call}
@@ -77,11 +77,16 @@ statements-long (ws ∷ wss) all = omega (arith, statement-long ws all.0, statem
 
 parent-long : (m : Module) → IsWritable m → length m.lines + length m.calls + 7 ≤ length (statements (parent_words m))
 parent-long m h =
-    omega (arith, statements-long (parent_words m) (all-words m h),
-    length-append (heading_words m.name) (map line_words m.lines ++ (middle_words ++ (map call_words m.calls ++ end_words))),
-    length-append (map line_words m.lines) (middle_words ++ (map call_words m.calls ++ end_words)),
-    length-append middle_words (map call_words m.calls ++ end_words),
-    length-append (map call_words m.calls) end_words, length-map m.lines line_words, length-map m.calls call_words)
+    omega (
+      arith,
+      statements-long (parent_words m) (all-words m h),
+      length-append (heading_words m.name) (map line_words m.lines ++ (middle_words ++ (map call_words m.calls ++ end_words))),
+      length-append (map line_words m.lines) (middle_words ++ (map call_words m.calls ++ end_words)),
+      length-append middle_words (map call_words m.calls ++ end_words),
+      length-append (map call_words m.calls) end_words,
+      length-map m.lines line_words,
+      length-map m.calls call_words,
+    )
 
 -- the steps of what reads
 bind-ok : {A B : Type 0} (r : Result A Flaw) (f : A → Result B Flaw) (z : B) → (r >>= f) ≡ Ok z → (x : A) × (r ≡ Ok x) × (f x ≡ Ok z)
@@ -106,8 +111,8 @@ parent-modules : (numbers : Numbers) (n : ℕ) (found : List Module) (m : Module
 parent-modules numbers n found m us few small h free says =
     let alike = same-statement [] (all_stated (parent_words m) []) us refl says in
     let there = given (a_module numbers (suc (suc n)) (module_names found) (all_stated (parent_words m) [])) (a_module numbers (suc (suc n)) (module_names found) (statement us)) (m, [])
-        (same-module [] numbers (suc (suc n)) (suc (suc n)) (module_names found) (all_stated (parent_words m) []) (statement us) (omega arith) alike)
-        (parent-read numbers n (module_names found) m few small h free) in
+    (same-module [] numbers (suc (suc n)) (suc (suc n)) (module_names found) (all_stated (parent_words m) []) (statement us) (omega arith) alike)
+    (parent-read numbers n (module_names found) m few small h free) in
     let ends : there.0.1 ≡ [] = there.2.1.says in
     modules-step numbers (suc n) found us there.0 (says-some [] (all_stated (parent_words m) []) (statement us) refl alike) there.1
     ∙ modules-done numbers n (found ++ there.0.0 ∷ []) there.0.1 ends ∙ ap (λ (x : Module). Ok (found ++ x ∷ [])) (sym there.2.0)
@@ -130,14 +135,14 @@ parent-behind cells text numbers found m plain open_text read h free =
     let words = all-words m h in
     let first : ascii (cells ++ 10 ∷ printed) ≡ Ok tt = ascii-append cells (10 ∷ printed) plain ∙ statements-ascii (parent_words m) words in
     let second : uncommented None (cells ++ 10 ∷ printed) ≡ Ok (text ++ 10 ∷ printed) =
-        uncommented-append cells (10 ∷ printed) text false 0 0 refl (uncommented-plain (10 ∷ printed) (statements-plain (parent_words m) words)) open_text in
+    uncommented-append cells (10 ∷ printed) text false 0 0 refl (uncommented-plain (10 ∷ printed) (statements-plain (parent_words m) words)) open_text in
     let says : Says (tokens (10 ∷ printed)) (tokens text) (tokens (text ++ 10 ∷ printed)) = tokens-append text (10 ∷ printed) refl in
     let on = modules-onward numbers (tokens (10 ∷ printed)) (suc (length text)) (suc (length (text ++ 10 ∷ printed))) [] found (tokens text) (tokens (text ++ 10 ∷ printed))
-        (omega (arith, length-append text (10 ∷ printed))) (record { says = says }) read in
+    (omega (arith, length-append text (10 ∷ printed))) (record { says = says }) read in
     let feed : tokens (10 ∷ printed) ≡ tokens printed = tokens-blank 10 printed refl in
     let own : Alike [] (all_stated (parent_words m) []) (tokens (10 ∷ printed)) = record { says = subst (λ (us : List Token). Says [] (all_stated (parent_words m) []) us) (sym feed) (statements-say (parent_words m) words) } in
     let last : modules numbers (suc (length (text ++ 10 ∷ printed))) [] (tokens (text ++ 10 ∷ printed)) ≡ Ok (found ++ m ∷ []) =
-        on.same ∙ parent-fueled numbers on.fuel found m (tokens (10 ∷ printed)) (omega (arith, on.enough, length-append text (10 ∷ printed))) h free own in
+    on.same ∙ parent-fueled numbers on.fuel found m (tokens (10 ∷ printed)) (omega (arith, on.enough, length-append text (10 ∷ printed))) h free own in
     rw (first, second, last) refl
 
 -- the steps by which a file was read

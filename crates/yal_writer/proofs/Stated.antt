@@ -1,4 +1,4 @@
-use Rattle.std.proofs.Common.{◌≡◌, ℕ, zero, suc, ◌<◌, ◌≤◌, true, false, List, [], ◌∷◌, ◌++◌, length, map, refl, sym, ap, subst, ◌∙◌, append_assoc, append-nil, None, Some, Ok, codes, arith}
+use Rattle.std.proofs.Common.{◌≡◌, ℕ, zero, suc, ◌<◌, false, List, [], ◌∷◌, ◌++◌, length, map, refl, sym, ap, subst, ◌∙◌, append_assoc, append-nil, None, Some, Ok, codes, arith}
 use Rattle.std.proofs.lemmas.List.{map-append}
 use Rattle.std.specs.List.{AllByRecursion, IsDistinct}
 use Rattle.std.specs.Str.{bytes_eq}
@@ -6,8 +6,8 @@ use Rattle.std_laws.proofs.Distinct.{distinct-apart}
 use Rattle.yal_reader.specs.Kept.{call_names}
 use Rattle.yal_reader.specs.Lists.{call_after, calls_of, calls_until, io_list, is_among, items_until, line_after, lines_of, lines_until, network, spot_after}
 use Rattle.yal_reader.specs.Sections.{calls_after, lines_after, no_parts, section_after, sections}
-use Rattle.yal_reader.specs.Tokens.{Spelled, Token, semicolon, spelled, word}
-use Rattle.yal_reader.specs.Words.{a_flow, a_kind, a_word, an_end, past_words, spells, the_word, words}
+use Rattle.yal_reader.specs.Tokens.{Token, semicolon, spelled}
+use Rattle.yal_reader.specs.Words.{a_flow, a_kind, the_word, words}
 use Rattle.yal_reader.specs.YalReads.{a_module, heading, module_of}
 use Rattle.yal_reader.specs.declared.file.Call.{Call}
 use Rattle.yal_reader.specs.declared.file.Flow.{Flow}
@@ -17,7 +17,7 @@ use Rattle.yal_reader.specs.declared.file.Line.{Line}
 use Rattle.yal_reader.specs.declared.file.Module.{Module}
 use Rattle.yal_reader.specs.declared.notation.Numbers.{Numbers}
 use Rattle.yal_writer.proofs.Printed.{all_stated, stated}
-use Rattle.yal_writer.specs.ParentText.{call_words, end_words, flow_word, heading_words, line_words, middle_words, parent_words}
+use Rattle.yal_writer.specs.ParentText.{call_words, end_words, flow_word, line_words, middle_words, parent_words}
 use Rattle.yal_writer.specs.Writable.{IsWritable, IsWritableCall, IsWritableLine}
 
 -- statements in two parts

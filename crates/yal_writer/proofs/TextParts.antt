@@ -1,6 +1,7 @@
 use Rattle.std.proofs.Common.{◌≡◌, ℕ, List, [], ◌∷◌, ◌++◌, map, refl, sym, ap, ◌∙◌, append_assoc, codes}
+use Rattle.yal_reader.specs.declared.file.Call.{Call}
 use Rattle.yal_reader.specs.declared.file.Module.{Module}
-use Rattle.yal_writer.specs.ParentText.{call_words, calls_text, end_words, heading_text, heading_words, line_words, lines_text, middle_words, parent_text, parent_words, statement, statements}
+use Rattle.yal_writer.specs.ParentText.{call_words, calls_text, end_words, heading_text, heading_words, line_words, lines_text, middle_words, parent_text, statement, statements, word_end}
 
 -- statements in two parts
 pub statements-append : (xs ys : List (List (List ℕ))) → statements (xs ++ ys) ≡ statements xs ++ statements ys
@@ -23,3 +24,10 @@ parent-parts m = sym
 pub heading-parts : (name : List ℕ) → (codes "\nMODULE " ++ name) ++ codes ";\nTYPE PARENT;\nIOLIST;\n" ≡ heading_text name
 unfolding heading_text
 heading-parts name = simp append_assoc
+
+-- a call in its parts
+pub called-parts : (name kind end : List ℕ) → (name ++ codes " ") ++ (kind ++ end) ≡ (name ++ (codes " " ++ kind)) ++ end
+called-parts name kind end = simp append_assoc
+
+pub call-parts : (c : Call) → ((c.name ++ (codes " " ++ c.«module»)) ++ word_end c.signals) ++ statement c.signals ≡ statement (call_words c)
+call-parts c = simp append_assoc
