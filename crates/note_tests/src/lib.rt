@@ -10,6 +10,8 @@ mod file_mistakes;
 #[cfg(test)]
 mod layout_mistakes;
 #[cfg(test)]
+mod progress_tests;
+#[cfg(test)]
 mod rules_mistakes;
 #[cfg(test)]
 mod support;
