@@ -16,15 +16,17 @@ use crate::thresholds::greatest_rise;
 use design_model::Design;
 use geom_core::Items;
 use limits::MOST_CHANGES;
+use progress::{Step, Unwatched, Watch};
 use row_board::Spans;
 use row_model::Rows;
 use std::alloc::{AllocError, Global};
 
-/// Rows, and what they cost.
+/// Rows, what they cost, and what those cost that they began with.
 #[derive(Drop)]
 pub struct CostedRows {
     pub rows: Rows,
     pub cost: u64,
+    pub first: u64,
 }
 
 /// How many changes the annealing of a design has: for each stage and instance as many as the schedule has moves. Takes no memory.
@@ -58,47 +60,75 @@ pub fn anneal(
     ensures annealed { IfOk result (λ made. made.rows ≡ annealed design.now start schedule.now seed) }
     ensures placed { IfOk result (λ made. ArePlaced design.now made.rows) }
     ensures cost { IfOk result (λ made. made.cost ≡ cost_of design.now made.rows schedule.now.weights) }
+    ensures first { IfOk result (λ made. made.first ≡ cost_of design.now start schedule.now.weights) }
     ensures no_dearer { IfOk result (λ made. cost_of design.now made.rows schedule.now.weights ≤ cost_of design.now start schedule.now.weights) }
     ensures much { MOST_CHANGES < all_changes design.now schedule.now → result ≡ Err (AnnealFault.TooMuch (all_changes design.now schedule.now)) }
     ensures few { (n : ℕ) → result ≡ Err (AnnealFault.TooMuch n) → (MOST_CHANGES < n) × (n ≡ all_changes design.now schedule.now) }
 {
-    let count = changes(design, schedule);
-    if count > MOST_CHANGES {
-        return Err(AnnealFault::TooMuch(count));
-    }
-    Ok(annealed(alloc, design, start, schedule, seed)?)
+    anneal_watched(alloc, design, start, schedule, seed, &mut Unwatched)
 }
 
-// The same, of at most 50,000,000 changes.
-#[tactic(auto, unfolding(crate::specs::Annealed::annealed))]
-fn annealed(
+/// The same, where one that watches is told of each stage when it is done.
+pub fn anneal_watched<W: Watch>(
     alloc: Global,
     design: &Design,
     start: Rows,
     schedule: &Schedule,
     seed: u64,
+    watch: &mut W,
+) -> Result<CostedRows, AnnealFault>
+    requires { ArePlaced design.now start }
+    ensures annealed { IfOk result (λ made. made.rows ≡ annealed design.now start schedule.now seed) }
+    ensures placed { IfOk result (λ made. ArePlaced design.now made.rows) }
+    ensures cost { IfOk result (λ made. made.cost ≡ cost_of design.now made.rows schedule.now.weights) }
+    ensures first { IfOk result (λ made. made.first ≡ cost_of design.now start schedule.now.weights) }
+    ensures no_dearer { IfOk result (λ made. cost_of design.now made.rows schedule.now.weights ≤ cost_of design.now start schedule.now.weights) }
+    ensures much { MOST_CHANGES < all_changes design.now schedule.now → result ≡ Err (AnnealFault.TooMuch (all_changes design.now schedule.now)) }
+    ensures few { (n : ℕ) → result ≡ Err (AnnealFault.TooMuch n) → (MOST_CHANGES < n) × (n ≡ all_changes design.now schedule.now) }
+    ensures goes { W.goes watch.old watch.new }
+{
+    let count = changes(design, schedule);
+    if count > MOST_CHANGES {
+        return Err(AnnealFault::TooMuch(count));
+    }
+    Ok(annealed(alloc, design, start, schedule, seed, watch)?)
+}
+
+// The same, of at most 50,000,000 changes.
+#[tactic(auto, unfolding(crate::specs::Annealed::annealed))]
+fn annealed<W: Watch>(
+    alloc: Global,
+    design: &Design,
+    start: Rows,
+    schedule: &Schedule,
+    seed: u64,
+    watch: &mut W,
 ) -> Result<CostedRows, AllocError>
     requires placed { ArePlaced design.now start }
     requires few { all_changes design.now schedule.now ≤ MOST_CHANGES }
     ensures annealed { IfOk result (λ made. made.rows ≡ annealed design.now start schedule.now seed) }
     ensures placed { IfOk result (λ made. ArePlaced design.now made.rows) }
     ensures cost { IfOk result (λ made. made.cost ≡ cost_of design.now made.rows schedule.now.weights) }
+    ensures first { IfOk result (λ made. made.first ≡ cost_of design.now start schedule.now.weights) }
     ensures no_dearer { IfOk result (λ made. cost_of design.now made.rows schedule.now.weights ≤ cost_of design.now start schedule.now.weights) }
+    ensures goes { W.goes watch.old watch.new }
 {
     let kept = copy(alloc, &start)?;
     let mut spans = Spans::new(alloc, design, start, schedule.weights)?;
-    let first_cost = spans.cost();
-    run(&mut spans, design, schedule, seed);
+    let first = spans.cost();
+    run(&mut spans, design, schedule, seed, watch);
     let cost = spans.cost();
-    if cost <= first_cost {
+    if cost <= first {
         Ok(CostedRows {
             rows: spans.end(),
             cost,
+            first,
         })
     } else {
         Ok(CostedRows {
             rows: kept,
-            cost: first_cost,
+            cost: first,
+            first,
         })
     }
 }
@@ -114,20 +144,23 @@ fn copy(alloc: Global, rows: &Rows) -> Result<Rows, AllocError>
     Ok(Rows::new(Items::new(made)))
 }
 
-// Judges all changes of a schedule.
-fn run(spans: &mut Spans, design: &Design, schedule: &Schedule, seed: u64)
+// Judges all changes of a schedule. Of each stage is told when it is done.
+fn run<W: Watch>(spans: &mut Spans, design: &Design, schedule: &Schedule, seed: u64, watch: &mut W)
     requires design { spans.old.design ≡ design.now }
     requires weights { spans.old.weights ≡ schedule.now.weights }
     requires few { all_changes design.now schedule.now ≤ MOST_CHANGES }
-    ensures { spans.new ≡ record spans.old { rows = end_of design.now spans.old.rows schedule.now seed } }
+    ensures rows { spans.new ≡ record spans.old { rows = end_of design.now spans.old.rows schedule.now seed } }
+    ensures goes { W.goes watch.old watch.new }
 {
     let instances = design.instances.items().len() as u32;
     let count = stage_changes(design, schedule);
     let mut draws = Draws::new(seed);
     let mut temperature = Temperature::first(schedule);
-    for _stage in 0..schedule.stages {
+    let stages = schedule.stages;
+    for stage in 0..stages {
         run_stage(spans, &mut draws, instances, temperature, count);
         temperature = temperature.cooler();
+        watch.told(Step::Annealing, stage + 1, stages);
     }
 }
 

@@ -8,7 +8,7 @@ mod schedule;
 mod temperature;
 mod thresholds;
 
-pub use annealing::{CostedRows, anneal, changes};
+pub use annealing::{CostedRows, anneal, anneal_watched, changes};
 pub use draws::{Change, Draws, Proposal};
 pub use fault::AnnealFault;
 pub use schedule::Schedule;

@@ -111,7 +111,10 @@ fn is_annealed(alloc: Global, case: &Annealed) -> Result<bool, Fail> {
         case.seed,
     )?;
     let after = cost(alloc, &design, &made.rows, weights())?;
-    let costs = before == case.before && after == case.after && made.cost == case.after;
+    let costs = before == case.before
+        && after == case.after
+        && made.cost == case.after
+        && made.first == case.before;
     Ok(costs && are_same(&made.rows, &first) == (before == after))
 }
 

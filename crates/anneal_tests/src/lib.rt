@@ -9,3 +9,5 @@ mod draw_tests;
 mod made;
 #[cfg(test)]
 mod schedules;
+#[cfg(test)]
+mod watching_tests;

@@ -36,6 +36,7 @@ use channel_stack::Laid;
 use design_model::Design;
 use feed_cells::FedRows;
 use geom_core::{Items, Name, Shape};
+use progress::{Step, Unwatched, Watch};
 use shelf_io::{Failed, FileSink, Shelf, Sink};
 use tech_rules::Rules;
 use wire_geom::{shape_at, shapes};
@@ -104,15 +105,33 @@ pub struct RoutedDesign<'p, W> {
     pub rules: &'p Rules,
 }
 
-// Writes the channels and rows from the bottom up: channel 0, row 0 with its risers, channel 1, and so on.
-fn write_main<'p, W: HasWiring, K: Sink>(
+// How many rectangles a channel is drawn with.
+fn shapes_of<W: HasWiring>(one: &W) -> u64 {
+    shapes(one.wiring())
+}
+
+// How many rectangles channels are drawn with, as far as a number of 64 bits goes.
+fn shapes_in<W: HasWiring>(wirings: &[W]) -> u64 {
+    let mut all: u64 = 0;
+    for one in wirings {
+        all = all.saturating_add(shapes_of(one));
+    }
+    all
+}
+
+// Writes the channels and rows from the bottom up: channel 0, row 0 with its risers, channel 1, and so on. At each row is told how many of all rectangles of channels are written.
+fn write_main<'p, W: HasWiring, K: Sink, V: Watch>(
     text: &mut Text,
     out: &mut K,
     routed: &'p RoutedDesign<'p, W>,
+    all: u64,
+    watch: &mut V,
 ) -> Result<(), Failed>
     requires { AreInReach routed.now.rules.now (map W.wiring_of routed.now.wirings.now) routed.now.laid.now.channel_base routed.now.laid.now.risers routed.now.symbols.now.drawings }
-    ensures { Writes result (text_of (items_commands text.old.last (laid_items routed.now.design.now routed.now.symbols.now.feed_heights (drawings routed.now.rules.now (map W.wiring_of routed.now.wirings.now) routed.now.laid.now.channel_base) routed.now.laid.now))) text.old.buffered text.new.buffered (K.written out.old) (K.written out.new) (K.faults out.old) (K.faults out.new) (K.same_place out.old out.new) (K.else_same out.old out.new) }
+    ensures wrote { Writes result (text_of (items_commands text.old.last (laid_items routed.now.design.now routed.now.symbols.now.feed_heights (drawings routed.now.rules.now (map W.wiring_of routed.now.wirings.now) routed.now.laid.now.channel_base) routed.now.laid.now))) text.old.buffered text.new.buffered (K.written out.old) (K.written out.new) (K.faults out.old) (K.faults out.new) (K.same_place out.old out.new) (K.else_same out.old out.new) }
+    ensures goes { V.goes watch.old watch.new }
 {
+    let mut written: u64 = 0;
     let mut channels = routed.wirings;
     let laid = routed.laid;
     let tall = routed.symbols.feed_heights.items();
@@ -143,6 +162,8 @@ fn write_main<'p, W: HasWiring, K: Sink>(
             row.items(),
             rise.items(),
         )?;
+        written = written.saturating_add(shapes_of(one));
+        watch.told(Step::Writing, written, all);
         channels = above;
         edges = others;
         rows = higher;
@@ -153,13 +174,16 @@ fn write_main<'p, W: HasWiring, K: Sink>(
 }
 
 // Puts the text of a routed design to a sink.
-fn write_all<'p, W: HasWiring, K: Sink>(
+fn write_all<'p, W: HasWiring, K: Sink, V: Watch>(
     out: &mut K,
     routed: &'p RoutedDesign<'p, W>,
+    watch: &mut V,
 ) -> Result<(), Failed>
     requires { AreInReach routed.now.rules.now (map W.wiring_of routed.now.wirings.now) routed.now.laid.now.channel_base routed.now.laid.now.risers routed.now.symbols.now.drawings }
-    ensures { Puts result (line commands.Comment ++ (text_behind (symbols_with routed.now.design.now 0 routed.now.symbols.now.drawings) (laid_items routed.now.design.now routed.now.symbols.now.feed_heights (drawings routed.now.rules.now (map W.wiring_of routed.now.wirings.now) routed.now.laid.now.channel_base) routed.now.laid.now))) (K.written out.old) (K.written out.new) (K.faults out.old) (K.faults out.new) (K.same_place out.old out.new) (K.else_same out.old out.new) }
+    ensures put { Puts result (line commands.Comment ++ (text_behind (symbols_with routed.now.design.now 0 routed.now.symbols.now.drawings) (laid_items routed.now.design.now routed.now.symbols.now.feed_heights (drawings routed.now.rules.now (map W.wiring_of routed.now.wirings.now) routed.now.laid.now.channel_base) routed.now.laid.now))) (K.written out.old) (K.written out.new) (K.faults out.old) (K.faults out.new) (K.same_place out.old out.new) (K.else_same out.old out.new) }
+    ensures goes { V.goes watch.old watch.new }
 {
+    let all = shapes_in(routed.wirings);
     let mut text = Text::begin();
     write_symbols(
         &mut text,
@@ -167,21 +191,24 @@ fn write_all<'p, W: HasWiring, K: Sink>(
         routed.design,
         routed.symbols.drawings.items(),
     )?;
-    write_main(&mut text, out, routed)?;
+    write_main(&mut text, out, routed, all, watch)?;
+    watch.told(Step::Writing, all, all);
     text.end(out)
 }
 
 // Puts the text of a routed design to a file.
-fn put_design<'p, W: HasWiring, S: Shelf>(
+fn put_design<'p, W: HasWiring, S: Shelf, V: Watch>(
     shelf: &mut S,
     file: &str,
     routed: &'p RoutedDesign<'p, W>,
+    watch: &mut V,
 ) -> Result<(), Failed>
     requires { AreInReach routed.now.rules.now (map W.wiring_of routed.now.wirings.now) routed.now.laid.now.channel_base routed.now.laid.now.risers routed.now.symbols.now.drawings }
-    ensures { Puts result (line commands.Comment ++ (text_behind (symbols_with routed.now.design.now 0 routed.now.symbols.now.drawings) (laid_items routed.now.design.now routed.now.symbols.now.feed_heights (drawings routed.now.rules.now (map W.wiring_of routed.now.wirings.now) routed.now.laid.now.channel_base) routed.now.laid.now))) (S.holds shelf.old file.now) (S.holds shelf.new file.now) (S.write_faults shelf.old file.now) (S.write_faults shelf.new file.now) (Unit {0}) (λ calm. OthersSame calm file.now (S.holds shelf.old) (S.holds shelf.new) (S.read_faults shelf.old) (S.read_faults shelf.new) (S.write_faults shelf.old) (S.write_faults shelf.new)) }
+    ensures put { Puts result (line commands.Comment ++ (text_behind (symbols_with routed.now.design.now 0 routed.now.symbols.now.drawings) (laid_items routed.now.design.now routed.now.symbols.now.feed_heights (drawings routed.now.rules.now (map W.wiring_of routed.now.wirings.now) routed.now.laid.now.channel_base) routed.now.laid.now))) (S.holds shelf.old file.now) (S.holds shelf.new file.now) (S.write_faults shelf.old file.now) (S.write_faults shelf.new file.now) (Unit {0}) (λ calm. OthersSame calm file.now (S.holds shelf.old) (S.holds shelf.new) (S.read_faults shelf.old) (S.read_faults shelf.new) (S.write_faults shelf.old) (S.write_faults shelf.new)) }
+    ensures goes { V.goes watch.old watch.new }
 {
     let mut out = FileSink::new(shelf, file);
-    write_all(&mut out, routed)
+    write_all(&mut out, routed, watch)
 }
 
 /// Makes a file hold the text of a routed design, and nothing else: the symbols of its kinds and of its feeds, and then its channels and rows from the bottom up, the
@@ -189,7 +216,6 @@ fn put_design<'p, W: HasWiring, S: Shelf>(
 /// memory. After Failed, which comes only where the file's write count rose, the file holds what it held before, or a front of the text.
 ///
 /// The text reads as the layout that the stack of these rows and wirings is.
-#[tactic(auto, unfolding(crate::specs::LayoutText::placed_text))]
 pub fn write_layout<W: HasWiring, S: Shelf>(
     shelf: &mut S,
     file: &str,
@@ -210,9 +236,36 @@ pub fn write_layout<W: HasWiring, S: Shelf>(
     ensures others { OthersSame (is_ok result) file.now (S.holds shelf.old) (S.holds shelf.new) (S.read_faults shelf.old) (S.read_faults shelf.new) (S.write_faults shelf.old) (S.write_faults shelf.new) }
     ensures cause { OnErr result (Rose (S.write_faults shelf.old file.now) (S.write_faults shelf.new file.now)) }
 {
+    write_layout_watched(shelf, file, routed, &mut Unwatched)
+}
+
+/// The same, where one that watches is told, at each row and at the end, how many of all rectangles of channels are written.
+#[tactic(auto, unfolding(crate::specs::LayoutText::placed_text))]
+pub fn write_layout_watched<W: HasWiring, S: Shelf, V: Watch>(
+    shelf: &mut S,
+    file: &str,
+    routed: &RoutedDesign<W>,
+    watch: &mut V,
+) -> Result<(), Failed>
+    requires valid { ValidRules routed.now.rules.now }
+    requires high { HasRoom routed.now.rules.now routed.now.design.now }
+    requires fed { IsFed routed.now.design.now routed.now.fed.now }
+    requires wired { IsRouted routed.now.rules.now routed.now.design.now routed.now.fed.now (map W.wiring_of routed.now.wirings.now) }
+    requires laid { routed.now.laid.now ≡ laid_of (stack_of routed.now.rules.now routed.now.design.now routed.now.fed.now (map W.wiring_of routed.now.wirings.now)) }
+    requires symbols { routed.now.symbols.now.drawings ≡ symbol_drawings routed.now.rules.now routed.now.design.now routed.now.fed.now }
+    requires feeds { routed.now.symbols.now.feed_heights ≡ feed_heights routed.now.fed.now }
+    ensures text { OnOk result (Refines (S.holds shelf.new file.now) (Some (placed_text routed.now.rules.now routed.now.design.now routed.now.fed.now (stack_of routed.now.rules.now routed.now.design.now routed.now.fed.now (map W.wiring_of routed.now.wirings.now))))) }
+    ensures reads_as { ReadsAs (placed_text routed.now.rules.now routed.now.design.now routed.now.fed.now (stack_of routed.now.rules.now routed.now.design.now routed.now.fed.now (map W.wiring_of routed.now.wirings.now)))
+        (layout_of routed.now.rules.now routed.now.design.now (stack_of routed.now.rules.now routed.now.design.now routed.now.fed.now (map W.wiring_of routed.now.wirings.now))) }
+    ensures front { OnErr result (HoldsFront (placed_text routed.now.rules.now routed.now.design.now routed.now.fed.now (stack_of routed.now.rules.now routed.now.design.now routed.now.fed.now (map W.wiring_of routed.now.wirings.now)))
+        (S.holds shelf.old file.now) (S.holds shelf.new file.now)) }
+    ensures others { OthersSame (is_ok result) file.now (S.holds shelf.old) (S.holds shelf.new) (S.read_faults shelf.old) (S.read_faults shelf.new) (S.write_faults shelf.old) (S.write_faults shelf.new) }
+    ensures cause { OnErr result (Rose (S.write_faults shelf.old file.now) (S.write_faults shelf.new file.now)) }
+    ensures goes { V.goes watch.old watch.new }
+{
     // The bounds of the design's type are known once a field is read.
     let design = routed.design;
     let _kinds = &design.kinds;
     shelf.begin(file)?;
-    put_design(shelf, file, routed)
+    put_design(shelf, file, routed, watch)
 }

@@ -9,5 +9,5 @@ mod text;
 mod writer;
 
 pub use drawings::{Symbols, symbol_drawings};
-pub use layout::{RoutedDesign, write_layout};
+pub use layout::{RoutedDesign, write_layout, write_layout_watched};
 pub use writer::{StartFault, Writer};

@@ -29,6 +29,7 @@ rows, joins each net by wires, writes the layout to OUT, and prints it in short.
   --style NAME   how channels are swept: best, deft, near, lean or high; else best
   --edge         route channels without vertical constraints by left edges
   --ports        make the terminals of the PARENT cells at the edges, wired to their nets
+  --progress     notes on the standard error of how far it has come
   -q, --quiet    no notes on the standard error
 ";
 
@@ -50,6 +51,7 @@ cellroute make SEED N RULES OUT [OPTIONS]
 Makes a design of N instances, from 1 to 20000, from the number SEED, below 2^64, and lays
 it out as route does, with SEED as the seed of annealing.
 
+  --progress     notes on the standard error of how far it has come
   -q, --quiet    no notes on the standard error
 ";
 

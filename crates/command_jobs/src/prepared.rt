@@ -23,11 +23,11 @@ ghost use Rattle.std.specs.Prelude.{◌≡◌, ◌≢◌, ◌≤◌, List, lengt
 
 use crate::placing::job_rows;
 use crate::routing::{RoutedRows, route_rows};
-use crate::summarizing::{channel_lines, summarized};
+use crate::summarizing::{channel_lines, feed_wire, summarized};
 use anneal_int::CostedRows;
 use channel_stack::{Laid, lay};
 use choose_core::{Chooser, Chooses, Style};
-use cif_writer::{RoutedDesign, Symbols, symbol_drawings, write_layout};
+use cif_writer::{RoutedDesign, Symbols, symbol_drawings, write_layout_watched};
 use command_ends::Refusal;
 use command_words::Wanted;
 use feed_cells::{FedRows, insert_feeds, place};
@@ -36,13 +36,14 @@ use layout_notes::{LaidLayout, note_layout};
 use layout_report::Summary;
 use note_text::Notes;
 use port_rows::Designs;
+use progress::Watch;
 use shelf_io::{Failed, Shelf};
 use std::alloc::{AllocError, Global};
 use std::marker::Model;
 use tech_rules::Rules;
 
-/// Designs with their rules, laid out as is wanted: the rows with feeds, the routed channels, where all of it lies, the drawings of the symbols, and the layout in short. Contracts see the job
-/// and the routed channels, by which all else is given.
+/// Designs with their rules, laid out as is wanted: the rows with feeds, the routed channels, where all of it lies, the drawings of the symbols, the layout in short, and what its rows cost
+/// before they were annealed. Contracts see the job and the routed channels, by which all else is given.
 #[derive(Drop)]
 pub struct Prepared {
     rules: Rules,
@@ -53,6 +54,7 @@ pub struct Prepared {
     laid: Laid,
     symbols: Symbols,
     summary: Summary,
+    first_cost: u64,
 }
 
 /// The routed channels of a design that is laid out, and the layout in short.
@@ -72,7 +74,8 @@ impl Model for Prepared {
     ghost invariant = { IsPrepared };
 }
 
-// Lays the rows of a job with feeds and routed channels, draws their symbols, and tells of them in short. They cost so before they got feeds. The one error is want of memory.
+// Lays the rows of a job with feeds and routed channels, draws their symbols, and tells of them in short. They cost so before they got feeds, and so at first. The one error is want of
+// memory.
 fn ready(
     alloc: Global,
     designs: Designs,
@@ -81,6 +84,7 @@ fn ready(
     fed: FedRows,
     rows: RoutedRows,
     cost: u64,
+    first_cost: u64,
 ) -> Result<Prepared, AllocError>
     requires high { HasRoom rules designs.drawn.design }
     requires rows { AreRoutedRows (job_of rules designs wanted) fed rows.routed.items }
@@ -106,18 +110,20 @@ fn ready(
         laid,
         symbols,
         summary,
+        first_cost,
     })
 }
 
 /// Designs laid out as is wanted: the one placed without its ports, and the other drawn with them and routed by the choices of a style, if that is within the limits. Each cell has
-/// room for its pins.
+/// room for its pins. One that watches is told of the stages of annealing and of the channels.
 #[tactic(auto, unfolding(crate::specs::Limits::within_limits))]
-pub fn lay_out(
+pub fn lay_out<W: Watch>(
     alloc: Global,
     designs: Designs,
     rules: Rules,
     wanted: Wanted,
     style: &Style,
+    watch: &mut W,
 ) -> Result<Prepared, Refusal>
     requires high { HasRoom rules designs.drawn.design }
     requires hold { (rows : List (List Seat)) → ArePlaced (placed_in designs) rows → length rows ≤ MOST_ROWS → HoldCells designs.drawn rows }
@@ -125,26 +131,34 @@ pub fn lay_out(
     ensures is { IfOk result (λ prepared. prepared.job ≡ job_of rules designs wanted) }
     ensures kept { IfOk result (λ prepared. AreRouted wanted.edge style.now.plan (⟦<Chooser as Chooses>⟧.answers style.now.chooser) (channels_of prepared.job) prepared.kept) }
     ensures command { IfErr result (λ refusal. refusal_status refusal ≢ 2) }
+    ensures goes { W.goes watch.old watch.new }
 {
-    let CostedRows { rows, cost } = job_rows(alloc, &designs, &rules, &wanted)?;
+    let CostedRows { rows, cost, first } = job_rows(alloc, &designs, &rules, &wanted, watch)?;
     let drawn = &designs.drawn.design;
     let placement = place(alloc, drawn, &rows)?;
     let fed = insert_feeds(alloc, drawn, &rows, &placement)?;
-    let routed = route_rows(alloc, drawn, &rules, &fed, placement, style, wanted.edge)?;
-    let made = ready(alloc, designs, rules, wanted, fed, routed, cost)?;
+    let edge = wanted.edge;
+    let routed = route_rows(alloc, drawn, &rules, &fed, placement, style, edge, watch)?;
+    let made = ready(alloc, designs, rules, wanted, fed, routed, cost, first)?;
     Ok(made)
 }
 
 impl Prepared {
     /// Makes a file hold the text of the design, and nothing else. Failed comes only where the file's write count rose, and then the file holds what it held before, or a front of the
-    /// text. Takes no memory.
+    /// text. Takes no memory. One that watches is told of the shapes of channels that are written.
     #[tactic(auto, unfolding(crate::specs::Text::job_text))]
-    pub fn write<S: Shelf>(&self, shelf: &mut S, out: &str) -> Result<(), Failed>
+    pub fn write<S: Shelf, W: Watch>(
+        &self,
+        shelf: &mut S,
+        out: &str,
+        watch: &mut W,
+    ) -> Result<(), Failed>
         ensures whole { OnOk result (Refines (S.holds shelf.new out.now) (Some (job_text self.now.job self.now.kept))) }
         ensures good { IsPortedText self.now.job.rules self.now.job.drawn (job_text self.now.job self.now.kept) }
         ensures front { OnErr result (HoldsFront (job_text self.now.job self.now.kept) (S.holds shelf.old out.now) (S.holds shelf.new out.now)) }
         ensures others { OthersSame (is_ok result) out.now (S.holds shelf.old) (S.holds shelf.new) (S.read_faults shelf.old) (S.read_faults shelf.new) (S.write_faults shelf.old) (S.write_faults shelf.new) }
         ensures cause { OnErr result (Rose (S.write_faults shelf.old out.now) (S.write_faults shelf.new out.now)) }
+        ensures goes { W.goes watch.old watch.new }
     {
         let routed = RoutedDesign {
             design: &self.designs.drawn.design,
@@ -154,7 +168,7 @@ impl Prepared {
             symbols: &self.symbols,
             rules: &self.rules,
         };
-        write_layout(shelf, out, &routed)
+        write_layout_watched(shelf, out, &routed, watch)
     }
 
     /// Notes what people are told of the layout that is to be written to a file of this name. What memory has no room for is left out.
@@ -165,6 +179,8 @@ impl Prepared {
             rules: &self.rules,
             summary: &self.summary,
             routed: self.kept.as_slice(),
+            feed_wire: feed_wire(&self.fed, &self.laid),
+            first_cost: self.first_cost,
         };
         note_layout(alloc, notes, &laid);
     }

@@ -19,9 +19,10 @@ use choose_core::{Chooser, Chooses, Style};
 use command_ends::Refusal;
 use design_model::Design;
 use feed_cells::{FedRows, Placement};
-use greedy_router::{Routed, route_channels};
+use greedy_router::{Routed, route_channels_watched};
 use limits::MOST_COLUMNS;
 use pin_assign::{bound_of, channels};
+use progress::Watch;
 use std::alloc::Global;
 use tech_rules::Rules;
 
@@ -33,8 +34,8 @@ pub(crate) struct RoutedRows {
 }
 
 /// The channels between the rows with feeds of the design that is drawn, routed by a style, or by the left edges where that is wished for and a channel allows it, if the layout is
-/// within the limits. The placement of pins and nets is given up.
-pub(crate) fn route_rows(
+/// within the limits. The placement of pins and nets is given up. One that watches is told of the channels.
+pub(crate) fn route_rows<W: Watch>(
     alloc: Global,
     drawn: &Design,
     rules: &Rules,
@@ -42,6 +43,7 @@ pub(crate) fn route_rows(
     placement: Placement,
     style: &Style,
     edge: bool,
+    watch: &mut W,
 ) -> Result<RoutedRows, Refusal>
     requires fed { IsFed drawn.now fed.now }
     requires placement { placement ≡ placement_of drawn.now (cells_in fed.now.rows) }
@@ -52,11 +54,12 @@ pub(crate) fn route_rows(
     ensures wired { IfOk result (λ rows. AreWired drawn.now fed.now (wirings_of rows.routed.items)) }
     ensures routed { IfOk result (λ rows. IsRouted rules.now drawn.now fed.now (wirings_of rows.routed.items)) }
     ensures command { IfErr result (λ refusal. refusal_status refusal ≢ 2) }
+    ensures goes { W.goes watch.old watch.new }
 {
     if let Some(refusal) = size_refusal(bound_of(drawn, fed, rules)) {
         return Err(refusal);
     }
     let channels = channels(alloc, drawn, fed, &placement)?;
-    let routed = route_channels(alloc, channels.as_slice(), style, edge)?;
+    let routed = route_channels_watched(alloc, channels.as_slice(), style, edge, watch)?;
     Ok(RoutedRows { channels, routed })
 }

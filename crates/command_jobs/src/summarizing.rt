@@ -101,3 +101,26 @@ pub(crate) fn summarized(
         cost,
     }
 }
+
+// How long the feeds of a row of this height are together.
+fn feed_wire_of(items: &[Item], height: u32) -> u64 {
+    let mut length: u64 = 0;
+    for item in items {
+        length = length.saturating_add(feeds_at(item).saturating_mul(u64::from(height)));
+    }
+    length
+}
+
+/// How long the feeds of rows that lie so are together, in units: each is as high as its row. Takes no memory.
+pub(crate) fn feed_wire(fed: &FedRows, laid: &Laid) -> u64 {
+    let mut length: u64 = 0;
+    let mut heights = laid.row_height.items();
+    for row in fed.rows.items() {
+        let Some((height, taller)) = heights.split_first() else {
+            break;
+        };
+        length = length.saturating_add(feed_wire_of(row.items(), *height));
+        heights = taller;
+    }
+    length
+}

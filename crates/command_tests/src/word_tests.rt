@@ -44,6 +44,8 @@ make|1|2|r|o|--ports\n\
 route|d|r|o|-q|-q\n\
 route|d|r|o|-q|--quiet\n\
 route|d|r|o|--quiet=1\n\
+route|d|r|o|--progress|--progress\n\
+check|d|r|c|--progress\n\
 -q|route|d|r|o\n\
 help|help\n\
 help|router\n\
@@ -77,7 +79,7 @@ fn is_lacking(alloc: Global, text: &str) -> Result<bool, AllocError> {
 }
 
 /// Words that are a command, and the file that it writes.
-const COMMANDS: [(&str, &str); 10] = [
+const COMMANDS: [(&str, &str); 12] = [
     ("route|--|d|r|o", "o"),
     ("route|d|--|r|o", "o"),
     ("route|d|r|--|--help", "--help"),
@@ -88,6 +90,8 @@ const COMMANDS: [(&str, &str); 10] = [
     ("route|d|r|o|--style=high", "o"),
     ("route|-q|d|r|o", "o"),
     ("route|d|r|o|--quiet", "o"),
+    ("route|d|--progress|r|o", "o"),
+    ("make|1|1|r|o|--progress", "o"),
 ];
 
 #[test]

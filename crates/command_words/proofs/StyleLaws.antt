@@ -22,15 +22,15 @@ given-within : (styles : List Text) (value : Option Text) (place : ℕ) → 0 < 
 given-within styles None place some is = let zero : 0 ≡ place = same_Some 0 place is in omega arith
 given-within styles (Some text) place some is = place-within styles text place is
 
-from-within : (d r o : Option Text) (w : Option Wanted) (s : Option ℕ) (q : Bool) (count : ℕ) (names : Names) → ((place : ℕ) → s ≡ Some place → place < count)
-    → names_from d r o w s q ≡ Some names → names.style < count
-from-within (Some d) (Some r) (Some o) (Some w) (Some s) q count names within is =
+from-within : (d r o : Option Text) (w : Option Wanted) (s : Option ℕ) (q p : Bool) (count : ℕ) (names : Names) → ((place : ℕ) → s ≡ Some place → place < count)
+    → names_from d r o w s q p ≡ Some names → names.style < count
+from-within (Some d) (Some r) (Some o) (Some w) (Some s) q p count names within is =
     let style : s ≡ names.style = ap (λ (n : Names). n.style) (same_Some _ names is) in omega (arith, within s refl)
-from-within (Some d) (Some r) (Some o) (Some w) None q count names within is = cc
-from-within (Some d) (Some r) (Some o) None s q count names within is = cc
-from-within (Some d) (Some r) None w s q count names within is = cc
-from-within (Some d) None o w s q count names within is = cc
-from-within None r o w s q count names within is = cc
+from-within (Some d) (Some r) (Some o) (Some w) None q p count names within is = cc
+from-within (Some d) (Some r) (Some o) None s q p count names within is = cc
+from-within (Some d) (Some r) None w s q p count names within is = cc
+from-within (Some d) None o w s q p count names within is = cc
+from-within None r o w s q p count names within is = cc
 
 -- what words give is of one of the styles
 pub style-within : (styles words : List Text) (names : Names) → 0 < length styles → given_by route_app (names_in styles) words ≡ Some names → names.style < length styles
@@ -38,7 +38,7 @@ unfolding given_by
 style-within styles words names some is = by (fault_of route_app words) (matches_of route_app words) is
   where
     by : (kinds : Kinds) (rows : List Row) → unless_refused kinds (names_in styles rows) ≡ Some names → names.style < length styles
-    by [] rows is = from-within _ _ _ _ _ _ (length styles) names (λ place given. given-within styles _ place some given) is
+    by [] rows is = from-within _ _ _ _ _ _ _ (length styles) names (λ place given. given-within styles _ place some given) is
     by (kind ∷ kinds) rows is = cc
 
 -- the same of styles that have names
@@ -49,17 +49,17 @@ named-within name styles words names some is =
     omega (arith, style-within (map name styles) words names (omega arith) is)
 
 -- a design that is made is of the first style
-from-first : (seed count : Option ℕ) (rules out : Option Text) (quiet : Bool) (names : Names) → make_from seed count rules out quiet ≡ Some names → names.style ≡ 0
-from-first (Some seed) (Some count) (Some rules) (Some out) quiet names is = sym (ap (λ (n : Names). n.style) (same_Some (make_names seed count rules out quiet) names is))
-from-first (Some seed) (Some count) (Some rules) None quiet names is = cc
-from-first (Some seed) (Some count) None out quiet names is = cc
-from-first (Some seed) None rules out quiet names is = cc
-from-first None count rules out quiet names is = cc
+from-first : (seed count : Option ℕ) (rules out : Option Text) (quiet progress : Bool) (names : Names) → make_from seed count rules out quiet progress ≡ Some names → names.style ≡ 0
+from-first (Some seed) (Some count) (Some rules) (Some out) quiet progress names is = sym (ap (λ (n : Names). n.style) (same_Some (make_names seed count rules out quiet progress) names is))
+from-first (Some seed) (Some count) (Some rules) None quiet progress names is = cc
+from-first (Some seed) (Some count) None out quiet progress names is = cc
+from-first (Some seed) None rules out quiet progress names is = cc
+from-first None count rules out quiet progress names is = cc
 
 pub made-within : (words : List Text) (names : Names) (count : ℕ) → 0 < count → given_by make_app make_in words ≡ Some names → names.style < count
 unfolding given_by
 made-within words names count some is = by (fault_of make_app words) (matches_of make_app words) is
   where
     by : (kinds : Kinds) (rows : List Row) → unless_refused kinds (make_in rows) ≡ Some names → names.style < count
-    by [] rows is = omega (arith, some, from-first _ _ _ _ _ names is)
+    by [] rows is = omega (arith, some, from-first _ _ _ _ _ _ names is)
     by (kind ∷ kinds) rows is = cc

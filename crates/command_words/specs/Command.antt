@@ -15,7 +15,7 @@ pub data Source : Type 0 where
   from_seed : ℕ → ℕ → Source
 
 -- what a command to route says: where the design comes from, the rules file, the file to write, how the design is to be laid out, the place of the style that
--- chooses, and whether there are to be no notes
+-- chooses, whether there are to be no notes, and whether it is to be told how far the job has come
 pub record Names : Type 0 where
   pub design : Source
   pub rules : List ℕ
@@ -23,6 +23,7 @@ pub record Names : Type 0 where
   pub wanted : Wanted
   pub style : ℕ
   pub quiet : Bool
+  pub progress : Bool
 
 -- what a command to check says: the design's file, the rules file, the file of the layout, whether the terminals of the PARENT are to be ports, and whether there are to
 -- be no notes
@@ -50,14 +51,18 @@ named_app name last = with_rule (with_rule (with_rule (new_app name)
 abbrev pub flag_rule : Text → Rule
 flag_rule id = record (new_rule id) { long = Some id; action = Some SetTrue }
 
+-- the wish to be told how far the job has come
+abbrev pub progress_rule : Rule
+progress_rule = flag_rule (codes "progress")
+
 -- the wish for no notes, also as `-q`
 abbrev pub quiet_rule : Rule
 quiet_rule = record (flag_rule (codes "quiet")) { short = Some 113 }
 
--- `route` with three names, with a seed, a number of rows and a style, and with the wishes for left edges, for ports and for no notes
+-- `route` with three names, with a seed, a number of rows and a style, and with the wishes for left edges, for ports, to be told of progress and for no notes
 abbrev pub route_app : App
-route_app = with_rule (with_rule (with_rule (with_rule (with_rule (with_rule (named_app (codes "route") (codes "out"))
-    (option_rule (codes "seed"))) (option_rule (codes "rows"))) (option_rule (codes "style"))) (flag_rule (codes "edge"))) (flag_rule (codes "ports"))) quiet_rule
+route_app = with_rule (with_rule (with_rule (with_rule (with_rule (with_rule (with_rule (named_app (codes "route") (codes "out"))
+    (option_rule (codes "seed"))) (option_rule (codes "rows"))) (option_rule (codes "style"))) (flag_rule (codes "edge"))) (flag_rule (codes "ports"))) progress_rule) quiet_rule
 
 -- `check` with three names, and with the wishes for ports and for no notes
 abbrev pub check_app : App
@@ -68,9 +73,9 @@ abbrev pub seeded_app : App
 seeded_app = with_rule (with_rule (with_rule (with_rule (new_app (codes "make"))
     (positional_rule (codes "seed"))) (positional_rule (codes "count"))) (positional_rule (codes "rules"))) (positional_rule (codes "out"))
 
--- the same with the wish for no notes
+-- the same with the wishes to be told of progress and for no notes
 abbrev pub make_app : App
-make_app = with_rule seeded_app quiet_rule
+make_app = with_rule (with_rule seeded_app progress_rule) quiet_rule
 
 -- the seed that is asked for: 1 where no value is given, and no answer where the value is no number below 2 ^ 64
 abbrev pub seed_given : Option Text → Option ℕ
@@ -103,14 +108,14 @@ abbrev pub style_given : List Text → Option Text → Option ℕ
 style_given styles None = Some 0
 style_given styles (Some text) = place_of styles text
 
-abbrev pub names_from : Option Text → Option Text → Option Text → Option Wanted → Option ℕ → Bool → Option Names
-names_from (Some design) (Some rules) (Some out) (Some wanted) (Some style) quiet =
-    Some (record { design = from_file design; rules = rules; out = out; wanted = wanted; style = style; quiet = quiet })
-names_from (Some design) (Some rules) (Some out) (Some wanted) None quiet = None
-names_from (Some design) (Some rules) (Some out) None style quiet = None
-names_from (Some design) (Some rules) None wanted style quiet = None
-names_from (Some design) None out wanted style quiet = None
-names_from None rules out wanted style quiet = None
+abbrev pub names_from : Option Text → Option Text → Option Text → Option Wanted → Option ℕ → Bool → Bool → Option Names
+names_from (Some design) (Some rules) (Some out) (Some wanted) (Some style) quiet progress =
+    Some (record { design = from_file design; rules = rules; out = out; wanted = wanted; style = style; quiet = quiet; progress = progress })
+names_from (Some design) (Some rules) (Some out) (Some wanted) None quiet progress = None
+names_from (Some design) (Some rules) (Some out) None style quiet progress = None
+names_from (Some design) (Some rules) None wanted style quiet progress = None
+names_from (Some design) None out wanted style quiet progress = None
+names_from None rules out wanted style quiet progress = None
 
 -- the seed, the rows and the flags among the values that words gave, and all that they say
 abbrev pub wanted_in : List Row → Option Wanted
@@ -119,7 +124,7 @@ wanted_in values = wanted_from (seed_given (first_of (codes "seed") values)) (ro
 
 abbrev pub names_in : List Text → List Row → Option Names
 names_in styles values = names_from (first_of (codes "design") values) (first_of (codes "rules") values) (first_of (codes "out") values) (wanted_in values)
-    (style_given styles (first_of (codes "style") values)) (is_given (first_of (codes "quiet") values))
+    (style_given styles (first_of (codes "style") values)) (is_given (first_of (codes "quiet") values)) (is_given (first_of (codes "progress") values))
 
 abbrev pub check_from : Option Text → Option Text → Option Text → Bool → Bool → Option CheckNames
 check_from (Some design) (Some rules) (Some cif) ports quiet = Some (record { design = design; rules = rules; cif = cif; ports = ports; quiet = quiet })
@@ -132,20 +137,20 @@ check_in values = check_from (first_of (codes "design") values) (first_of (codes
     (is_given (first_of (codes "ports") values)) (is_given (first_of (codes "quiet") values))
 
 -- a design that is made, and laid out by the same seed, in rows as usual, by the first style, without left edges and without ports
-abbrev pub make_names : ℕ → ℕ → Text → Text → Bool → Names
-make_names seed count rules out quiet =
-    record { design = from_seed seed count; rules = rules; out = out; wanted = record { seed = seed; rows = None; edge = false; ports = false }; style = 0; quiet = quiet }
+abbrev pub make_names : ℕ → ℕ → Text → Text → Bool → Bool → Names
+make_names seed count rules out quiet progress =
+    record { design = from_seed seed count; rules = rules; out = out; wanted = record { seed = seed; rows = None; edge = false; ports = false }; style = 0; quiet = quiet; progress = progress }
 
-abbrev pub make_from : Option ℕ → Option ℕ → Option Text → Option Text → Bool → Option Names
-make_from (Some seed) (Some count) (Some rules) (Some out) quiet = Some (make_names seed count rules out quiet)
-make_from (Some seed) (Some count) (Some rules) None quiet = None
-make_from (Some seed) (Some count) None out quiet = None
-make_from (Some seed) None rules out quiet = None
-make_from None count rules out quiet = None
+abbrev pub make_from : Option ℕ → Option ℕ → Option Text → Option Text → Bool → Bool → Option Names
+make_from (Some seed) (Some count) (Some rules) (Some out) quiet progress = Some (make_names seed count rules out quiet progress)
+make_from (Some seed) (Some count) (Some rules) None quiet progress = None
+make_from (Some seed) (Some count) None out quiet progress = None
+make_from (Some seed) None rules out quiet progress = None
+make_from None count rules out quiet progress = None
 
 abbrev pub make_in : List Row → Option Names
 make_in values = make_from (option_and_then number_of (first_of (codes "seed") values)) (option_and_then count_in (first_of (codes "count") values))
-    (first_of (codes "rules") values) (first_of (codes "out") values) (is_given (first_of (codes "quiet") values))
+    (first_of (codes "rules") values) (first_of (codes "out") values) (is_given (first_of (codes "quiet") values)) (is_given (first_of (codes "progress") values))
 
 abbrev pub unless_refused : {A : Type 0} → Kinds → Option A → Option A
 unless_refused [] given = given

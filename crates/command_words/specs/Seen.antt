@@ -17,7 +17,7 @@ source_seen (sources.Made seed count) = from_seed seed count
 
 -- a command as its names and how the design is to be laid out
 abbrev pub seen : Route → Names
-seen names = record { design = source_seen names.design; rules = names.rules.now; out = names.out.now; wanted = names.wanted; style = names.style; quiet = names.quiet }
+seen names = record { design = source_seen names.design; rules = names.rules.now; out = names.out.now; wanted = names.wanted; style = names.style; quiet = names.quiet; progress = names.progress }
 
 -- the same of a command to check
 abbrev pub check_seen : Check → CheckNames

@@ -35,7 +35,7 @@ pub enum Source<'a> {
 }
 
 /// The command to route a design: where the design comes from, the names of the rules file and of the file to write, how it is to be laid out, and
-/// the place of the style that chooses, from 0 on, and whether there are to be no notes.
+/// the place of the style that chooses, from 0 on, whether there are to be no notes, and whether it is to be told how far the job has come.
 #[derive(Clone, Copy, Debug)]
 pub struct Route<'a> {
     pub design: Source<'a>,
@@ -44,6 +44,7 @@ pub struct Route<'a> {
     pub wanted: Wanted,
     pub style: usize,
     pub quiet: bool,
+    pub progress: bool,
 }
 
 /// The command to check a layout: the names of the design's file, of the rules file and of the layout's file, whether the
@@ -100,6 +101,7 @@ fn route_of<'a>(styles: &[Style], matches: &ArgMatches<'a>) -> Option<Route<'a>>
         wanted: wanted_of(matches)?,
         style: style_given(styles, value_of(matches, "style"))?,
         quiet: is_given(value_of(matches, "quiet")),
+        progress: is_given(value_of(matches, "progress")),
     })
 }
 
@@ -170,6 +172,7 @@ fn make_of<'a>(matches: &ArgMatches<'a>) -> Option<Route<'a>>
         },
         style: 0,
         quiet: is_given(value_of(matches, "quiet")),
+        progress: is_given(value_of(matches, "progress")),
     })
 }
 

@@ -1,7 +1,7 @@
 //! The parsers of the commands' words.
 
 ghost use Rattle.clap.specs.Words.{app_of, first_of, found_of, is_simple, is_simple_and_free, rows_of, rule_of, with_rule};
-ghost use Rattle.command_words.specs.Command.{check_app, flag_rule, make_app, named_app, option_rule, positional_rule, quiet_rule, route_app, seeded_app};
+ghost use Rattle.command_words.specs.Command.{check_app, flag_rule, make_app, named_app, option_rule, positional_rule, progress_rule, quiet_rule, route_app, seeded_app};
 ghost use Rattle.command_words.specs.Taken.{IsTaken};
 ghost use Rattle.std.specs.Prelude.{◌≡◌, codes, false, option_map, true, IfOk};
 
@@ -33,6 +33,14 @@ fn flag<'a>(alloc: Global, id: &'a str) -> Arg<'a>
     ensures local { result.global ≡ false }
 {
     Arg::new(alloc, id).long(id).action(ArgAction::SetTrue)
+}
+
+// The wish to be told how far the job has come.
+fn progress_flag<'a>(alloc: Global) -> Arg<'a>
+    ensures rule { rule_of result ≡ progress_rule }
+    ensures local { result.global ≡ false }
+{
+    flag(alloc, "progress")
 }
 
 // The wish for no notes.
@@ -70,14 +78,22 @@ fn with_options<'a>(alloc: Global, command: Parser<'a>) -> Result<Parser<'a>, Al
     with_arg(command, option(alloc, "style"))
 }
 
+// The command with the wishes for left edges, for ports and to be told of progress.
+fn with_flags<'a>(alloc: Global, command: Parser<'a>) -> Result<Parser<'a>, AllocError>
+    ensures { IfOk result (λ c. app_of c ≡ with_rule (with_rule (with_rule (app_of command.entry) (flag_rule (codes "edge"))) (flag_rule (codes "ports"))) progress_rule) }
+{
+    let command = with_arg(command, flag(alloc, "edge"))?;
+    let command = with_arg(command, flag(alloc, "ports"))?;
+    with_arg(command, progress_flag(alloc))
+}
+
 /// The command `route` with its arguments. The one error is want of memory.
 pub(crate) fn route_parser<'a>(alloc: Global) -> Result<Parser<'a>, AllocError>
     ensures { IfOk result (λ c. app_of c ≡ route_app) }
 {
     let command = named_parser(alloc, "route", "out")?;
     let command = with_options(alloc, command)?;
-    let command = with_arg(command, flag(alloc, "edge"))?;
-    let command = with_arg(command, flag(alloc, "ports"))?;
+    let command = with_flags(alloc, command)?;
     with_arg(command, quiet_flag(alloc))
 }
 
@@ -106,6 +122,7 @@ pub(crate) fn make_parser<'a>(alloc: Global) -> Result<Parser<'a>, AllocError>
     ensures { IfOk result (λ c. app_of c ≡ make_app) }
 {
     let command = seeded_parser(alloc)?;
+    let command = with_arg(command, progress_flag(alloc))?;
     with_arg(command, quiet_flag(alloc))
 }
 

@@ -1,5 +1,6 @@
 use Rattle.std.proofs.Common.{◌+◌, ◌++◌, ◌∷◌, length, take, true, append_assoc, subst, arith, ℕ, List, [], Bool, false, Option, Some, None, Result, Ok, Err, is_ok, refl, ap, sym, ◌≡◌, ◌∙◌}
 use Rattle.std.proofs.lemmas.List.{append-nil}
+use Rattle.std.specs.Prelude.{codes}
 use Rattle.shelf_io.specs.Told.{Refines, appended}
 use Rattle.shelf_io.specs.Lines.{line}
 use Rattle.std.proofs.Math.Seq.{take-append-add}
@@ -8,7 +9,7 @@ use Rattle.command_ends.specs.Gains.{Gains}
 use Rattle.shelf_io.specs.Wrote.{Puts}
 use Rattle.command_ends.proofs.Puts.{gained}
 use Rattle.note_text.specs.Lines.{lines_text}
-use Rattle.commands.specs.Noted.{Noted, NotedSo}
+use Rattle.commands.specs.Noted.{IsTold, Noted, NotedSo}
 
 -- the text of some lines was put, whole or not
 pub noted-put : {T E : Type 0} (result : Result T E) (lines : List (List ℕ)) {before after : Option (List ℕ)} {old new : ℕ} {L : Type 0} {S : Bool → Type 0}
@@ -71,6 +72,20 @@ noted-run written faults true x y z first silent second = noted-both _ _ _ _ _ _
 noted-run written faults false x y z first silent second =
     subst (λ n. Noted (written x) (written n) (faults x) (faults n)) (sym (silent refl)) (record { lines = first.lines; gains = first.gains })
 
+-- the same, where more may follow what was noted first
+pub so-then : (going : Bool) (before mid after : Option (List ℕ)) (old between new : ℕ) → NotedSo true before mid old between → NotedSo going mid after between new
+    → NotedSo going before after old new
+so-then going before mid after old between new first second =
+    record {
+      lines = first.lines ++ second.lines;
+      gains = subst (λ (text : List ℕ). Gains text before after old new) (sym (lines-append first.lines second.lines))
+          (gains-both before mid after (lines_text first.lines) (lines_text second.lines) old between new (first.whole refl) (first.calm refl) second.gains);
+      whole = λ on held at.
+          ap (appended before) (lines-append first.lines second.lines)
+          ∙ behind before mid (lines_text first.lines) (lines_text second.lines) held (first.whole refl) (second.whole on held at);
+      calm = λ on. second.calm on ∙ first.calm refl;
+    }
+
 -- nothing was put, and more may follow
 pub so-none : (before : Option (List ℕ)) (count : ℕ) → NotedSo true before before count count
 so-none before count = record {
@@ -85,3 +100,57 @@ pub so-put : {T E : Type 0} (result : Result T E) (lines : List (List ℕ)) {bef
     → Puts result (lines_text lines) before after old new L S → NotedSo (is_ok result) before after old new
 so-put (Ok done) lines put = record { lines = lines; gains = gained (Ok done) put; whole = λ going. put.ended.whole; calm = λ going. put.ended.quiet }
 so-put (Err failed) lines put = record { lines = lines; gains = gained (Err failed) put; whole = λ going. absurd cc; calm = λ going. absurd cc }
+
+-- words of a line behind one another, with blanks between them
+joined : List ℕ → List (List ℕ) → List ℕ
+joined word [] = word
+joined word (next ∷ more) = word ++ codes " " ++ joined next more
+
+-- a line of words is one of one word
+line-joined : (word : List ℕ) (words : List (List ℕ)) → line (word ∷ words) ≡ line (joined word words ∷ [])
+unfolding joined
+line-joined word [] = refl
+line-joined word (next ∷ more) =
+    let front = word ++ codes " " in
+    ap (λ (l : List ℕ). front ++ l) (line-joined next more)
+    ∙ sym (append_assoc front (joined next more ++ codes "\n") [])
+    ∙ ap (λ (l : List ℕ). l ++ []) (sym (append_assoc front (joined next more) (codes "\n")))
+
+-- a line of words was put, whole or not
+pub so-words : {T E : Type 0} (result : Result T E) (words : List (List ℕ)) {before after : Option (List ℕ)} {old new : ℕ} {L : Type 0} {S : Bool → Type 0}
+    → Puts result (line words) before after old new L S → NotedSo (is_ok result) before after old new
+so-words result [] put = so-put result [] put
+so-words result (word ∷ words) {before = before} {after = after} {old = old} {new = new} {L = L} {S = S} put =
+    so-put result (joined word words ∷ [])
+    (subst (λ (text : List ℕ). Puts result text before after old new L S) (line-joined word words ∙ sym (append-nil (line (joined word words ∷ [])))) put)
+
+-- a line was put where more might follow what was noted first, and more may follow or not
+pub told-more : {N : Type 0} (written : N → Option (List ℕ)) (faults : N → ℕ) (from to : Bool) (x y : N) → from ≡ true
+    → NotedSo to (written x) (written y) (faults x) (faults y) → (before : Option (List ℕ)) (count : ℕ) → NotedSo from before (written x) count (faults x)
+    → NotedSo to before (written y) count (faults y)
+told-more written faults from to x y on second before count first =
+    so-then to before (written x) (written y) count (faults x) (faults y) (subst (λ (b : Bool). NotedSo b before (written x) count (faults x)) on first) second
+
+-- a sink on which nothing was told
+pub told-still : {N : Type 0} (written : N → Option (List ℕ)) (faults : N → ℕ) {L : Type 0} (wished going : Bool) (x : N) → L → IsTold written faults L wished wished going going x x
+told-still written faults wished going x place = record { place = place; wish = refl; noted = λ before count first. first; unwished = λ none. refl }
+
+-- one on which a line was put, where that was wished for and more might follow
+pub told-line : {N : Type 0} (written : N → Option (List ℕ)) (faults : N → ℕ) {L : Type 0} (wished from to : Bool) (x y : N) → L → wished ≡ true → from ≡ true
+    → NotedSo to (written x) (written y) (faults x) (faults y) → IsTold written faults L wished wished from to x y
+told-line written faults wished from to x y place wish on put =
+    record { place = place; wish = refl; noted = told-more written faults from to x y on put; unwished = λ none. absurd cc }
+
+-- what was noted before a job, while it went on, and behind it, where nothing follows what could not be put whole
+pub told-run : {N : Type 0} (written : N → Option (List ℕ)) (faults : N → ℕ) {L : Type 0} (wished wished_after forewarned from to going : Bool) (x y start mid end z : N)
+    → NotedSo forewarned (written x) (written y) (faults x) (faults y) → start ≡ y → from ≡ forewarned → IsTold written faults L wished wished_after from to start mid → going ≡ to
+    → (going ≡ false → z ≡ end) → Noted (written end) (written z) (faults end) (faults z) → end ≡ mid → Noted (written x) (written z) (faults x) (faults z)
+told-run {N = N} written faults wished wished_after forewarned from to going x y start mid end z first begun same told is silent last left =
+    let So : Bool → N → Type 0 = λ b n. NotedSo b (written x) (written n) (faults x) (faults n) in
+    let before : So from start = subst (λ (b : Bool). So b start) (sym same) (subst (So forewarned) (sym begun) first) in
+    noted-run written faults going x end z (subst (So going) (sym left) (subst (λ (b : Bool). So b mid) (sym is) (told.noted (written x) (faults x) before))) silent last
+
+-- nothing was, where none was wished for
+pub quiet-run : {N : Type 0} (written : N → Option (List ℕ)) (faults : N → ℕ) {L : Type 0} (wished wished_after from to : Bool) (x y start mid end z : N)
+    → y ≡ x → start ≡ y → IsTold written faults L wished wished_after from to start mid → wished ≡ false → z ≡ end → end ≡ mid → z ≡ x
+quiet-run written faults wished wished_after from to x y start mid end z first begun told none last left = last ∙ left ∙ told.unwished none ∙ begun ∙ first

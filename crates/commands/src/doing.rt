@@ -19,17 +19,19 @@ use choose_core::{Chooser, Chooses, Style};
 use command_ends::{Refusal, Stop};
 use command_words::{Command, Word, WordsFault, read_command};
 use greedy_router::Routed;
+use progress::Watch;
 use shelf_io::Shelf;
 use std::alloc::Global;
 
-// Does a command.
-fn obey<S: Shelf>(
+// Does a command. One that watches is told how far its job has come.
+fn obey<S: Shelf, W: Watch>(
     alloc: Global,
     shelf: &mut S,
     command: &Command<'_>,
     styles: &[Style],
     heard: &mut Heard,
     kept: &mut Vec<Routed>,
+    watch: &mut W,
 ) -> Result<Done, Stop>
     requires style { IsOfStyle (length styles.now) (command_seen command.now) }
     requires none { kept.old.items ≡ [] }
@@ -37,22 +39,24 @@ fn obey<S: Shelf>(
         (files (S.holds shelf.old) (S.read_faults shelf.old) (S.write_faults shelf.old)) (files (S.holds shelf.new) (S.read_faults shelf.new) (S.write_faults shelf.new)) }
     ensures kept { (said : _) → command_verdict (command_seen command.now) (S.holds shelf.old) ≡ Some said → HasBegun (end_seen result)
         → AreKept styles.now (λ s. s.plan) (λ s. ⟦<Chooser as Chooses>⟧.answers s.chooser) (command_seen command.now) said kept.new.items }
+    ensures goes { W.goes watch.old watch.new }
 {
     match command {
-        Command::Route(names) => route(alloc, shelf, names, styles, heard, kept),
+        Command::Route(names) => route(alloc, shelf, names, styles, heard, kept, watch),
         Command::Check(names) => judge(alloc, shelf, names, heard),
         Command::Help(topic) => Ok(Done::Helped(*topic)),
     }
 }
 
-/// Does what words ask for.
-pub(crate) fn carry_out<S: Shelf>(
+/// Does what words ask for. One that watches is told how far its job has come.
+pub(crate) fn carry_out<S: Shelf, W: Watch>(
     alloc: Global,
     words: &[Word],
     shelf: &mut S,
     styles: &[Style],
     heard: &mut Heard,
     kept: &mut Vec<Routed>,
+    watch: &mut W,
 ) -> Result<Done, Stop>
     requires some { 0 < length styles.now }
     requires few { length styles.now ≤ 16 }
@@ -62,9 +66,10 @@ pub(crate) fn carry_out<S: Shelf>(
     ensures kept { (command : asked.Command) (said : _) → command_of (map (λ s. s.chooser.name) styles.now) words.now ≡ Some command
         → command_verdict command (S.holds shelf.old) ≡ Some said → HasBegun (end_seen result)
         → AreKept styles.now (λ s. s.plan) (λ s. ⟦<Chooser as Chooses>⟧.answers s.chooser) command said kept.new.items }
+    ensures goes { W.goes watch.old watch.new }
 {
     match read_command(alloc, styles, words) {
-        Ok(command) => obey(alloc, shelf, &command, styles, heard, kept),
+        Ok(command) => obey(alloc, shelf, &command, styles, heard, kept, watch),
         Err(WordsFault::Usage) => Err(Stop::Refused(Refusal::Usage)),
         Err(WordsFault::Memory) => Err(Stop::Refused(Refusal::Memory)),
     }

@@ -10,6 +10,7 @@ mod report;
 mod routing;
 mod telling;
 mod top;
+mod watching;
 mod writing;
 
 pub use command_words::Word;

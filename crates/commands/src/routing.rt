@@ -21,6 +21,7 @@ use command_words::{Route, Source};
 use design_notes::note_design;
 use greedy_router::Routed;
 use note_text::Notes;
+use progress::Watch;
 use shelf_io::Shelf;
 use std::alloc::Global;
 
@@ -31,14 +32,16 @@ fn note_inputs(alloc: Global, notes: &mut Notes, source: &Source<'_>, inputs: &I
     }
 }
 
-/// Routes a design from its source under the rules of a file into another file, by the choices of its style, and gives the layout in short.
-pub(crate) fn route<S: Shelf>(
+/// Routes a design from its source under the rules of a file into another file, by the choices of its style, and gives the layout in short. One that watches is told how far
+/// that has come.
+pub(crate) fn route<S: Shelf, W: Watch>(
     alloc: Global,
     shelf: &mut S,
     names: &Route<'_>,
     styles: &[Style],
     heard: &mut Heard,
     kept: &mut Vec<Routed>,
+    watch: &mut W,
 ) -> Result<Done, Stop>
     requires style { names.now.style < length styles.now }
     requires none { kept.old.items ≡ [] }
@@ -46,6 +49,7 @@ pub(crate) fn route<S: Shelf>(
         (files (S.holds shelf.old) (S.read_faults shelf.old) (S.write_faults shelf.old)) (files (S.holds shelf.new) (S.read_faults shelf.new) (S.write_faults shelf.new)) }
     ensures kept { (said : _) → command_verdict (asked.route (seen names.now)) (S.holds shelf.old) ≡ Some said → HasBegun (end_seen result)
         → AreKept styles.now (λ s. s.plan) (λ s. ⟦<Chooser as Chooses>⟧.answers s.chooser) (asked.route (seen names.now)) said kept.new.items }
+    ensures goes { W.goes watch.old watch.new }
 {
     let style = &styles[names.style];
     let ports = names.wanted.ports;
@@ -64,8 +68,11 @@ pub(crate) fn route<S: Shelf>(
         designs,
     } = inputs;
     drop(file);
-    match lay_out(alloc, designs, rules, names.wanted, style) {
-        Ok(prepared) => write_prepared(alloc, shelf, prepared, names.out, &mut heard.notes, kept),
+    match lay_out(alloc, designs, rules, names.wanted, style, watch) {
+        Ok(prepared) => {
+            let notes = &mut heard.notes;
+            write_prepared(alloc, shelf, prepared, names.out, notes, kept, watch)
+        }
         Err(refusal) => Err(Stop::Refused(refusal)),
     }
 }

@@ -21,6 +21,7 @@ use crate::forewarning::forewarn;
 use crate::heard::Heard;
 use crate::report::report;
 use crate::telling::tell;
+use crate::watching::{Progress, wishes_progress};
 use choose_core::{Chooser, Chooses, Style};
 use command_words::Word;
 use greedy_router::Routed;
@@ -40,7 +41,7 @@ pub struct Ended {
 
 /// Does the command that the words give.
 ///
-/// `route DESIGN RULES OUT [--seed N] [--rows K] [--style NAME] [--edge] [--ports] [-q]` reads the rules from the file RULES and the design in YAL from
+/// `route DESIGN RULES OUT [--seed N] [--rows K] [--style NAME] [--edge] [--ports] [--progress] [-q]` reads the rules from the file RULES and the design in YAL from
 /// the file DESIGN, sets its cells in K rows, from 1 to 512, or in as many as make the layout about square, anneals the rows as the rules
 /// say with the seed N, below 2^64, or 1, sets feeds where nets cross rows, joins each net by wires in the channels between the rows, by the
 /// choices of the first of the styles that has the name NAME, or of the first of all, writes the layout in CIF into the file OUT, and prints it in
@@ -59,7 +60,8 @@ pub struct Ended {
 /// the line `write fault` is tried and the status is 9.
 ///
 /// To `notes` go lines for people: warnings of names before anything is read, and at the end what is unusual, what was found or made, or where and why the command was stopped. With `-q`
-/// (`--quiet`) there are none. Whatever becomes of them, statuses, lines, files and kept channels are the same.
+/// (`--quiet`) there are none. With `--progress` `route` and `make` tell there, as they go, how far they have come, in at most 33 lines for each of annealing, routing and writing.
+/// Whatever becomes of them, statuses, lines, files and kept channels are the same.
 ///
 /// What may refuse comes in this order: the words, reading RULES, the rules, reading DESIGN, YAL, the design, its ports, and then the
 /// limits of moves, grid, width and height, writing OUT, printing; or reading CIF, its text, its commands, checking, printing. Where the shelf tells the files that it
@@ -162,8 +164,13 @@ pub fn run<S: Shelf, K: Sink, N: Sink>(
 {
     let mut kept = Vec::new(alloc);
     let mut heard = Heard::new(alloc);
-    let going = forewarn(alloc, words, styles, notes);
-    let ending = carry_out(alloc, words, shelf, styles, &mut heard, &mut kept);
+    let forewarned = forewarn(alloc, words, styles, notes);
+    let wished = wishes_progress(alloc, words, styles);
+    let mut watch = Progress::new(notes, wished, forewarned);
+    let ending = carry_out(
+        alloc, words, shelf, styles, &mut heard, &mut kept, &mut watch,
+    );
+    let going = watch.is_going();
     let status = report(out, &ending);
     let Heard {
         texts,

@@ -46,6 +46,11 @@ const PORTS: OptionForm = OptionForm {
     value: None,
 };
 
+const PROGRESS: OptionForm = OptionForm {
+    word: "--progress",
+    value: None,
+};
+
 const QUIET: OptionForm = OptionForm {
     word: "--quiet",
     value: None,
@@ -54,7 +59,7 @@ const QUIET: OptionForm = OptionForm {
 const ROUTE: Form = Form {
     word: "route",
     names: &["DESIGN", "RULES", "OUT"],
-    options: &[SEED, ROWS, STYLE, EDGE, PORTS, QUIET],
+    options: &[SEED, ROWS, STYLE, EDGE, PORTS, PROGRESS, QUIET],
     topic: Topic::RouteCommand,
 };
 
@@ -68,7 +73,7 @@ const CHECK: Form = Form {
 const MAKE: Form = Form {
     word: "make",
     names: &["SEED", "N", "RULES", "OUT"],
-    options: &[QUIET],
+    options: &[PROGRESS, QUIET],
     topic: Topic::MakeCommand,
 };
 

@@ -8,6 +8,7 @@ use crate::planning::route_planned;
 use crate::sweep::Routed;
 use channel_model::Channel;
 use choose_core::{Chooser, Chooses, Plan, Style};
+use progress::{Step, Unwatched, Watch};
 use std::alloc::{AllocError, Global};
 
 // Routes a channel by its left edges, where that is asked for and it has no vertical constraint, and else by the best sweep of a plan.
@@ -28,19 +29,22 @@ fn route_one<C: Chooses>(
     route_planned(alloc, channel, chooser, plan)
 }
 
-// Routes channels, for all that chooses.
-fn route_all<C: Chooses>(
+// Routes channels, for all that chooses. Of each channel is told when it is routed.
+fn route_all<C: Chooses, W: Watch>(
     alloc: Global,
     channels: &[Channel],
     chooser: &C,
     plan: &Plan,
     edge: bool,
+    watch: &mut W,
 ) -> Result<Vec<Routed>, AllocError>
-    ensures { IfOk result (λ routed. AreRouted edge plan.now (C.answers chooser.now) channels.now routed.items) }
+    ensures routed { IfOk result (λ routed. AreRouted edge plan.now (C.answers chooser.now) channels.now routed.items) }
+    ensures goes { W.goes watch.old watch.new }
 {
     let mut routed = Vec::new(alloc);
     for channel in channels {
         routed.push(route_one(alloc, channel, chooser, plan, edge)?)?;
+        watch.told(Step::Routing, routed.len() as u64, channels.len() as u64);
     }
     Ok(routed)
 }
@@ -56,5 +60,20 @@ pub fn route_channels(
     ensures { IfOk result (λ routed.
         AreRouted edge style.now.plan (⟦<Chooser as Chooses>⟧.answers style.now.chooser) channels.now routed.items) }
 {
-    route_all(alloc, channels, &style.chooser, &style.plan, edge)
+    route_channels_watched(alloc, channels, style, edge, &mut Unwatched)
+}
+
+/// The same, where one that watches is told of each channel when it is routed.
+pub fn route_channels_watched<W: Watch>(
+    alloc: Global,
+    channels: &[Channel],
+    style: &Style,
+    edge: bool,
+    watch: &mut W,
+) -> Result<Vec<Routed>, AllocError>
+    ensures routed { IfOk result (λ routed.
+        AreRouted edge style.now.plan (⟦<Chooser as Chooses>⟧.answers style.now.chooser) channels.now routed.items) }
+    ensures goes { W.goes watch.old watch.new }
+{
+    route_all(alloc, channels, &style.chooser, &style.plan, edge, watch)
 }

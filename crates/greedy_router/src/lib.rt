@@ -22,7 +22,7 @@ mod sweeping;
 mod tables;
 mod wiring;
 
-pub use channels::route_channels;
+pub use channels::{route_channels, route_channels_watched};
 pub use columns::{Columns, LentColumn};
 pub use edges::route_edge;
 pub use planning::route_best;

@@ -125,7 +125,7 @@ fn summary(alloc: Global) -> Summary {
         cells: 4,
         nets: 2,
         rows: 2,
-        feeds: 0,
+        feeds: 2,
         channels: Items::new(Vec::new(alloc)),
         width: 2400,
         height: 12800,
@@ -146,6 +146,8 @@ fn told_of(alloc: Global, calls: &str, routed: &[Routed]) -> Result<Option<Vec<u
         rules: &rules,
         summary: &summary,
         routed,
+        feed_wire: 75,
+        first_cost: 12,
     };
     let mut notes = Notes::new(alloc);
     note_layout(alloc, &mut notes, &laid);
@@ -159,7 +161,7 @@ fn told_of(alloc: Global, calls: &str, routed: &[Routed]) -> Result<Option<Vec<u
 const CALLS: &str = "u1 BUF b; u2 BUF a; u3 INV a; u4 INV b;";
 
 const LINES: &str = "o.cif: 24.0 by 128.0 um, 3072 square um, of which cells fill 41.6 percent
-wire in channels: 32.0 um of NM, 64.0 um of NP, 6 cuts; feeds in rows: 0
+wire in channels: 32.0 um of NM, 64.0 um of NP, 6 cuts; feeds in rows: 2, 75.0 um of NP
 longest nets in channels: b 56.0 um, a 40.0 um
 channel 0: tracks 0, 0 at least, by the greedy router
 channel 1: tracks 3, 2 at least, by the greedy router
@@ -168,7 +170,7 @@ cost of the rows: 10
 
 /// The same without wires.
 const BARE_LINES: &str = "o.cif: 24.0 by 128.0 um, 3072 square um, of which cells fill 41.6 percent
-wire in channels: 0.0 um of NM, 0.0 um of NP, 0 cuts; feeds in rows: 0
+wire in channels: 0.0 um of NM, 0.0 um of NP, 0 cuts; feeds in rows: 2, 75.0 um of NP
 channel 0: tracks 0, 0 at least, by the greedy router
 cost of the rows: 10
 ";

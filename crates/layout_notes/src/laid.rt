@@ -5,7 +5,8 @@ use greedy_router::Routed;
 use layout_report::Summary;
 use tech_rules::Rules;
 
-/// A layout that was made of a design under rules: the name of its file, the layout in short, and its routed channels from the lowest up.
+/// A layout that was made of a design under rules: the name of its file, the layout in short, its routed channels from the lowest up, how long its feeds are together, in units, and what
+/// its rows cost before they were annealed.
 #[derive(Clone, Copy)]
 pub struct LaidLayout<'a> {
     pub out_name: &'a str,
@@ -13,6 +14,8 @@ pub struct LaidLayout<'a> {
     pub rules: &'a Rules,
     pub summary: &'a Summary,
     pub routed: &'a [Routed],
+    pub feed_wire: u64,
+    pub first_cost: u64,
 }
 
 impl<'a> LaidLayout<'a> {

@@ -25,7 +25,7 @@ fn size_line(alloc: Global, laid: &LaidLayout<'_>) -> Result<String, AllocError>
     )
 }
 
-// How much wire the channels have, and how many feeds the rows.
+// How much wire the channels have, and the rows by their feeds.
 fn wire_line(alloc: Global, laid: &LaidLayout<'_>, wires: &Wires) -> Result<String, AllocError> {
     let rules = laid.rules;
     let along_layer = shown(alloc, rules.horizontal.layer.text())?;
@@ -33,9 +33,10 @@ fn wire_line(alloc: Global, laid: &LaidLayout<'_>, wires: &Wires) -> Result<Stri
     let along = microns(alloc, wires.along)?;
     let across = microns(alloc, wires.across)?;
     let vias = wires.vias;
+    let upright = microns(alloc, laid.units(laid.feed_wire))?;
     let feeds = laid.summary.feeds;
     format!(in alloc;
-        "wire in channels: {along} um of {along_layer}, {across} um of {across_layer}, {vias} cuts; feeds in rows: {feeds}"
+        "wire in channels: {along} um of {along_layer}, {across} um of {across_layer}, {vias} cuts; feeds in rows: {feeds}, {upright} um of {across_layer}"
     )
 }
 
@@ -91,14 +92,19 @@ fn nets_line(
     Ok(line)
 }
 
-// What the rows cost.
+// What the rows cost, and what they did before they were annealed, where that had stages.
 fn cost_line(alloc: Global, laid: &LaidLayout<'_>) -> Result<String, AllocError> {
+    let rules = laid.rules;
     let cost = laid.summary.cost;
-    format!(in alloc; "cost of the rows: {cost}")
+    if rules.annealing.stages == 0 {
+        return format!(in alloc; "cost of the rows: {cost}");
+    }
+    let first = laid.first_cost;
+    format!(in alloc; "cost of the rows: {cost}, {first} before annealing")
 }
 
-/// Notes a layout that was made: its size and what of it cells fill, the wire in its channels, the tracks of each channel and how many it needs at least, the ten nets with the most
-/// wire, and the cost of its rows. What memory has no room for is left out.
+/// Notes a layout that was made: its size and what of it cells fill, the wire in its channels and that of feeds, the tracks of each channel and how many it needs at least, the ten nets
+/// with the most wire in channels, and the cost of its rows before and after annealing. What memory has no room for is left out.
 pub fn note_layout(alloc: Global, notes: &mut Notes, laid: &LaidLayout<'_>) {
     note(notes, size_line(alloc, laid));
     if let Ok(mut wires) = wires_of(alloc, laid) {

@@ -99,12 +99,18 @@ fn stock_style(alloc: Global, stock: Stock) -> Result<Style, AllocError> {
     })
 }
 
-/// The notes on these words over this shelf, with the styles `near`, `lean` and `high`.
-pub(crate) fn noted(alloc: Global, text: &str, shelf: &mut MemShelf) -> Result<String, AllocError> {
-    let words = words(alloc, text)?;
+/// The styles `near`, `lean` and `high`.
+pub(crate) fn styled(alloc: Global) -> Result<[Style; 3], AllocError> {
     let near = stock_style(alloc, Stock::Near)?;
     let lean = stock_style(alloc, Stock::Lean)?;
     let high = stock_style(alloc, Stock::High)?;
+    Ok([near, lean, high])
+}
+
+/// The notes on these words over this shelf, with the styles `near`, `lean` and `high`.
+pub(crate) fn noted(alloc: Global, text: &str, shelf: &mut MemShelf) -> Result<String, AllocError> {
+    let words = words(alloc, text)?;
+    let styles = styled(alloc)?;
     let mut out = MemSink::new(alloc)?;
     let mut notes = MemSink::new(alloc)?;
     let _ = run(
@@ -113,7 +119,7 @@ pub(crate) fn noted(alloc: Global, text: &str, shelf: &mut MemShelf) -> Result<S
         shelf,
         &mut out,
         &mut notes,
-        &[near, lean, high],
+        &styles,
     );
     String::from_str(alloc, str::from_utf8(notes.bytes()).unwrap_or("no UTF-8"))
 }

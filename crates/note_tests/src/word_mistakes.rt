@@ -32,7 +32,7 @@ const MISTAKES: &[(&str, &str)] = &[
     ),
     (
         "route|d|r|o|--row|3",
-        "cellroute route: --row is no option of route; its options are --seed, --rows, --style, --edge, --ports, --quiet; did you mean --rows? [usage]",
+        "cellroute route: --row is no option of route; its options are --seed, --rows, --style, --edge, --ports, --progress, --quiet; did you mean --rows? [usage]",
     ),
     (
         "check|d|r|c|--rows|2",
@@ -40,11 +40,11 @@ const MISTAKES: &[(&str, &str)] = &[
     ),
     (
         "make|1|5|r|o|--edge",
-        "cellroute make: --edge is no option of make; its options are --quiet [usage]",
+        "cellroute make: --edge is no option of make; its options are --progress, --quiet [usage]",
     ),
     (
         "route|d|r|o|-s|5",
-        "cellroute route: -s is no option of route; its options are --seed, --rows, --style, --edge, --ports, --quiet [usage]",
+        "cellroute route: -s is no option of route; its options are --seed, --rows, --style, --edge, --ports, --progress, --quiet [usage]",
     ),
     (
         "help|rout",

@@ -10,6 +10,7 @@ invariant-loop-one g l = record {
       (main_text l.routed.design.now l.tall l.routed.rules.now l.text.last (map g.W.HasWiring.wiring_of l.channels) l.edges l.heights l.rows l.risers)
       l.fn.text.buffered l.text.buffered (g.K.Sink.written l.fn.out) (g.K.Sink.written l.out) (g.K.Sink.faults l.fn.out) (g.K.Sink.faults l.out) (g.K.Sink.same_place l.fn.out l.out) (g.K.Sink.else_same l.fn.out l.out true);
   in_reach : AreInReach l.routed.rules.now (map g.W.HasWiring.wiring_of l.channels) l.edges l.risers l.routed.symbols.now.drawings;
+  goes : g.V.Watch.goes l.fn.watch l.watch;
 }
 
 abbrev pub decreases-loop-one : goal.decreases-loop-one

@@ -63,3 +63,12 @@ returns-clause-kept g c =
 
 pub ready-requires-clause-cost : goal.ready-requires-clause-cost
 ready-requires-clause-cost g c = c.in_ok-rows.ensures.cost
+
+pub returns-in_err-routed-clause-goes : goal.returns-in_err-routed-clause-goes
+returns-in_err-routed-clause-goes g c = g.met.W.Watch.goes_then _ _ _ c.in_ok-rows.ensures.goes c.in_err-routed.ensures.goes
+
+pub returns-in_err-made-clause-goes : goal.returns-in_err-made-clause-goes
+returns-in_err-made-clause-goes g c = g.met.W.Watch.goes_then _ _ _ c.in_ok-rows.ensures.goes c.in_ok-routed.ensures.goes
+
+pub returns-clause-goes : goal.returns-clause-goes
+returns-clause-goes g c = g.met.W.Watch.goes_then _ _ _ c.in_ok-rows.ensures.goes c.in_ok-routed.ensures.goes

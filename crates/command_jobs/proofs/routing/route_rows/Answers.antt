@@ -22,13 +22,13 @@ returns-clause-narrow g c =
     omega arith
 
 pub returns-clause-kept : goal.returns-clause-kept
-returns-clause-kept g c = told-routed _ _ _ _ _ _ _ (c.as_slice.ensures.value ∙ c.in_ok-channels.ensures.is) refl c.in_ok-routed.ensures
+returns-clause-kept g c = told-routed _ _ _ _ _ _ _ (c.as_slice.ensures.value ∙ c.in_ok-channels.ensures.is) refl c.in_ok-routed.ensures.routed
 
 pub returns-clause-wired : goal.returns-clause-wired
 returns-clause-wired g c =
     let fed : Fed = c.args.fed.now in
     routed-wired _ _ _ c.args.drawn.now fed (subst (AreTablesFor fed) c.in_ok-channels.ensures.is c.in_ok-channels.ensures.tables) _
-    (told-routed _ _ _ _ _ _ _ (c.as_slice.ensures.value ∙ c.in_ok-channels.ensures.is) refl c.in_ok-routed.ensures)
+    (told-routed _ _ _ _ _ _ _ (c.as_slice.ensures.value ∙ c.in_ok-channels.ensures.is) refl c.in_ok-routed.ensures.routed)
 
 pub returns-clause-routed : goal.returns-clause-routed
 returns-clause-routed g c =
@@ -37,5 +37,5 @@ returns-clause-routed g c =
     let small : size_refusal bound ≡ None = ap size_refusal (sym c.bound_of.ensures.is) ∙ sym c.size_refusal.ensures.is ∙ c.in_default.is in
     let within = unrefused-within bound small in
     routed-within _ _ _ c.args.drawn.now fed (subst (AreTablesFor fed) c.in_ok-channels.ensures.is c.in_ok-channels.ensures.tables) _
-    (told-routed _ _ _ _ _ _ _ (c.as_slice.ensures.value ∙ c.in_ok-channels.ensures.is) refl c.in_ok-routed.ensures)
+    (told-routed _ _ _ _ _ _ _ (c.as_slice.ensures.value ∙ c.in_ok-channels.ensures.is) refl c.in_ok-routed.ensures.routed)
     c.args.rules.now within.1.0 within.1.1

@@ -132,7 +132,7 @@ pub returns-in-Ok-clause-carried : goal.returns-in-Ok-clause-carried
 returns-in-Ok-clause-carried g c =
     let names : Names = seen c.args.names.now in
     written-for names c.in_ok-inputs.inputs c.in-Ok.prepared _ _ _ _ _ c.in_ok-inputs.ensures.are c.in-Ok.ensures.is c.in-Ok.ensures.made c.in_ok-inputs.ensures.read
-    c.write_prepared.ensures
+    c.write_prepared.ensures.written
 
 pub returns-in-Ok-clause-kept : goal.returns-in-Ok-clause-kept
 returns-in-Ok-clause-kept g c = λ said says begun.
@@ -142,5 +142,11 @@ returns-in-Ok-clause-kept g c = λ said says begun.
           chosen-so c.args.styles.now _ _ _ names.style c.index-styles-names.result _ said _ c.requires.style c.index-styles-names.is
           (routed-so _ _ _ said c.in-Ok.prepared.job c.in-Ok.prepared.kept _
           (job-said names _ c.in_ok-inputs.inputs said c.in_ok-inputs.ensures.are says ∙ job-accepted names.wanted c.in_ok-inputs.inputs _ c.in-Ok.ensures.made)
-          c.write_prepared.ensures.routed_so c.in-Ok.ensures.kept);
+          c.write_prepared.ensures.written.routed_so c.in-Ok.ensures.kept);
     }
+
+pub returns-in-Ok-clause-goes : goal.returns-in-Ok-clause-goes
+returns-in-Ok-clause-goes g c = g.met.W.Watch.goes_then _ _ _ c.in-Ok.ensures.goes c.write_prepared.ensures.goes
+
+pub returns-in_err-inputs-clause-goes : goal.returns-in_err-inputs-clause-goes
+returns-in_err-inputs-clause-goes g c = g.met.W.Watch.goes_here _

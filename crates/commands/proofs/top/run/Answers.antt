@@ -1,9 +1,9 @@
-use Rattle.std.proofs.Common.{◌≢◌, ◌∙◌, inl, inr, ap, arith}
+use Rattle.std.proofs.Common.{◌≢◌, ◌∙◌, inl, inr, ap, arith, rules}
 use Rattle.command_ends.specs.Status.{ending_status}
 use Rattle.commands.specs.Changes.{HasBegun}
 use Rattle.commands.specs.Done.{end_seen}
 use Rattle.commands.proofs.CarriedLaws.{changes-of, said-of}
-use Rattle.commands.proofs.NotedLaws.{noted-run}
+use Rattle.commands.proofs.NotedLaws.{quiet-run, told-run}
 use Rattle.commands.proofs.Endings.{command-still, fails-there, file-still, if-said, rose-still, sink-fails, whole-front}
 use Rattle.commands.proofs.Tellings.{IsTold, nine-begun, tells-begun, tells-calm, tells-fault, tells-judged, tells-listed, tells-number, tells-rose, tells-said}
 use Rattle.commands.proofs.top.run.Goals as goal
@@ -57,7 +57,10 @@ returns g c =
       complete = λ command said comes quiet.
           tells-said n _ _ _ _ e _ said t (said-of k comes).ends quiet.sink (λ eight. command-still command _ _ _ quiet.reads (k.cause command comes.asked eight))
           (λ nine. file-still _ _ _ quiet.writes ((changes-of k comes.asked).begun (nine-begun e nine)) ((changes-of k comes.asked).cause nine));
-      notes = noted-run g.N.Sink.written g.N.Sink.faults c.forewarn-going.result _ _ _ c.forewarn-going.ensures.noted c.tell.ensures.silent c.tell.ensures.noted;
-      quiet = λ command is quiet. c.tell.ensures.quiet command is quiet ∙ c.forewarn-going.ensures.quiet command is quiet;
+      notes = told-run g.N.Sink.written g.N.Sink.faults _ _ _ _ _ _ _ _ _ _ _ _ c.forewarn-forewarned.ensures.noted c.new-watch.ensures.now c.new-watch.ensures.going
+          c.carry_out-ending.ensures.goes c.is_going-going.ensures c.tell.ensures.silent c.tell.ensures.noted (search rules);
+      quiet = λ command is quiet.
+          quiet-run g.N.Sink.written g.N.Sink.faults _ _ _ _ _ _ _ _ _ _ (c.forewarn-forewarned.ensures.quiet command is quiet) c.new-watch.ensures.now
+          c.carry_out-ending.ensures.goes (c.new-watch.ensures.wished ∙ c.wishes_progress-wished.ensures command is quiet) (c.tell.ensures.quiet command is quiet) (search rules);
       calm = λ few. tells-calm n _ _ _ _ e t (omega (arith, few));
     }

@@ -27,8 +27,8 @@ begun-changes file ending kept old new begun others cause writes reads = record 
   same_reads = λ other. reads;
 }
 
-pub returns-in-Ok : goal.returns-in-Ok
-returns-in-Ok g c =
+pub returns-in-Ok-clause-written : goal.returns-in-Ok-clause-written
+returns-in-Ok-clause-written g c =
     let kept = c.told-written.ensures.kept in
     let e = c.in-Ok.ensures in
     record {
@@ -45,8 +45,8 @@ returns-in-Ok g c =
       good = e.good;
     }
 
-pub returns-in-Err : goal.returns-in-Err
-returns-in-Err g c =
+pub returns-in-Err-clause-written : goal.returns-in-Err-clause-written
+returns-in-Err-clause-written g c =
     let kept = c.told-cut.ensures.kept in
     let e = c.in-Err.ensures in
     record {

@@ -20,4 +20,5 @@ loop-channel-preserved g c =
       each = omega (arith, length-append c.loop-channel.routed.items (one ∷ []), c.loop-channel.invariant.each);
       within = each-push (λ p q. IsRoutedAs c.args.edge c.args.plan.now (g.C.Chooses.answers c.args.chooser.now) p q) c.args.channels.now c.loop-channel.routed.items pins one
           c.loop-channel.invariant.within there c.in_ok-route_one.ensures;
+      goes = g.met.W.Watch.goes_then _ _ _ c.loop-channel.invariant.goes c.told.ensures;
     })

@@ -10,4 +10,5 @@ invariant-loop-channel g l = record {
   each : length l.routed.items ≡ l.channel-index;
   within : (k : ℕ) (pins : Pins) (one : Routed) → slice_get l.channels k ≡ Some pins → slice_get l.routed.items k ≡ Some one
       → IsRoutedAs l.edge l.plan (g.C.Chooses.answers l.chooser) pins one;
+  goes : g.W.Watch.goes l.fn.watch l.watch;
 }

@@ -13,8 +13,8 @@ use Rattle.command_jobs.specs.Text.{job_text, wirings_of}
 use Rattle.command_jobs.specs.Written.{IsPortedText}
 use Rattle.command_jobs.proofs.prepared.Prepared.write.Goals as goal
 
-pub write_layout-requires-clause-wired : goal.write_layout-requires-clause-wired
-write_layout-requires-clause-wired g c =
+pub write_layout_watched-requires-clause-wired : goal.write_layout_watched-requires-clause-wired
+write_layout_watched-requires-clause-wired g c =
     let a = c.self.inside in
     subst (λ (l : List Routed). IsRouted a.rules a.designs.drawn.design a.fed (wirings_of l)) (sym c.as_slice.ensures.value) c.self.invariant.rows.routed
 
@@ -27,8 +27,8 @@ returns-clause-front g c =
     ap (placed a.fed) c.as_slice.ensures.value
     ∙ ap (λ (fed : Fed). placed fed a.kept.items) c.self.invariant.rows.is
     ∙ ap (λ (p : RoutedJob). job_text p.job p.kept) c.self.view_is in
-    subst (λ (l : List ℕ). OnErr c.write_layout.result (HoldsFront l (g.S.Shelf.holds c.args.shelf.now c.args.out.now) (g.S.Shelf.holds c.write_layout.new.shelf c.args.out.now)))
-    text c.write_layout.ensures.front
+    subst (λ (l : List ℕ). OnErr c.write_layout_watched.result (HoldsFront l (g.S.Shelf.holds c.args.shelf.now c.args.out.now) (g.S.Shelf.holds c.write_layout_watched.new.shelf c.args.out.now)))
+    text c.write_layout_watched.ensures.front
 
 pub returns-clause-good : goal.returns-clause-good
 unfolding job_text
@@ -39,7 +39,7 @@ returns-clause-good g c =
     let placed : Fed → List ℕ = λ fed. placed_text a.rules d fed (stack_of a.rules d fed (wirings_of a.kept.items)) in
     let reads : ReadsAs (placed a.fed) laid =
     subst (λ (kept : List Routed). ReadsAs (placed_text a.rules d a.fed (stack_of a.rules d a.fed (wirings_of kept))) (layout_of a.rules d (stack_of a.rules d a.fed (wirings_of kept))))
-    c.as_slice.ensures.value c.write_layout.ensures.reads_as in
+    c.as_slice.ensures.value c.write_layout_watched.ensures.reads_as in
     let made : IsPortedText a.rules a.designs.drawn (placed a.fed) =
     record { is = record { layout = laid; reads = reads; good = c.self.invariant.good }; edges = c.self.invariant.edges } in
     subst (λ (p : RoutedJob). IsPortedText p.job.rules p.job.drawn (job_text p.job p.kept)) c.self.view_is

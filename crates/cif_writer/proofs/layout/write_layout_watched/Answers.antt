@@ -1,4 +1,4 @@
-use Rattle.cif_writer.proofs.layout.write_layout.Goals as goal
+use Rattle.cif_writer.proofs.layout.write_layout_watched.Goals as goal
 use Rattle.std.proofs.Common.{ap, map, refl, subst}
 use Rattle.std.proofs.lemmas.Result.{on_err_weaker, on_ok_weaker}
 use Rattle.std.specs.List.{All}
@@ -39,16 +39,20 @@ returns g c =
     let netlist : IsNetlist c.args.routed.now.design.now = subst IsNetlist c.design.view_is c.design.invariant.netlist in
     let whole = whole-text rules design fed wirings c.args.routed.now.symbols.now.drawings c.args.routed.now.symbols.now.feed_heights c.args.routed.now.laid.now c.requires.symbols c.requires.feeds c.requires.laid in
     let begun = c.in_ok-begin.ensures in
-    let put = rw whole at c.put_design.ensures in
+    let put = rw whole at c.put_design.ensures.put in
     record {
       text = on_ok_weaker c.put_design.result (λ all. begun-whole _ _ _ begun.emptied all.whole) put.ended;
       reads_as = stack-reads rules c.requires.valid design netlist c.requires.high fed c.requires.fed wirings c.requires.wired;
       front = on_err_weaker c.put_design.result (λ part. begun-front _ _ _ _ begun.emptied part.front) put.failed;
       others = others-then _ refl (record { others = begun.others; same_reads = begun.reads; same_writes = λ _. begun.quiet }) (puts-same c.put_design.result put);
       cause = on_err_weaker c.put_design.result (λ part. rw begun.quiet at part.cause) put.failed;
+      goes = c.put_design.ensures.goes;
     }
 
 pub returns-in_err-begin-clause-reads_as : goal.returns-in_err-begin-clause-reads_as
 returns-in_err-begin-clause-reads_as g c =
     let netlist : IsNetlist c.args.routed.now.design.now = subst IsNetlist c.design.view_is c.design.invariant.netlist in
     stack-reads c.args.routed.now.rules.now c.requires.valid c.args.routed.now.design.now netlist c.requires.high c.args.routed.now.fed.now c.requires.fed (map g.W.HasWiring.wiring_of c.args.routed.now.wirings.now) c.requires.wired
+
+pub returns-in_err-begin-clause-goes : goal.returns-in_err-begin-clause-goes
+returns-in_err-begin-clause-goes g c = g.met.V.Watch.goes_here c.args.watch.now
