@@ -10,6 +10,7 @@ use std::alloc::Global;
 use std::test::Fail;
 
 /// How many stages were told of, whether each as the one behind the last, and of how many in all, 0 where nothing was told.
+#[derive(Drop)]
 struct Told {
     stages: u64,
     all: u64,
@@ -47,12 +48,8 @@ fn are_told(alloc: Global, cells: u32, stages: u64) -> Result<bool, Fail>
     let watched = anneal_watched(alloc, &design, rows, &schedule, 7, &mut told)?;
     let rows = first_rows(alloc, &design, 3)?;
     let made = anneal(alloc, &design, rows, &schedule, 7)?;
-    let Told {
-        stages: count,
-        all,
-        is_in_order,
-    } = told;
-    Ok(is_in_order && count == stages && all == stages && are_same(&watched.rows, &made.rows))
+    let counted = told.is_in_order && told.stages == stages && told.all == stages;
+    Ok(counted && are_same(&watched.rows, &made.rows))
 }
 
 #[test]
