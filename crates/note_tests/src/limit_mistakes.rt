@@ -33,11 +33,11 @@ fn files_that_are_too_long_have_notes(rt: HostRuntime) -> Result<(), Fail> {
 }
 
 /// A module of 11 terminals, and signals for them.
-const ELEVEN: &str = "MODULE W;\nTYPE STANDARD;\nIOLIST;\na I 0 0 3 POLY;\nb I 0 0 3 POLY;\nc I 0 0 3 POLY;\nd I 0 0 3 POLY;\ne I 0 0 3 POLY;\nf I 0 0 3 POLY;\ng I 0 0 3 POLY;\nh I 0 0 3 POLY;\ni I 0 0 3 POLY;\nj I 0 0 3 POLY;\nk I 0 0 3 POLY;\nENDIOLIST;\nENDMODULE;\n";
+const ELEVEN: &str =
+    "MODULE W;\nTYPE STANDARD;\nIOLIST;\na I 0 0 3 POLY;\nb I 0 0 3 POLY;\nc I 0 0 3 POLY;\nd I 0 0 3 POLY;\ne I 0 0 3 POLY;\nf I 0 0 3 POLY;\ng I 0 0 3 POLY;\nh I 0 0 3 POLY;\ni I 0 0 3 POLY;\nj I 0 0 3 POLY;\nk I 0 0 3 POLY;\nENDIOLIST;\nENDMODULE;\n";
 
 /// A circuit with a port.
-const PORTED: &str =
-    "MODULE top;\nTYPE PARENT;\nIOLIST;\nn I;\nENDIOLIST;\nNETWORK;\n";
+const PORTED: &str = "MODULE top;\nTYPE PARENT;\nIOLIST;\nn I;\nENDIOLIST;\nNETWORK;\n";
 
 /// The words; the modules, what stands before the calls, how many there are, and the module and the signals of each; and the note.
 type Large = (
@@ -175,7 +175,12 @@ fn want_of_memory_has_a_note(rt: HostRuntime) -> Result<(), Fail> {
         cif: None,
     };
     let mut told = Notes::new(rt.alloc());
-    note_stop(rt.alloc(), &mut told, &reached, &Stop::Refused(Refusal::Memory));
+    note_stop(
+        rt.alloc(),
+        &mut told,
+        &reached,
+        &Stop::Refused(Refusal::Memory),
+    );
     let mut notes = MemSink::new(rt.alloc())?;
     assert!(rt; put_notes(&mut notes, &told).is_ok());
     assert!(rt;
