@@ -1,5 +1,5 @@
 -- the commands to route and to check as the names in them, and when a reading gives what the words say
-use Rattle.std.specs.Prelude.{◌≡◌, Option, Some, None, Result, Ok, Err}
+use Rattle.std.specs.Prelude.{◌≡◌, Option, Some, None, Result, Ok, Err, option_map}
 use Rattle.command_words.specs.Command.{CheckNames, Command, Names, Source, check, from_file, from_seed, help, route}
 use Rattle.command_words.specs.declared.command.Check.{Check}
 use Rattle.command_words.specs.declared.command.Command as asked
@@ -21,7 +21,14 @@ seen names = record { design = source_seen names.design; rules = names.rules.now
 
 -- the same of a command to check
 abbrev pub check_seen : Check → CheckNames
-check_seen names = record { design = names.design.now; rules = names.rules.now; cif = names.cif.now; ports = names.ports; quiet = names.quiet }
+check_seen names = record {
+  design = names.design.now;
+  rules = names.rules.now;
+  cif = names.cif.now;
+  markers = option_map (λ name. name.now) names.markers;
+  ports = names.ports;
+  quiet = names.quiet;
+}
 
 abbrev pub command_seen : asked.Command → Command
 command_seen (commands.Route names) = route (seen names)

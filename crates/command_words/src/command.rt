@@ -47,13 +47,15 @@ pub struct Route<'a> {
     pub progress: bool,
 }
 
-/// The command to check a layout: the names of the design's file, of the rules file and of the layout's file, whether the
-/// terminals of the PARENT are to be ports, and whether there are to be no notes.
+/// The command to check a layout: the names of the design's file, of the rules file and of the layout's file, that of the file to
+/// write markers of the findings to, if there is to be one, whether the terminals of the PARENT are to be ports, and whether there
+/// are to be no notes.
 #[derive(Clone, Copy, Debug)]
 pub struct Check<'a> {
     pub design: &'a str,
     pub rules: &'a str,
     pub cif: &'a str,
+    pub markers: Option<&'a str>,
     pub ports: bool,
     pub quiet: bool,
 }
@@ -133,6 +135,7 @@ fn check_of<'a>(matches: &ArgMatches<'a>) -> Option<Check<'a>>
         design: value_of(matches, "design")?,
         rules: value_of(matches, "rules")?,
         cif: value_of(matches, "cif")?,
+        markers: value_of(matches, "markers"),
         ports: is_given(value_of(matches, "ports")),
         quiet: is_given(value_of(matches, "quiet")),
     })

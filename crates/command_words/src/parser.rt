@@ -102,6 +102,7 @@ pub(crate) fn check_parser<'a>(alloc: Global) -> Result<Parser<'a>, AllocError>
     ensures { IfOk result (λ c. app_of c ≡ check_app) }
 {
     let command = named_parser(alloc, "check", "cif")?;
+    let command = with_arg(command, option(alloc, "markers"))?;
     let command = with_arg(command, flag(alloc, "ports"))?;
     with_arg(command, quiet_flag(alloc))
 }
