@@ -38,9 +38,9 @@ pub const CHECK_HELP: &str = "\
 cellroute check DESIGN RULES CIF [OPTIONS]
 
 Judges the layout in CIF for the design in DESIGN under the rules in RULES: prints a line
-for each thing that is wrong with it, and their number. It writes no file but that of markers.
+for each thing that is wrong with it, and their number. It writes no file but FILE.
 
-  --markers FILE write what is wrong to FILE as a report database of KLayout
+  --markers FILE write it to FILE too, as a report database of KLayout
   --ports        judge it for the design with the terminals of the PARENT as cells
   -q, --quiet    no notes on the standard error
 ";

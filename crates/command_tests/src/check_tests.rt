@@ -12,7 +12,11 @@ use std::test::Fail;
 pub(crate) const JOINED: &str = "u1 BUF n1;\nu2 BUF n1;\n";
 
 /// A shelf with the sample rules, the design of these calls of buffers and the text of a layout.
-fn checked_shelf(alloc: Global, calls: &str, text: &str) -> Result<MemShelf, AllocError> {
+pub(crate) fn checked_shelf(
+    alloc: Global,
+    calls: &str,
+    text: &str,
+) -> Result<MemShelf, AllocError> {
     let mut shelf = shelf_of(alloc, RULES, BUFFER, calls)?;
     shelf.set("c", text.as_bytes())?;
     Ok(shelf)

@@ -18,6 +18,8 @@ mod line_tests;
 #[cfg(test)]
 mod many_tests;
 #[cfg(test)]
+mod marker_tests;
+#[cfg(test)]
 mod path_tests;
 #[cfg(test)]
 mod ported_tests;

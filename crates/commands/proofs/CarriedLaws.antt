@@ -1,6 +1,7 @@
-use Rattle.std.proofs.Common.{◌≡◌, ◌≢◌, ◌⊎◌, ◌∙◌, ℕ, List, [], Option, Some, None, option_and_then, Result, Ok, Err, IsErrAnd, refl, sym, ap, subst, arith}
+use Rattle.std.proofs.Common.{◌≡◌, ◌≢◌, ◌⊎◌, ◌∙◌, ℕ, List, [], Option, Some, None, option_and_then, Result, Ok, Err, IfOk, IsErrAnd, refl, sym, ap, subst, arith}
 use Rattle.std.proofs.lemmas.Option.{same_Some}
 use Rattle.greedy_router.specs.declared.sweep.Routed.{Routed}
+use Rattle.shelf_io.specs.Count.{Rose}
 use Rattle.command_ends.proofs.StopLaws.{stop-above}
 use Rattle.command_ends.specs.Answers.{Finds}
 use Rattle.command_ends.specs.Status.{ending_status, stop_status}
@@ -8,31 +9,48 @@ use Rattle.command_ends.specs.declared.refusal.Refusal.{Refusal}
 use Rattle.command_ends.specs.declared.stop.Stop.{Stop}
 use Rattle.command_inputs.specs.Reading.{Files, OnlyRead}
 use Rattle.command_words.specs.declared.topic.Topic.{Topic}
-use Rattle.command_words.specs.Command.{Command, command_of, help, writes_of}
+use Rattle.command_words.specs.Command.{Command, Names, check, command_of, help, route, writes_of}
 use Rattle.commands.specs.Accepted.{Accepted, to_help}
 use Rattle.commands.specs.Carried.{Carried}
 use Rattle.commands.specs.Causes.{ReadFails}
-use Rattle.commands.specs.Changes.{Changes, HasBegun, IsAsSaid}
+use Rattle.commands.specs.Changes.{Changes, HasBegun, HasLaidOut, IsAsSaid, IsLaidOut}
 use Rattle.commands.specs.Done.{Done, end_seen, helped}
 use Rattle.commands.specs.Ends.{Ends}
+use Rattle.commands.specs.Outcome.{AreKept}
+use Rattle.choose_core.specs.declared.candidate.Candidate.{Candidate}
+use Rattle.choose_core.specs.declared.plan.Plan.{Plan}
 use Rattle.commands.specs.Verdict.{Comes, asked_verdict, command_verdict}
 use Rattle.commands.specs.declared.done.Done as seen
 use Rattle.commands.proofs.Endings.{stopped}
-use Rattle.commands.proofs.Tellings.{stop-begun}
+use Rattle.commands.proofs.Tellings.{IsTold, stop-begun, told-laid}
 
 -- where no file was begun, nothing is changed
-pub unchanged : (file : Option (List ℕ)) (ending : Result Done Stop) (kept : List Routed) (old new : Files) → (HasBegun ending → ⊥)
-    → (file ≢ None → ending_status ending ≡ 0 → ⊥) → ending_status ending ≢ 9 → kept ≡ [] → new.holds ≡ old.holds → new.writes ≡ old.writes
+pub unchanged : (file : Option (List ℕ)) (ending : Result Done Stop) (kept : List Routed) (old new : Files) → (HasBegun ending file → ⊥)
+    → ending_status ending ≢ 9 → kept ≡ [] → new.holds ≡ old.holds → new.writes ≡ old.writes
     → (ending_status ending ≢ 8 → new.reads ≡ old.reads) → Changes file ending kept old new
-unchanged file ending kept old new not_begun undone unwritten empty holds writes quiet = record {
+unchanged file ending kept old new not_begun unwritten empty holds writes quiet = record {
   begun = λ begun. absurd (not_begun begun);
-  done = λ some zero. absurd (undone some zero);
   none = λ none. empty;
   untouched = λ none. holds;
   others = λ other apart. ap (λ (told : List ℕ → Option (List ℕ)). told other) holds;
   cause = λ nine. absurd (unwritten nine);
   same_writes = λ other. writes;
   same_reads = quiet;
+}
+
+-- where one was begun, no other is changed
+pub begun-changes : (file : List ℕ) (ending : Result Done Stop) (kept : List Routed) (old new : Files) → HasBegun ending (Some file)
+    → ((HasLaidOut ending → ⊥) → kept ≡ []) → ((other : List ℕ) → other ≢ file → new.holds other ≡ old.holds other)
+    → (ending_status ending ≡ 9 → Rose (old.writes file) (new.writes file)) → (ending_status ending ≢ 9 → new.writes ≡ old.writes) → new.reads ≡ old.reads
+    → Changes (Some file) ending kept old new
+begun-changes file ending kept old new begun empty others cause writes reads = record {
+  begun = λ here none. cc;
+  none = empty;
+  untouched = λ not_begun. absurd (not_begun begun);
+  others = λ other apart. others other (λ same. apart (ap (λ (l : List ℕ). Some l) (sym same)));
+  cause = λ nine name is. subst (λ (l : List ℕ). Rose (old.writes l) (new.writes l)) (same_Some file name is) (cause nine);
+  same_writes = writes;
+  same_reads = λ other. reads;
 }
 
 -- what was done where it was stopped before it wrote
@@ -50,8 +68,10 @@ stopped-so asked stop kept old new ends usage none unwritten empty holds writes 
   };
   usage = usage;
   no_command = none;
-  changes = unchanged _ (Err stop) kept old new (λ begun. unwritten (stop-begun stop begun)) (λ some zero. absurd (omega (arith, stop-above stop, zero)))
-      unwritten empty holds writes quiet;
+  changes = unchanged _ (Err stop) kept old new (λ begun. unwritten (stop-begun stop _ begun)) unwritten empty holds writes quiet;
+  unkept = λ command is none. empty;
+  laid = λ names is. tt;
+  marked = λ names file is some. tt;
   cause = cause;
   headline = λ names stated bytes held is states source zero told. absurd (omega (arith, stop-above stop, zero));
   edges = λ names stated bytes held is ports states source zero told. absurd (omega (arith, stop-above stop, zero));
@@ -83,7 +103,10 @@ helped-for topic kept files empty = record {
   };
   usage = λ two. absurd (omega (arith, two));
   no_command = λ none. absurd cc;
-  changes = unchanged None (Ok (helped topic)) kept files files (λ begun. begun) (λ some zero. some refl) (λ nine. absurd (omega (arith, nine))) empty refl refl (λ other. refl);
+  changes = unchanged None (Ok (helped topic)) kept files files (λ begun. begun) (λ nine. absurd (omega (arith, nine))) empty refl refl (λ other. refl);
+  unkept = λ command same none. empty;
+  laid = λ names same. absurd cc;
+  marked = λ names file same some. absurd cc;
   cause = λ command same eight. absurd (omega (arith, eight));
   headline = λ names stated bytes held same states source zero told. absurd cc;
   edges = λ names stated bytes held same ports states source zero told. absurd cc;
@@ -101,3 +124,11 @@ pub changes-of : {asked : Option Command} {e : Result Done Stop} {kept : List Ro
     → Carried asked e kept old new → asked ≡ Some command → Changes (writes_of command) e kept old new
 changes-of {e = e} {kept = kept} {old = old} {new = new} carried is =
     subst (λ (file : Option (List ℕ)). Changes file e kept old new) (ap (option_and_then writes_of) is) carried.changes
+
+-- a command to route that ended well, or could not write, keeps what it laid out; any other has no style
+pub kept-there : {C : Type 0} (styles : List C) (plan : C → Plan) (may : C → List Candidate → ℕ → Type 0) (command : Command) (said : Result Accepted Refusal) (kept : List Routed)
+    (e : Result Done Stop) (n : ℕ) {asked : Option Command} → ((names : Names) → asked ≡ Some (route names) → IfOk e IsLaidOut) → asked ≡ Some command → IsTold n (ending_status e)
+    → (n ≡ 0) ⊎ (n ≡ 9) → (HasLaidOut e → AreKept styles plan may command said kept) → AreKept styles plan may command said kept
+kept-there styles plan may (route names) said kept e n laid is told few keeps = keeps (told-laid e n told (laid names is) few)
+kept-there styles plan may (check names) said kept e n laid is told few keeps = record { by_style = λ place style at. absurd cc }
+kept-there styles plan may (help topic) said kept e n laid is told few keeps = record { by_style = λ place style at. absurd cc }

@@ -1,4 +1,4 @@
-use Rattle.std.proofs.Common.{◌≡◌, ◌≢◌, ◌⊎◌, ◌↔◌, ◌∙◌, ◌<◌, ℕ, List, [], ◌∷◌, length, Option, Some, None, Result, Ok, Err, IfSome, ap₂, inl, inr, refl, sym, subst, arith}
+use Rattle.std.proofs.Common.{◌≡◌, ◌≢◌, ◌⊎◌, ◌↔◌, ◌∙◌, ◌<◌, ℕ, List, [], ◌∷◌, length, take, Option, Some, None, Result, Ok, Err, IfSome, ap₂, inl, inr, refl, sym, subst, arith}
 use Rattle.std.proofs.lemmas.List.{take_all}
 use Rattle.std.proofs.lemmas.Option.{same_Some}
 use Rattle.shelf_io.specs.Count.{Rose, Still}
@@ -20,6 +20,7 @@ use Rattle.commands.specs.Causes.{AreStill, IsStill, ReadFails, WriteFails}
 use Rattle.commands.specs.Done.{Done, IsJudgement, IsStatusOf, done_status, findings_status, helped, judged, laid_out}
 use Rattle.commands.specs.Ends.{Ends}
 use Rattle.commands.specs.Outcome.{Holds, HoldsFront}
+use Rattle.finding_markers.specs.Markers.{markers_text}
 
 -- what stopped a command before it wrote is its end
 pub stopped : {X : Type 0} (view : X → Accepted) (kept : List Routed) (stop : Stop) (said : Result Accepted Refusal) → Finds view (Err stop) said
@@ -45,15 +46,15 @@ judged-number (f ∷ fs) good n is number = inr (number, λ holds. let none : f 
 -- what was done and told of has the status of what is said
 pub done-said : (kept : List Routed) (done : Done) (said : Result Accepted Refusal) (n : ℕ) → Ends kept (Ok done) said → n ≡ done_status done → IsStatusOf said n
 done-said kept (laid_out summary) (Ok (to_lay_out job)) n ends number = number
-done-said kept (laid_out summary) (Ok (to_judge inputs layout)) n ends number = absurd ends
+done-said kept (laid_out summary) (Ok (to_judge inputs layout markers)) n ends number = absurd ends
 done-said kept (laid_out summary) (Ok (to_help topic)) n ends number = absurd ends
 done-said kept (judged inputs layout findings) (Ok (to_lay_out job)) n ends number = absurd ends
-done-said kept (judged inputs layout findings) (Ok (to_judge asked shown)) n ends number =
-    subst (λ (said : Result Accepted Refusal). IsStatusOf said n) (ap₂ (λ (i : Inputs) (l : Layout). Ok (to_judge i l)) ends.same_inputs ends.same_layout)
+done-said kept (judged inputs layout findings) (Ok (to_judge asked shown markers)) n ends number =
+    subst (λ (said : Result Accepted Refusal). IsStatusOf said n) (ap₂ (λ (i : Inputs) (l : Layout). Ok (to_judge i l markers)) ends.same_inputs ends.same_layout)
     (judged-number findings _ n ends.found.good number)
 done-said kept (judged inputs layout findings) (Ok (to_help topic)) n ends number = absurd ends
 done-said kept (helped topic) (Ok (to_lay_out job)) n ends number = absurd ends
-done-said kept (helped topic) (Ok (to_judge inputs layout)) n ends number = absurd ends
+done-said kept (helped topic) (Ok (to_judge inputs layout markers)) n ends number = absurd ends
 done-said kept (helped topic) (Ok (to_help asked)) n ends number = number
 done-said kept done (Err refusal) n ends number = absurd ends
 
@@ -91,11 +92,13 @@ file-still None old new still some rose = some refl
 file-still (Some name) old new still some rose = rose-still _ _ (rose name refl) still
 
 -- the whole of a text is a front of it
+front-of : (text held : List ℕ) → Some text ≡ Some held → (k : ℕ) × (held ≡ take k text)
+front-of text held is = let same : text ≡ held = same_Some text held is in (length text, sym same ∙ sym (take_all (length text) text (omega arith)))
+
 pub whole-front : (said : Result Accepted Refusal) (kept : List Routed) (before told : Option (List ℕ)) → Holds said kept told → HoldsFront said kept before told
-whole-front (Ok (to_lay_out job)) kept before told holds = λ held at.
-    let same : job_text job kept ≡ held = same_Some (job_text job kept) held (holds held at) in
-    inr (length (job_text job kept), sym same ∙ sym (take_all (length (job_text job kept)) (job_text job kept) (omega arith)))
-whole-front (Ok (to_judge inputs layout)) kept before told holds = absurd holds
+whole-front (Ok (to_lay_out job)) kept before told holds = λ held at. inr (front-of (job_text job kept) held (holds held at))
+whole-front (Ok (to_judge inputs layout markers)) kept before told holds =
+    (holds.0, (holds.1.0, λ held at. inr (front-of (markers_text inputs.designs.drawn.design layout holds.0) held (holds.1.1 held at))))
 whole-front (Ok (to_help topic)) kept before told holds = absurd holds
 whole-front (Err refusal) kept before told holds = absurd holds
 

@@ -12,10 +12,10 @@ use Rattle.command_ends.specs.declared.stop.Stop.{Stop}
 use Rattle.command_ends.specs.declared.stop.Stop.TheVariants.{Refused, ReadFault, WriteFault}
 use Rattle.commands.specs.Accepted.{Accepted}
 use Rattle.commands.specs.Carried.{IsJudgedBy}
-use Rattle.commands.specs.Changes.{HasBegun}
+use Rattle.commands.specs.Changes.{HasBegun, HasLaidOut, IsLaidOut, IsMarkedIn}
 use Rattle.commands.specs.Done.{Done, IsStatusOf, done_status, helped, judged, laid_out}
 use Rattle.commands.specs.Ends.{Ends}
-use Rattle.commands.specs.Outcome.{GainsFronts, Tells}
+use Rattle.commands.specs.Outcome.{GainsFronts, IsMarked, Tells}
 use Rattle.commands.proofs.Endings.{done-said, judged-number, rose-still, stop-said}
 
 -- a count that rose has risen still
@@ -51,20 +51,41 @@ done-listed (judged inputs layout (f ∷ fs)) = refl
 done-listed (helped topic) = refl
 
 -- of what stops a command, a write fault alone has status 9 and has begun a file
-pub stop-begun : (stop : Stop) → HasBegun (Err stop) → stop_status stop ≡ 9
-stop-begun (Refused refusal) begun = absurd begun
-stop-begun ReadFault begun = absurd begun
-stop-begun WriteFault begun = refl
+stop-laid : (stop : Stop) → HasLaidOut (Err stop) → stop_status stop ≡ 9
+stop-laid (Refused refusal) laid = absurd laid
+stop-laid ReadFault laid = absurd laid
+stop-laid WriteFault laid = refl
 
-pub nine-begun : (e : Result Done Stop) → ending_status e ≡ 9 → HasBegun e
-nine-begun (Ok done) nine = absurd (omega (arith, nine))
-nine-begun (Err (Refused refusal)) nine = absurd (refusal-unwritten refusal nine)
-nine-begun (Err ReadFault) nine = absurd (omega (arith, nine))
-nine-begun (Err WriteFault) nine = tt
+pub stop-begun : (stop : Stop) (file : Option (List ℕ)) → HasBegun (Err stop) file → stop_status stop ≡ 9
+stop-begun (Refused refusal) file begun = absurd begun
+stop-begun ReadFault file begun = absurd begun
+stop-begun WriteFault file begun = refl
+
+nine-laid : (e : Result Done Stop) → ending_status e ≡ 9 → HasLaidOut e
+nine-laid (Ok done) nine = absurd (omega (arith, nine))
+nine-laid (Err (Refused refusal)) nine = absurd (refusal-unwritten refusal nine)
+nine-laid (Err ReadFault) nine = absurd (omega (arith, nine))
+nine-laid (Err WriteFault) nine = tt
+
+pub nine-begun : (e : Result Done Stop) (file : Option (List ℕ)) → ending_status e ≡ 9 → HasBegun e file
+nine-begun (Ok done) file nine = absurd (omega (arith, nine))
+nine-begun (Err (Refused refusal)) file nine = absurd (refusal-unwritten refusal nine)
+nine-begun (Err ReadFault) file nine = absurd (omega (arith, nine))
+nine-begun (Err WriteFault) file nine = tt
 
 -- a status is that of the end, but 9 where printing what was done failed, and 1 where a layout is not good
 abbrev pub IsTold : ℕ → ℕ → Type 0
 IsTold n status = ((2 ≤ status) × (n ≡ status)) ⊎ ((status ≡ 0) × ((n ≤ 1) ⊎ (n ≡ 9)))
+
+-- where to route is to lay out, one that ended well, or could not write, has laid out
+done-laid : (done : Done) → IsLaidOut done → HasLaidOut (Ok done)
+done-laid (laid_out summary) laid = tt
+done-laid (judged inputs layout findings) laid = absurd laid
+done-laid (helped topic) laid = absurd laid
+
+pub told-laid : (e : Result Done Stop) (n : ℕ) → IsTold n (ending_status e) → IfOk e IsLaidOut → (n ≡ 0) ⊎ (n ≡ 9) → HasLaidOut e
+told-laid (Ok done) n told laid few = done-laid done laid
+told-laid (Err stop) n told laid few = nine-laid (Err stop) (omega (arith, stop-above stop, told, few))
 
 -- what the status and the lines of a command tell of its end
 module _ (n : ℕ) (before after : Option (List ℕ)) (old new : ℕ) where
@@ -87,11 +108,32 @@ module _ (n : ℕ) (before after : Option (List ℕ)) (old new : ℕ) where
   tells-calm (Ok done) tells few = elim tells [ inl printed ↦ printed.calm | inr cut ↦ absurd (omega (arith, cut.number, few)) ]
   tells-calm (Err stop) tells few = absurd (omega (arith, stop-above stop, tells.number, few))
 
-  pub tells-begun : (e : Result Done Stop) → Tells e n before after old new → HasBegun e → (n ≡ 0) ⊎ (n ≡ 9)
-  tells-begun (Ok (laid_out summary)) tells begun = elim tells [ inl printed ↦ inl printed.number | inr cut ↦ inr cut.number ]
-  tells-begun (Ok (judged inputs layout findings)) tells begun = absurd begun
-  tells-begun (Ok (helped topic)) tells begun = absurd begun
-  tells-begun (Err stop) tells begun = inr (tells.number ∙ stop-begun stop begun)
+  pub tells-laid : (e : Result Done Stop) → Tells e n before after old new → HasLaidOut e → (n ≡ 0) ⊎ (n ≡ 9)
+  tells-laid (Ok (laid_out summary)) tells laid = elim tells [ inl printed ↦ inl printed.number | inr cut ↦ inr cut.number ]
+  tells-laid (Ok (judged inputs layout findings)) tells laid = absurd laid
+  tells-laid (Ok (helped topic)) tells laid = absurd laid
+  tells-laid (Err stop) tells laid = inr (tells.number ∙ stop-laid stop laid)
+
+  -- to route never ends as a layout does that is not good
+  pub tells-unjudged : (e : Result Done Stop) → Tells e n before after old new → IfOk e IsLaidOut → n ≢ 1
+  tells-unjudged (Ok (laid_out summary)) tells laid = λ one. elim tells [ inl printed ↦ absurd (omega (arith, printed.number, one)) | inr cut ↦ absurd (omega (arith, cut.number, one)) ]
+  tells-unjudged (Ok (judged inputs layout findings)) tells laid = absurd laid
+  tells-unjudged (Ok (helped topic)) tells laid = absurd laid
+  tells-unjudged (Err stop) tells laid = λ one. absurd (omega (arith, stop-above stop, tells.number, one))
+
+  pub tells-begun : (e : Result Done Stop) (file : Option (List ℕ)) → Tells e n before after old new → HasBegun e file → (n ≤ 1) ⊎ (n ≡ 9)
+  tells-begun (Ok done) file tells begun = elim tells [ inl printed ↦ inl (omega (arith, done-few done, printed.number)) | inr cut ↦ inr cut.number ]
+  tells-begun (Err stop) file tells begun = inr (tells.number ∙ stop-begun stop file begun)
+
+  -- of a layout whose report database a file holds just that is printed
+  pub tells-marked : (e : Result Done Stop) (told : Option (List ℕ)) → Tells e n before after old new → n ≤ 1 → IfOk e (IsMarkedIn told) → IsMarked told before after
+  tells-marked (Ok (laid_out summary)) told tells few marked = absurd marked
+  tells-marked (Ok (judged inputs layout findings)) told tells few marked = elim tells [
+    | inl printed ↦ record { inputs = inputs; layout = layout; findings = findings; found = marked.0; holds = marked.1; printed = printed.whole }
+    | inr cut ↦ absurd (omega (arith, cut.number, few))
+  ]
+  tells-marked (Ok (helped topic)) told tells few marked = absurd marked
+  tells-marked (Err stop) told tells few marked = absurd (omega (arith, stop-above stop, tells.number, few))
 
   -- a layout that was judged has status 0 only where this holds, and status 1 only where it does not
   pub tells-judged : (e : Result Done Stop) (good : Type 0) → Tells e n before after old new → IfOk e (IsJudgedBy good) → (n ≡ 0 → good) × (n ≡ 1 → good → ⊥)

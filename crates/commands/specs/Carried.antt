@@ -4,9 +4,9 @@ use Rattle.command_ends.specs.Status.{ending_status}
 use Rattle.command_ends.specs.declared.stop.Stop.{Stop}
 use Rattle.command_inputs.specs.Origin.{IsSourceText}
 use Rattle.command_inputs.specs.Reading.{Files}
-use Rattle.command_words.specs.Command.{CheckNames, Command, Names, check, route, writes_of}
+use Rattle.command_words.specs.Command.{CheckNames, Command, Names, check, route, style_of, writes_of}
 use Rattle.commands.specs.Causes.{ReadFails}
-use Rattle.commands.specs.Changes.{Changes, IsAsSaid}
+use Rattle.commands.specs.Changes.{Changes, IsAsSaid, IsLaidOut, IsMarkedIn}
 use Rattle.commands.specs.Done.{Done, helped, judged, laid_out}
 use Rattle.commands.specs.Headline.{Headline, PortedHeadline}
 use Rattle.commands.specs.Verdict.{asked_verdict}
@@ -24,6 +24,10 @@ pub record Carried (asked : Option Command) (ending : Result Done Stop) (kept : 
   pub usage : ending_status ending ≡ 2 → asked ≡ None
   pub no_command : asked ≡ None → (ending_status ending ≡ 2) ⊎ (ending_status ending ≡ 10)
   pub changes : Changes (option_and_then writes_of asked) ending kept old new
+  pub unkept : (command : Command) → asked ≡ Some command → style_of command ≡ None → kept ≡ []
+  -- to route is to lay out, and what is found of a layout is marked in the file for that, if there is one
+  pub laid : (names : Names) → asked ≡ Some (route names) → IfOk ending IsLaidOut
+  pub marked : (names : CheckNames) (file : List ℕ) → asked ≡ Some (check names) → names.markers ≡ Some file → IfOk ending (IsMarkedIn (new.holds file))
   pub cause : (command : Command) → asked ≡ Some command → ending_status ending ≡ 8 → ReadFails command old.holds old.reads new.reads
   -- what is written is a good layout, and a layout is judged by that
   pub headline : (names : Names) (stated bytes held : List ℕ) → asked ≡ Some (route names) → old.holds names.rules ≡ Some stated

@@ -1,5 +1,5 @@
 -- how a command ends
-use Rattle.std.specs.Prelude.{◌≡◌, ◌↔◌, ◌⊎◌, ℕ, List, [], ◌∷◌, Result, Ok, Err}
+use Rattle.std.specs.Prelude.{◌≡◌, ◌≢◌, ◌↔◌, ◌⊎◌, ℕ, List, [], ◌∷◌, Option, None, Result, Ok, Err}
 use Rattle.geom_core.specs.declared.layout.Layout.{Layout}
 use Rattle.design_model.specs.Good.{Good}
 use Rattle.layout_check.specs.Findings.{Findings}
@@ -39,19 +39,20 @@ pub record IsJudged (inputs : Inputs) (layout : Layout) (findings : List Finding
 -- it has done what was to be done, and keeps these routed channels
 abbrev pub Does : List Routed → Done → Accepted → Type 0
 Does kept (laid_out summary) (to_lay_out job) = summary ≡ summary_of job kept
-Does kept (laid_out summary) (to_judge inputs layout) = ⊥
+Does kept (laid_out summary) (to_judge inputs layout markers) = ⊥
 Does kept (laid_out summary) (to_help topic) = ⊥
 Does kept (judged inputs layout findings) (to_lay_out job) = ⊥
-Does kept (judged inputs layout findings) (to_judge asked shown) = IsJudged inputs layout findings asked shown
+Does kept (judged inputs layout findings) (to_judge asked shown markers) = IsJudged inputs layout findings asked shown
 Does kept (judged inputs layout findings) (to_help topic) = ⊥
 Does kept (helped topic) (to_lay_out job) = ⊥
-Does kept (helped topic) (to_judge inputs layout) = ⊥
+Does kept (helped topic) (to_judge inputs layout markers) = ⊥
 Does kept (helped topic) (to_help asked) = topic ≡ asked
 
-abbrev pub IsToLayOut : Accepted → Type 0
-IsToLayOut (to_lay_out job) = Unit {0}
-IsToLayOut (to_judge inputs layout) = ⊥
-IsToLayOut (to_help topic) = ⊥
+-- what is to be done writes a file
+abbrev pub IsToWrite : Accepted → Type 0
+IsToWrite (to_lay_out job) = Unit {0}
+IsToWrite (to_judge inputs layout markers) = markers ≢ None
+IsToWrite (to_help topic) = ⊥
 
 -- the status of a layout of which this was found
 abbrev pub findings_status : List Finding → ℕ
@@ -86,6 +87,6 @@ IsJudgement good n = ((n ≡ 0) × good) ⊎ ((n ≡ 1) × (good → ⊥))
 -- the status of a verdict, where nothing fails
 abbrev pub IsStatusOf : Result Accepted Refusal → ℕ → Type 0
 IsStatusOf (Ok (to_lay_out job)) n = n ≡ 0
-IsStatusOf (Ok (to_judge inputs layout)) n = IsJudgement (Good inputs.rules inputs.designs.drawn.design layout) n
+IsStatusOf (Ok (to_judge inputs layout markers)) n = IsJudgement (Good inputs.rules inputs.designs.drawn.design layout) n
 IsStatusOf (Ok (to_help topic)) n = n ≡ 0
 IsStatusOf (Err refusal) n = n ≡ refusal_status refusal

@@ -4,10 +4,16 @@ use Rattle.shelf_io.specs.Count.{Rose}
 use Rattle.shelf_io.specs.Told.{Refines, appended}
 use Rattle.commands.specs.Ends.{Ends}
 use Rattle.cif_writer.specs.LayoutText as written
-use Rattle.commands.specs.Done.{Done, done_status, done_text}
+use Rattle.finding_markers.specs.Held as marked
+use Rattle.finding_markers.specs.Markers.{markers_text}
+use Rattle.geom_core.specs.declared.layout.Layout.{Layout}
+use Rattle.layout_check.specs.declared.finding.Finding.{Finding}
+use Rattle.command_inputs.specs.declared.stages.Inputs.{Inputs}
+use Rattle.commands.specs.Done.{AreFound, Done, done_status, done_text}
 use Rattle.command_ends.specs.Gains.{Gains}
 use Rattle.commands.specs.Accepted.{Accepted, to_help, to_judge, to_lay_out}
 use Rattle.command_jobs.specs.Job.{Job}
+use Rattle.command_ends.specs.FindingLines.{judged_text}
 use Rattle.command_ends.specs.Line.{line_of}
 use Rattle.command_ends.specs.Status.{stop_status}
 use Rattle.choose_core.specs.declared.candidate.Candidate.{Candidate}
@@ -23,17 +29,33 @@ use Rattle.command_ends.specs.declared.stop.Stop.TheVariants.{WriteFault}
 -- a job to lay a design out is accepted, of which this holds
 abbrev pub IsJobAnd : Result Accepted Refusal → (Job → Type 0) → Type 0
 IsJobAnd (Ok (to_lay_out job)) P = P job
-IsJobAnd (Ok (to_judge inputs layout)) P = ⊥
+IsJobAnd (Ok (to_judge inputs layout markers)) P = ⊥
 IsJobAnd (Ok (to_help topic)) P = ⊥
 IsJobAnd (Err refusal) P = ⊥
 
--- a file that is told holds just the text of the job that is accepted, with these routed channels; one is
-abbrev pub Holds : Result Accepted Refusal → List Routed → Option (List ℕ) → Type 0
-Holds said kept told = IsJobAnd said (λ job. Refines told (Some (job_text job kept)))
+-- a file that is told holds just the report database of what is wrong with a layout
+abbrev pub HoldsMarkers : Inputs → Layout → Option (List ℕ) → Type 0
+HoldsMarkers inputs layout told =
+    (findings : List Finding) × (AreFound inputs layout findings × Refines told (Some (markers_text inputs.designs.drawn.design layout findings)))
 
--- a file that is told holds what it was told to hold before, or a front of the text of the job that is accepted; one is
+-- or what it was told to hold before, or a front of that
+abbrev pub HoldsMarkersFront : Inputs → Layout → Option (List ℕ) → Option (List ℕ) → Type 0
+HoldsMarkersFront inputs layout before told =
+    (findings : List Finding) × (AreFound inputs layout findings × marked.HoldsFront (markers_text inputs.designs.drawn.design layout findings) before told)
+
+-- a file that is told holds just what the command is to write: the text of the job that is accepted, with these routed channels, or the report database of the layout that is to be judged
+abbrev pub Holds : Result Accepted Refusal → List Routed → Option (List ℕ) → Type 0
+Holds (Ok (to_lay_out job)) kept told = Refines told (Some (job_text job kept))
+Holds (Ok (to_judge inputs layout markers)) kept told = HoldsMarkers inputs layout told
+Holds (Ok (to_help topic)) kept told = ⊥
+Holds (Err refusal) kept told = ⊥
+
+-- a file that is told holds what it was told to hold before, or a front of what the command is to write
 abbrev pub HoldsFront : Result Accepted Refusal → List Routed → Option (List ℕ) → Option (List ℕ) → Type 0
-HoldsFront said kept before told = IsJobAnd said (λ job. written.HoldsFront (job_text job kept) before told)
+HoldsFront (Ok (to_lay_out job)) kept before told = written.HoldsFront (job_text job kept) before told
+HoldsFront (Ok (to_judge inputs layout markers)) kept before told = HoldsMarkersFront inputs layout before told
+HoldsFront (Ok (to_help topic)) kept before told = ⊥
+HoldsFront (Err refusal) kept before told = ⊥
 
 -- the channels of the job that is accepted are routed so, by the sweeps of a plan and choices that may be made, and by left edges where
 -- these are wished for; one is
@@ -51,6 +73,15 @@ pub record IsPrinted (done : Done) (status : ℕ) (before after : Option (List �
   pub number : status ≡ done_status done
   pub whole : Refines after (appended before (done_text done))
   pub calm : new ≡ old
+
+-- a file that is told holds the report database of what was found of a layout, and a sink that is told gained the lines of just that
+pub record IsMarked (told before after : Option (List ℕ)) : Type 0 where
+  pub inputs : Inputs
+  pub layout : Layout
+  pub findings : List Finding
+  pub found : AreFound inputs layout findings
+  pub holds : Refines told (Some (markers_text inputs.designs.drawn.design layout findings))
+  pub printed : Refines after (appended before (judged_text inputs.designs.drawn.design layout findings))
 
 -- a sink that is told gained a front of a text, and then a front of another
 abbrev pub GainsFronts : List ℕ → List ℕ → Option (List ℕ) → Option (List ℕ) → Type 0

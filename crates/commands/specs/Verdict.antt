@@ -18,18 +18,18 @@ job_verdict wanted inputs = do
   job ← within_limits (job_of inputs.rules inputs.designs wanted)
   Ok (to_lay_out job)
 
--- the judgement of the layout that the bytes of a file are, for a design under rules
-unfoldable pub judgement_verdict : Inputs → List ℕ → Result Accepted Refusal
-judgement_verdict inputs bytes = do
+-- the judgement of the layout that the bytes of a file are, for a design under rules, with a file for markers or none
+unfoldable pub judgement_verdict : Inputs → Option (List ℕ) → List ℕ → Result Accepted Refusal
+judgement_verdict inputs markers bytes = do
   layout ← layout_verdict bytes
-  Ok (to_judge inputs layout)
+  Ok (to_judge inputs layout markers)
 
 -- the verdict on a command by what the files are told to hold: what is to be done, or the first refusal. There is none where a file that it comes to
 -- is untold
 unfoldable pub command_verdict : Command → (List ℕ → Option (List ℕ)) → Option (Result Accepted Refusal)
 command_verdict (route names) told = told_then (inputs_told names.rules names.design names.wanted.ports told) (λ inputs. Some (job_verdict names.wanted inputs))
 command_verdict (check names) told =
-    told_then (inputs_told names.rules (from_file names.design) names.ports told) (λ inputs. option_map (judgement_verdict inputs) (told names.cif))
+    told_then (inputs_told names.rules (from_file names.design) names.ports told) (λ inputs. option_map (judgement_verdict inputs names.markers) (told names.cif))
 command_verdict (help topic) told = Some (Ok (to_help topic))
 
 -- that on a command's words

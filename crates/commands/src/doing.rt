@@ -5,7 +5,7 @@ ghost use Rattle.command_words.specs.Command as asked;
 ghost use Rattle.command_words.specs.Command.{IsOfStyle, command_of};
 ghost use Rattle.command_words.specs.Seen.{command_seen};
 ghost use Rattle.commands.specs.Carried.{Carried};
-ghost use Rattle.commands.specs.Changes.{HasBegun};
+ghost use Rattle.commands.specs.Changes.{HasLaidOut};
 ghost use Rattle.commands.specs.Done.{end_seen};
 ghost use Rattle.commands.specs.Outcome.{AreKept};
 ghost use Rattle.commands.specs.Verdict.{command_verdict};
@@ -37,7 +37,7 @@ fn obey<S: Shelf, W: Watch>(
     requires none { kept.old.items ≡ [] }
     ensures carried { Carried (Some (command_seen command.now)) (end_seen result) kept.new.items
         (files (S.holds shelf.old) (S.read_faults shelf.old) (S.write_faults shelf.old)) (files (S.holds shelf.new) (S.read_faults shelf.new) (S.write_faults shelf.new)) }
-    ensures kept { (said : _) → command_verdict (command_seen command.now) (S.holds shelf.old) ≡ Some said → HasBegun (end_seen result)
+    ensures kept { (said : _) → command_verdict (command_seen command.now) (S.holds shelf.old) ≡ Some said → HasLaidOut (end_seen result)
         → AreKept styles.now (λ s. s.plan) (λ s. ⟦<Chooser as Chooses>⟧.answers s.chooser) (command_seen command.now) said kept.new.items }
     ensures goes { W.goes watch.old watch.new }
 {
@@ -64,7 +64,7 @@ pub(crate) fn carry_out<S: Shelf, W: Watch>(
     ensures carried { Carried (command_of (map (λ s. s.chooser.name) styles.now) words.now) (end_seen result) kept.new.items
         (files (S.holds shelf.old) (S.read_faults shelf.old) (S.write_faults shelf.old)) (files (S.holds shelf.new) (S.read_faults shelf.new) (S.write_faults shelf.new)) }
     ensures kept { (command : asked.Command) (said : _) → command_of (map (λ s. s.chooser.name) styles.now) words.now ≡ Some command
-        → command_verdict command (S.holds shelf.old) ≡ Some said → HasBegun (end_seen result)
+        → command_verdict command (S.holds shelf.old) ≡ Some said → HasLaidOut (end_seen result)
         → AreKept styles.now (λ s. s.plan) (λ s. ⟦<Chooser as Chooses>⟧.answers s.chooser) command said kept.new.items }
     ensures goes { W.goes watch.old watch.new }
 {

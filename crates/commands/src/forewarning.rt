@@ -5,48 +5,75 @@ ghost use Rattle.command_words.specs.Command.{command_of, is_quiet};
 ghost use Rattle.commands.specs.Noted.{NotedSo};
 ghost use Rattle.std.specs.Prelude.{◌≡◌, ◌<◌, Some, length, map, true};
 
+use crate::telling::is_quiet;
 use choose_core::Style;
-use command_words::{Command, Route, Source, Word, read_command};
+use command_words::{Check, Command, Route, Source, Word, read_command};
 use note_text::{Notes, put_notes};
 use shelf_io::{Failed, Sink};
 use std::alloc::{AllocError, Global};
 
-// Notes that a name of a file to write is the name of a file that is read.
+// Notes that a name of a file to write is the name of a file that is read, of which what is written will take the place.
 fn note_same(
     alloc: Global,
     notes: &mut Notes,
-    out: &str,
-    read: &str,
-    what: &str,
+    (out, written): (&str, &str),
+    (read, what): (&str, &str),
 ) -> Result<(), AllocError> {
     if out == read {
         notes.note(format!(in alloc;
-            "warning: {out} is also the file of the {what}, which the layout will take the place of"
+            "warning: {out} is also the file of the {what}, which the {written} will take the place of"
+        )?);
+    }
+    Ok(())
+}
+
+// Notes that a name of a file to write seems to be that of the standard output, where other lines stand too.
+fn note_dash(alloc: Global, notes: &mut Notes, out: &str, printed: &str) -> Result<(), AllocError> {
+    if out == "-" {
+        notes.note(format!(in alloc;
+            "warning: - is a file of that name here; the standard output is /dev/stdout, and {printed} there too"
         )?);
     }
     Ok(())
 }
 
 // Notes what surprises about the names of a command to route.
-fn note_names(alloc: Global, notes: &mut Notes, names: &Route<'_>) -> Result<(), AllocError> {
+fn note_route(alloc: Global, notes: &mut Notes, names: &Route<'_>) -> Result<(), AllocError> {
+    let out = (names.out, "layout");
     if let Source::File(design) = names.design {
-        note_same(alloc, notes, names.out, design, "design")?;
+        note_same(alloc, notes, out, (design, "design"))?;
     }
-    note_same(alloc, notes, names.out, names.rules, "rules")?;
-    if names.out == "-" {
-        notes.note(format!(in alloc;
-            "warning: - is a file of that name here; the standard output is /dev/stdout, and the summary stands there too"
-        )?);
-    }
-    Ok(())
+    note_same(alloc, notes, out, (names.rules, "rules"))?;
+    note_dash(alloc, notes, names.out, "the summary stands")
 }
 
-// Puts what surprises about the names of a command to route, and says whether more may follow.
-fn put_names<N: Sink>(alloc: Global, names: &Route<'_>, notes: &mut N) -> bool
+// Notes what surprises about the names of a command to check that writes markers.
+fn note_check(alloc: Global, notes: &mut Notes, names: &Check<'_>) -> Result<(), AllocError> {
+    let Some(file) = names.markers else {
+        return Ok(());
+    };
+    let out = (file, "markers");
+    note_same(alloc, notes, out, (names.design, "design"))?;
+    note_same(alloc, notes, out, (names.rules, "rules"))?;
+    note_same(alloc, notes, out, (names.cif, "layout"))?;
+    note_dash(alloc, notes, file, "the findings stand")
+}
+
+// Notes what surprises about the names of a command.
+fn note_names(alloc: Global, notes: &mut Notes, command: &Command<'_>) -> Result<(), AllocError> {
+    match command {
+        Command::Route(names) => note_route(alloc, notes, names),
+        Command::Check(names) => note_check(alloc, notes, names),
+        Command::Help(_) => Ok(()),
+    }
+}
+
+// Puts what surprises about the names of a command, and says whether more may follow.
+fn put_names<N: Sink>(alloc: Global, command: &Command<'_>, notes: &mut N) -> bool
     ensures { NotedSo result (N.written notes.old) (N.written notes.new) (N.faults notes.old) (N.faults notes.new) }
 {
     let mut told = Notes::new(alloc);
-    let _ = note_names(alloc, &mut told, names);
+    let _ = note_names(alloc, &mut told, command);
     match put_notes(notes, &told) {
         Ok(()) => true,
         Err(Failed) => false,
@@ -65,14 +92,12 @@ pub(crate) fn forewarn<N: Sink>(
     ensures quiet { (command : asked.Command) → command_of (map (λ s. s.chooser.name) styles.now) words.now ≡ Some command → is_quiet command ≡ true → notes.new ≡ notes.old }
 {
     match read_command(alloc, styles, words) {
-        Ok(Command::Route(names)) => {
-            if names.quiet {
+        Ok(command) => {
+            if is_quiet(&command) {
                 return true;
             }
-            put_names(alloc, &names, notes)
+            put_names(alloc, &command, notes)
         }
-        Ok(Command::Check(_)) => true,
-        Ok(Command::Help(_)) => true,
         Err(_) => true,
     }
 }

@@ -4,19 +4,21 @@ ghost use Rattle.command_inputs.specs.Reading.{files};
 ghost use Rattle.command_words.specs.Command as asked;
 ghost use Rattle.command_words.specs.Seen.{check_seen};
 ghost use Rattle.commands.specs.Carried.{Carried};
+ghost use Rattle.commands.specs.Changes.{AreMarked};
 ghost use Rattle.commands.specs.Done.{AreFound, end_seen};
 ghost use Rattle.design_model.specs.Room.{HasRoom};
 ghost use Rattle.layout_check.specs.Measured.{IsMeasured};
-ghost use Rattle.std.specs.Prelude.{◌≡◌, [], Some, IfOk};
+ghost use Rattle.std.specs.Prelude.{◌≡◌, [], Some, IfOk, option_map};
 
 use crate::done::{Done, Judged};
 use crate::heard::Heard;
 use command_ends::{Refusal, Stop};
 use command_inputs::{Inputs, load_inputs, load_layout};
 use command_words::{Check, Source};
+use finding_markers::write_markers;
 use geom_core::Layout;
 use layout_check::check;
-use shelf_io::Shelf;
+use shelf_io::{Failed, Shelf};
 use std::alloc::{AllocError, Global};
 
 // Finds what is wrong with a layout.
@@ -35,7 +37,31 @@ fn judge_layout(alloc: Global, inputs: Inputs, layout: Layout) -> Result<Judged,
     })
 }
 
-/// Reads rules, a design and a layout, and finds what is wrong with it. The files stay as they are.
+// Writes the findings as a report database into a file. Takes no memory.
+fn mark_in<S: Shelf>(shelf: &mut S, file: &str, judged: Judged) -> Result<Done, Stop>
+    ensures { AreMarked judged.inputs judged.layout judged.findings.items (Some file.now) (end_seen result)
+        (files (S.holds shelf.old) (S.read_faults shelf.old) (S.write_faults shelf.old)) (files (S.holds shelf.new) (S.read_faults shelf.new) (S.write_faults shelf.new)) }
+{
+    let design = &judged.inputs.designs.drawn.design;
+    let findings = judged.findings.as_slice();
+    match write_markers(shelf, file, design, &judged.layout, findings) {
+        Ok(()) => Ok(Done::Judged(judged)),
+        Err(Failed) => Err(Stop::WriteFault),
+    }
+}
+
+// Writes them into the file that is named for that, if one is. Takes no memory.
+fn mark<S: Shelf>(shelf: &mut S, file: Option<&str>, judged: Judged) -> Result<Done, Stop>
+    ensures { AreMarked judged.inputs judged.layout judged.findings.items (option_map (λ name. name.now) file.entry) (end_seen result)
+        (files (S.holds shelf.old) (S.read_faults shelf.old) (S.write_faults shelf.old)) (files (S.holds shelf.new) (S.read_faults shelf.new) (S.write_faults shelf.new)) }
+{
+    match file {
+        Some(name) => mark_in(shelf, name, judged),
+        None => Ok(Done::Judged(judged)),
+    }
+}
+
+/// Reads rules, a design and a layout, finds what is wrong with it, and writes that into the file for markers, if there is one. All other files stay as they are.
 pub(crate) fn judge<S: Shelf>(
     alloc: Global,
     shelf: &mut S,
@@ -56,7 +82,7 @@ pub(crate) fn judge<S: Shelf>(
     )?;
     let layout = load_layout(alloc, shelf, names.cif, &mut heard.texts)?;
     match judge_layout(alloc, inputs, layout) {
-        Ok(judged) => Ok(Done::Judged(judged)),
+        Ok(judged) => mark(shelf, names.markers, judged),
         Err(AllocError) => Err(Stop::Refused(Refusal::Memory)),
     }
 }

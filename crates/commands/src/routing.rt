@@ -4,7 +4,7 @@ ghost use Rattle.command_inputs.specs.Reading.{files};
 ghost use Rattle.command_words.specs.Command as asked;
 ghost use Rattle.command_words.specs.Seen.{seen};
 ghost use Rattle.commands.specs.Carried.{Carried};
-ghost use Rattle.commands.specs.Changes.{HasBegun};
+ghost use Rattle.commands.specs.Changes.{HasLaidOut};
 ghost use Rattle.commands.specs.Done.{end_seen};
 ghost use Rattle.commands.specs.Outcome.{AreKept};
 ghost use Rattle.commands.specs.Verdict.{command_verdict};
@@ -47,7 +47,7 @@ pub(crate) fn route<S: Shelf, W: Watch>(
     requires none { kept.old.items ≡ [] }
     ensures carried { Carried (Some (asked.route (seen names.now))) (end_seen result) kept.new.items
         (files (S.holds shelf.old) (S.read_faults shelf.old) (S.write_faults shelf.old)) (files (S.holds shelf.new) (S.read_faults shelf.new) (S.write_faults shelf.new)) }
-    ensures kept { (said : _) → command_verdict (asked.route (seen names.now)) (S.holds shelf.old) ≡ Some said → HasBegun (end_seen result)
+    ensures kept { (said : _) → command_verdict (asked.route (seen names.now)) (S.holds shelf.old) ≡ Some said → HasLaidOut (end_seen result)
         → AreKept styles.now (λ s. s.plan) (λ s. ⟦<Chooser as Chooses>⟧.answers s.chooser) (asked.route (seen names.now)) said kept.new.items }
     ensures goes { W.goes watch.old watch.new }
 {

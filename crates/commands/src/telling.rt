@@ -15,7 +15,7 @@ use fault_notes::{Reached, note_stop, note_unread};
 use finding_notes::{JudgedLayout, note_findings, note_layers};
 use note_text::{Notes, put_notes};
 use shelf_io::Sink;
-use std::alloc::Global;
+use std::alloc::{AllocError, Global};
 
 // The bytes of a text, if there is one.
 fn bytes_of(text: &Option<Vec<u8>>) -> Option<&[u8]> {
@@ -43,11 +43,56 @@ fn note_judged<'a>(alloc: Global, notes: &mut Notes, reached: &Reached<'a>, judg
     note_layers(alloc, notes, &layout);
 }
 
-// Puts what was noted, and the notes on how a command ended that has come so far; on what stopped it alone where it was stopped.
+// The file that a command has written, where it ended well.
+fn written_by<'a>(reached: &Reached<'a>) -> Option<&'a str> {
+    match reached.command {
+        Some(Command::Route(names)) => Some(names.out),
+        Some(Command::Check(names)) => names.markers,
+        _ => None,
+    }
+}
+
+// Notes that what was done could not be printed whole, and that the file that was written stands all the same.
+fn note_unprinted(
+    alloc: Global,
+    notes: &mut Notes,
+    reached: &Reached<'_>,
+) -> Result<(), AllocError> {
+    let note = match written_by(reached) {
+        Some(name) => {
+            format!(in alloc;
+                "the standard output could not be written; {name} is whole [write fault]"
+            )?
+        }
+        None => format!(in alloc; "the standard output could not be written [write fault]")?,
+    };
+    notes.note(note);
+    Ok(())
+}
+
+// Notes on what was done, by the status, which is 9 where it could not be printed whole.
+fn note_done<'a>(
+    alloc: Global,
+    told: &mut Notes,
+    reached: &Reached<'a>,
+    done: &'a Done,
+    status: u8,
+) {
+    note_unread(alloc, told, reached);
+    if let Done::Judged(judged) = done {
+        note_judged(alloc, told, reached, judged);
+    }
+    if status == 9 {
+        let _ = note_unprinted(alloc, told, reached);
+    }
+}
+
+// Puts what was noted, and the notes on how a command ended that has come so far, with a status; on what stopped it alone where it was stopped.
 fn put_told<'a, N: Sink>(
     alloc: Global,
     reached: &Reached<'a>,
     ending: &'a Result<Done, Stop>,
+    status: u8,
     noted: Notes,
     notes: &mut N,
 )
@@ -55,11 +100,7 @@ fn put_told<'a, N: Sink>(
 {
     let mut told = noted;
     match ending {
-        Ok(Done::Judged(judged)) => {
-            note_unread(alloc, &mut told, reached);
-            note_judged(alloc, &mut told, reached, judged);
-        }
-        Ok(_) => note_unread(alloc, &mut told, reached),
+        Ok(done) => note_done(alloc, &mut told, reached, done, status),
         Err(stop) => {
             told = Notes::new(alloc);
             note_stop(alloc, &mut told, reached, stop);
@@ -68,8 +109,8 @@ fn put_told<'a, N: Sink>(
     let _ = put_notes(notes, &told);
 }
 
-// Whether a command wishes for no notes.
-fn is_quiet(command: &Command<'_>) -> bool
+/// Whether a command wishes for no notes. Takes no memory.
+pub(crate) fn is_quiet(command: &Command<'_>) -> bool
     ensures { result ≡ is_quiet (command_seen command.now) }
 {
     match command {
@@ -79,7 +120,7 @@ fn is_quiet(command: &Command<'_>) -> bool
     }
 }
 
-/// Puts what was noted of the command of these words, which has read these texts, and the notes on how it ended, unless it wishes for none, or no more may follow. What memory has no room for is left out.
+/// Puts what was noted of the command of these words, which has read these texts, and the notes on how it ended, with which status, unless it wishes for none, or no more may follow. What memory has no room for is left out.
 pub(crate) fn tell<'a, N: Sink>(
     alloc: Global,
     words: &'a [Word],
@@ -87,6 +128,7 @@ pub(crate) fn tell<'a, N: Sink>(
     texts: &'a Texts,
     noted: Notes,
     ending: &'a Result<Done, Stop>,
+    status: u8,
     going: bool,
     notes: &mut N,
 )
@@ -117,9 +159,9 @@ pub(crate) fn tell<'a, N: Sink>(
             }
             let known = Some(command);
             reached.command = known;
-            put_told(alloc, &reached, ending, noted, notes);
+            put_told(alloc, &reached, ending, status, noted, notes);
         }
-        Err(WordsFault::Usage) => put_told(alloc, &reached, ending, noted, notes),
+        Err(WordsFault::Usage) => put_told(alloc, &reached, ending, status, noted, notes),
         Err(WordsFault::Memory) => {}
     }
 }

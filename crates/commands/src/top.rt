@@ -2,12 +2,12 @@
 
 ghost use Rattle.commands.specs.Causes.{IsQuiet, ReadFails, WriteFails};
 ghost use Rattle.command_words.specs.Command as asked;
-ghost use Rattle.command_words.specs.Command.{CheckNames, Names, command_of, is_quiet, writes_of};
+ghost use Rattle.command_words.specs.Command.{CheckNames, Names, command_of, is_quiet, style_of, writes_of};
 ghost use Rattle.commands.specs.Done.{IsStatusOf};
 ghost use Rattle.commands.specs.Noted.{Noted};
 ghost use Rattle.commands.specs.Headline.{Headline, PortedHeadline};
 ghost use Rattle.command_inputs.specs.Origin.{IsSourceText};
-ghost use Rattle.commands.specs.Outcome.{AreKept, EndsAs, Holds, HoldsFront};
+ghost use Rattle.commands.specs.Outcome.{AreKept, EndsAs, Holds, HoldsFront, IsMarked};
 ghost use Rattle.command_ends.specs.Gains.{Gains};
 ghost use Rattle.command_ends.specs.Line.{line_of};
 ghost use Rattle.command_ends.specs.Status.{is_status};
@@ -51,8 +51,9 @@ pub struct Ended {
 /// `make SEED N RULES OUT` does so for a design of N instances, from 1 to 20,000, that is made under the rules from SEED, which also anneals, in rows as
 /// usual and by the first of the styles.
 ///
-/// `check DESIGN RULES CIF [--ports]` reads the rules and the design as `route` does, and a layout from the file CIF, and prints a line for each thing that is
-/// wrong with the layout for this design under these rules, and then a line with their number: status 0 where there is none, and else 1.
+/// `check DESIGN RULES CIF [--markers FILE] [--ports] [-q]` reads the rules and the design as `route` does, and a layout from the file CIF, and prints a line for each thing that is
+/// wrong with the layout for this design under these rules, and then a line with their number: status 0 where there is none, and else 1. With `--markers` it writes the same as a
+/// report database of KLayout into FILE, before it prints.
 ///
 /// `help`, `--help` and `-h` print the commands in short, `help` and a command's name that command with its options, `version` and `--version` the version of the program.
 ///
@@ -64,10 +65,10 @@ pub struct Ended {
 /// Whatever becomes of them, statuses, lines, files and kept channels are the same.
 ///
 /// What may refuse comes in this order: the words, reading RULES, the rules, reading DESIGN, YAL, the design, its ports, and then the
-/// limits of moves, grid, width and height, writing OUT, printing; or reading CIF, its text, its commands, checking, printing. Where the shelf tells the files that it
-/// comes to, the status is that of the verdict on them, unless it is 8 and a read count rose, 9 and OUT's write count or the sink's rose, or 10. On 0 OUT holds the text
-/// of the job with the wirings that are kept. Every status but 0 and 9 leaves all files as they were; after 9 OUT holds what it held, or a front of the
-/// text, which is all of it where its write count did not rise. `check` leaves all files as they were. 10 may come for want of memory at any time before OUT is
+/// limits of moves, grid, width and height, writing OUT, printing; or reading CIF, its text, its commands, checking, writing FILE, printing. Where the shelf tells the files that it
+/// comes to, the status is that of the verdict on them, unless it is 8 and a read count rose, 9 and OUT's or FILE's write count or the sink's rose, or 10. On 0 OUT holds the text
+/// of the job with the wirings that are kept. Every status but 0, 1 and 9 leaves all files as they were; after 9 OUT or FILE holds what it held, or a front of the
+/// text, which is all of it where its write count did not rise. `check` leaves all files but FILE as they were. 10 may come for want of memory at any time before OUT or FILE is
 /// begun, or anything is printed.
 pub fn run<S: Shelf, K: Sink, N: Sink>(
     alloc: Global,
@@ -93,11 +94,19 @@ pub fn run<S: Shelf, K: Sink, N: Sink>(
         → AreKept styles.now (λ s. s.plan) (λ s. ⟦<Chooser as Chooses>⟧.answers s.chooser) command said result.kept.items }
     ensures none { result.status ≢ 0 → result.status ≢ 9 → result.kept.items ≡ [] }
     ensures unkept { (command : asked.Command) → command_of (map (λ s. s.chooser.name) styles.now) words.now ≡ Some command
-        → writes_of command ≡ None → result.kept.items ≡ [] }
+        → style_of command ≡ None → result.kept.items ≡ [] }
 
-    // Status 0: the file that the command writes, where the shelf tells it, holds exactly the text of the job with the wirings of these channels.
+    // Status 1 is never that of a command to route.
+    ensures laid { (names : Names) → command_of (map (λ s. s.chooser.name) styles.now) words.now ≡ Some (asked.route names) → result.status ≢ 1 }
+
+    // Status 0 and 1: the file that the command writes, where the shelf tells it, holds exactly the text of the job with the wirings of these channels, or the report database of
+    // what is wrong with the layout.
     ensures written { (command : asked.Command) (said : _) (file : List ℕ) → Comes (map (λ s. s.chooser.name) styles.now) words.now (S.holds shelf.old) command said → writes_of command ≡ Some file
-        → result.status ≡ 0 → Holds said result.kept.items (S.holds shelf.new file) }
+        → (result.status ≡ 0) ⊎ (result.status ≡ 1) → Holds said result.kept.items (S.holds shelf.new file) }
+
+    // Status 0 and 1 of `check` with a file for markers: where it is told, it holds the report database of just the findings whose lines are printed.
+    ensures marked { (names : CheckNames) (file : List ℕ) → command_of (map (λ s. s.chooser.name) styles.now) words.now ≡ Some (asked.check names) → names.markers ≡ Some file
+        → (result.status ≡ 0) ⊎ (result.status ≡ 1) → IsMarked (S.holds shelf.new file) (K.written out.old) (K.written out.new) }
 
     // The headline: what `route` writes reads as a layout that is good for the design under the rules, with its ports where these are wished for, and so does what
     // `make` writes for the design that it makes.
@@ -118,7 +127,7 @@ pub fn run<S: Shelf, K: Sink, N: Sink>(
         → S.holds shelf.old names.rules ≡ Some stated → S.holds shelf.old names.design ≡ Some bytes → S.holds shelf.old names.cif ≡ Some text
         → result.status ≡ 1 → Headline names.ports stated bytes text → ⊥ }
 
-    // Status 9 of a command that writes: there is a job, and the file to write holds what it held, or a front of that text; all of it where its count did not
+    // Status 9 of a command that writes: there is something to write, and the file to write holds what it held, or a front of that text; all of it where its count did not
     // rise.
     ensures front { (command : asked.Command) (said : _) (file : List ℕ) → Comes (map (λ s. s.chooser.name) styles.now) words.now (S.holds shelf.old) command said → writes_of command ≡ Some file
         → result.status ≡ 9 → HoldsFront said result.kept.items (S.holds shelf.old file) (S.holds shelf.new file) }
@@ -140,7 +149,7 @@ pub fn run<S: Shelf, K: Sink, N: Sink>(
     ensures writes { result.status ≢ 9 → S.write_faults shelf.new ≡ S.write_faults shelf.old }
 
     // Nothing is lost, and a command that writes no file leaves them all as they are.
-    ensures untouched { result.status ≢ 0 → result.status ≢ 9 → S.holds shelf.new ≡ S.holds shelf.old }
+    ensures untouched { result.status ≢ 0 → result.status ≢ 1 → result.status ≢ 9 → S.holds shelf.new ≡ S.holds shelf.old }
     ensures others { (command : asked.Command) (other : List ℕ) → command_of (map (λ s. s.chooser.name) styles.now) words.now ≡ Some command
         → writes_of command ≢ Some other → S.holds shelf.new other ≡ S.holds shelf.old other }
     ensures files { (command : asked.Command) → command_of (map (λ s. s.chooser.name) styles.now) words.now ≡ Some command
@@ -176,6 +185,8 @@ pub fn run<S: Shelf, K: Sink, N: Sink>(
         texts,
         notes: noted,
     } = heard;
-    tell(alloc, words, styles, &texts, noted, &ending, going, notes);
+    tell(
+        alloc, words, styles, &texts, noted, &ending, status, going, notes,
+    );
     Ended { status, kept }
 }

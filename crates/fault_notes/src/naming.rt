@@ -34,7 +34,8 @@ fn name_of<'a>(command: &Command<'a>, file: FileOf) -> &'a str {
         Command::Check(names) => match file {
             FileOf::Rules => names.rules,
             FileOf::Design => names.design,
-            FileOf::Layout | FileOf::Out => names.cif,
+            FileOf::Layout => names.cif,
+            FileOf::Out => names.markers.unwrap_or(names.cif),
         },
         Command::Help(_) => "",
     }

@@ -12,6 +12,8 @@ mod layout_mistakes;
 #[cfg(test)]
 mod limit_mistakes;
 #[cfg(test)]
+mod printing_tests;
+#[cfg(test)]
 mod progress_tests;
 #[cfg(test)]
 mod rules_mistakes;

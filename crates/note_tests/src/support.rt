@@ -107,21 +107,24 @@ pub(crate) fn styled(alloc: Global) -> Result<[Style; 3], AllocError> {
     Ok([near, lean, high])
 }
 
-/// The notes on these words over this shelf, with the styles `near`, `lean` and `high`.
-pub(crate) fn noted(alloc: Global, text: &str, shelf: &mut MemShelf) -> Result<String, AllocError> {
+/// The notes on these words over this shelf and this sink, with the styles `near`, `lean` and `high`.
+pub(crate) fn noted_over(
+    alloc: Global,
+    text: &str,
+    shelf: &mut MemShelf,
+    out: &mut MemSink,
+) -> Result<String, AllocError> {
     let words = words(alloc, text)?;
     let styles = styled(alloc)?;
-    let mut out = MemSink::new(alloc)?;
     let mut notes = MemSink::new(alloc)?;
-    let _ = run(
-        alloc,
-        words.as_slice(),
-        shelf,
-        &mut out,
-        &mut notes,
-        &styles,
-    );
+    let _ = run(alloc, words.as_slice(), shelf, out, &mut notes, &styles);
     String::from_str(alloc, str::from_utf8(notes.bytes()).unwrap_or("no UTF-8"))
+}
+
+/// The notes on these words over this shelf, with the styles `near`, `lean` and `high`.
+pub(crate) fn noted(alloc: Global, text: &str, shelf: &mut MemShelf) -> Result<String, AllocError> {
+    let mut out = MemSink::new(alloc)?;
+    noted_over(alloc, text, shelf, &mut out)
 }
 
 /// The first line of a text.

@@ -69,7 +69,7 @@ fn what_is_most_likely_not_meant(rt: HostRuntime) -> Result<(), Fail> {
 }
 
 /// Words, and a note on their names.
-const NAMES: [(&str, &str); 3] = [
+const NAMES: [(&str, &str); 6] = [
     (
         "route|my.yal|rules.toml|my.yal",
         "warning: my.yal is also the file of the design, which the layout will take the place of",
@@ -81,6 +81,18 @@ const NAMES: [(&str, &str); 3] = [
     (
         "route|my.yal|rules.toml|-",
         "warning: - is a file of that name here; the standard output is /dev/stdout, and the summary stands there too",
+    ),
+    (
+        "check|my.yal|rules.toml|o.cif|--markers|my.yal",
+        "warning: my.yal is also the file of the design, which the markers will take the place of",
+    ),
+    (
+        "check|my.yal|rules.toml|o.cif|--markers|o.cif",
+        "warning: o.cif is also the file of the layout, which the markers will take the place of",
+    ),
+    (
+        "check|my.yal|rules.toml|o.cif|--markers|-",
+        "warning: - is a file of that name here; the standard output is /dev/stdout, and the findings stand there too",
     ),
 ];
 

@@ -120,7 +120,8 @@ fn the_help_of_the_command_follows(rt: HostRuntime) -> Result<(), Fail> {
 cellroute check: CIF is missing behind check [usage]
 cellroute check DESIGN RULES CIF [OPTIONS]
 Judges the layout in CIF for the design in DESIGN under the rules in RULES: prints a line
-for each thing that is wrong with it, and their number. It writes no file.
+for each thing that is wrong with it, and their number. It writes no file but FILE.
+  --markers FILE write it to FILE too, as a report database of KLayout
   --ports        judge it for the design with the terminals of the PARENT as cells
   -q, --quiet    no notes on the standard error
 "

@@ -6,12 +6,12 @@ use Rattle.command_inputs.proofs.ReadingLaws.{read-refused, read-same}
 use Rattle.command_inputs.specs.declared.stages.Inputs.{Inputs}
 use Rattle.command_jobs.specs.Job.{Job}
 use Rattle.command_jobs.specs.PreparedView.{RoutedJob}
-use Rattle.command_words.specs.Command.{Names, route}
+use Rattle.command_words.specs.Command.{Command, Names, route, style_of}
 use Rattle.command_words.specs.Seen.{seen}
 use Rattle.commands.specs.Accepted.{Accepted, to_lay_out}
 use Rattle.commands.specs.Verdict.{command_verdict, job_verdict}
 use Rattle.commands.proofs.CarriedLaws.{stopped-early}
-use Rattle.std.proofs.lemmas.Option.{same_Some, slice_get-get_or}
+use Rattle.std.proofs.lemmas.Option.{none-some, same_Some, slice_get-get_or}
 use Rattle.choose_core.specs.declared.candidate.Candidate.{Candidate}
 use Rattle.choose_core.specs.declared.plan.Plan.{Plan}
 use Rattle.greedy_router.specs.Answers.{AreRouted}
@@ -66,6 +66,9 @@ written-for names inputs p e kept old mid new read is made first after =
       usage = λ two. absurd (omega (arith, written.listed, two));
       no_command = λ none. absurd cc;
       changes = written.changes;
+      unkept = λ command same none. absurd (none-some names.style (sym (ap (λ (k : Command). style_of k) (same_Some (route names) command same) ∙ none)));
+      laid = λ other same. written.laid;
+      marked = λ other file same some. absurd cc;
       cause = λ command same eight. absurd (omega (arith, written.listed, eight));
       headline = λ other stated bytes held same states source zero told.
           let here : names ≡ other = cc in
