@@ -43,12 +43,12 @@ fn note_judged<'a>(alloc: Global, notes: &mut Notes, reached: &Reached<'a>, judg
     note_layers(alloc, notes, &layout);
 }
 
-// The file that a command has written, where it ended well.
-fn written_by<'a>(reached: &Reached<'a>) -> Option<&'a str> {
-    match reached.command {
-        Some(Command::Route(names)) => Some(names.out),
-        Some(Command::Check(names)) => names.markers,
-        _ => None,
+// The file that a command writes, if it writes one.
+fn written_by<'a>(command: &Command<'a>) -> Option<&'a str> {
+    match command {
+        Command::Route(names) => Some(names.out),
+        Command::Check(names) => names.markers,
+        Command::Help(_) => None,
     }
 }
 
@@ -58,7 +58,11 @@ fn note_unprinted(
     notes: &mut Notes,
     reached: &Reached<'_>,
 ) -> Result<(), AllocError> {
-    let note = match written_by(reached) {
+    let written = match &reached.command {
+        Some(command) => written_by(command),
+        None => None,
+    };
+    let note = match written {
         Some(name) => {
             format!(in alloc;
                 "the standard output could not be written; {name} is whole [write fault]"
