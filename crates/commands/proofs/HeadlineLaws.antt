@@ -12,7 +12,6 @@ use Rattle.port_rows.specs.declared.fault.PortFault.{PortFault}
 use Rattle.port_rows.specs.declared.ported.Ported.{Ported}
 use Rattle.cif_text.specs.Meaning.{meaning}
 use Rattle.cif_text.specs.ReadsAs.{ReadsAs}
-use Rattle.command_ends.specs.declared.refusal.Refusal.{Refusal}
 use Rattle.command_inputs.specs.Drawn.{drawn_said, ported_said}
 use Rattle.command_inputs.specs.Origin.{AreDesignsFor, AreInputsFrom}
 use Rattle.command_inputs.specs.declared.stages.Inputs.{Inputs}

@@ -1,4 +1,4 @@
-use Rattle.std.proofs.Common.{◌+◌, ◌++◌, ◌∷◌, length, take, true, append_assoc, subst, arith, ℕ, List, [], Bool, false, Option, Some, None, Result, Ok, Err, is_ok, refl, ap, sym, ◌≡◌, ◌∙◌}
+use Rattle.std.proofs.Common.{◌+◌, ◌++◌, ◌∷◌, length, take, true, append_assoc, subst, ℕ, List, [], Bool, false, Option, Some, None, Result, Ok, Err, is_ok, refl, ap, sym, ◌≡◌, ◌∙◌}
 use Rattle.std.proofs.lemmas.List.{append-nil}
 use Rattle.std.specs.Prelude.{codes}
 use Rattle.shelf_io.specs.Told.{Refines, appended}

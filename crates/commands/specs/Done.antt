@@ -1,5 +1,5 @@
 -- how a command ends
-use Rattle.std.specs.Prelude.{◌≡◌, ◌≢◌, ◌↔◌, ◌⊎◌, ℕ, List, [], ◌∷◌, Option, None, Result, Ok, Err}
+use Rattle.std.specs.Prelude.{◌≡◌, ◌≢◌, ◌↔◌, ◌⊎◌, ℕ, List, [], ◌∷◌, None, Result, Ok, Err}
 use Rattle.geom_core.specs.declared.layout.Layout.{Layout}
 use Rattle.design_model.specs.Good.{Good}
 use Rattle.layout_check.specs.Findings.{Findings}

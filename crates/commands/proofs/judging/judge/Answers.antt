@@ -30,7 +30,7 @@ use Rattle.commands.proofs.HeadlineLaws.{good-of, headline-of}
 use Rattle.commands.proofs.judging.judge.Goals as goal
 
 -- what is said of a layout, with a file for markers or none
-seen-as : Inputs → Option (List ℕ) → Layout → Accepted
+abbrev seen-as : Inputs → Option (List ℕ) → Layout → Accepted
 seen-as inputs markers layout = to_judge inputs layout markers
 
 -- what is found of a layout for a command to check, where the rules and the design are read

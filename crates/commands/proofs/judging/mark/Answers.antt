@@ -1,4 +1,4 @@
-use Rattle.std.proofs.Common.{◌≡◌, None, inl, refl, arith}
+use Rattle.std.proofs.Common.{None, inl, refl, arith}
 use Rattle.commands.proofs.CarriedLaws.{unchanged}
 use Rattle.commands.proofs.judging.mark.Goals as goal
 
