@@ -46,8 +46,20 @@ pub fn note_layers(alloc: Global, notes: &mut Notes, judged: &JudgedLayout<'_>) 
         return;
     }
     let rules = judged.rules;
-    note_layer(alloc, notes, judged, &rules.horizontal.layer, "horizontal.layer");
-    note_layer(alloc, notes, judged, &rules.vertical.layer, "vertical.layer");
+    note_layer(
+        alloc,
+        notes,
+        judged,
+        &rules.horizontal.layer,
+        "horizontal.layer",
+    );
+    note_layer(
+        alloc,
+        notes,
+        judged,
+        &rules.vertical.layer,
+        "vertical.layer",
+    );
     note_layer(alloc, notes, judged, &rules.cut.layer, "cut.layer");
     note_layer(alloc, notes, judged, &rules.outline.layer, "outline.layer");
 }
