@@ -16,12 +16,13 @@ pub(crate) struct Subject<'a> {
     pub(crate) text: Option<&'a [u8]>,
 }
 
-/// The line that is printed of what stopped a command, without its line feed.
+/// The line that is printed of what stopped a command, without its line feed. It errs where there is no memory for all of it.
 pub(crate) fn old_line(alloc: Global, stop: &Stop) -> Result<String, AllocError> {
     let mut sink = MemSink::new(alloc)?;
     print_line(&mut sink, stop);
-    let bytes = sink.bytes();
-    let line = bytes.strip_suffix(b"\n").unwrap_or(bytes);
+    let Some(line) = sink.bytes().strip_suffix(b"\n") else {
+        return Err(AllocError);
+    };
     let mut text = String::new(alloc);
     push_shown(&mut text, line)?;
     Ok(text)
