@@ -17,7 +17,7 @@ FRONT = 20
 def texts(source):
     """The texts of a source that say what is wrong."""
     for match in re.finditer(r'format!\(in alloc;\s*"((?:[^"\\]|\\.)*)"', source):
-        yield match.group(1).replace('\\"', '"')
+        yield match.group(1).replace('\\"', '"').replace("\\\\", "\\")
 
 
 def pieces(text):

@@ -39,6 +39,12 @@ pub of-file : {X A : Type 0} (view : X → A) (result : Result X Stop) (point : 
 of-file view result point None found said is = absurd (none-some said is)
 of-file view result point (Some bytes) found said is = subst (Finds view result) (same_Some (point bytes) said is) (found bytes refl)
 
+-- what is said of a file that is told
+pub told-value : {A : Type 0} (point : List ℕ → Result A Refusal) (told : Option (List ℕ)) (value : Result A Refusal)
+    → ((bytes : List ℕ) → told ≡ Some bytes → point bytes ≡ value) → (said : Result A Refusal) → option_map point told ≡ Some said → said ≡ value
+told-value point None value gives said is = absurd (none-some said is)
+told-value point (Some bytes) value gives said is = sym (same_Some (point bytes) said is) ∙ gives bytes refl
+
 -- what stopped the first part of what is said of files stops the whole
 pub told-stops : {X Z A B : Type 0} (view : X → A) (seen : Z → B) (stop : Stop) (first : Option (Result A Refusal)) (next : A → Option (Result B Refusal))
     (said : Result B Refusal) → ((s : Result A Refusal) → first ≡ Some s → Finds view (Err stop) s) → told_then first next ≡ Some said

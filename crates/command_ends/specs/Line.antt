@@ -7,6 +7,10 @@ use Rattle.yal_reader.specs.declared.fault.YalKind.{YalKind}
 use Rattle.yal_reader.specs.declared.fault.YalKind.TheVariants as kinds
 use Rattle.netlist_core.specs.declared.fault.DesignFault.{DesignFault}
 use Rattle.netlist_core.specs.declared.fault.DesignFault.TheVariants as faults
+use Rattle.blif_reader.specs.declared.fault.BlifKind.{BlifKind}
+use Rattle.blif_reader.specs.declared.fault.BlifKind.TheVariants as netlists
+use Rattle.netlist_import.specs.declared.fault.ImportKind.{ImportKind}
+use Rattle.netlist_import.specs.declared.fault.ImportKind.TheVariants as imports
 use Rattle.cif_text.specs.declared.fault.CifKind.{CifKind}
 use Rattle.cif_text.specs.declared.fault.CifKind.TheVariants as texts
 use Rattle.cif_reader.specs.declared.fault.ExpandKind.{ExpandKind}
@@ -14,7 +18,7 @@ use Rattle.cif_reader.specs.declared.fault.ExpandKind.TheVariants as meanings
 use Rattle.command_ends.specs.declared.refusal.Limited.{Limited}
 use Rattle.command_ends.specs.declared.refusal.Limited.TheVariants as limits
 use Rattle.command_ends.specs.declared.refusal.Refusal.{Refusal}
-use Rattle.command_ends.specs.declared.refusal.Refusal.TheVariants.{Usage, Toml, Missing, Range, Tight, Yal, Design, PortClash, Cif, Meaning, Limit, Memory}
+use Rattle.command_ends.specs.declared.refusal.Refusal.TheVariants.{Usage, Toml, Missing, Range, Tight, Yal, Design, PortClash, Blif, Import, Cif, Meaning, Limit, Memory}
 use Rattle.command_ends.specs.declared.stop.Stop.{Stop}
 use Rattle.command_ends.specs.declared.stop.Stop.TheVariants.{Refused, ReadFault, WriteFault}
 
@@ -39,6 +43,30 @@ fault_word (faults.PinClash m) = codes "PinClash"
 fault_word (faults.WrongLayer m) = codes "WrongLayer"
 fault_word (faults.Limit count n) = codes "Limit"
 fault_word faults.Memory = codes "Memory"
+
+-- the words of a fault of a netlist's text, and of a netlist for its cells
+unfoldable pub netlist_word : BlifKind → List ℕ
+netlist_word netlists.Byte = codes "Byte"
+netlist_word netlists.Word = codes "Word"
+netlist_word netlists.Ends = codes "Ends"
+netlist_word netlists.Directive = codes "Directive"
+netlist_word netlists.Model = codes "Model"
+netlist_word netlists.Cname = codes "Cname"
+netlist_word netlists.Pin = codes "Pin"
+netlist_word netlists.Table = codes "Table"
+
+unfoldable pub import_word : ImportKind → List ℕ
+import_word imports.Parent = codes "Parent"
+import_word imports.Model = codes "Model"
+import_word imports.Keyword = codes "Keyword"
+import_word imports.Net = codes "Net"
+import_word imports.Power = codes "Power"
+import_word imports.Constant = codes "Constant"
+import_word imports.Name = codes "Name"
+import_word imports.Cell = codes "Cell"
+import_word imports.Pin = codes "Pin"
+import_word imports.Twice = codes "Twice"
+import_word imports.Missing = codes "Missing"
 
 -- the words of a fault of a text of CIF and of its commands, without what they carry
 unfoldable pub text_word : CifKind → List ℕ
@@ -65,12 +93,15 @@ unfoldable pub limited_word : Limited → List ℕ
 limited_word limits.Rules = codes "Rules"
 limited_word limits.Design = codes "Design"
 limited_word limits.Cif = codes "Cif"
+limited_word limits.Blif = codes "Blif"
+limited_word limits.Cells = codes "Cells"
 limited_word limits.Instances = codes "Instances"
 limited_word limits.Pins = codes "Pins"
 limited_word limits.Moves = codes "Moves"
 limited_word limits.Grid = codes "Grid"
 limited_word limits.Width = codes "Width"
 limited_word limits.Height = codes "Height"
+limited_word limits.Picture = codes "Picture"
 
 -- the words of a refusal's line
 unfoldable pub refusal_words : Refusal → List (List ℕ)
@@ -83,6 +114,8 @@ refusal_words (Yal kind place) = codes "yal" ∷ kind_word kind ∷ decimal plac
 refusal_words (Design fault None) = codes "design" ∷ fault_word fault ∷ []
 refusal_words (Design fault (Some name)) = codes "design" ∷ fault_word fault ∷ name ∷ []
 refusal_words (PortClash name) = codes "design" ∷ codes "PortClash" ∷ name ∷ []
+refusal_words (Blif kind place) = codes "blif" ∷ netlist_word kind ∷ decimal place ∷ []
+refusal_words (Import flaw) = codes "import" ∷ import_word flaw.kind ∷ flaw.name ∷ decimal flaw.at ∷ []
 refusal_words (Cif kind place) = codes "cif" ∷ text_word kind ∷ decimal place ∷ []
 refusal_words (Meaning kind command) = codes "cif" ∷ meaning_word kind ∷ decimal command ∷ []
 refusal_words (Limit what n) = codes "limit" ∷ limited_word what ∷ decimal n ∷ []

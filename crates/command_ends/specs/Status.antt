@@ -2,7 +2,7 @@
 use Rattle.std.specs.Prelude.{ℕ, [], ◌∷◌, Bool, ◌==◌, Result, Ok, Err}
 use Rattle.std.specs.List.{list_any}
 use Rattle.command_ends.specs.declared.refusal.Refusal.{Refusal}
-use Rattle.command_ends.specs.declared.refusal.Refusal.TheVariants.{Usage, Toml, Missing, Range, Tight, Yal, Design, PortClash, Cif, Meaning, Limit, Memory}
+use Rattle.command_ends.specs.declared.refusal.Refusal.TheVariants.{Usage, Toml, Missing, Range, Tight, Yal, Design, PortClash, Blif, Import, Cif, Meaning, Limit, Memory}
 use Rattle.command_ends.specs.declared.stop.Stop.{Stop}
 use Rattle.command_ends.specs.declared.stop.Stop.TheVariants.{Refused, ReadFault, WriteFault}
 
@@ -16,6 +16,8 @@ refusal_status (Range key) = 4
 refusal_status (Tight rule) = 4
 refusal_status (Design fault name) = 5
 refusal_status (PortClash name) = 5
+refusal_status (Blif kind place) = 3
+refusal_status (Import flaw) = 5
 refusal_status (Cif kind place) = 7
 refusal_status (Meaning kind command) = 7
 refusal_status (Limit what n) = 6

@@ -1,18 +1,20 @@
 //! The line that says why a command stopped.
 
 ghost use Rattle.command_ends.specs.Gains.{Gains};
-ghost use Rattle.command_ends.specs.Line.{fault_word, kind_word, limited_word, line_of, meaning_word, refusal_words, stop_words, text_word};
-ghost use Rattle.command_ends.specs.declared.refusal.Refusal.TheVariants.{Design, PortClash};
+ghost use Rattle.command_ends.specs.Line.{fault_word, import_word, kind_word, limited_word, line_of, meaning_word, netlist_word, refusal_words, stop_words, text_word};
+ghost use Rattle.command_ends.specs.declared.refusal.Refusal.TheVariants.{Design, Import, PortClash};
 ghost use Rattle.shelf_io.specs.Lines.{line, word_text};
 ghost use Rattle.shelf_io.specs.Wrote.{Puts};
 ghost use Rattle.std.specs.Prelude.{◌≡◌, ◌≤◌, ◌∷◌, []};
 
 use crate::refusal::{Limited, Refusal};
 use crate::stop::Stop;
+use blif_reader::BlifKind;
 use cif_reader::ExpandKind;
 use cif_text::CifKind;
 use geom_core::Name;
 use netlist_core::{Count, DesignFault};
+use netlist_import::{ImportFlaw, ImportKind};
 use shelf_io::LineWord::{self, Number, Text};
 use shelf_io::{Failed, Sink, put_line};
 use yal_reader::YalKind;
@@ -50,6 +52,43 @@ fn fault_word(fault: DesignFault) -> &'static [u8]
         DesignFault::WrongLayer(_) => b"WrongLayer",
         DesignFault::Limit(..) => b"Limit",
         DesignFault::Memory => b"Memory",
+    }
+}
+
+// The word of a fault of a netlist's text.
+#[tactic(auto, unfolding(crate::specs::Line::netlist_word))]
+fn netlist_word(kind: BlifKind) -> &'static [u8]
+    ensures { result.now ≡ netlist_word kind }
+{
+    match kind {
+        BlifKind::Byte => b"Byte",
+        BlifKind::Word => b"Word",
+        BlifKind::Ends => b"Ends",
+        BlifKind::Directive => b"Directive",
+        BlifKind::Model => b"Model",
+        BlifKind::Cname => b"Cname",
+        BlifKind::Pin => b"Pin",
+        BlifKind::Table => b"Table",
+    }
+}
+
+// The word of a fault of a netlist for its cells.
+#[tactic(auto, unfolding(crate::specs::Line::import_word))]
+fn import_word(kind: ImportKind) -> &'static [u8]
+    ensures { result.now ≡ import_word kind }
+{
+    match kind {
+        ImportKind::Parent => b"Parent",
+        ImportKind::Model => b"Model",
+        ImportKind::Keyword => b"Keyword",
+        ImportKind::Net => b"Net",
+        ImportKind::Power => b"Power",
+        ImportKind::Constant => b"Constant",
+        ImportKind::Name => b"Name",
+        ImportKind::Cell => b"Cell",
+        ImportKind::Pin => b"Pin",
+        ImportKind::Twice => b"Twice",
+        ImportKind::Missing => b"Missing",
     }
 }
 
@@ -96,12 +135,15 @@ fn limited_word(what: Limited) -> &'static [u8]
         Limited::Rules => b"Rules",
         Limited::Design => b"Design",
         Limited::Cif => b"Cif",
+        Limited::Blif => b"Blif",
+        Limited::Cells => b"Cells",
         Limited::Instances => b"Instances",
         Limited::Pins => b"Pins",
         Limited::Moves => b"Moves",
         Limited::Grid => b"Grid",
         Limited::Width => b"Width",
         Limited::Height => b"Height",
+        Limited::Picture => b"Picture",
     }
 }
 
@@ -140,6 +182,16 @@ fn put_clash<K: Sink>(out: &mut K, name: &Name) -> Result<(), Failed>
     )
 }
 
+// Puts the line of a netlist that does not fit its cells.
+#[tactic(auto, unfolding(crate::specs::Line::refusal_words))]
+fn put_flaw<K: Sink>(out: &mut K, flaw: &ImportFlaw) -> Result<(), Failed>
+    ensures { Puts result (line (refusal_words (Import flaw.now))) (K.written out.old) (K.written out.new) (K.faults out.old) (K.faults out.new) (K.same_place out.old out.new) (K.else_same out.old out.new) }
+{
+    let kind = Text(import_word(flaw.kind));
+    let name = Text(flaw.name.items());
+    put_line(out, &[Text(b"import"), kind, name, Number(flaw.at)])
+}
+
 // Puts the line of a refusal.
 #[tactic(auto, unfolding(crate::specs::Line::refusal_words))]
 fn put_refusal<K: Sink>(out: &mut K, refusal: &Refusal) -> Result<(), Failed>
@@ -154,6 +206,8 @@ fn put_refusal<K: Sink>(out: &mut K, refusal: &Refusal) -> Result<(), Failed>
         Refusal::Yal(kind, at) => put_three(out, b"yal", kind_word(*kind), Number(*at)),
         Refusal::Design(fault, name) => put_design(out, *fault, name),
         Refusal::PortClash(name) => put_clash(out, name),
+        Refusal::Blif(kind, at) => put_three(out, b"blif", netlist_word(*kind), Number(*at)),
+        Refusal::Import(flaw) => put_flaw(out, flaw),
         Refusal::Cif(kind, at) => put_three(out, b"cif", text_word(*kind), Number(*at)),
         Refusal::Meaning(kind, at) => put_three(
             out,

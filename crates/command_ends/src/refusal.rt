@@ -3,10 +3,12 @@
 ghost use Rattle.command_ends.specs.Status.{refusal_status};
 ghost use Rattle.std.specs.Prelude.{◌≡◌};
 
+use blif_reader::BlifKind;
 use cif_reader::ExpandKind;
 use cif_text::CifKind;
 use geom_core::Name;
 use netlist_core::DesignFault;
+use netlist_import::ImportFlaw;
 use std::alloc::AllocError;
 use tech_rules::Key;
 use yal_reader::YalKind;
@@ -20,6 +22,10 @@ pub enum Limited {
     Design,
     /// The bytes of the layout's file.
     Cif,
+    /// The bytes of the file of a netlist that comes in.
+    Blif,
+    /// The bytes of the file of its cells.
+    Cells,
     /// The instances of the design.
     Instances,
     /// The pins of the design.
@@ -32,6 +38,8 @@ pub enum Limited {
     Width,
     /// The height of the layout in centimicrons.
     Height,
+    /// The shapes that a picture shows.
+    Picture,
 }
 
 /// Why there is nothing to write or to judge.
@@ -54,6 +62,10 @@ pub enum Refusal {
     Design(DesignFault, Option<Name>),
     /// A module or an instance of the design has this name, which a kind or an instance of its ports would have.
     PortClash(Name),
+    /// The file of a netlist is no BLIF, for this reason at this byte.
+    Blif(BlifKind, u64),
+    /// The netlist does not fit its cells, for this reason, with the word that it is about and the byte of that.
+    Import(ImportFlaw),
     /// The layout's file is no text of CIF, for this reason at this byte.
     Cif(CifKind, u64),
     /// Its commands give no layout, for this reason at the command of this number.
@@ -81,9 +93,9 @@ impl Refusal {
     {
         match self {
             Refusal::Usage => 2,
-            Refusal::Yal(..) => 3,
+            Refusal::Yal(..) | Refusal::Blif(..) => 3,
             Refusal::Toml | Refusal::Missing(_) | Refusal::Range(_) | Refusal::Tight(_) => 4,
-            Refusal::Design(..) | Refusal::PortClash(_) => 5,
+            Refusal::Design(..) | Refusal::PortClash(_) | Refusal::Import(_) => 5,
             Refusal::Limit(..) => 6,
             Refusal::Cif(..) | Refusal::Meaning(..) => 7,
             Refusal::Memory => 10,

@@ -4,7 +4,7 @@ ghost use Rattle.command_help.specs.Texts.{text_on};
 ghost use Rattle.shelf_io.specs.Wrote.{Puts};
 ghost use Rattle.std.specs.Prelude.{◌≡◌};
 
-use crate::texts::{CHECK_HELP, MAKE_HELP, OVERVIEW, ROUTE_HELP, VERSION};
+use crate::texts::{CHECK_HELP, DRAW_HELP, IMPORT_HELP, MAKE_HELP, OVERVIEW, ROUTE_HELP, VERSION};
 use command_words::Topic;
 use shelf_io::{Failed, Sink, put_whole};
 
@@ -18,6 +18,8 @@ pub fn help_text(topic: Topic) -> &'static str
         Topic::RouteCommand => ROUTE_HELP,
         Topic::CheckCommand => CHECK_HELP,
         Topic::MakeCommand => MAKE_HELP,
+        Topic::DrawCommand => DRAW_HELP,
+        Topic::ImportCommand => IMPORT_HELP,
         Topic::Version => VERSION,
     }
 }

@@ -4,5 +4,7 @@ pub mod LimitLaws
 pub mod ReadingLaws
 -- the layout that a file's commands give
 pub mod LayoutLaws
+-- the netlist that a file's bytes give
+pub mod NetlistLaws
 -- rules and a design that are what files say
 pub mod OriginLaws

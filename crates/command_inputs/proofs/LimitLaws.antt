@@ -24,3 +24,12 @@ within-next what most bytes next a is = kept (nat_lt most (length bytes)) is
     kept : (long : Bool) → (cond long (Err (refusals.Limit what most)) (Ok bytes) >>= next) ≡ Ok a → next bytes ≡ Ok a
     kept true is = cc
     kept false is = is
+
+-- contents within the limit are the whole
+pub within-whole : (what : Limited) (most : ℕ) (bytes items : List ℕ) → within_limit what most bytes ≡ Ok items → items ≡ bytes
+unfolding within_limit
+within-whole what most bytes items is = by (nat_lt most (length bytes)) is
+  where
+    by : (long : Bool) → cond long (Err (refusals.Limit what most)) (Ok bytes) ≡ Ok items → items ≡ bytes
+    by true is = cc
+    by false is = cc

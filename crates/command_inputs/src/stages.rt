@@ -54,8 +54,8 @@ pub(crate) fn load_within<S: Shelf>(
     }
 }
 
-// The rules of a file, whose text is kept.
-fn load_rules<S: Shelf>(
+/// The rules of a file, whose text is kept.
+pub(crate) fn load_rules<S: Shelf>(
     alloc: Global,
     shelf: &mut S,
     name: &str,

@@ -6,5 +6,7 @@ pub mod RoutedLaws
 pub mod RowCounts
 -- the cells of ports
 pub mod PortCells
+-- the tries of a job, and the placement of the one that is taken
+pub mod TryLaws
 -- a layout in short
 pub mod SummaryLaws

@@ -1,4 +1,4 @@
-use Rattle.std.proofs.Common.{◌≡◌, ◌∙◌, ◌<◌, ◌≤◌, ◌*◌, ◌^◌, ℕ, List, [], ◌∷◌, length, map, fold, max, ap, refl, sym, arith}
+use Rattle.std.proofs.Common.{◌≡◌, ◌∙◌, ◌<◌, ◌≤◌, ◌*◌, ◌^◌, ℕ, List, [], ◌∷◌, Option, length, map, fold, max, ap, refl, sym, arith}
 use Rattle.std.proofs.lemmas.List.{length-map}
 use Rattle.design_model.specs.Netlist.{Netlist}
 use Rattle.feed_cells.specs.Fed.{Fed, IsFed, cells_in, fed_from, fed_rows, item_width, items_width, seats_in}
@@ -8,8 +8,9 @@ use Rattle.feed_cells.proofs.FedWidths.{width-cons}
 use Rattle.channel_stack.specs.Stack.{LaidOut, laid_of, stack_of}
 use Rattle.greedy_router.specs.declared.sweep.Routed.{Routed}
 use Rattle.layout_report.specs.declared.summary.ChannelLine.{ChannelLine}
+use Rattle.layout_report.specs.declared.summary.Taken.{Taken}
 use Rattle.command_jobs.specs.Job.{Job}
-use Rattle.command_jobs.specs.Summarized.{cost_for, feeds_at, feeds_in, feeds_of, line_of_channel, summary_of, summary_with}
+use Rattle.command_jobs.specs.Summarized.{cost_for, feeds_at, feeds_in, feeds_of, line_of_channel, summary_of, summary_with, taken_among}
 use Rattle.command_jobs.specs.Text.{rows_with_feeds, wirings_of}
 use Rattle.std_laws.proofs.Greatest.{greatest-first}
 
@@ -49,9 +50,9 @@ feeds-few d fed is narrow =
     omega (arith, rows-few d fed is)
 
 -- a layout in short is that of its job
-pub summary-from : (job : Job) (fed : Fed) (cost : ℕ) (kept : List Routed) (channels : List ChannelLine) (laid : LaidOut)
+pub summary-from : (job : Job) (fed : Fed) (cost : ℕ) (kept : List Routed) (channels : List ChannelLine) (laid : LaidOut) (taken : Option Taken)
     → fed ≡ rows_with_feeds job → cost ≡ cost_for job → channels ≡ map (line_of_channel fed.width) kept
-    → laid ≡ laid_of (stack_of job.rules job.drawn.design fed (wirings_of kept))
-    → summary_with job.drawn.design fed cost channels laid ≡ summary_of job kept
+    → laid ≡ laid_of (stack_of job.rules job.drawn.design fed (wirings_of kept)) → taken ≡ taken_among job.tries job.rows job.seed
+    → summary_with job.drawn.design fed cost channels laid taken ≡ summary_of job kept
 unfolding summary_of
-summary-from job fed cost kept channels laid fed_is cost_is channels_are laid_is = rw (channels_are, laid_is, cost_is, fed_is) refl
+summary-from job fed cost kept channels laid taken fed_is cost_is channels_are laid_is taken_is = rw (channels_are, laid_is, taken_is, cost_is, fed_is) refl

@@ -9,7 +9,7 @@ use Rattle.cif_writer.specs.FeedHeights.{feed_heights}
 use Rattle.cif_writer.specs.Symbols.{symbol_drawings}
 use Rattle.greedy_router.specs.declared.sweep.Routed.{Routed}
 use Rattle.command_jobs.specs.Job.{Job}
-use Rattle.command_jobs.specs.Rows.{job_of}
+use Rattle.command_jobs.specs.Tries.{job_of}
 use Rattle.command_jobs.specs.Summarized.{summary_of}
 use Rattle.command_jobs.specs.Text.{AreRoutedRows, wirings_of}
 use Rattle.command_jobs.specs.Written.{StandAtEdges}

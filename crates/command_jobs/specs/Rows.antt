@@ -1,4 +1,4 @@
--- the number of rows of a job, its schedule of annealing, the annealed rows, and these between those of the ports
+-- the number of rows of a try, the schedule of annealing of a job, its annealed rows, and these between those of the ports
 use Rattle.std.specs.Prelude.{ℕ, List, Option, None, Some}
 use Rattle.tech_rules.specs.Rules.{RuleValues}
 use Rattle.design_model.specs.Netlist.{Netlist}
@@ -6,26 +6,14 @@ use Rattle.row_model.specs.Start.{default_rows, start_rows}
 use Rattle.row_model.specs.declared.rows.Seat.{Seat}
 use Rattle.anneal_int.specs.Annealed.{annealed}
 use Rattle.anneal_int.specs.Schedule.{Annealing}
-use Rattle.port_rows.specs.Designs.{placed_in}
 use Rattle.port_rows.specs.PortRows.{with_port_rows}
-use Rattle.port_rows.specs.declared.designs.Designs.{Designs}
+use Rattle.placement_tries.specs.RowCounts.{rows_at}
 use Rattle.command_jobs.specs.Job.{Job}
-use Rattle.command_words.specs.declared.command.Wanted.{Wanted}
 
--- the number of rows of a design's layout: the one that is asked for, or else as many as make it about square
-abbrev pub rows_for : RuleValues → Netlist → Option ℕ → ℕ
-rows_for rules d None = default_rows rules d
-rows_for rules d (Some rows) = rows
-
--- the job of laying designs out so
-abbrev pub job_of : RuleValues → Designs → Wanted → Job
-job_of rules designs wanted = record {
-  rules = rules;
-  placed = placed_in designs;
-  drawn = designs.drawn;
-  rows = rows_for rules (placed_in designs) wanted.rows;
-  seed = wanted.seed;
-}
+-- the number of rows of a try of a design: the one that is asked for, or else by the list that begins with as many as make the layout about square
+abbrev pub rows_for : RuleValues → Netlist → Option ℕ → ℕ → ℕ
+rows_for rules d None number = rows_at (default_rows rules d) number
+rows_for rules d (Some rows) number = rows
 
 -- how rules have rows annealed
 abbrev pub schedule_of : RuleValues → Annealing

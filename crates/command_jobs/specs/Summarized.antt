@@ -1,5 +1,5 @@
 -- the layout in short
-use Rattle.std.specs.Prelude.{ℕ, ◌+◌, ◌-◌, List, [], ◌∷◌, length, map}
+use Rattle.std.specs.Prelude.{ℕ, ◌+◌, ◌-◌, List, [], ◌∷◌, Option, None, Some, if◌then◌else◌, length, map, nat_lt}
 use Rattle.design_model.specs.Netlist.{Netlist}
 use Rattle.row_board.specs.Cost.{cost_of}
 use Rattle.feed_cells.specs.Fed.{Fed}
@@ -9,6 +9,7 @@ use Rattle.channel_stack.specs.Stack.{LaidOut, laid_of, stack_of}
 use Rattle.greedy_router.specs.declared.sweep.Routed.{Routed}
 use Rattle.layout_report.specs.declared.summary.ChannelLine.{ChannelLine}
 use Rattle.layout_report.specs.declared.summary.Summary.{Summary}
+use Rattle.layout_report.specs.declared.summary.Taken.{Taken}
 use Rattle.command_jobs.specs.Job.{Job}
 use Rattle.command_jobs.specs.Rows.{annealed_rows, schedule_of}
 use Rattle.command_jobs.specs.Text.{rows_with_feeds, wirings_of}
@@ -35,9 +36,13 @@ line_of_channel width r = record { tracks = r.wiring.tracks; extra = r.wiring.co
 unfoldable pub cost_for : Job → ℕ
 cost_for job = cost_of job.placed (annealed_rows job) (schedule_of job.rules).weights
 
--- a layout in short, of a design in rows with feeds that cost so, with these channels, where all of it lies so
-abbrev pub summary_with : Netlist → Fed → ℕ → List ChannelLine → LaidOut → Summary
-summary_with d fed cost channels laid = record {
+-- what is told of a try that was taken, in so many rows and with this seed: nothing where there was one alone
+abbrev pub taken_among : ℕ → ℕ → ℕ → Option Taken
+taken_among tries rows seed = if nat_lt 1 tries then Some (record { rows = rows; seed = seed }) else None
+
+-- a layout in short, of a design in rows with feeds that cost so, with these channels, where all of it lies so, and by this try
+abbrev pub summary_with : Netlist → Fed → ℕ → List ChannelLine → LaidOut → Option Taken → Summary
+summary_with d fed cost channels laid taken = record {
   cells = length d.instances;
   nets = length d.nets;
   rows = length fed.rows;
@@ -46,6 +51,7 @@ summary_with d fed cost channels laid = record {
   width = laid.width;
   height = laid.height;
   cost = cost;
+  taken = taken;
 }
 
 -- the layout of a job with these routed channels in short
@@ -53,3 +59,4 @@ unfoldable pub summary_of : Job → List Routed → Summary
 summary_of job kept =
     let fed : Fed = rows_with_feeds job in
     summary_with job.drawn.design fed (cost_for job) (map (line_of_channel fed.width) kept) (laid_of (stack_of job.rules job.drawn.design fed (wirings_of kept)))
+    (taken_among job.tries job.rows job.seed)

@@ -1,10 +1,12 @@
-//! The job of laying a design out: its rows are annealed and get feeds, its channels are routed, and all of it is written.
+//! The job of laying a design out: its rows are annealed and get feeds, the best of its tries is routed, and all of it is written.
 #![tactic(auto)]
 
+mod job_limits;
 mod placing;
 mod prepared;
 mod routing;
-mod size_limits;
 mod summarizing;
+mod try_watch;
+mod trying;
 
 pub use prepared::{Prepared, Told, lay_out};

@@ -3,15 +3,16 @@
 ghost use Rattle.command_ends.specs.Answers.{Answers};
 ghost use Rattle.command_ends.specs.Status.{refusal_status};
 ghost use Rattle.command_jobs.specs.Limits.{within_limits};
-ghost use Rattle.command_jobs.specs.Rows.{job_of};
 ghost use Rattle.command_jobs.specs.Summarized.{cost_for, summary_of};
 ghost use Rattle.command_jobs.specs.Text.{AreRoutedRows, channels_of, job_text};
+ghost use Rattle.command_jobs.specs.Tries.{estimate_for, job_of, taken_try, try_of};
 ghost use Rattle.command_jobs.specs.Written.{IsPortedText};
 ghost use Rattle.cif_writer.specs.LayoutText.{HoldsFront};
 ghost use Rattle.design_model.specs.Room.{HasRoom};
 ghost use Rattle.greedy_router.specs.Answers.{AreRouted};
 ghost use Rattle.limits.specs.declared.TheConstants.{MOST_ROWS};
 ghost use Rattle.pin_assign.specs.Tables.{tables_of};
+ghost use Rattle.placement_tries.specs.Taking.{IsFirstLeast};
 ghost use Rattle.port_rows.specs.Designs.{placed_in};
 ghost use Rattle.port_rows.specs.PortRows.{HoldCells};
 ghost use Rattle.row_model.specs.Rows.{ArePlaced};
@@ -19,18 +20,19 @@ ghost use Rattle.row_model.specs.declared.rows.Seat.{Seat};
 ghost use Rattle.shelf_io.specs.Count.{Rose};
 ghost use Rattle.shelf_io.specs.OtherFiles.{OthersSame};
 ghost use Rattle.shelf_io.specs.Told.{Refines};
-ghost use Rattle.std.specs.Prelude.{◌≡◌, ◌≢◌, ◌≤◌, List, length, is_ok, Some, IfErr, IfOk, OnErr, OnOk};
+ghost use Rattle.std.specs.Prelude.{◌≡◌, ◌≢◌, ◌≤◌, List, length, is_ok, Some, IfErr, IfOk, OnErr, OnOk, ℕ};
 
-use crate::placing::job_rows;
+use crate::job_limits::moves_refusal;
+use crate::placing::{Annealed, Placed};
 use crate::routing::{RoutedRows, route_rows};
 use crate::summarizing::{channel_lines, feed_wire, summarized};
-use anneal_int::CostedRows;
+use crate::trying::job_placed;
 use channel_stack::{Laid, lay};
 use choose_core::{Chooser, Chooses, Style};
 use cif_writer::{RoutedDesign, Symbols, symbol_drawings, write_layout_watched};
 use command_ends::Refusal;
 use command_words::Wanted;
-use feed_cells::{FedRows, insert_feeds, place};
+use feed_cells::FedRows;
 use greedy_router::Routed;
 use layout_notes::{LaidLayout, note_layout};
 use layout_report::Summary;
@@ -74,8 +76,7 @@ impl Model for Prepared {
     ghost invariant = { IsPrepared };
 }
 
-// Lays the rows of a job with feeds and routed channels, draws their symbols, and tells of them in short. They cost so before they got feeds, and so at first. The one error is want of
-// memory.
+// Lays the rows of a job with feeds and routed channels, draws their symbols, and tells of them in short. They were annealed so. The one error is want of memory.
 fn ready(
     alloc: Global,
     designs: Designs,
@@ -83,13 +84,14 @@ fn ready(
     wanted: Wanted,
     fed: FedRows,
     rows: RoutedRows,
-    cost: u64,
-    first_cost: u64,
+    annealed: Annealed,
 ) -> Result<Prepared, AllocError>
     requires high { HasRoom rules designs.drawn.design }
     requires rows { AreRoutedRows (job_of rules designs wanted) fed rows.routed.items }
     requires channels { rows.channels.items ≡ tables_of designs.drawn.design fed }
-    requires cost { cost ≡ cost_for (job_of rules designs wanted) }
+    requires cost { annealed.cost ≡ cost_for (job_of rules designs wanted) }
+    requires count { annealed.rows ≡ (job_of rules designs wanted).rows }
+    requires seed { annealed.seed ≡ (job_of rules designs wanted).seed }
     ensures { IfOk result (λ made. made ≡ record { job = job_of rules designs wanted; kept = rows.routed.items }) }
 {
     let RoutedRows { channels, routed } = rows;
@@ -100,7 +102,7 @@ fn ready(
     let lines = channel_lines(alloc, wirings, &fed)?;
     let symbols = symbol_drawings(alloc, drawn, &fed, &rules)?;
     let laid = lay(alloc, drawn, &fed, channels.as_slice(), wirings, &rules)?;
-    let summary = summarized(drawn, &fed, lines, &laid, cost);
+    let summary = summarized(drawn, &fed, lines, &laid, annealed, wanted.tries);
     Ok(Prepared {
         rules,
         designs,
@@ -110,12 +112,12 @@ fn ready(
         laid,
         symbols,
         summary,
-        first_cost,
+        first_cost: annealed.first_cost,
     })
 }
 
-/// Designs laid out as is wanted: the one placed without its ports, and the other drawn with them and routed by the choices of a style, if that is within the limits. Each cell has
-/// room for its pins. One that watches is told of the stages of annealing and of the channels.
+/// Designs laid out as is wanted: the one placed without its ports, by the first of its tries whose layout is estimated to have the least area, and the other drawn with them and routed by
+/// the choices of a style, if that is within the limits. Each cell has room for its pins. One that watches is told of the stages of annealing and of the channels.
 #[tactic(auto, unfolding(crate::specs::Limits::within_limits))]
 pub fn lay_out<W: Watch>(
     alloc: Global,
@@ -129,17 +131,24 @@ pub fn lay_out<W: Watch>(
     requires hold { (rows : List (List Seat)) → ArePlaced (placed_in designs) rows → length rows ≤ MOST_ROWS → HoldCells designs.drawn rows }
     ensures made { Answers (λ prepared. prepared.job) result (within_limits (job_of rules designs wanted)) }
     ensures is { IfOk result (λ prepared. prepared.job ≡ job_of rules designs wanted) }
+    ensures taken { IsFirstLeast (λ (number : ℕ). estimate_for (try_of rules designs wanted number)) wanted.tries (taken_try rules designs wanted) }
     ensures kept { IfOk result (λ prepared. AreRouted wanted.edge style.now.plan (⟦<Chooser as Chooses>⟧.answers style.now.chooser) (channels_of prepared.job) prepared.kept) }
     ensures command { IfErr result (λ refusal. refusal_status refusal ≢ 2) }
     ensures goes { W.goes watch.old watch.new }
 {
-    let CostedRows { rows, cost, first } = job_rows(alloc, &designs, &rules, &wanted, watch)?;
+    let tries = wanted.tries.get();
+    if let Some(refusal) = moves_refusal(designs.placed(), &rules, tries) {
+        return Err(refusal);
+    }
+    let Placed {
+        annealed,
+        fed,
+        placement,
+    } = job_placed(alloc, &designs, &rules, &wanted, watch)?;
     let drawn = &designs.drawn.design;
-    let placement = place(alloc, drawn, &rows)?;
-    let fed = insert_feeds(alloc, drawn, &rows, &placement)?;
     let edge = wanted.edge;
     let routed = route_rows(alloc, drawn, &rules, &fed, placement, style, edge, watch)?;
-    let made = ready(alloc, designs, rules, wanted, fed, routed, cost, first)?;
+    let made = ready(alloc, designs, rules, wanted, fed, routed, annealed)?;
     Ok(made)
 }
 

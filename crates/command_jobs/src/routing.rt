@@ -13,7 +13,7 @@ ghost use Rattle.pin_assign.specs.Bounds as pins;
 ghost use Rattle.pin_assign.specs.Tables.{tables_of};
 ghost use Rattle.std.specs.Prelude.{◌≡◌, ◌≢◌, ◌≤◌, IfErr, IfOk, Ok};
 
-use crate::size_limits::size_refusal;
+use crate::job_limits::size_refusal;
 use channel_model::Channel;
 use choose_core::{Chooser, Chooses, Style};
 use command_ends::Refusal;

@@ -1,15 +1,17 @@
 //! A layout in short.
 
-ghost use Rattle.command_jobs.specs.Summarized.{feeds_at, feeds_in, feeds_of, line_of_channel, summary_with};
+ghost use Rattle.command_jobs.specs.Summarized.{feeds_at, feeds_in, feeds_of, line_of_channel, summary_with, taken_among};
 ghost use Rattle.feed_cells.specs.Fed.{IsFed};
 ghost use Rattle.std.specs.Prelude.{◌≡◌, ◌<◌, ◌≤◌, ◌^◌, IfOk, map};
 
+use crate::placing::Annealed;
 use channel_stack::Laid;
+use command_words::TryCount;
 use design_model::Design;
 use feed_cells::{FedRows, Item};
 use geom_core::Items;
 use greedy_router::Routed;
-use layout_report::{ChannelLine, Summary};
+use layout_report::{ChannelLine, Summary, Taken};
 use limits::MOST_COLUMNS;
 use std::alloc::{AllocError, Global};
 
@@ -77,18 +79,33 @@ pub(crate) fn channel_lines(
         .collect(alloc)
 }
 
-/// The layout in short of a design in rows with feeds, which cost so, with these channels. The rows are at most 4,000,000 columns wide. Takes no
+// What is told of a try that was taken.
+fn taken_among(tries: TryCount, annealed: Annealed) -> Option<Taken>
+    ensures { result ≡ taken_among tries annealed.rows annealed.seed }
+{
+    if tries.get() > 1 {
+        Some(Taken {
+            rows: annealed.rows,
+            seed: annealed.seed,
+        })
+    } else {
+        None
+    }
+}
+
+/// The layout in short of a design in rows with feeds, which were annealed so, as one of so many tries, with these channels. The rows are at most 4,000,000 columns wide. Takes no
 /// memory.
 pub(crate) fn summarized(
     design: &Design,
     fed: &FedRows,
     channels: Vec<ChannelLine>,
     laid: &Laid,
-    cost: u64,
+    annealed: Annealed,
+    tries: TryCount,
 ) -> Summary
     requires fed { IsFed design.now fed.now }
     requires narrow { fed.now.width ≤ MOST_COLUMNS }
-    ensures { result ≡ summary_with design.now fed.now cost channels.items laid.now }
+    ensures { result ≡ summary_with design.now fed.now annealed.cost channels.items laid.now (taken_among tries annealed.rows annealed.seed) }
 {
     Summary {
         cells: design.instances.items().len() as u32,
@@ -98,7 +115,8 @@ pub(crate) fn summarized(
         channels: Items::new(channels),
         width: laid.width,
         height: laid.height,
-        cost,
+        cost: annealed.cost,
+        taken: taken_among(tries, annealed),
     }
 }
 

@@ -6,6 +6,7 @@ ghost use Rattle.std.specs.Prelude.{◌<◌, length, ℕ};
 use choose_core::{Candidate, Choice, Chooser, Manner, Plan, Style};
 use commands::{Ended, Word, run};
 use geom_core::Name;
+pub(crate) use samples::TWO_JOINED;
 use samples::{INVERTER, RULES, design_text};
 use shelf_io::{MemShelf, MemSink};
 use std::alloc::{AllocError, Global};
@@ -14,10 +15,6 @@ use stock_styles::Stock;
 /// The layout of one inverter.
 pub(crate) const ONE_INVERTER: &str =
     "(cellroute 1);\nDS 1 1 1;\n9 INV;\nL XP;\nB 800 4000 400 2000;\nL NP;\nB 300 400 400 200;\nDF;\n91 u1;\nC 1 T 0 800;\nE\n";
-
-/// The layout of two buffers, `u1` and `u2`, that are joined.
-pub(crate) const TWO_JOINED: &str =
-    "(cellroute 1);\nDS 1 1 1;\n9 BUF;\nL XP;\nB 800 4000 400 2000;\nL NP;\nB 300 400 400 3800;\nDF;\n91 u1;\nC 1 T 0 800;\n91 u2;\nC 1 T 800 800;\nL NP;\nB 300 1000 400 5300;\nB 300 1000 1200 5300;\nL NM;\nB 1200 300 800 5600;\nB 400 400 400 5600;\nL NP;\nB 400 400 400 5600;\nL NC;\nB 200 200 400 5600;\nL NM;\nB 400 400 1200 5600;\nL NP;\nB 400 400 1200 5600;\nL NC;\nB 200 200 1200 5600;\nE\n";
 
 /// The words `route d r o`, with strokes between them.
 pub(crate) const ROUTE: &str = "route|d|r|o";

@@ -6,7 +6,10 @@ use Rattle.clap.specs.Values.{kind_of}
 use Rattle.clap.specs.Words.{App, Row, Text, fault_of, is_simple, is_simple_and_free, matches_of}
 use Rattle.clap.specs.declared.error.Error.{Error}
 use Rattle.clap.specs.declared.error.kind.ErrorKind.TheVariants.{OutOfMemory}
-use Rattle.command_words.specs.Command.{check_app, given_by, make_app, route_app, unless_refused}
+use Rattle.command_words.specs.Arguments.{given_by, unless_refused}
+use Rattle.command_words.specs.Command.{check_app, make_app, route_app}
+use Rattle.command_words.specs.Drawing.{draw_app}
+use Rattle.command_words.specs.Importing.{import_app}
 use Rattle.command_words.specs.Seen.{Reads}
 use Rattle.command_words.specs.Taken.{IsTaken}
 use Rattle.command_words.specs.declared.command.WordsFault.{WordsFault}
@@ -33,6 +36,20 @@ make-is-free a is = let free : is_simple_and_free make_app ≡ true = refl in ap
 
 pub make-is-simple : (a : App) → a ≡ make_app → is_simple a ≡ true
 make-is-simple a is = let simple : is_simple make_app ≡ true = refl in ap is_simple is ∙ simple
+
+pub draw-is-free : (a : App) → a ≡ draw_app → is_simple_and_free a ≡ true
+unfolding clap_on_literals
+draw-is-free a is = let free : is_simple_and_free draw_app ≡ true = refl in ap is_simple_and_free is ∙ free
+
+pub draw-is-simple : (a : App) → a ≡ draw_app → is_simple a ≡ true
+draw-is-simple a is = let simple : is_simple draw_app ≡ true = refl in ap is_simple is ∙ simple
+
+pub import-is-free : (a : App) → a ≡ import_app → is_simple_and_free a ≡ true
+unfolding clap_on_literals
+import-is-free a is = let free : is_simple_and_free import_app ≡ true = refl in ap is_simple_and_free is ∙ free
+
+pub import-is-simple : (a : App) → a ≡ import_app → is_simple a ≡ true
+import-is-simple a is = let simple : is_simple import_app ≡ true = refl in ap is_simple is ∙ simple
 
 -- what `clap` says of words that are seen as they are
 pub taken-words : {X : Type 0} (a : App) (words : List Text) (rows : List Row) → is_simple a ≡ true → is_simple_and_free a ≡ true

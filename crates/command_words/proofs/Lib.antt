@@ -2,3 +2,5 @@
 pub mod Arguments
 -- the style that words give
 pub mod StyleLaws
+-- lengths that digits write
+pub mod LengthLaws

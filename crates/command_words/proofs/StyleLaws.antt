@@ -4,7 +4,8 @@ use Rattle.std.proofs.lemmas.Option.{same_Some}
 use Rattle.std.specs.Str.{bytes_eq}
 use Rattle.clap.specs.Kinds.{Kinds}
 use Rattle.clap.specs.Words.{Row, Text, fault_of, matches_of}
-use Rattle.command_words.specs.Command.{Names, given_by, make_app, make_from, make_in, make_names, names_from, names_in, place_of, route_app, style_given, unless_refused}
+use Rattle.command_words.specs.Arguments.{given_by, unless_refused}
+use Rattle.command_words.specs.Command.{Names, make_app, make_from, make_in, make_names, names_from, names_in, place_of, route_app, style_given}
 use Rattle.command_words.specs.declared.command.Wanted.{Wanted}
 
 -- the place of a style is among the styles
@@ -49,17 +50,20 @@ named-within name styles words names some is =
     omega (arith, style-within (map name styles) words names (omega arith) is)
 
 -- a design that is made is of the first style
-from-first : (seed count : Option ℕ) (rules out : Option Text) (quiet progress : Bool) (names : Names) → make_from seed count rules out quiet progress ≡ Some names → names.style ≡ 0
-from-first (Some seed) (Some count) (Some rules) (Some out) quiet progress names is = sym (ap (λ (n : Names). n.style) (same_Some (make_names seed count rules out quiet progress) names is))
-from-first (Some seed) (Some count) (Some rules) None quiet progress names is = cc
-from-first (Some seed) (Some count) None out quiet progress names is = cc
-from-first (Some seed) None rules out quiet progress names is = cc
-from-first None count rules out quiet progress names is = cc
+from-first : (seed count tries : Option ℕ) (rules out : Option Text) (quiet progress : Bool) (names : Names) → make_from seed count tries rules out quiet progress ≡ Some names
+    → names.style ≡ 0
+from-first (Some seed) (Some count) (Some tries) (Some rules) (Some out) quiet progress names is =
+    sym (ap (λ (n : Names). n.style) (same_Some (make_names seed count tries rules out quiet progress) names is))
+from-first (Some seed) (Some count) (Some tries) (Some rules) None quiet progress names is = cc
+from-first (Some seed) (Some count) (Some tries) None out quiet progress names is = cc
+from-first (Some seed) (Some count) None rules out quiet progress names is = cc
+from-first (Some seed) None tries rules out quiet progress names is = cc
+from-first None count tries rules out quiet progress names is = cc
 
 pub made-within : (words : List Text) (names : Names) (count : ℕ) → 0 < count → given_by make_app make_in words ≡ Some names → names.style < count
 unfolding given_by
 made-within words names count some is = by (fault_of make_app words) (matches_of make_app words) is
   where
     by : (kinds : Kinds) (rows : List Row) → unless_refused kinds (make_in rows) ≡ Some names → names.style < count
-    by [] rows is = omega (arith, some, from-first _ _ _ _ _ _ names is)
+    by [] rows is = omega (arith, some, from-first _ _ _ _ _ _ _ names is)
     by (kind ∷ kinds) rows is = cc

@@ -1,13 +1,16 @@
 -- the commands, and what their words give
-use Rattle.std.specs.Prelude.{◌<◌, ℕ, suc, List, [], ◌∷◌, Bool, true, false, if◌then◌else◌, codes, Option, Some, None, option_and_then, option_map}
+use Rattle.std.specs.Prelude.{◌<◌, ℕ, suc, List, [], ◌∷◌, Bool, false, if◌then◌else◌, codes, Option, Some, None, option_and_then, option_map, option_to_list, ◌++◌}
 use Rattle.std.specs.Str.{bytes_eq}
-use Rattle.command_words.specs.NumberWord.{count_in, number_of, rows_in}
+use Rattle.command_words.specs.Arguments.{flag_rule, given_by, is_given, option_rule, positional_rule, progress_rule, quiet_rule}
+use Rattle.command_words.specs.Drawing.{draw_app, draw_in}
+use Rattle.command_words.specs.Importing.{import_app, import_in}
+use Rattle.command_words.specs.NumberWord.{count_in, number_of, rows_in, tries_in}
 use Rattle.command_words.specs.declared.command.Wanted.{Wanted}
 use Rattle.command_words.specs.declared.topic.Topic.{Topic}
-use Rattle.command_words.specs.declared.topic.Topic.TheVariants.{CheckCommand, MakeCommand, Overview, RouteCommand, Version}
-use Rattle.clap.specs.Kinds.{Kinds}
-use Rattle.clap.specs.declared.builder.action.ArgAction.TheVariants.{SetTrue}
-use Rattle.clap.specs.Words.{App, Row, Rule, Text, fault_of, first_of, matches_of, new_app, new_rule, with_rule}
+use Rattle.command_words.specs.declared.topic.Topic.TheVariants.{CheckCommand, DrawCommand, ImportCommand, MakeCommand, Overview, RouteCommand, Version}
+use Rattle.clap.specs.Words.{App, Row, Text, first_of, new_app, with_rule}
+pub use Rattle.command_words.specs.Drawing.{DrawNames}
+pub use Rattle.command_words.specs.Importing.{ImportNames}
 
 -- where a design comes from: from the file of this name, or it is made from this seed, with so many instances
 pub data Source : Type 0 where
@@ -35,35 +38,15 @@ pub record CheckNames : Type 0 where
   pub ports : Bool
   pub quiet : Bool
 
--- an argument that has to be given, by its place
-abbrev pub positional_rule : Text → Rule
-positional_rule id = record (new_rule id) { required = true }
-
--- an option that is given by its name after two dashes, and has a value
-abbrev pub option_rule : Text → Rule
-option_rule id = record (new_rule id) { long = Some id }
-
 -- a command with three names, the first two of them those of the design's file and of the rules file
 abbrev pub named_app : Text → Text → App
 named_app name last = with_rule (with_rule (with_rule (new_app name)
     (positional_rule (codes "design"))) (positional_rule (codes "rules"))) (positional_rule last)
 
--- a word that is given or not, after two dashes
-abbrev pub flag_rule : Text → Rule
-flag_rule id = record (new_rule id) { long = Some id; action = Some SetTrue }
-
--- the wish to be told how far the job has come
-abbrev pub progress_rule : Rule
-progress_rule = flag_rule (codes "progress")
-
--- the wish for no notes, also as `-q`
-abbrev pub quiet_rule : Rule
-quiet_rule = record (flag_rule (codes "quiet")) { short = Some 113 }
-
--- `route` with three names, with a seed, a number of rows and a style, and with the wishes for left edges, for ports, to be told of progress and for no notes
+-- `route` with three names, with a seed, a number of rows, a style and a number of tries, and with the wishes for left edges, for ports, to be told of progress and for no notes
 abbrev pub route_app : App
-route_app = with_rule (with_rule (with_rule (with_rule (with_rule (with_rule (with_rule (named_app (codes "route") (codes "out"))
-    (option_rule (codes "seed"))) (option_rule (codes "rows"))) (option_rule (codes "style"))) (flag_rule (codes "edge"))) (flag_rule (codes "ports"))) progress_rule) quiet_rule
+route_app = with_rule (with_rule (with_rule (with_rule (with_rule (with_rule (with_rule (with_rule (named_app (codes "route") (codes "out"))
+    (option_rule (codes "seed"))) (option_rule (codes "rows"))) (option_rule (codes "style"))) (option_rule (codes "tries"))) (flag_rule (codes "edge"))) (flag_rule (codes "ports"))) progress_rule) quiet_rule
 
 -- `check` with three names, with a file for markers, and with the wishes for ports and for no notes
 abbrev pub check_app : App
@@ -74,9 +57,9 @@ abbrev pub seeded_app : App
 seeded_app = with_rule (with_rule (with_rule (with_rule (new_app (codes "make"))
     (positional_rule (codes "seed"))) (positional_rule (codes "count"))) (positional_rule (codes "rules"))) (positional_rule (codes "out"))
 
--- the same with the wishes to be told of progress and for no notes
+-- the same with a number of tries, and with the wishes to be told of progress and for no notes
 abbrev pub make_app : App
-make_app = with_rule (with_rule seeded_app progress_rule) quiet_rule
+make_app = with_rule (with_rule (with_rule seeded_app (option_rule (codes "tries"))) progress_rule) quiet_rule
 
 -- the seed that is asked for: 1 where no value is given, and no answer where the value is no number below 2 ^ 64
 abbrev pub seed_given : Option Text → Option ℕ
@@ -88,16 +71,17 @@ abbrev pub rows_given : Option Text → Option (Option ℕ)
 rows_given None = Some None
 rows_given (Some text) = option_map (λ n. Some n) (rows_in text)
 
--- a flag is given: its value is the word that `clap` has for that
-abbrev pub is_given : Option Text → Bool
-is_given None = false
-is_given (Some text) = bytes_eq text (codes "true")
+-- the tries that are asked for: 1 where no value is given, and no answer where the value is no number of tries
+abbrev pub tries_given : Option Text → Option ℕ
+tries_given None = Some 1
+tries_given (Some text) = tries_in text
 
--- how a design is to be laid out, by the seed, the rows, and whether left edges and ports are wished for
-abbrev pub wanted_from : Option ℕ → Option (Option ℕ) → Bool → Bool → Option Wanted
-wanted_from (Some seed) (Some rows) edge ports = Some (record { seed = seed; rows = rows; edge = edge; ports = ports })
-wanted_from (Some seed) None edge ports = None
-wanted_from None rows edge ports = None
+-- how a design is to be laid out, by the seed, the rows, the tries, and whether left edges and ports are wished for
+abbrev pub wanted_from : Option ℕ → Option (Option ℕ) → Option ℕ → Bool → Bool → Option Wanted
+wanted_from (Some seed) (Some rows) (Some tries) edge ports = Some (record { seed = seed; rows = rows; tries = tries; edge = edge; ports = ports })
+wanted_from (Some seed) (Some rows) None edge ports = None
+wanted_from (Some seed) None tries edge ports = None
+wanted_from None rows tries edge ports = None
 
 -- the place of the first style of a name, among the names of all
 abbrev pub place_of : List Text → Text → Option ℕ
@@ -118,9 +102,9 @@ names_from (Some design) (Some rules) None wanted style quiet progress = None
 names_from (Some design) None out wanted style quiet progress = None
 names_from None rules out wanted style quiet progress = None
 
--- the seed, the rows and the flags among the values that words gave, and all that they say
+-- the seed, the rows, the tries and the flags among the values that words gave, and all that they say
 abbrev pub wanted_in : List Row → Option Wanted
-wanted_in values = wanted_from (seed_given (first_of (codes "seed") values)) (rows_given (first_of (codes "rows") values))
+wanted_in values = wanted_from (seed_given (first_of (codes "seed") values)) (rows_given (first_of (codes "rows") values)) (tries_given (first_of (codes "tries") values))
     (is_given (first_of (codes "edge") values)) (is_given (first_of (codes "ports") values))
 
 abbrev pub names_in : List Text → List Row → Option Names
@@ -138,34 +122,36 @@ abbrev pub check_in : List Row → Option CheckNames
 check_in values = check_from (first_of (codes "design") values) (first_of (codes "rules") values) (first_of (codes "cif") values)
     (first_of (codes "markers") values) (is_given (first_of (codes "ports") values)) (is_given (first_of (codes "quiet") values))
 
--- a design that is made, and laid out by the same seed, in rows as usual, by the first style, without left edges and without ports
-abbrev pub make_names : ℕ → ℕ → Text → Text → Bool → Bool → Names
-make_names seed count rules out quiet progress =
-    record { design = from_seed seed count; rules = rules; out = out; wanted = record { seed = seed; rows = None; edge = false; ports = false }; style = 0; quiet = quiet; progress = progress }
+-- a design that is made, and laid out by the same seed, in rows as usual, as the best of these tries, by the first style, without left edges and without ports
+abbrev pub make_names : ℕ → ℕ → ℕ → Text → Text → Bool → Bool → Names
+make_names seed count tries rules out quiet progress = record {
+  design = from_seed seed count;
+  rules = rules;
+  out = out;
+  wanted = record { seed = seed; rows = None; tries = tries; edge = false; ports = false };
+  style = 0;
+  quiet = quiet;
+  progress = progress;
+}
 
-abbrev pub make_from : Option ℕ → Option ℕ → Option Text → Option Text → Bool → Bool → Option Names
-make_from (Some seed) (Some count) (Some rules) (Some out) quiet progress = Some (make_names seed count rules out quiet progress)
-make_from (Some seed) (Some count) (Some rules) None quiet progress = None
-make_from (Some seed) (Some count) None out quiet progress = None
-make_from (Some seed) None rules out quiet progress = None
-make_from None count rules out quiet progress = None
+abbrev pub make_from : Option ℕ → Option ℕ → Option ℕ → Option Text → Option Text → Bool → Bool → Option Names
+make_from (Some seed) (Some count) (Some tries) (Some rules) (Some out) quiet progress = Some (make_names seed count tries rules out quiet progress)
+make_from (Some seed) (Some count) (Some tries) (Some rules) None quiet progress = None
+make_from (Some seed) (Some count) (Some tries) None out quiet progress = None
+make_from (Some seed) (Some count) None rules out quiet progress = None
+make_from (Some seed) None tries rules out quiet progress = None
+make_from None count tries rules out quiet progress = None
 
 abbrev pub make_in : List Row → Option Names
 make_in values = make_from (option_and_then number_of (first_of (codes "seed") values)) (option_and_then count_in (first_of (codes "count") values))
-    (first_of (codes "rules") values) (first_of (codes "out") values) (is_given (first_of (codes "quiet") values)) (is_given (first_of (codes "progress") values))
-
-abbrev pub unless_refused : {A : Type 0} → Kinds → Option A → Option A
-unless_refused [] given = given
-unless_refused (kind ∷ kinds) given = None
-
--- what words give a command, of which the first is its name, by what `clap` makes of them; none where it refuses them
-unfoldable pub given_by : {A : Type 0} → App → (List Row → Option A) → List Text → Option A
-given_by app given words = unless_refused (fault_of app words) (given (matches_of app words))
+    (tries_given (first_of (codes "tries") values)) (first_of (codes "rules") values) (first_of (codes "out") values) (is_given (first_of (codes "quiet") values)) (is_given (first_of (codes "progress") values))
 
 -- a command, by what it reads and writes; one asks for a text of help
 pub data Command : Type 0 where
   route : Names → Command
   check : CheckNames → Command
+  draw : DrawNames → Command
+  import : ImportNames → Command
   help : Topic → Command
 
 -- the files that a source is read from
@@ -177,11 +163,15 @@ files_of (from_seed seed count) = []
 abbrev pub reads_of : Command → List (List ℕ)
 reads_of (route names) = names.rules ∷ files_of names.design
 reads_of (check names) = names.rules ∷ names.design ∷ names.cif ∷ []
+reads_of (draw names) = option_to_list names.rules ++ names.cif ∷ []
+reads_of (import names) = names.netlist ∷ names.cells ∷ []
 reads_of (help topic) = []
 
 abbrev pub writes_of : Command → Option (List ℕ)
 writes_of (route names) = Some names.out
 writes_of (check names) = names.markers
+writes_of (draw names) = Some names.out
+writes_of (import names) = Some names.out
 writes_of (help topic) = None
 
 -- what a word asks for that stands alone, or behind `help`
@@ -193,7 +183,8 @@ lone_topic word =
 abbrev pub command_topic : List ℕ → Option Topic
 command_topic word =
     if bytes_eq word (codes "route") then Some RouteCommand else if bytes_eq word (codes "check") then Some CheckCommand else
-    if bytes_eq word (codes "make") then Some MakeCommand else None
+    if bytes_eq word (codes "make") then Some MakeCommand else if bytes_eq word (codes "draw") then Some DrawCommand else
+    if bytes_eq word (codes "import") then Some ImportCommand else None
 
 -- the text of help that words ask for: one word alone, or `help` and the name of a command
 unfoldable pub topic_of : List (List ℕ) → Option Topic
@@ -208,28 +199,38 @@ command_of styles [] = None
 command_of styles (word ∷ others) =
     if bytes_eq word (codes "route") then option_map route (given_by route_app (names_in styles) (word ∷ others)) else
     if bytes_eq word (codes "check") then option_map check (given_by check_app check_in (word ∷ others)) else
-    if bytes_eq word (codes "make") then option_map route (given_by make_app make_in (word ∷ others)) else option_map help (topic_of (word ∷ others))
+    if bytes_eq word (codes "make") then option_map route (given_by make_app make_in (word ∷ others)) else
+    if bytes_eq word (codes "draw") then option_map draw (given_by draw_app draw_in (word ∷ others)) else
+    if bytes_eq word (codes "import") then option_map import (given_by import_app import_in (word ∷ others)) else option_map help (topic_of (word ∷ others))
 
 -- a command wishes for left edges
 abbrev pub is_by_edge : Command → Bool
 is_by_edge (route names) = names.wanted.edge
 is_by_edge (check names) = false
+is_by_edge (draw names) = false
+is_by_edge (import names) = false
 is_by_edge (help topic) = false
 
 -- the place of a command's style, if it has one
 abbrev pub style_of : Command → Option ℕ
 style_of (route names) = Some names.style
 style_of (check names) = None
+style_of (draw names) = None
+style_of (import names) = None
 style_of (help topic) = None
 
 -- a command is of one of so many styles, if it has one
 abbrev pub IsOfStyle : ℕ → Command → Type 0
 IsOfStyle count (route names) = names.style < count
 IsOfStyle count (check names) = Unit {0}
+IsOfStyle count (draw names) = Unit {0}
+IsOfStyle count (import names) = Unit {0}
 IsOfStyle count (help topic) = Unit {0}
 
 -- a command wishes for no notes
 abbrev pub is_quiet : Command → Bool
 is_quiet (route names) = names.quiet
 is_quiet (check names) = names.quiet
+is_quiet (draw names) = names.quiet
+is_quiet (import names) = names.quiet
 is_quiet (help topic) = false

@@ -1,6 +1,8 @@
--- the commands to route and to check as the names in them, and when a reading gives what the words say
+-- the commands as the names in them, and when a reading gives what the words say
 use Rattle.std.specs.Prelude.{◌≡◌, Option, Some, None, Result, Ok, Err, option_map}
-use Rattle.command_words.specs.Command.{CheckNames, Command, Names, Source, check, from_file, from_seed, help, route}
+use Rattle.command_words.specs.Command.{CheckNames, Command, Names, Source, check, draw, from_file, from_seed, help, import, route}
+use Rattle.command_words.specs.Drawing.{DrawNames}
+use Rattle.command_words.specs.Importing.{ImportNames}
 use Rattle.command_words.specs.declared.command.Check.{Check}
 use Rattle.command_words.specs.declared.command.Command as asked
 use Rattle.command_words.specs.declared.command.Command.TheVariants as commands
@@ -9,6 +11,8 @@ use Rattle.command_words.specs.declared.command.Source as asked_source
 use Rattle.command_words.specs.declared.command.Source.TheVariants as sources
 use Rattle.command_words.specs.declared.command.WordsFault.{WordsFault}
 use Rattle.command_words.specs.declared.command.WordsFault.TheVariants.{Usage, Memory}
+use Rattle.command_words.specs.declared.draw.Draw.{Draw}
+use Rattle.command_words.specs.declared.import.Import.{Import}
 
 -- where a design comes from
 abbrev pub source_seen : asked_source.Source → Source
@@ -30,9 +34,29 @@ check_seen names = record {
   quiet = names.quiet;
 }
 
+abbrev pub draw_seen : Draw → DrawNames
+draw_seen names = record {
+  cif = names.cif.now;
+  out = names.out.now;
+  part = names.part;
+  rules = option_map (λ name. name.now) names.rules;
+  quiet = names.quiet;
+}
+
+abbrev pub import_seen : Import → ImportNames
+import_seen names = record {
+  netlist = names.netlist.now;
+  cells = names.cells.now;
+  out = names.out.now;
+  decimals = names.decimals;
+  quiet = names.quiet;
+}
+
 abbrev pub command_seen : asked.Command → Command
 command_seen (commands.Route names) = route (seen names)
 command_seen (commands.Check names) = check (check_seen names)
+command_seen (commands.Draw names) = draw (draw_seen names)
+command_seen (commands.Import names) = import (import_seen names)
 command_seen (commands.Help topic) = help topic
 
 -- what was read is what words give, seen so, both ways, want of memory aside

@@ -1,26 +1,32 @@
 //! The command that words give.
 
 ghost use Rattle.clap.specs.Words.{found_of, rows_of};
-ghost use Rattle.command_words.specs.Command.{IsOfStyle, check, check_app, check_in, command_of, given_by, help, make_app, make_in, names_in, route, route_app, topic_of, wanted_in};
+ghost use Rattle.command_words.specs.Arguments.{given_by};
+ghost use Rattle.command_words.specs.Command.{IsOfStyle, check, check_app, check_in, command_of, help, make_app, make_in, names_in, route, route_app, topic_of, wanted_in};
 ghost use Rattle.command_words.specs.Seen.{Reads, check_seen, command_seen, seen};
 ghost use Rattle.std.specs.Prelude.{◌≡◌, ◌<◌, ℕ, length, map, option_map, IfOk};
 
-use crate::number_word::{MadeCount, RowCount};
+use crate::draw::{Draw, draw_given};
+use crate::import::{Import, import_given};
+use crate::number_word::{MadeCount, RowCount, TryCount};
 use crate::parser::{check_parser, make_parser, matches_in, route_parser, value_of};
 use crate::topic::{Topic, topic_of};
-use crate::values::{count_given, is_given, number_given, rows_given, seed_given, style_given};
+use crate::values::{
+    count_given, is_given, number_given, rows_given, seed_given, style_given, tries_given,
+};
 use crate::word::Word;
 use choose_core::Style;
 use clap::ArgMatches;
 use std::alloc::Global;
 
-/// How a design is to be laid out: the seed of its annealing, the number of rows, 1 to 512, if one is asked for, whether channels
-/// without vertical constraints are to be routed by the left edges of their nets, and whether the terminals of the PARENT become
-/// ports.
+/// How a design is to be laid out: the seed of its annealing, the number of rows, 1 to 512, if one is asked for, of how many placements,
+/// 1 to 64, the best is taken, whether channels without vertical constraints are to be routed by the left edges of their nets, and whether
+/// the terminals of the PARENT become ports.
 #[derive(Clone, Copy, Debug)]
 pub struct Wanted {
     pub seed: u64,
     pub rows: Option<RowCount>,
+    pub tries: TryCount,
     pub edge: bool,
     pub ports: bool,
 }
@@ -67,6 +73,10 @@ pub enum Command<'a> {
     Route(Route<'a>),
     /// To check a layout.
     Check(Check<'a>),
+    /// To draw a picture of a layout.
+    Draw(Draw<'a>),
+    /// To import a netlist.
+    Import(Import<'a>),
     /// To print a text of help.
     Help(Topic),
 }
@@ -87,6 +97,7 @@ fn wanted_of<'a>(matches: &ArgMatches<'a>) -> Option<Wanted>
     Some(Wanted {
         seed: seed_given(value_of(matches, "seed"))?,
         rows: rows_given(value_of(matches, "rows"))?,
+        tries: tries_given(value_of(matches, "tries"))?,
         edge: is_given(value_of(matches, "edge")),
         ports: is_given(value_of(matches, "ports")),
     })
@@ -163,6 +174,7 @@ fn make_of<'a>(matches: &ArgMatches<'a>) -> Option<Route<'a>>
 {
     let seed = number_given(value_of(matches, "seed"))?;
     let count = count_given(value_of(matches, "count"))?;
+    let tries = tries_given(value_of(matches, "tries"))?;
     Some(Route {
         design: Source::Made(seed, count),
         rules: value_of(matches, "rules")?,
@@ -170,6 +182,7 @@ fn make_of<'a>(matches: &ArgMatches<'a>) -> Option<Route<'a>>
         wanted: Wanted {
             seed,
             rows: None,
+            tries,
             edge: false,
             ports: false,
         },
@@ -267,6 +280,12 @@ pub fn read_command<'w>(
     }
     if word.text() == "make" {
         return make_given(alloc, words);
+    }
+    if word.text() == "draw" {
+        return draw_given(alloc, words);
+    }
+    if word.text() == "import" {
+        return import_given(alloc, words);
     }
     help_given(words)
 }

@@ -1,7 +1,10 @@
 //! The parsers of the commands' words.
 
 ghost use Rattle.clap.specs.Words.{app_of, first_of, found_of, is_simple, is_simple_and_free, rows_of, rule_of, with_rule};
-ghost use Rattle.command_words.specs.Command.{check_app, flag_rule, make_app, named_app, option_rule, positional_rule, progress_rule, quiet_rule, route_app, seeded_app};
+ghost use Rattle.command_words.specs.Arguments.{flag_rule, option_rule, positional_rule, progress_rule, quiet_rule};
+ghost use Rattle.command_words.specs.Command.{check_app, make_app, named_app, route_app, seeded_app};
+ghost use Rattle.command_words.specs.Drawing.{draw_app, drawing_app};
+ghost use Rattle.command_words.specs.Importing.{import_app, importing_app};
 ghost use Rattle.command_words.specs.Taken.{IsTaken};
 ghost use Rattle.std.specs.Prelude.{◌≡◌, codes, false, option_map, true, IfOk};
 
@@ -69,13 +72,15 @@ fn named_parser<'a>(alloc: Global, name: &'a str, last: &'a str) -> Result<Parse
     with_arg(command, positional(alloc, last))
 }
 
-// The command with the options of a seed, of rows and of a style.
+// The command with the options of a seed, of rows, of a style and of tries.
 fn with_options<'a>(alloc: Global, command: Parser<'a>) -> Result<Parser<'a>, AllocError>
-    ensures { IfOk result (λ c. app_of c ≡ with_rule (with_rule (with_rule (app_of command.entry) (option_rule (codes "seed"))) (option_rule (codes "rows"))) (option_rule (codes "style"))) }
+    ensures { IfOk result (λ c. app_of c ≡ with_rule (with_rule (with_rule (with_rule (app_of command.entry) (option_rule (codes "seed"))) (option_rule (codes "rows"))) (option_rule (codes "style")))
+        (option_rule (codes "tries"))) }
 {
     let command = with_arg(command, option(alloc, "seed"))?;
     let command = with_arg(command, option(alloc, "rows"))?;
-    with_arg(command, option(alloc, "style"))
+    let command = with_arg(command, option(alloc, "style"))?;
+    with_arg(command, option(alloc, "tries"))
 }
 
 // The command with the wishes for left edges, for ports and to be told of progress.
@@ -123,7 +128,46 @@ pub(crate) fn make_parser<'a>(alloc: Global) -> Result<Parser<'a>, AllocError>
     ensures { IfOk result (λ c. app_of c ≡ make_app) }
 {
     let command = seeded_parser(alloc)?;
+    let command = with_arg(command, option(alloc, "tries"))?;
     let command = with_arg(command, progress_flag(alloc))?;
+    with_arg(command, quiet_flag(alloc))
+}
+
+// The command `draw` with its two names.
+fn drawing_parser<'a>(alloc: Global) -> Result<Parser<'a>, AllocError>
+    ensures { IfOk result (λ c. app_of c ≡ drawing_app) }
+{
+    let command = Parser::new(alloc, "draw");
+    let command = with_arg(command, positional(alloc, "cif"))?;
+    with_arg(command, positional(alloc, "out"))
+}
+
+/// The command `draw` with its arguments. The one error is want of memory.
+pub(crate) fn draw_parser<'a>(alloc: Global) -> Result<Parser<'a>, AllocError>
+    ensures { IfOk result (λ c. app_of c ≡ draw_app) }
+{
+    let command = drawing_parser(alloc)?;
+    let command = with_arg(command, option(alloc, "box"))?;
+    let command = with_arg(command, option(alloc, "rules"))?;
+    with_arg(command, quiet_flag(alloc))
+}
+
+// The command `import` with its three names.
+fn importing_parser<'a>(alloc: Global) -> Result<Parser<'a>, AllocError>
+    ensures { IfOk result (λ c. app_of c ≡ importing_app) }
+{
+    let command = Parser::new(alloc, "import");
+    let command = with_arg(command, positional(alloc, "netlist"))?;
+    let command = with_arg(command, positional(alloc, "cells"))?;
+    with_arg(command, positional(alloc, "out"))
+}
+
+/// The command `import` with its arguments. The one error is want of memory.
+pub(crate) fn import_parser<'a>(alloc: Global) -> Result<Parser<'a>, AllocError>
+    ensures { IfOk result (λ c. app_of c ≡ import_app) }
+{
+    let command = importing_parser(alloc)?;
+    let command = with_arg(command, option(alloc, "decimals"))?;
     with_arg(command, quiet_flag(alloc))
 }
 

@@ -12,6 +12,8 @@ pub enum Topic {
     RouteCommand,
     CheckCommand,
     MakeCommand,
+    DrawCommand,
+    ImportCommand,
     Version,
 }
 
@@ -40,6 +42,12 @@ fn command_topic(name: &str) -> Option<Topic>
     }
     if name == "make" {
         return Some(Topic::MakeCommand);
+    }
+    if name == "draw" {
+        return Some(Topic::DrawCommand);
+    }
+    if name == "import" {
+        return Some(Topic::ImportCommand);
     }
     None
 }

@@ -1,10 +1,14 @@
 //! What the values of arguments ask for.
 
-ghost use Rattle.command_words.specs.Command.{is_given, place_of, rows_given, seed_given, style_given};
+ghost use Rattle.command_words.specs.Arguments.{is_given};
+ghost use Rattle.command_words.specs.Command.{place_of, rows_given, seed_given, style_given, tries_given};
+ghost use Rattle.command_words.specs.Importing.{decimals_given};
 ghost use Rattle.command_words.specs.NumberWord.{count_in, number_of};
 ghost use Rattle.std.specs.Prelude.{◌≡◌, map, option_and_then, option_map};
 
-use crate::number_word::{MadeCount, RowCount, read_count, read_number, read_rows};
+use crate::number_word::{
+    MadeCount, RowCount, TryCount, read_count, read_decimals, read_number, read_rows, read_tries,
+};
 use choose_core::Style;
 
 /// The rows that a value asks for.
@@ -14,6 +18,16 @@ pub(crate) fn rows_given(value: Option<&str>) -> Option<Option<RowCount>>
     match value {
         Some(word) => Some(Some(read_rows(word)?)),
         None => Some(None),
+    }
+}
+
+/// The number of tries that a value asks for, 1 where there is none.
+pub(crate) fn tries_given(value: Option<&str>) -> Option<TryCount>
+    ensures { result ≡ tries_given (option_map (λ s. s.now) value.entry) }
+{
+    match value {
+        Some(word) => read_tries(word),
+        None => Some(TryCount::one()),
     }
 }
 
@@ -80,5 +94,15 @@ pub(crate) fn count_given(value: Option<&str>) -> Option<MadeCount>
     match value {
         Some(word) => read_count(word),
         None => None,
+    }
+}
+
+/// The number of decimals that a value asks for, 0 where there is none.
+pub(crate) fn decimals_given(value: Option<&str>) -> Option<u32>
+    ensures { result ≡ decimals_given (option_map (λ s. s.now) value.entry) }
+{
+    match value {
+        Some(word) => read_decimals(word),
+        None => Some(0),
     }
 }

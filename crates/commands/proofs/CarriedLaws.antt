@@ -9,7 +9,7 @@ use Rattle.command_ends.specs.declared.refusal.Refusal.{Refusal}
 use Rattle.command_ends.specs.declared.stop.Stop.{Stop}
 use Rattle.command_inputs.specs.Reading.{Files, OnlyRead}
 use Rattle.command_words.specs.declared.topic.Topic.{Topic}
-use Rattle.command_words.specs.Command.{Command, Names, check, command_of, help, route, writes_of}
+use Rattle.command_words.specs.Command.{Command, Names, check, command_of, draw, help, import, route, writes_of}
 use Rattle.commands.specs.Accepted.{Accepted, to_help}
 use Rattle.commands.specs.Carried.{Carried}
 use Rattle.commands.specs.Causes.{ReadFails}
@@ -76,6 +76,8 @@ stopped-so asked stop kept old new ends usage none unwritten empty holds writes 
   headline = λ names stated bytes held is states source zero told. absurd (omega (arith, stop-above stop, zero));
   edges = λ names stated bytes held is ports states source zero told. absurd (omega (arith, stop-above stop, zero));
   judges = λ names stated bytes text is states design cif. tt;
+  drawn = λ names text held is layout zero told. absurd (omega (arith, stop-above stop, zero));
+  imported = λ names netlist cells held is first second zero told. absurd (omega (arith, stop-above stop, zero));
 }
 
 -- so where reading for a command was stopped, and that was handed on
@@ -111,6 +113,8 @@ helped-for topic kept files empty = record {
   headline = λ names stated bytes held same states source zero told. absurd cc;
   edges = λ names stated bytes held same ports states source zero told. absurd cc;
   judges = λ names stated bytes text same states design cif. absurd cc;
+  drawn = λ names text held same layout zero told. absurd cc;
+  imported = λ names netlist cells held same first second zero told. absurd cc;
 }
 
 -- what was done for the command that words give
@@ -131,4 +135,6 @@ pub kept-there : {C : Type 0} (styles : List C) (plan : C → Plan) (may : C →
     → (n ≡ 0) ⊎ (n ≡ 9) → (HasLaidOut e → AreKept styles plan may command said kept) → AreKept styles plan may command said kept
 kept-there styles plan may (route names) said kept e n laid is told few keeps = keeps (told-laid e n told (laid names is) few)
 kept-there styles plan may (check names) said kept e n laid is told few keeps = record { by_style = λ place style at. absurd cc }
+kept-there styles plan may (draw names) said kept e n laid is told few keeps = record { by_style = λ place style at. absurd cc }
+kept-there styles plan may (import names) said kept e n laid is told few keeps = record { by_style = λ place style at. absurd cc }
 kept-there styles plan may (help topic) said kept e n laid is told few keeps = record { by_style = λ place style at. absurd cc }

@@ -1,4 +1,4 @@
-use Rattle.std.proofs.Common.{◌≡◌, ◌≢◌, ◌⊎◌, ◌↔◌, ◌∙◌, ◌<◌, ℕ, List, [], ◌∷◌, length, take, Option, Some, None, Result, Ok, Err, IfSome, ap₂, inl, inr, refl, sym, subst, arith}
+use Rattle.std.proofs.Common.{◌≡◌, ◌≢◌, ◌⊎◌, ◌↔◌, ◌∙◌, ◌<◌, ◌++◌, option_to_list, ℕ, List, [], ◌∷◌, length, take, Option, Some, None, Result, Ok, Err, IfSome, ap₂, inl, inr, refl, sym, subst, arith}
 use Rattle.std.proofs.lemmas.List.{take_all}
 use Rattle.std.proofs.lemmas.Option.{same_Some}
 use Rattle.shelf_io.specs.Count.{Rose, Still}
@@ -11,13 +11,14 @@ use Rattle.command_ends.specs.declared.refusal.Refusal.TheVariants as refusals
 use Rattle.command_ends.specs.declared.stop.Stop.{Stop}
 use Rattle.command_ends.specs.declared.stop.Stop.TheVariants.{Refused, ReadFault, WriteFault}
 use Rattle.command_inputs.specs.Failures.{InputsFail, SourceFails}
+use Rattle.command_inputs.specs.GivenRules.{GivenFail}
 use Rattle.command_inputs.specs.declared.stages.Inputs.{Inputs}
 use Rattle.command_jobs.specs.Text.{job_text}
-use Rattle.command_words.specs.Command.{Command, Source, check, files_of, from_file, from_seed, help, reads_of, route}
+use Rattle.command_words.specs.Command.{Command, Source, check, draw, files_of, from_file, from_seed, help, import, reads_of, route}
 use Rattle.geom_core.specs.declared.layout.Layout.{Layout}
-use Rattle.commands.specs.Accepted.{Accepted, to_help, to_judge, to_lay_out}
+use Rattle.commands.specs.Accepted.{Accepted, to_help, to_judge, to_lay_out, to_write}
 use Rattle.commands.specs.Causes.{AreStill, IsStill, ReadFails, WriteFails}
-use Rattle.commands.specs.Done.{Done, IsJudgement, IsStatusOf, done_status, findings_status, helped, judged, laid_out}
+use Rattle.commands.specs.Done.{Done, IsJudgement, IsStatusOf, done_status, findings_status, helped, judged, laid_out, wrote}
 use Rattle.commands.specs.Ends.{Ends}
 use Rattle.commands.specs.Outcome.{Holds, HoldsFront}
 use Rattle.finding_markers.specs.Markers.{markers_text}
@@ -47,14 +48,21 @@ judged-number (f ∷ fs) good n is number = inr (number, λ holds. let none : f 
 pub done-said : (kept : List Routed) (done : Done) (said : Result Accepted Refusal) (n : ℕ) → Ends kept (Ok done) said → n ≡ done_status done → IsStatusOf said n
 done-said kept (laid_out summary) (Ok (to_lay_out job)) n ends number = number
 done-said kept (laid_out summary) (Ok (to_judge inputs layout markers)) n ends number = absurd ends
+done-said kept (laid_out summary) (Ok (to_write text)) n ends number = absurd ends
 done-said kept (laid_out summary) (Ok (to_help topic)) n ends number = absurd ends
 done-said kept (judged inputs layout findings) (Ok (to_lay_out job)) n ends number = absurd ends
 done-said kept (judged inputs layout findings) (Ok (to_judge asked shown markers)) n ends number =
     subst (λ (said : Result Accepted Refusal). IsStatusOf said n) (ap₂ (λ (i : Inputs) (l : Layout). Ok (to_judge i l markers)) ends.same_inputs ends.same_layout)
     (judged-number findings _ n ends.found.good number)
+done-said kept (judged inputs layout findings) (Ok (to_write text)) n ends number = absurd ends
 done-said kept (judged inputs layout findings) (Ok (to_help topic)) n ends number = absurd ends
+done-said kept wrote (Ok (to_lay_out job)) n ends number = absurd ends
+done-said kept wrote (Ok (to_judge asked shown markers)) n ends number = absurd ends
+done-said kept wrote (Ok (to_write text)) n ends number = number
+done-said kept wrote (Ok (to_help topic)) n ends number = absurd ends
 done-said kept (helped topic) (Ok (to_lay_out job)) n ends number = absurd ends
 done-said kept (helped topic) (Ok (to_judge inputs layout markers)) n ends number = absurd ends
+done-said kept (helped topic) (Ok (to_write text)) n ends number = absurd ends
 done-said kept (helped topic) (Ok (to_help asked)) n ends number = number
 done-said kept done (Err refusal) n ends number = absurd ends
 
@@ -71,10 +79,19 @@ inputs-still : (rules : List ℕ) (source : Source) (told : List ℕ → Option 
 inputs-still rules source told old new stated read (inl rose) = rose-still _ _ rose stated
 inputs-still rules source told old new stated read (inr failed) = source-still source old new read failed.0
 
+given-still : (rules : Option (List ℕ)) (more : List (List ℕ)) (old new : List ℕ → ℕ) → AreStill (option_to_list rules ++ more) old new → (GivenFail rules old new → ⊥) × AreStill more old new
+given-still None more old new still = (λ fails. absurd fails, still)
+given-still (Some name) more old new still = (λ rose. rose-still _ _ rose still.0, still.1)
+
 pub command-still : (command : Command) (told : List ℕ → Option (List ℕ)) (old new : List ℕ → ℕ) → AreStill (reads_of command) old new → ReadFails command told old new → ⊥
 command-still (route names) told old new still fails = inputs-still names.rules names.design told old new still.0 still.1 fails
 command-still (check names) told old new still (inl failed) = inputs-still names.rules (from_file names.design) told old new still.0 (still.1.0, tt) failed
 command-still (check names) told old new still (inr rose) = rose-still _ _ rose.0 still.1.1.0
+command-still (draw names) told old new still fails =
+    let both = given-still names.rules (names.cif ∷ []) old new still in
+    elim fails [ inl rules ↦ both.0 rules | inr rose ↦ rose-still _ _ rose.0 both.1.0 ]
+command-still (import names) told old new still (inl rose) = rose-still _ _ rose still.0
+command-still (import names) told old new still (inr rose) = rose-still _ _ rose.0 still.1.0
 command-still (help topic) told old new still fails = absurd fails
 
 -- of the file that is written, if one is: why writing it failed, and that it did not
@@ -99,6 +116,7 @@ pub whole-front : (said : Result Accepted Refusal) (kept : List Routed) (before 
 whole-front (Ok (to_lay_out job)) kept before told holds = λ held at. inr (front-of (job_text job kept) held (holds held at))
 whole-front (Ok (to_judge inputs layout markers)) kept before told holds =
     (holds.0, (holds.1.0, λ held at. inr (front-of (markers_text inputs.designs.drawn.design layout holds.0) held (holds.1.1 held at))))
+whole-front (Ok (to_write text)) kept before told holds = λ held at. inr (front-of text held (holds held at))
 whole-front (Ok (to_help topic)) kept before told holds = absurd holds
 whole-front (Err refusal) kept before told holds = absurd holds
 

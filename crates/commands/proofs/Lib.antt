@@ -6,5 +6,7 @@ pub mod Tellings
 pub mod HeadlineLaws
 -- what was done where a command was stopped early, and for the command that words give
 pub mod CarriedLaws
+-- what was done for a command that writes a text
+pub mod WrittenTexts
 -- what was put of notes
 pub mod NotedLaws

@@ -16,7 +16,8 @@ pub noted-put : {T E : Type 0} (result : Result T E) (lines : List (List ℕ)) {
     → Puts result (lines_text lines) before after old new L S → Noted before after old new
 noted-put result lines put = record { lines = lines; gains = gained result put }
 
-same-appended : (before : Option (List ℕ)) → appended before [] ≡ before
+-- nothing is appended
+pub same-appended : (before : Option (List ℕ)) → appended before [] ≡ before
 same-appended None = refl
 same-appended (Some held) = ap Some (append-nil held)
 

@@ -13,7 +13,7 @@ use Rattle.command_ends.specs.declared.stop.Stop.TheVariants.{Refused, ReadFault
 use Rattle.commands.specs.Accepted.{Accepted}
 use Rattle.commands.specs.Carried.{IsJudgedBy}
 use Rattle.commands.specs.Changes.{HasBegun, HasLaidOut, IsLaidOut, IsMarkedIn}
-use Rattle.commands.specs.Done.{Done, IsStatusOf, done_status, helped, judged, laid_out}
+use Rattle.commands.specs.Done.{Done, IsStatusOf, done_status, helped, judged, laid_out, wrote}
 use Rattle.commands.specs.Ends.{Ends}
 use Rattle.commands.specs.Outcome.{GainsFronts, IsMarked, Tells}
 use Rattle.commands.proofs.Endings.{done-said, judged-number, rose-still, stop-said}
@@ -42,12 +42,14 @@ done-few : (done : Done) → done_status done ≤ 1
 done-few (laid_out summary) = omega arith
 done-few (judged inputs layout []) = omega arith
 done-few (judged inputs layout (f ∷ fs)) = omega arith
+done-few wrote = omega arith
 done-few (helped topic) = omega arith
 
 done-listed : (done : Done) → is_status (done_status done) ≡ true
 done-listed (laid_out summary) = refl
 done-listed (judged inputs layout []) = refl
 done-listed (judged inputs layout (f ∷ fs)) = refl
+done-listed wrote = refl
 done-listed (helped topic) = refl
 
 -- of what stops a command, a write fault alone has status 9 and has begun a file
@@ -81,6 +83,7 @@ IsTold n status = ((2 ≤ status) × (n ≡ status)) ⊎ ((status ≡ 0) × ((n 
 done-laid : (done : Done) → IsLaidOut done → HasLaidOut (Ok done)
 done-laid (laid_out summary) laid = tt
 done-laid (judged inputs layout findings) laid = absurd laid
+done-laid wrote laid = absurd laid
 done-laid (helped topic) laid = absurd laid
 
 pub told-laid : (e : Result Done Stop) (n : ℕ) → IsTold n (ending_status e) → IfOk e IsLaidOut → (n ≡ 0) ⊎ (n ≡ 9) → HasLaidOut e
@@ -111,6 +114,7 @@ module _ (n : ℕ) (before after : Option (List ℕ)) (old new : ℕ) where
   pub tells-laid : (e : Result Done Stop) → Tells e n before after old new → HasLaidOut e → (n ≡ 0) ⊎ (n ≡ 9)
   tells-laid (Ok (laid_out summary)) tells laid = elim tells [ inl printed ↦ inl printed.number | inr cut ↦ inr cut.number ]
   tells-laid (Ok (judged inputs layout findings)) tells laid = absurd laid
+  tells-laid (Ok wrote) tells laid = absurd laid
   tells-laid (Ok (helped topic)) tells laid = absurd laid
   tells-laid (Err stop) tells laid = inr (tells.number ∙ stop-laid stop laid)
 
@@ -118,6 +122,7 @@ module _ (n : ℕ) (before after : Option (List ℕ)) (old new : ℕ) where
   pub tells-unjudged : (e : Result Done Stop) → Tells e n before after old new → IfOk e IsLaidOut → n ≢ 1
   tells-unjudged (Ok (laid_out summary)) tells laid = λ one. elim tells [ inl printed ↦ absurd (omega (arith, printed.number, one)) | inr cut ↦ absurd (omega (arith, cut.number, one)) ]
   tells-unjudged (Ok (judged inputs layout findings)) tells laid = absurd laid
+  tells-unjudged (Ok wrote) tells laid = absurd laid
   tells-unjudged (Ok (helped topic)) tells laid = absurd laid
   tells-unjudged (Err stop) tells laid = λ one. absurd (omega (arith, stop-above stop, tells.number, one))
 
@@ -132,12 +137,14 @@ module _ (n : ℕ) (before after : Option (List ℕ)) (old new : ℕ) where
     | inl printed ↦ record { inputs = inputs; layout = layout; findings = findings; found = marked.0; holds = marked.1; printed = printed.whole }
     | inr cut ↦ absurd (omega (arith, cut.number, few))
   ]
+  tells-marked (Ok wrote) told tells few marked = absurd marked
   tells-marked (Ok (helped topic)) told tells few marked = absurd marked
   tells-marked (Err stop) told tells few marked = absurd (omega (arith, stop-above stop, tells.number, few))
 
   -- a layout that was judged has status 0 only where this holds, and status 1 only where it does not
   pub tells-judged : (e : Result Done Stop) (good : Type 0) → Tells e n before after old new → IfOk e (IsJudgedBy good) → (n ≡ 0 → good) × (n ≡ 1 → good → ⊥)
   tells-judged (Ok (laid_out summary)) good tells is = absurd is
+  tells-judged (Ok wrote) good tells is = absurd is
   tells-judged (Ok (helped topic)) good tells is = absurd is
   tells-judged (Ok (judged inputs layout findings)) good tells is = elim tells [
     | inl printed ↦ elim (judged-number findings good n is printed.number) [

@@ -6,8 +6,9 @@ use Rattle.command_words.specs.declared.topic.Topic.{Topic}
 use Rattle.command_jobs.specs.Job.{Job}
 
 -- what a command comes to where nothing is refused: a job to be done, a layout to be judged for a design and rules, with a file to write markers of what is found to, if there
--- is to be one, or a text of help to be printed
+-- is to be one, a text to be written, or a text of help to be printed
 pub data Accepted : Type 0 where
   to_lay_out : Job → Accepted
   to_judge : Inputs → Layout → Option (List ℕ) → Accepted
+  to_write : List ℕ → Accepted
   to_help : Topic → Accepted

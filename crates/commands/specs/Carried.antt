@@ -4,11 +4,13 @@ use Rattle.command_ends.specs.Status.{ending_status}
 use Rattle.command_ends.specs.declared.stop.Stop.{Stop}
 use Rattle.command_inputs.specs.Origin.{IsSourceText}
 use Rattle.command_inputs.specs.Reading.{Files}
-use Rattle.command_words.specs.Command.{CheckNames, Command, Names, check, route, style_of, writes_of}
+use Rattle.command_words.specs.Command.{CheckNames, Command, DrawNames, ImportNames, Names, check, draw, import, route, style_of, writes_of}
 use Rattle.commands.specs.Causes.{ReadFails}
 use Rattle.commands.specs.Changes.{Changes, IsAsSaid, IsLaidOut, IsMarkedIn}
-use Rattle.commands.specs.Done.{Done, helped, judged, laid_out}
+use Rattle.commands.specs.Done.{Done, helped, judged, laid_out, wrote}
+use Rattle.commands.specs.Drawn.{IsPictureOf}
 use Rattle.commands.specs.Headline.{Headline, PortedHeadline}
+use Rattle.commands.specs.Imported.{IsImportOf}
 use Rattle.commands.specs.Verdict.{asked_verdict}
 use Rattle.greedy_router.specs.declared.sweep.Routed.{Routed}
 
@@ -16,6 +18,7 @@ use Rattle.greedy_router.specs.declared.sweep.Routed.{Routed}
 abbrev pub IsJudgedBy : Type 0 → Done → Type 0
 IsJudgedBy good (laid_out summary) = ⊥
 IsJudgedBy good (judged inputs layout findings) = (findings ≡ []) ↔ good
+IsJudgedBy good wrote = ⊥
 IsJudgedBy good (helped topic) = ⊥
 
 -- what was done for a command that is asked, or for none, that ended so and keeps this: what files tell before and after
@@ -36,3 +39,8 @@ pub record Carried (asked : Option Command) (ending : Result Done Stop) (kept : 
       → old.holds names.design ≡ Some bytes → old.holds names.cif ≡ Some text → IfOk ending (IsJudgedBy (Headline names.ports stated bytes text))
   pub edges : (names : Names) (stated bytes held : List ℕ) → asked ≡ Some (route names) → names.wanted.ports ≡ true → old.holds names.rules ≡ Some stated
       → IsSourceText names.design old.holds stated bytes → ending_status ending ≡ 0 → new.holds names.out ≡ Some held → PortedHeadline stated bytes held
+  -- what is written is the picture of a layout, or a design that carries a netlist
+  pub drawn : (names : DrawNames) (text held : List ℕ) → asked ≡ Some (draw names) → old.holds names.cif ≡ Some text → ending_status ending ≡ 0
+      → new.holds names.out ≡ Some held → IsPictureOf names.part text held
+  pub imported : (names : ImportNames) (netlist cells held : List ℕ) → asked ≡ Some (import names) → old.holds names.netlist ≡ Some netlist
+      → old.holds names.cells ≡ Some cells → ending_status ending ≡ 0 → new.holds names.out ≡ Some held → IsImportOf names.decimals netlist cells held

@@ -1,9 +1,12 @@
 -- why reading or writing failed in a command, by the counts of failures of its files and the sink
-use Rattle.std.specs.Prelude.{◌⊎◌, ℕ, List, [], ◌∷◌, Option, Some, None}
+use Rattle.std.specs.Prelude.{◌≡◌, ◌⊎◌, ℕ, List, [], ◌∷◌, Option, Some, None, Result, is_ok, true}
 use Rattle.shelf_io.specs.Count.{Rose, Still}
-use Rattle.command_words.specs.Command.{Command, check, from_file, help, reads_of, route, writes_of}
+use Rattle.command_words.specs.Command.{Command, check, draw, from_file, help, import, reads_of, route, writes_of}
 use Rattle.tech_rules.specs.Rules.{RuleValues}
 use Rattle.command_inputs.specs.Failures.{ArePassed, InputsFail}
+use Rattle.command_inputs.specs.GivenRules.{GivenFail, rules_given}
+use Rattle.command_inputs.specs.NetlistFiles.{netlist_verdict}
+use Rattle.command_ends.specs.declared.refusal.Refusal.{Refusal}
 
 -- why a command's reading failed: the read count of a file that it reads rose, and nothing before that refuses: there are rules, those that their
 -- file is told to state, under which what is told of the design is one
@@ -12,6 +15,12 @@ ReadFails (route names) told old new = InputsFail names.rules names.design told 
 ReadFails (check names) told old new =
     InputsFail names.rules (from_file names.design) told old new
     ⊎ (Rose (old names.cif) (new names.cif) × ((under : RuleValues) × ArePassed names.rules (from_file names.design) names.ports told under))
+ReadFails (draw names) told old new =
+    GivenFail names.rules old new
+    ⊎ (Rose (old names.cif) (new names.cif) × ((said : Result (Option RuleValues) Refusal) → rules_given names.rules told ≡ Some said → is_ok said ≡ true))
+ReadFails (import names) told old new =
+    Rose (old names.netlist) (new names.netlist)
+    ⊎ (Rose (old names.cells) (new names.cells) × ((bytes : List ℕ) → told names.netlist ≡ Some bytes → is_ok (netlist_verdict bytes) ≡ true))
 ReadFails (help topic) told old new = ⊥
 
 -- why its writing failed: the write count of the file that it writes rose, or that of the sink as it printed what it had done

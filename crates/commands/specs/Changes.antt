@@ -9,13 +9,13 @@ use Rattle.command_jobs.specs.Job.{Job}
 use Rattle.command_jobs.specs.Text.{job_text}
 use Rattle.command_jobs.specs.Written.{IsPortedText}
 use Rattle.commands.specs.Accepted.{Accepted, to_lay_out}
-use Rattle.commands.specs.Done.{AreFound, Done, helped, judged, laid_out}
+use Rattle.commands.specs.Done.{AreFound, Done, helped, judged, laid_out, wrote}
 use Rattle.commands.specs.Ends.{Ends}
 use Rattle.commands.specs.Outcome.{Holds, HoldsFront}
 use Rattle.greedy_router.specs.declared.sweep.Routed.{Routed}
 use Rattle.shelf_io.specs.Count.{Rose}
 use Rattle.shelf_io.specs.Told.{Refines}
-use Rattle.finding_markers.specs.Held as marked
+use Rattle.marker_text.specs.Held as marked
 use Rattle.finding_markers.specs.Markers.{markers_text}
 use Rattle.geom_core.specs.declared.layout.Layout.{Layout}
 use Rattle.layout_check.specs.declared.finding.Finding.{Finding}
@@ -25,6 +25,7 @@ use Rattle.command_inputs.specs.declared.stages.Inputs.{Inputs}
 abbrev pub HasLaidOut : Result Done Stop → Type 0
 HasLaidOut (Ok (laid_out summary)) = Unit {0}
 HasLaidOut (Ok (judged inputs layout findings)) = ⊥
+HasLaidOut (Ok wrote) = ⊥
 HasLaidOut (Ok (helped topic)) = ⊥
 HasLaidOut (Err (Refused refusal)) = ⊥
 HasLaidOut (Err ReadFault) = ⊥
@@ -34,6 +35,7 @@ HasLaidOut (Err WriteFault) = Unit {0}
 abbrev pub HasBegun : Result Done Stop → Option (List ℕ) → Type 0
 HasBegun (Ok (laid_out summary)) file = Unit {0}
 HasBegun (Ok (judged inputs layout findings)) file = file ≢ None
+HasBegun (Ok wrote) file = Unit {0}
 HasBegun (Ok (helped topic)) file = ⊥
 HasBegun (Err (Refused refusal)) file = ⊥
 HasBegun (Err ReadFault) file = ⊥
@@ -59,12 +61,14 @@ pub record Changes (file : Option (List ℕ)) (ending : Result Done Stop) (kept 
 abbrev pub IsLaidOut : Done → Type 0
 IsLaidOut (laid_out summary) = Unit {0}
 IsLaidOut (judged inputs layout findings) = ⊥
+IsLaidOut wrote = ⊥
 IsLaidOut (helped topic) = ⊥
 
 -- a layout was judged, and the report database of what was found is what a file that is told holds
 abbrev pub IsMarkedIn : Option (List ℕ) → Done → Type 0
 IsMarkedIn told (laid_out summary) = ⊥
 IsMarkedIn told (judged inputs layout findings) = AreFound inputs layout findings × Refines told (Some (markers_text inputs.designs.drawn.design layout findings))
+IsMarkedIn told wrote = ⊥
 IsMarkedIn told (helped topic) = ⊥
 
 -- a layout of which this was found was judged; of the file for its report database, if there is one, it was written, or could not be
@@ -74,6 +78,13 @@ pub record AreMarked (inputs : Inputs) (layout : Layout) (findings : List Findin
   pub front : (name : List ℕ) → file ≡ Some name → ending_status ending ≡ 9
       → marked.HoldsFront (markers_text inputs.designs.drawn.design layout findings) (old.holds name) (new.holds name)
   pub changes : Changes file ending [] old new
+
+-- a text was written into a file, or could not be
+pub record IsTextWritten (text file : List ℕ) (ending : Result Done Stop) (old new : Files) : Type 0 where
+  pub ends : (ending ≡ Ok wrote) ⊎ (ending ≡ Err WriteFault)
+  pub holds : ending_status ending ≡ 0 → Refines (new.holds file) (Some text)
+  pub front : ending_status ending ≡ 9 → marked.HoldsFront text (old.holds file) (new.holds file)
+  pub changes : Changes (Some file) ending [] old new
 
 -- a job with these routed channels was written into a file, or could not be; its text is that of a good layout, with its ports at the edges
 pub record IsWritten (job : Job) (routed : List Routed) (file : List ℕ) (ending : Result Done Stop) (kept : List Routed) (old new : Files) : Type 0 where

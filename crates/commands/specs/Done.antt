@@ -8,7 +8,7 @@ use Rattle.greedy_router.specs.declared.sweep.Routed.{Routed}
 use Rattle.layout_report.specs.SummaryText.{summary_text}
 use Rattle.layout_report.specs.declared.summary.Summary.{Summary}
 use Rattle.command_ends.specs.FindingLines.{judged_text}
-use Rattle.commands.specs.Accepted.{Accepted, to_help, to_judge, to_lay_out}
+use Rattle.commands.specs.Accepted.{Accepted, to_help, to_judge, to_lay_out, to_write}
 use Rattle.command_ends.specs.Status.{refusal_status}
 use Rattle.command_help.specs.Texts.{text_on}
 use Rattle.command_words.specs.declared.topic.Topic.{Topic}
@@ -19,10 +19,11 @@ use Rattle.command_ends.specs.declared.stop.Stop.{Stop}
 use Rattle.commands.specs.declared.done.Done as seen
 use Rattle.commands.specs.declared.done.Done.TheVariants as dones
 
--- what a command has done: it has laid a design out, of which this is told, or found this of a layout; or a text of help is asked for
+-- what a command has done: it has laid a design out, of which this is told, found this of a layout, or written a text; or a text of help is asked for
 pub data Done : Type 0 where
   laid_out : Summary → Done
   judged : Inputs → Layout → List Finding → Done
+  wrote : Done
   helped : Topic → Done
 
 -- findings of a layout for a design under rules: there are none exactly where it is good
@@ -40,18 +41,26 @@ pub record IsJudged (inputs : Inputs) (layout : Layout) (findings : List Finding
 abbrev pub Does : List Routed → Done → Accepted → Type 0
 Does kept (laid_out summary) (to_lay_out job) = summary ≡ summary_of job kept
 Does kept (laid_out summary) (to_judge inputs layout markers) = ⊥
+Does kept (laid_out summary) (to_write text) = ⊥
 Does kept (laid_out summary) (to_help topic) = ⊥
 Does kept (judged inputs layout findings) (to_lay_out job) = ⊥
 Does kept (judged inputs layout findings) (to_judge asked shown markers) = IsJudged inputs layout findings asked shown
+Does kept (judged inputs layout findings) (to_write text) = ⊥
 Does kept (judged inputs layout findings) (to_help topic) = ⊥
+Does kept wrote (to_lay_out job) = ⊥
+Does kept wrote (to_judge inputs layout markers) = ⊥
+Does kept wrote (to_write text) = Unit {0}
+Does kept wrote (to_help topic) = ⊥
 Does kept (helped topic) (to_lay_out job) = ⊥
 Does kept (helped topic) (to_judge inputs layout markers) = ⊥
+Does kept (helped topic) (to_write text) = ⊥
 Does kept (helped topic) (to_help asked) = topic ≡ asked
 
 -- what is to be done writes a file
 abbrev pub IsToWrite : Accepted → Type 0
 IsToWrite (to_lay_out job) = Unit {0}
 IsToWrite (to_judge inputs layout markers) = markers ≢ None
+IsToWrite (to_write text) = Unit {0}
 IsToWrite (to_help topic) = ⊥
 
 -- the status of a layout of which this was found
@@ -59,21 +68,24 @@ abbrev pub findings_status : List Finding → ℕ
 findings_status [] = 0
 findings_status (finding ∷ more) = 1
 
--- the status of what was done, and what is printed of it
+-- the status of what was done, and what is printed of it: nothing of a text that was written
 abbrev pub done_status : Done → ℕ
 done_status (laid_out summary) = 0
 done_status (judged inputs layout findings) = findings_status findings
+done_status wrote = 0
 done_status (helped topic) = 0
 
 abbrev pub done_text : Done → List ℕ
 done_text (laid_out summary) = summary_text summary
 done_text (judged inputs layout findings) = judged_text inputs.designs.drawn.design layout findings
+done_text wrote = []
 done_text (helped topic) = text_on topic
 
 -- what a command has done as contracts see it, and how it ended
 abbrev pub done_seen : seen.Done → Done
 done_seen (dones.LaidOut summary) = laid_out summary
 done_seen (dones.Judged j) = judged j.inputs j.layout j.findings.items
+done_seen dones.Wrote = wrote
 done_seen (dones.Helped topic) = helped topic
 
 abbrev pub end_seen : Result seen.Done Stop → Result Done Stop
@@ -88,5 +100,6 @@ IsJudgement good n = ((n ≡ 0) × good) ⊎ ((n ≡ 1) × (good → ⊥))
 abbrev pub IsStatusOf : Result Accepted Refusal → ℕ → Type 0
 IsStatusOf (Ok (to_lay_out job)) n = n ≡ 0
 IsStatusOf (Ok (to_judge inputs layout markers)) n = IsJudgement (Good inputs.rules inputs.designs.drawn.design layout) n
+IsStatusOf (Ok (to_write text)) n = n ≡ 0
 IsStatusOf (Ok (to_help topic)) n = n ≡ 0
 IsStatusOf (Err refusal) n = n ≡ refusal_status refusal

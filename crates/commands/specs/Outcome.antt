@@ -4,14 +4,14 @@ use Rattle.shelf_io.specs.Count.{Rose}
 use Rattle.shelf_io.specs.Told.{Refines, appended}
 use Rattle.commands.specs.Ends.{Ends}
 use Rattle.cif_writer.specs.LayoutText as written
-use Rattle.finding_markers.specs.Held as marked
+use Rattle.marker_text.specs.Held as marked
 use Rattle.finding_markers.specs.Markers.{markers_text}
 use Rattle.geom_core.specs.declared.layout.Layout.{Layout}
 use Rattle.layout_check.specs.declared.finding.Finding.{Finding}
 use Rattle.command_inputs.specs.declared.stages.Inputs.{Inputs}
 use Rattle.commands.specs.Done.{AreFound, Done, done_status, done_text}
 use Rattle.command_ends.specs.Gains.{Gains}
-use Rattle.commands.specs.Accepted.{Accepted, to_help, to_judge, to_lay_out}
+use Rattle.commands.specs.Accepted.{Accepted, to_help, to_judge, to_lay_out, to_write}
 use Rattle.command_jobs.specs.Job.{Job}
 use Rattle.command_ends.specs.FindingLines.{judged_text}
 use Rattle.command_ends.specs.Line.{line_of}
@@ -30,6 +30,7 @@ use Rattle.command_ends.specs.declared.stop.Stop.TheVariants.{WriteFault}
 abbrev pub IsJobAnd : Result Accepted Refusal → (Job → Type 0) → Type 0
 IsJobAnd (Ok (to_lay_out job)) P = P job
 IsJobAnd (Ok (to_judge inputs layout markers)) P = ⊥
+IsJobAnd (Ok (to_write text)) P = ⊥
 IsJobAnd (Ok (to_help topic)) P = ⊥
 IsJobAnd (Err refusal) P = ⊥
 
@@ -43,10 +44,12 @@ abbrev pub HoldsMarkersFront : Inputs → Layout → Option (List ℕ) → Optio
 HoldsMarkersFront inputs layout before told =
     (findings : List Finding) × (AreFound inputs layout findings × marked.HoldsFront (markers_text inputs.designs.drawn.design layout findings) before told)
 
--- a file that is told holds just what the command is to write: the text of the job that is accepted, with these routed channels, or the report database of the layout that is to be judged
+-- a file that is told holds just what the command is to write: the text of the job that is accepted, with these routed channels, the report database of the layout that is to be judged, or
+-- the text that is to be written
 abbrev pub Holds : Result Accepted Refusal → List Routed → Option (List ℕ) → Type 0
 Holds (Ok (to_lay_out job)) kept told = Refines told (Some (job_text job kept))
 Holds (Ok (to_judge inputs layout markers)) kept told = HoldsMarkers inputs layout told
+Holds (Ok (to_write text)) kept told = Refines told (Some text)
 Holds (Ok (to_help topic)) kept told = ⊥
 Holds (Err refusal) kept told = ⊥
 
@@ -54,6 +57,7 @@ Holds (Err refusal) kept told = ⊥
 abbrev pub HoldsFront : Result Accepted Refusal → List Routed → Option (List ℕ) → Option (List ℕ) → Type 0
 HoldsFront (Ok (to_lay_out job)) kept before told = written.HoldsFront (job_text job kept) before told
 HoldsFront (Ok (to_judge inputs layout markers)) kept before told = HoldsMarkersFront inputs layout before told
+HoldsFront (Ok (to_write text)) kept before told = marked.HoldsFront text before told
 HoldsFront (Ok (to_help topic)) kept before told = ⊥
 HoldsFront (Err refusal) kept before told = ⊥
 

@@ -1,15 +1,24 @@
--- what a command's words and files ask for: a design to lay out, a layout to judge, a text of help, or the first refusal
-use Rattle.std.specs.Prelude.{◌≡◌, ℕ, List, Option, Some, None, option_map, Result, Ok, Err}
-use Rattle.command_words.specs.Command.{Command, check, command_of, from_file, help, route}
-use Rattle.commands.specs.Accepted.{Accepted, to_help, to_judge, to_lay_out}
+-- what a command's words and files ask for: a design to lay out, a layout to judge, a text to write, a text of help, or the first refusal
+use Rattle.std.specs.Prelude.{◌≡◌, ◌++◌, ℕ, List, Option, Some, None, option_map, Result, Ok, Err}
+use Rattle.command_words.specs.Command.{Command, check, command_of, draw, from_file, help, import, route}
+use Rattle.commands.specs.Accepted.{Accepted, to_help, to_judge, to_lay_out, to_write}
+use Rattle.commands.specs.Drawn.{drawn_text, view_of}
+use Rattle.commands.specs.Imported.{import_said}
 use Rattle.command_ends.specs.Refusing.{◌>>=◌, told_then}
-use Rattle.command_jobs.specs.Rows.{job_of}
+use Rattle.command_jobs.specs.Tries.{job_of}
 use Rattle.command_words.specs.declared.command.Wanted.{Wanted}
 use Rattle.command_ends.specs.declared.refusal.Refusal.{Refusal}
 use Rattle.command_inputs.specs.declared.stages.Inputs.{Inputs}
 use Rattle.command_ends.specs.declared.refusal.Refusal.TheVariants.{Usage}
 use Rattle.command_inputs.specs.Stated.{inputs_told}
 use Rattle.command_inputs.specs.LayoutFile.{layout_verdict}
+use Rattle.command_inputs.specs.GivenRules.{rules_given}
+use Rattle.command_inputs.specs.NetlistFiles.{cells_verdict, netlist_verdict}
+use Rattle.blif_reader.specs.declared.file.BlifFile.{BlifFile}
+use Rattle.geom_core.specs.Extent.{Extent}
+use Rattle.netlist_import.specs.Parent.{parent_of}
+use Rattle.tech_rules.specs.Rules.{RuleValues}
+use Rattle.yal_writer.specs.ParentText.{parent_text}
 use Rattle.command_jobs.specs.Limits.{within_limits}
 
 -- the job of laying a design out under rules
@@ -24,12 +33,29 @@ judgement_verdict inputs markers bytes = do
   layout ← layout_verdict bytes
   Ok (to_judge inputs layout markers)
 
+-- the picture of the layout that the bytes of a file are, of a part of it or of all, with the roles of its layers under rules, if there are some
+unfoldable pub picture_verdict : Option Extent → Option RuleValues → List ℕ → Result Accepted Refusal
+picture_verdict part rules bytes = do
+  layout ← layout_verdict bytes
+  text ← drawn_text layout (view_of part rules)
+  Ok (to_write text)
+
+-- the text of cells that the bytes of a file are, and behind it the PARENT of a netlist over them
+unfoldable pub import_verdict : ℕ → BlifFile → List ℕ → Result Accepted Refusal
+import_verdict decimals netlist bytes = do
+  cells ← cells_verdict decimals bytes
+  parent ← import_said (parent_of netlist cells)
+  Ok (to_write (bytes ++ parent_text parent))
+
 -- the verdict on a command by what the files are told to hold: what is to be done, or the first refusal. There is none where a file that it comes to
 -- is untold
 unfoldable pub command_verdict : Command → (List ℕ → Option (List ℕ)) → Option (Result Accepted Refusal)
 command_verdict (route names) told = told_then (inputs_told names.rules names.design names.wanted.ports told) (λ inputs. Some (job_verdict names.wanted inputs))
 command_verdict (check names) told =
     told_then (inputs_told names.rules (from_file names.design) names.ports told) (λ inputs. option_map (judgement_verdict inputs names.markers) (told names.cif))
+command_verdict (draw names) told = told_then (rules_given names.rules told) (λ rules. option_map (picture_verdict names.part rules) (told names.cif))
+command_verdict (import names) told =
+    told_then (option_map netlist_verdict (told names.netlist)) (λ netlist. option_map (import_verdict names.decimals netlist) (told names.cells))
 command_verdict (help topic) told = Some (Ok (to_help topic))
 
 -- that on a command's words

@@ -12,7 +12,9 @@ ghost use Rattle.commands.specs.Verdict.{command_verdict};
 ghost use Rattle.std.specs.Prelude.{◌≡◌, ◌<◌, ◌≤◌, [], Some, length, map};
 
 use crate::done::Done;
+use crate::drawing::draw;
 use crate::heard::Heard;
+use crate::importing::import;
 use crate::judging::judge;
 use crate::routing::route;
 use choose_core::{Chooser, Chooses, Style};
@@ -44,6 +46,8 @@ fn obey<S: Shelf, W: Watch>(
     match command {
         Command::Route(names) => route(alloc, shelf, names, styles, heard, kept, watch),
         Command::Check(names) => judge(alloc, shelf, names, heard),
+        Command::Draw(names) => draw(alloc, shelf, names, heard),
+        Command::Import(names) => import(alloc, shelf, names, heard),
         Command::Help(topic) => Ok(Done::Helped(*topic)),
     }
 }

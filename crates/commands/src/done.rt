@@ -14,10 +14,11 @@ pub(crate) struct Judged {
     pub(crate) findings: Vec<Finding>,
 }
 
-/// What a command has done: it has laid a design out, of which this is told, or judged a layout; or a text of help is asked for.
+/// What a command has done: it has laid a design out, of which this is told, judged a layout, or written a text; or a text of help is asked for.
 #[derive(Drop)]
 pub(crate) enum Done {
     LaidOut(Summary),
     Judged(Judged),
+    Wrote,
     Helped(Topic),
 }

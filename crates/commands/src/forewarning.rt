@@ -7,7 +7,7 @@ ghost use Rattle.std.specs.Prelude.{◌≡◌, ◌<◌, Some, length, map, true}
 
 use crate::telling::is_quiet;
 use choose_core::Style;
-use command_words::{Check, Command, Route, Source, Word, read_command};
+use command_words::{Check, Command, Draw, Import, Route, Source, Word, read_command};
 use note_text::{Notes, put_notes};
 use shelf_io::{Failed, Sink};
 use std::alloc::{AllocError, Global};
@@ -27,11 +27,11 @@ fn note_same(
     Ok(())
 }
 
-// Notes that a name of a file to write seems to be that of the standard output, where other lines stand too.
+// Notes that a name of a file to write seems to be that of the standard output, where perhaps other lines stand too.
 fn note_dash(alloc: Global, notes: &mut Notes, out: &str, printed: &str) -> Result<(), AllocError> {
     if out == "-" {
         notes.note(format!(in alloc;
-            "warning: - is a file of that name here; the standard output is /dev/stdout, and {printed} there too"
+            "warning: - is a file of that name here; the standard output is /dev/stdout{printed}"
         )?);
     }
     Ok(())
@@ -44,7 +44,12 @@ fn note_route(alloc: Global, notes: &mut Notes, names: &Route<'_>) -> Result<(),
         note_same(alloc, notes, out, (design, "design"))?;
     }
     note_same(alloc, notes, out, (names.rules, "rules"))?;
-    note_dash(alloc, notes, names.out, "the summary stands")
+    note_dash(
+        alloc,
+        notes,
+        names.out,
+        ", and the summary stands there too",
+    )
 }
 
 // Notes what surprises about the names of a command to check that writes markers.
@@ -56,7 +61,25 @@ fn note_check(alloc: Global, notes: &mut Notes, names: &Check<'_>) -> Result<(),
     note_same(alloc, notes, out, (names.design, "design"))?;
     note_same(alloc, notes, out, (names.rules, "rules"))?;
     note_same(alloc, notes, out, (names.cif, "layout"))?;
-    note_dash(alloc, notes, file, "the findings stand")
+    note_dash(alloc, notes, file, ", and the findings stand there too")
+}
+
+// Notes what surprises about the names of a command to draw.
+fn note_draw(alloc: Global, notes: &mut Notes, names: &Draw<'_>) -> Result<(), AllocError> {
+    let out = (names.out, "picture");
+    note_same(alloc, notes, out, (names.cif, "layout"))?;
+    if let Some(rules) = names.rules {
+        note_same(alloc, notes, out, (rules, "rules"))?;
+    }
+    note_dash(alloc, notes, names.out, "")
+}
+
+// Notes what surprises about the names of a command to import.
+fn note_import(alloc: Global, notes: &mut Notes, names: &Import<'_>) -> Result<(), AllocError> {
+    let out = (names.out, "design");
+    note_same(alloc, notes, out, (names.netlist, "netlist"))?;
+    note_same(alloc, notes, out, (names.cells, "cells"))?;
+    note_dash(alloc, notes, names.out, "")
 }
 
 // Notes what surprises about the names of a command.
@@ -64,6 +87,8 @@ fn note_names(alloc: Global, notes: &mut Notes, command: &Command<'_>) -> Result
     match command {
         Command::Route(names) => note_route(alloc, notes, names),
         Command::Check(names) => note_check(alloc, notes, names),
+        Command::Draw(names) => note_draw(alloc, notes, names),
+        Command::Import(names) => note_import(alloc, notes, names),
         Command::Help(_) => Ok(()),
     }
 }

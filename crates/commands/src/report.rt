@@ -61,6 +61,13 @@ fn report_help<K: Sink>(out: &mut K, topic: Topic) -> u8
     }
 }
 
+// Prints nothing of a text that was written, and gives the status. Takes no memory.
+fn report_wrote<K: Sink>(_out: &mut K) -> u8
+    ensures { Tells (Ok done.wrote) result (K.written _out.old) (K.written _out.new) (K.faults _out.old) (K.faults _out.new) }
+{
+    0
+}
+
 // Prints the line of what stopped a command, as far as the sink takes it, and gives the status. Takes no memory.
 fn report_stop<K: Sink>(out: &mut K, stop: &Stop) -> u8
     ensures { IsStopped stop.now result (K.written out.old) (K.written out.new) (K.faults out.old) (K.faults out.new) }
@@ -76,6 +83,7 @@ pub(crate) fn report<K: Sink>(out: &mut K, ending: &Result<Done, Stop>) -> u8
     match ending {
         Ok(Done::LaidOut(summary)) => report_laid(out, summary),
         Ok(Done::Judged(judged)) => report_judged(out, judged),
+        Ok(Done::Wrote) => report_wrote(out),
         Ok(Done::Helped(topic)) => report_help(out, *topic),
         Err(stop) => report_stop(out, stop),
     }

@@ -48,6 +48,8 @@ fn written_by<'a>(command: &Command<'a>) -> Option<&'a str> {
     match command {
         Command::Route(names) => Some(names.out),
         Command::Check(names) => names.markers,
+        Command::Draw(names) => Some(names.out),
+        Command::Import(names) => Some(names.out),
         Command::Help(_) => None,
     }
 }
@@ -120,6 +122,8 @@ pub(crate) fn is_quiet(command: &Command<'_>) -> bool
     match command {
         Command::Route(names) => names.quiet,
         Command::Check(names) => names.quiet,
+        Command::Draw(names) => names.quiet,
+        Command::Import(names) => names.quiet,
         Command::Help(_) => false,
     }
 }
@@ -148,6 +152,8 @@ pub(crate) fn tell<'a, N: Sink>(
     let rules = bytes_of(&texts.rules);
     let design = bytes_of(&texts.design);
     let cif = bytes_of(&texts.cif);
+    let netlist = bytes_of(&texts.netlist);
+    let cells = bytes_of(&texts.cells);
     let mut reached = Reached {
         words,
         styles,
@@ -155,6 +161,8 @@ pub(crate) fn tell<'a, N: Sink>(
         rules,
         design,
         cif,
+        netlist,
+        cells,
     };
     match read_command(alloc, styles, words) {
         Ok(command) => {

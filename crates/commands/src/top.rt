@@ -2,8 +2,10 @@
 
 ghost use Rattle.commands.specs.Causes.{IsQuiet, ReadFails, WriteFails};
 ghost use Rattle.command_words.specs.Command as asked;
-ghost use Rattle.command_words.specs.Command.{CheckNames, Names, command_of, is_quiet, style_of, writes_of};
+ghost use Rattle.command_words.specs.Command.{CheckNames, DrawNames, ImportNames, Names, command_of, is_quiet, style_of, writes_of};
 ghost use Rattle.commands.specs.Done.{IsStatusOf};
+ghost use Rattle.commands.specs.Drawn.{IsPictureOf};
+ghost use Rattle.commands.specs.Imported.{IsImportOf};
 ghost use Rattle.commands.specs.Noted.{Noted};
 ghost use Rattle.commands.specs.Headline.{Headline, PortedHeadline};
 ghost use Rattle.command_inputs.specs.Origin.{IsSourceText};
@@ -32,7 +34,7 @@ use std::alloc::Global;
 #[derive(Debug, Drop)]
 pub struct Ended {
     /// 0 where the text is written, or the layout is good; 1 where the layout is not good; 2 where the words are no command; 3, 4, 5 and 7 where the
-    /// design's file, the rules file, the design or the layout's file is refused; 6 where a limit is passed; 8 and 9 where reading and
+    /// file of a design, of a netlist or of its cells, the rules file, the design or the netlist, or the layout's file is refused; 6 where a limit is passed; 8 and 9 where reading and
     /// writing failed; 10 for want of memory.
     pub status: u8,
     /// On 0 and 9 of a command to route the routed channels of the layout, from the lowest up, whose wirings are those of the text; else none.
@@ -41,12 +43,13 @@ pub struct Ended {
 
 /// Does the command that the words give.
 ///
-/// `route DESIGN RULES OUT [--seed N] [--rows K] [--style NAME] [--edge] [--ports] [--progress] [-q]` reads the rules from the file RULES and the design in YAL from
+/// `route DESIGN RULES OUT [--seed N] [--rows K] [--tries N] [--style NAME] [--edge] [--ports] [--progress] [-q]` reads the rules from the file RULES and the design in YAL from
 /// the file DESIGN, sets its cells in K rows, from 1 to 512, or in as many as make the layout about square, anneals the rows as the rules
 /// say with the seed N, below 2^64, or 1, sets feeds where nets cross rows, joins each net by wires in the channels between the rows, by the
 /// choices of the first of the styles that has the name NAME, or of the first of all, writes the layout in CIF into the file OUT, and prints it in
 /// short. There are one to sixteen styles. With `--edge` channels without vertical constraints are routed by the left edges of their nets, and with `--ports` the terminals of the
-/// design's PARENT become cells, which are not annealed: the inputs in a further row below, the outputs in one above, each wired to its net.
+/// design's PARENT become cells, which are not annealed: the inputs in a further row below, the outputs in one above, each wired to its net. With `--tries N`, 1 to 64, the first of N
+/// placements whose layout is estimated to have the least area is routed; their seeds go up from the one that is given, and without `--rows` their rows by a list.
 ///
 /// `make SEED N RULES OUT` does so for a design of N instances, from 1 to 20,000, that is made under the rules from SEED, which also anneals, in rows as
 /// usual and by the first of the styles.
@@ -54,6 +57,12 @@ pub struct Ended {
 /// `check DESIGN RULES CIF [--markers FILE] [--ports] [-q]` reads the rules and the design as `route` does, and a layout from the file CIF, and prints a line for each thing that is
 /// wrong with the layout for this design under these rules, and then a line with their number: status 0 where there is none, and else 1. With `--markers` it writes the same as a
 /// report database of KLayout into FILE, before it prints.
+///
+/// `draw CIF OUT [--box X0,Y0,X1,Y1] [--rules RULES] [-q]` reads the rules, if they are given, and a layout as `check` does, and writes a picture of it, or of the part in the box, which is in
+/// microns, into the file OUT, as a text of SVG 1.1; with rules the legend says what its layers are for. It prints nothing.
+///
+/// `import BLIF CELLS OUT [--decimals D] [-q]` reads a netlist in BLIF and the modules of its cells in YAL, whose numbers have up to D decimals, 0 to 4, or none, and writes the text of CELLS
+/// and behind it a PARENT with the model's terminals and a call for each gate into the file OUT. It prints nothing.
 ///
 /// `help`, `--help` and `-h` print the commands in short, `help` and a command's name that command with its options, `version` and `--version` the version of the program.
 ///
@@ -65,7 +74,8 @@ pub struct Ended {
 /// Whatever becomes of them, statuses, lines, files and kept channels are the same.
 ///
 /// What may refuse comes in this order: the words, reading RULES, the rules, reading DESIGN, YAL, the design, its ports, and then the
-/// limits of moves, grid, width and height, writing OUT, printing; or reading CIF, its text, its commands, checking, writing FILE, printing. Where the shelf tells the files that it
+/// limits of moves, grid, width and height, writing OUT, printing; or reading CIF, its text, its commands, checking, writing FILE, printing. `draw` has reading RULES, the rules, reading CIF,
+/// its text, its commands, the limit of pictures, writing OUT; `import` reading BLIF, its text, reading CELLS, YAL, the netlist over its cells, writing OUT. Where the shelf tells the files that it
 /// comes to, the status is that of the verdict on them, unless it is 8 and a read count rose, 9 and OUT's or FILE's write count or the sink's rose, or 10. On 0 OUT holds the text
 /// of the job with the wirings that are kept. Every status but 0, 1 and 9 leaves all files as they were; after 9 OUT or FILE holds what it held, or a front of the
 /// text, which is all of it where its write count did not rise. `check` leaves all files but FILE as they were. 10 may come for want of memory at any time before OUT or FILE is
@@ -99,8 +109,8 @@ pub fn run<S: Shelf, K: Sink, N: Sink>(
     // Status 1 is never that of a command to route.
     ensures laid { (names : Names) → command_of (map (λ s. s.chooser.name) styles.now) words.now ≡ Some (asked.route names) → result.status ≢ 1 }
 
-    // Status 0 and 1: the file that the command writes, where the shelf tells it, holds exactly the text of the job with the wirings of these channels, or the report database of
-    // what is wrong with the layout.
+    // Status 0 and 1: the file that the command writes, where the shelf tells it, holds exactly the text of the job with the wirings of these channels, the report database of
+    // what is wrong with the layout, the picture of a layout, or the cells and the PARENT of a netlist.
     ensures written { (command : asked.Command) (said : _) (file : List ℕ) → Comes (map (λ s. s.chooser.name) styles.now) words.now (S.holds shelf.old) command said → writes_of command ≡ Some file
         → (result.status ≡ 0) ⊎ (result.status ≡ 1) → Holds said result.kept.items (S.holds shelf.new file) }
 
@@ -126,6 +136,15 @@ pub fn run<S: Shelf, K: Sink, N: Sink>(
     ensures faulty { (names : CheckNames) (stated bytes text : List ℕ) → command_of (map (λ s. s.chooser.name) styles.now) words.now ≡ Some (asked.check names)
         → S.holds shelf.old names.rules ≡ Some stated → S.holds shelf.old names.design ≡ Some bytes → S.holds shelf.old names.cif ≡ Some text
         → result.status ≡ 1 → Headline names.ports stated bytes text → ⊥ }
+
+    // What `draw` writes is the picture of the layout as which CIF reads.
+    ensures drawn { (names : DrawNames) (text held : List ℕ) → command_of (map (λ s. s.chooser.name) styles.now) words.now ≡ Some (asked.draw names)
+        → S.holds shelf.old names.cif ≡ Some text → result.status ≡ 0 → S.holds shelf.new names.out ≡ Some held → IsPictureOf names.part text held }
+
+    // What `import` writes reads as the modules of CELLS and a PARENT that carries the netlist.
+    ensures imported { (names : ImportNames) (netlist cells held : List ℕ) → command_of (map (λ s. s.chooser.name) styles.now) words.now ≡ Some (asked.import names)
+        → S.holds shelf.old names.netlist ≡ Some netlist → S.holds shelf.old names.cells ≡ Some cells → result.status ≡ 0 → S.holds shelf.new names.out ≡ Some held
+        → IsImportOf names.decimals netlist cells held }
 
     // Status 9 of a command that writes: there is something to write, and the file to write holds what it held, or a front of that text; all of it where its count did not
     // rise.

@@ -23,10 +23,10 @@ fn form_of(first: u8) -> &'static str {
 }
 
 // A command that has none of the forms.
-fn bad_command(alloc: Global, text: &[u8], at: usize) -> Result<String, AllocError> {
+fn bad_command(alloc: Global, text: &[u8], at: usize, words: &str) -> Result<String, AllocError> {
     if text.starts_with(b"MODULE") {
         return format!(in alloc;
-            "this looks like a design, and a layout in CIF is wanted; the words are check DESIGN RULES CIF"
+            "this looks like a design, and a layout in CIF is wanted; the words are {words}"
         );
     }
     let command = match next_command(text, at) {
@@ -56,12 +56,13 @@ fn left_out(alloc: Global, letter: u8) -> Result<String, AllocError> {
     format!(in alloc; "DD deletes definitions, which is not read")
 }
 
-/// What is wrong with a text that is no CIF, for this reason at this byte.
+/// What is wrong with a text that is no CIF, for this reason at this byte, where the command's words are these.
 pub(crate) fn told_of_text(
     alloc: Global,
     text: &[u8],
     kind: CifKind,
     at: u64,
+    words: &str,
 ) -> Result<Told, AllocError> {
     let at = at as usize;
     let what = match kind {
@@ -72,7 +73,7 @@ pub(crate) fn told_of_text(
         CifKind::Unclosed => {
             format!(in alloc; "a comment begins here and has no end: ) is missing")?
         }
-        CifKind::BadCommand => bad_command(alloc, text, at)?,
+        CifKind::BadCommand => bad_command(alloc, text, at, words)?,
         CifKind::Number => {
             format!(in alloc; "a number, or the whole offset of a call, is beyond {MOST_NUMBER}")?
         }

@@ -1,6 +1,7 @@
 //! Notes for people on what stopped a command: where it is, what is wrong, and what would cure it.
 #![tactic(auto)]
 
+mod box_notes;
 mod cif_notes;
 mod limit_notes;
 mod naming;

@@ -1,9 +1,10 @@
 //! Notes on limits that are passed.
 
-use crate::naming::{FileOf, wants_ports, wants_rows};
+use crate::naming::{FileOf, tries_of, wants_part, wants_ports, wants_rows};
 use crate::reached::Reached;
 use command_ends::Limited;
 use input_notes::rules_again;
+use layout_picture::MOST_SHOWN;
 use limits::{
     MOST_CHANGES, MOST_COLUMNS, MOST_DESIGN_BYTES, MOST_INSTANCES, MOST_LAYOUT_BYTES, MOST_PINS,
     MOST_RULES_BYTES, MOST_SIZE,
@@ -42,6 +43,14 @@ fn too_many(
     )?))
 }
 
+// The tries among the factors of a number of changes, if there are several.
+fn tries_factor(alloc: Global, tries: u32) -> Result<String, AllocError> {
+    if tries == 1 {
+        return Ok(String::new(alloc));
+    }
+    format!(in alloc; " * {tries} tries")
+}
+
 // Too many changes of annealing.
 fn too_many_changes(alloc: Global, reached: &Reached<'_>, number: u64) -> Result<Told, AllocError> {
     let text = reached.rules.unwrap_or(&[]);
@@ -53,12 +62,15 @@ fn too_many_changes(alloc: Global, reached: &Reached<'_>, number: u64) -> Result
     };
     let stages = rules.annealing.stages;
     let moves = rules.annealing.moves;
-    let each = u64::from(stages).saturating_mul(u64::from(moves));
+    let tries = tries_of(reached);
+    let lasting = u64::from(stages).saturating_mul(u64::from(tries));
+    let each = lasting.saturating_mul(u64::from(moves));
     let instances = number.checked_div(each).unwrap_or(0);
-    let others = u64::from(stages).saturating_mul(instances);
+    let others = lasting.saturating_mul(instances);
     let most = MOST_CHANGES.checked_div(others).unwrap_or(0);
+    let many = tries_factor(alloc, tries)?;
     let what = format!(in alloc;
-        "annealing would try {number} changes (anneal.stages {stages} * anneal.moves {moves} * {instances} instances); {MOST_CHANGES} at most may be, as with anneal.moves {most}"
+        "annealing would try {number} changes (anneal.stages {stages} * anneal.moves {moves} * {instances} instances{many}); {MOST_CHANGES} at most may be, as with anneal.moves {most}"
     )?;
     Ok(Told::in_line(place, what))
 }
@@ -92,11 +104,25 @@ fn too_large(
     )?))
 }
 
+// A picture with too many shapes.
+fn too_many_shapes(alloc: Global, reached: &Reached<'_>, number: u64) -> Result<Told, AllocError> {
+    let cure = if wants_part(reached) {
+        "a smaller part (--box X0,Y0,X1,Y1) has less"
+    } else {
+        "--box X0,Y0,X1,Y1 shows a part of the layout"
+    };
+    Ok(Told::whole(format!(in alloc;
+        "the picture would show {number} shapes; {MOST_SHOWN} at most may be: {cure}"
+    )?))
+}
+
 /// Which file passes a limit, or makes the layout pass it.
 pub(crate) fn file_of_limit(what: Limited) -> FileOf {
     match what {
         Limited::Rules | Limited::Moves => FileOf::Rules,
-        Limited::Cif => FileOf::Layout,
+        Limited::Cif | Limited::Picture => FileOf::Layout,
+        Limited::Blif => FileOf::Netlist,
+        Limited::Cells => FileOf::Cells,
         _ => FileOf::Design,
     }
 }
@@ -110,7 +136,7 @@ pub(crate) fn told_of_limit(
 ) -> Result<Told, AllocError> {
     match what {
         Limited::Rules => too_long(alloc, MOST_RULES_BYTES),
-        Limited::Design => too_long(alloc, MOST_DESIGN_BYTES),
+        Limited::Design | Limited::Blif | Limited::Cells => too_long(alloc, MOST_DESIGN_BYTES),
         Limited::Cif => too_long(alloc, MOST_LAYOUT_BYTES),
         Limited::Instances => too_many(alloc, reached, "instances", number, MOST_INSTANCES),
         Limited::Pins => too_many(alloc, reached, "pins", number, MOST_PINS),
@@ -118,5 +144,6 @@ pub(crate) fn told_of_limit(
         Limited::Grid => too_many_columns(alloc, reached, number),
         Limited::Width => too_large(alloc, reached, "wide", "more rows", number),
         Limited::Height => too_large(alloc, reached, "high", "fewer rows", number),
+        Limited::Picture => too_many_shapes(alloc, reached, number),
     }
 }

@@ -13,6 +13,10 @@ pub(crate) enum FileOf {
     Layout,
     /// The layout that is written.
     Out,
+    /// The netlist that comes in.
+    Netlist,
+    /// The modules of its cells.
+    Cells,
 }
 
 // The name of a design by its source.
@@ -29,13 +33,23 @@ fn name_of<'a>(command: &Command<'a>, file: FileOf) -> &'a str {
         Command::Route(names) => match file {
             FileOf::Rules => names.rules,
             FileOf::Design => source_name(&names.design),
-            FileOf::Layout | FileOf::Out => names.out,
+            _ => names.out,
         },
         Command::Check(names) => match file {
             FileOf::Rules => names.rules,
             FileOf::Design => names.design,
-            FileOf::Layout => names.cif,
             FileOf::Out => names.markers.unwrap_or(names.cif),
+            _ => names.cif,
+        },
+        Command::Draw(names) => match file {
+            FileOf::Rules => names.rules.unwrap_or("RULES"),
+            FileOf::Out => names.out,
+            _ => names.cif,
+        },
+        Command::Import(names) => match file {
+            FileOf::Cells => names.cells,
+            FileOf::Out => names.out,
+            _ => names.netlist,
         },
         Command::Help(_) => "",
     }
@@ -48,6 +62,8 @@ fn nameless(file: FileOf) -> &'static str {
         FileOf::Design => "DESIGN",
         FileOf::Layout => "CIF",
         FileOf::Out => "OUT",
+        FileOf::Netlist => "BLIF",
+        FileOf::Cells => "CELLS",
     }
 }
 
@@ -62,6 +78,8 @@ pub(crate) fn subject_of<'a>(reached: &Reached<'a>, file: FileOf) -> Subject<'a>
         FileOf::Design => reached.design,
         FileOf::Layout => reached.cif,
         FileOf::Out => None,
+        FileOf::Netlist => reached.netlist,
+        FileOf::Cells => reached.cells,
     };
     Subject { name, text }
 }
@@ -82,7 +100,7 @@ pub(crate) fn wants_ports(reached: &Reached<'_>) -> bool {
     match &reached.command {
         Some(Command::Route(names)) => names.wanted.ports,
         Some(Command::Check(names)) => names.ports,
-        Some(Command::Help(_)) | None => false,
+        _ => false,
     }
 }
 
@@ -94,12 +112,83 @@ pub(crate) fn wants_rows(reached: &Reached<'_>) -> bool {
     }
 }
 
+/// Of how many placements a command takes the best.
+pub(crate) fn tries_of(reached: &Reached<'_>) -> u32 {
+    match &reached.command {
+        Some(Command::Route(names)) => names.wanted.tries.get(),
+        _ => 1,
+    }
+}
+
+/// Whether a command asks for a part of a layout.
+pub(crate) fn wants_part(reached: &Reached<'_>) -> bool {
+    match &reached.command {
+        Some(Command::Draw(names)) => names.part.is_some(),
+        _ => false,
+    }
+}
+
+/// Up to how many decimals the numbers of cells have by a command.
+pub(crate) fn decimals_of(reached: &Reached<'_>) -> u32 {
+    match &reached.command {
+        Some(Command::Import(names)) => names.decimals,
+        _ => 0,
+    }
+}
+
+/// Whether a command imports a netlist.
+pub(crate) fn is_import(reached: &Reached<'_>) -> bool {
+    matches!(&reached.command, Some(Command::Import(_)))
+}
+
+/// Whether a command draws a picture.
+pub(crate) fn is_draw(reached: &Reached<'_>) -> bool {
+    matches!(&reached.command, Some(Command::Draw(_)))
+}
+
+/// The words of a command that reads rules.
+pub(crate) fn rules_words(reached: &Reached<'_>) -> &'static str {
+    if is_draw(reached) {
+        "draw CIF OUT --rules RULES"
+    } else {
+        "route DESIGN RULES OUT, and check DESIGN RULES CIF"
+    }
+}
+
+/// The words of a command that reads a layout.
+pub(crate) fn layout_words(reached: &Reached<'_>) -> &'static str {
+    if is_draw(reached) {
+        "draw CIF OUT"
+    } else {
+        "check DESIGN RULES CIF"
+    }
+}
+
+// Whether a command reads rules.
+fn reads_rules(reached: &Reached<'_>) -> bool {
+    match &reached.command {
+        Some(Command::Draw(names)) => names.rules.is_some(),
+        _ => true,
+    }
+}
+
+// The file of a netlist or of its cells that could not be read.
+fn unread_of_import(reached: &Reached<'_>) -> FileOf {
+    if reached.netlist.is_none() {
+        return FileOf::Netlist;
+    }
+    FileOf::Cells
+}
+
 /// The file that could not be read: the first whose text there is none of.
 pub(crate) fn unread(reached: &Reached<'_>) -> FileOf {
-    if reached.rules.is_none() {
+    if is_import(reached) {
+        return unread_of_import(reached);
+    }
+    if reached.rules.is_none() && reads_rules(reached) {
         return FileOf::Rules;
     }
-    if reached.design.is_none() && !is_made(reached) {
+    if reached.design.is_none() && !is_made(reached) && !is_draw(reached) {
         return FileOf::Design;
     }
     FileOf::Layout

@@ -19,7 +19,9 @@ pub(crate) struct Form {
 }
 
 /// The names of the commands.
-pub(crate) const COMMANDS: &[&str] = &["route", "check", "make", "help", "version"];
+pub(crate) const COMMANDS: &[&str] = &[
+    "route", "check", "make", "draw", "import", "help", "version",
+];
 
 const SEED: OptionForm = OptionForm {
     word: "--seed",
@@ -29,6 +31,11 @@ const SEED: OptionForm = OptionForm {
 const ROWS: OptionForm = OptionForm {
     word: "--rows",
     value: Some("K"),
+};
+
+const TRIES: OptionForm = OptionForm {
+    word: "--tries",
+    value: Some("N"),
 };
 
 const STYLE: OptionForm = OptionForm {
@@ -46,6 +53,26 @@ const PORTS: OptionForm = OptionForm {
     value: None,
 };
 
+const MARKERS: OptionForm = OptionForm {
+    word: "--markers",
+    value: Some("FILE"),
+};
+
+const BOX: OptionForm = OptionForm {
+    word: "--box",
+    value: Some("X0,Y0,X1,Y1"),
+};
+
+const RULES: OptionForm = OptionForm {
+    word: "--rules",
+    value: Some("RULES"),
+};
+
+const DECIMALS: OptionForm = OptionForm {
+    word: "--decimals",
+    value: Some("D"),
+};
+
 const PROGRESS: OptionForm = OptionForm {
     word: "--progress",
     value: None,
@@ -59,22 +86,36 @@ const QUIET: OptionForm = OptionForm {
 const ROUTE: Form = Form {
     word: "route",
     names: &["DESIGN", "RULES", "OUT"],
-    options: &[SEED, ROWS, STYLE, EDGE, PORTS, PROGRESS, QUIET],
+    options: &[SEED, ROWS, TRIES, STYLE, EDGE, PORTS, PROGRESS, QUIET],
     topic: Topic::RouteCommand,
 };
 
 const CHECK: Form = Form {
     word: "check",
     names: &["DESIGN", "RULES", "CIF"],
-    options: &[PORTS, QUIET],
+    options: &[MARKERS, PORTS, QUIET],
     topic: Topic::CheckCommand,
 };
 
 const MAKE: Form = Form {
     word: "make",
     names: &["SEED", "N", "RULES", "OUT"],
-    options: &[PROGRESS, QUIET],
+    options: &[TRIES, PROGRESS, QUIET],
     topic: Topic::MakeCommand,
+};
+
+const DRAW: Form = Form {
+    word: "draw",
+    names: &["CIF", "OUT"],
+    options: &[BOX, RULES, QUIET],
+    topic: Topic::DrawCommand,
+};
+
+const IMPORT: Form = Form {
+    word: "import",
+    names: &["BLIF", "CELLS", "OUT"],
+    options: &[DECIMALS, QUIET],
+    topic: Topic::ImportCommand,
 };
 
 /// The form of the command of this name.
@@ -83,6 +124,8 @@ pub(crate) fn form_of(word: &str) -> Option<Form> {
         "route" => Some(ROUTE),
         "check" => Some(CHECK),
         "make" => Some(MAKE),
+        "draw" => Some(DRAW),
+        "import" => Some(IMPORT),
         _ => None,
     }
 }

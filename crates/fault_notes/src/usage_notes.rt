@@ -137,6 +137,11 @@ fn dashed_value(alloc: Global, option: OptionForm, word: &str) -> Wrong {
     let name = option.word;
     let value = value_name(option);
     let shown = Shown(word.as_bytes());
+    if name == "--box" {
+        return Ok(Some(format!(in alloc;
+            "{name} wants a value behind it, {name} {value}, and {shown} begins with a dash; {name}={shown} may"
+        )?));
+    }
     Ok(Some(format!(in alloc;
         "{name} wants a value behind it, {name} {value}, and {shown} begins with a dash"
     )?))
@@ -229,13 +234,15 @@ pub(crate) fn note_usage(
     stop: &Stop,
 ) -> Result<(), AllocError> {
     let Some((first, rest)) = reached.words.split_first() else {
-        let what = format!(in alloc; "a command is wanted: route, check, make or help")?;
+        let what = format!(in alloc;
+            "a command is wanted: route, check, make, draw, import or help"
+        )?;
         return note_with_help(alloc, notes, "cellroute", what, Topic::Overview, stop);
     };
     let word = first.text();
     if is_lone(word) {
         let what = format!(in alloc;
-            "{word} stands alone; help may have the name of one command behind it: route, check or make"
+            "{word} stands alone; help may have the name of one command behind it: route, check, make, draw or import"
         )?;
         return note_with_help(alloc, notes, "cellroute", what, Topic::Overview, stop);
     }
@@ -243,7 +250,7 @@ pub(crate) fn note_usage(
         let shown = Shown(word.as_bytes());
         let near = word_meant(alloc, word.as_bytes(), COMMANDS)?;
         let what = format!(in alloc;
-            "{shown} is no command; route, check, make, help and version are{near}"
+            "{shown} is no command; route, check, make, draw, import, help and version are{near}"
         )?;
         return note_with_help(alloc, notes, "cellroute", what, Topic::Overview, stop);
     };

@@ -1,7 +1,9 @@
 //! Notes on values of options, and on numbers in the place of names, that are none.
 
+use crate::box_notes::bad_box;
 use choose_core::Style;
-use limits::{MOST_INSTANCES, MOST_ROWS};
+use command_words::MOST_TRIES;
+use limits::{MOST_DECIMALS, MOST_INSTANCES, MOST_ROWS};
 use std::alloc::{AllocError, Global};
 use text_places::{Shown, meant};
 
@@ -84,6 +86,19 @@ fn bad_style(alloc: Global, styles: &[Style], word: &str) -> Result<Option<Strin
     Ok(Some(format!(in alloc; "--style is {shown}; the styles are {names}{near}")?))
 }
 
+// What is wrong with a word that is to be a number of decimals.
+fn bad_decimals(alloc: Global, word: &str) -> Result<Option<String>, AllocError> {
+    if let Some(number) = number_in(word) {
+        if number <= u64::from(MOST_DECIMALS) {
+            return Ok(None);
+        }
+    }
+    let shown = Shown(word.as_bytes());
+    Ok(Some(format!(in alloc;
+        "--decimals is {shown}; a number from 0 to {MOST_DECIMALS} is wanted"
+    )?))
+}
+
 /// What is wrong with the value of an option, or with a word in the place of a number, if anything.
 pub(crate) fn bad_value(
     alloc: Global,
@@ -94,8 +109,11 @@ pub(crate) fn bad_value(
     match name {
         "--seed" | "SEED" => bad_seed(alloc, name, word),
         "--rows" => bad_count(alloc, name, word, u64::from(MOST_ROWS)),
+        "--tries" => bad_count(alloc, name, word, u64::from(MOST_TRIES)),
         "N" => bad_count(alloc, name, word, MOST_INSTANCES as u64),
         "--style" => bad_style(alloc, styles, word),
+        "--box" => bad_box(alloc, word),
+        "--decimals" => bad_decimals(alloc, word),
         _ => Ok(None),
     }
 }

@@ -4,5 +4,3 @@ pub mod Places
 pub mod Parts
 -- the text of a report database
 pub mod Markers
--- what a file holds that could not be written whole
-pub mod Held

@@ -1,6 +1,5 @@
 -- the places of a finding: the rectangles of the shapes, cells and pins that it concerns
 use Rattle.std.specs.Prelude.{ℕ, ◌==◌, List, [], ◌∷◌, ◌++◌, drop, find, Option, Some, None, option_and_then, option_map, slice_get, if◌then◌else◌}
-use Rattle.std.specs.Int.{int_max, int_min}
 use Rattle.std.specs.Option.{option_to_list}
 use Rattle.std.specs.Str.{bytes_eq}
 use Rattle.geom_core.specs.Extent.{Extent}
@@ -13,6 +12,7 @@ use Rattle.design_model.specs.declared.design.CellKind.{CellKind}
 use Rattle.design_model.specs.declared.design.Inst.{Inst}
 use Rattle.design_model.specs.declared.design.Pin.{Pin}
 use Rattle.design_model.specs.declared.design.Position.{Position}
+use Rattle.shape_extents.specs.CellShapes.{cell_extent}
 use Rattle.layout_check.specs.declared.finding.Finding.{Finding}
 use Rattle.layout_check.specs.declared.finding.Finding.TheVariants.{Missing, Doubled, Strange, Drawing, Overlap, OutOfRow, Narrow, Close, BareCut, Opened, Short}
 use Rattle.command_ends.specs.FindingLines.{instance_of_pin}
@@ -21,22 +21,9 @@ use Rattle.command_ends.specs.FindingLines.{instance_of_pin}
 abbrev pub shape_place : Layout → ℕ → Option Extent
 shape_place l i = option_map (λ (s : Shape). s.rect) (slice_get l.shapes i)
 
--- the least rectangle round two, and round one and those of shapes
-abbrev pub around : Extent → Extent → Extent
-around e f = record { x0 = int_min e.x0 f.x0; y0 = int_min e.y0 f.y0; x1 = int_max e.x1 f.x1; y1 = int_max e.y1 f.y1 }
-
-abbrev pub around_all : Extent → List Shape → Extent
-around_all e [] = e
-around_all e (s ∷ ss) = around_all (around e s.rect) ss
-
--- round shapes, if there are any
-abbrev pub extent_of : List Shape → Option Extent
-extent_of [] = None
-extent_of (s ∷ ss) = Some (around_all s.rect ss)
-
 -- the extent of the shapes of the cell with this number
 abbrev pub cell_place : Layout → ℕ → Option Extent
-cell_place l c = option_and_then (λ (cell : Cell). extent_of (shapes_of l cell)) (slice_get l.cells c)
+cell_place l c = option_and_then (λ (cell : Cell). cell_extent l cell) (slice_get l.cells c)
 
 -- the positions of the kind of a pin's instance
 abbrev pub positions_of_kind : Option CellKind → List Position

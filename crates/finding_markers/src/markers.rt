@@ -1,6 +1,6 @@
 //! The findings of a layout, put to a sink or written into a file as a report database.
 
-ghost use Rattle.finding_markers.specs.Held.{HoldsFront};
+ghost use Rattle.marker_text.specs.Held.{HoldsFront};
 ghost use Rattle.finding_markers.specs.Markers.{markers_text};
 ghost use Rattle.shelf_io.specs.Count.{Rose};
 ghost use Rattle.shelf_io.specs.OtherFiles.{OthersSame};

@@ -7,10 +7,11 @@ ghost use Rattle.finding_markers.specs.Places.{pin_places, pins_drawn, place_at,
 ghost use Rattle.shelf_io.specs.Wrote.{Writes};
 ghost use Rattle.std.specs.Prelude.{◌≡◌, ◌++◌, drop, slice_get};
 
-use crate::places::{append_place, shapes_of};
+use crate::places::append_place;
 use command_ends::instance_of_pin;
 use design_model::{Design, Position};
 use geom_core::{Cell, Layout, Rect, Shape};
+use shape_extents::shapes_of;
 use shelf_io::{Buffer, Failed, Sink};
 
 // The positions of the kind of a pin's instance.

@@ -6,7 +6,7 @@ ghost use Rattle.greedy_column.specs.Moving.{without};
 ghost use Rattle.greedy_column.specs.Tracks.{ids, line_of};
 ghost use Rattle.std.specs.List.Sorted.{IsStrictlyIncreasing};
 ghost use Rattle.std.specs.List.{list_any};
-ghost use Rattle.std.specs.Prelude.{◌≡◌, ◌==◌, ◌<◌, ◌≤◌, ◌+◌, ◌++◌, ◌∷◌, [], ◌^◌, if◌then◌else◌, IfOk, OnOk, filter, length, nat_lt, not};
+ghost use Rattle.std.specs.Prelude.{◌≡◌, ◌==◌, ◌<◌, ◌≤◌, ◌+◌, ◌++◌, ◌∷◌, [], ◌^◌, if◌then◌else◌, IfOk, OnOk, filter, length, nat_lt, not, vec_capacity, vec_len};
 
 use crate::column::Track;
 use crate::tracks::Tracks;
@@ -76,7 +76,7 @@ impl Tracks {
         let mut line = 1u32;
         let mut rest = self.list();
         while let Some((track, above)) = rest.split_first() {
-            push_where(&mut lines, sought.takes(*track), line)?;
+            put_where(&mut lines, sought.takes(*track), line);
             line += 1;
             rest = above;
         }
@@ -177,6 +177,18 @@ pub(crate) fn push_where(lines: &mut Vec<u32>, wanted: bool, line: u32) -> Resul
         lines.push(line)?;
     }
     Ok(())
+}
+
+// The same, to a list that has room for one more.
+pub(crate) fn put_where(lines: &mut Vec<u32>, wanted: bool, line: u32)
+    requires { vec_len lines.old < vec_capacity lines.old }
+    ensures lines { lines.new.items ≡ lines.old.items ++ (if wanted then line ∷ [] else []) }
+    ensures long { vec_len lines.new ≤ vec_len lines.old + 1 }
+    ensures room { vec_capacity lines.new ≡ vec_capacity lines.old }
+{
+    if wanted {
+        lines.push_reserved(line);
+    }
 }
 
 /// The line of an id, one above all tracks where it has none. Takes no memory.

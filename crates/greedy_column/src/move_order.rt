@@ -8,7 +8,7 @@ ghost use Rattle.std.specs.Prelude.{◌≡◌, ◌<◌, ◌+◌, ◌^◌, IfOk, 
 
 use crate::ahead::Ahead;
 use crate::free_lines::FreeLines;
-use crate::lines::push_where;
+use crate::lines::put_where;
 use crate::pairs::Pairs;
 use crate::span::Span;
 use crate::stretch::Stretch;
@@ -59,7 +59,7 @@ fn movable_of(
     let mut line = 1u32;
     let mut rest = kept.list();
     while let Some((track, above)) = rest.split_first() {
-        stretch = free.push_movable(spans, kept, stretch, track.net, line, &mut lines)?;
+        stretch = free.push_movable(spans, kept, stretch, track.net, line, &mut lines);
         line += 1;
         rest = above;
     }
@@ -125,8 +125,8 @@ fn parted_lines(
     while let Some((line, later)) = rest.split_first() {
         rest = later;
         let among = is_split(pairs, kept, *line);
-        push_where(&mut split, among, *line)?;
-        push_where(&mut others, !among, *line)?;
+        put_where(&mut split, among, *line);
+        put_where(&mut others, !among, *line);
     }
     Ok(Parted { split, others })
 }

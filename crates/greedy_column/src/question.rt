@@ -143,10 +143,10 @@ fn offers_from(
     ensures { IfOk result (λ offers. offers.items ≡ map (offer question others.now) (line ∷ options.now)) }
 {
     let mut offers = Vec::with_capacity(alloc, options.len() + 1)?;
-    offers.push(question.offer(others, line))?;
+    offers.push_reserved(question.offer(others, line));
     let mut rest = options;
     while let Some((option, later)) = rest.split_first() {
-        offers.push(question.offer(others, *option))?;
+        offers.push_reserved(question.offer(others, *option));
         rest = later;
     }
     Ok(offers)

@@ -40,10 +40,16 @@ impl Sorted {
     }
 }
 
+// Up to so many numbers are looked at one after another, which is faster there than halving.
+const FEW: usize = 8;
+
 // Whether a number is among sorted ones.
 pub(crate) fn is_among(sorted: &[u32], number: u32) -> bool
     requires { IsNonDecreasing sorted.now }
     ensures { result ≡ list_any (λ n. n == number) sorted.now }
 {
+    if sorted.len() <= FEW {
+        return sorted.iter().any(|other| *other == number);
+    }
     sorted.binary_search(&number).is_ok()
 }

@@ -3,14 +3,13 @@
 
 ghost use Rattle.greedy_column.specs.Moving.{IsStretch, has_option, is_apart_from, is_foreign, is_movable, is_within, lines_of};
 ghost use Rattle.greedy_column.specs.declared.span.Span.{Span as Vertical};
-ghost use Rattle.std.specs.Prelude.{◌≡◌, ◌==◌, ◌++◌, ◌∷◌, [], ℕ, List, IfOk, OnOk, filter, find, if◌then◌else◌, not, true};
+ghost use Rattle.std.specs.Prelude.{◌≡◌, ◌==◌, ◌<◌, ◌≤◌, ◌+◌, ◌++◌, ◌∷◌, [], ℕ, List, filter, find, if◌then◌else◌, not, true, vec_capacity, vec_len};
 
 use crate::free_lines::{FreeLines, has_line_within};
-use crate::lines::push_where;
+use crate::lines::put_where;
 use crate::span::Span;
 use crate::tracks::Tracks;
 use crate::window::{Window, lines_past};
-use std::alloc::AllocError;
 
 // The lines of a stretch, and whether a free one is among them.
 #[derive(Clone, Copy, Debug)]
@@ -113,18 +112,21 @@ impl FreeLines {
         net: u32,
         line: u32,
         lines: &mut Vec<u32>,
-    ) -> Result<Stretch, AllocError>
-        requires { IsStretch spans.now self.now before }
-        ensures stretch { IfOk result (λ stretch. IsStretch spans.now self.now stretch) }
-        ensures lines { OnOk result (lines.new.items
-            ≡ lines.old.items ++ filter (is_movable spans.now self.now kept.now) (if not (net == 0) then line ∷ [] else [])) }
+    ) -> Stretch
+        requires stretch { IsStretch spans.now self.now before }
+        requires room { vec_len lines.old < vec_capacity lines.old }
+        ensures stretch { IsStretch spans.now self.now result }
+        ensures lines { lines.new.items
+            ≡ lines.old.items ++ filter (is_movable spans.now self.now kept.now) (if not (net == 0) then line ∷ [] else []) }
+        ensures long { vec_len lines.new ≤ vec_len lines.old + 1 }
+        ensures room { vec_capacity lines.new ≡ vec_capacity lines.old }
     {
         if net == 0 {
-            return Ok(before);
+            return before;
         }
         let stretch = self.stretch_for(before, spans, kept.net_on(line), line);
-        push_where(lines, stretch.has_free, line)?;
-        Ok(stretch)
+        put_where(lines, stretch.has_free, line);
+        stretch
     }
 
     // The stretch between these verticals of a line whose net has none of them.

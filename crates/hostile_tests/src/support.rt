@@ -6,16 +6,13 @@ ghost use Rattle.std.specs.Prelude.{◌<◌, length};
 use choose_core::{Candidate, Choice, Chooser, Style};
 use commands::{Word, run};
 use geom_core::Name;
+pub(crate) use samples::TWO_JOINED;
 use samples::{BUFFER, RULES, design_text};
 use shelf_io::{MemShelf, MemSink, Shelf, Sink};
 use std::alloc::{AllocError, Global};
 use stock_styles::Stock;
 
-/// The layout of two buffers, `u1` and `u2`, that are joined: 362 bytes, of which the last two are its end.
-pub(crate) const TWO_JOINED: &str =
-    "(cellroute 1);\nDS 1 1 1;\n9 BUF;\nL XP;\nB 800 4000 400 2000;\nL NP;\nB 300 400 400 3800;\nDF;\n91 u1;\nC 1 T 0 800;\n91 u2;\nC 1 T 800 800;\nL NP;\nB 300 1000 400 5300;\nB 300 1000 1200 5300;\nL NM;\nB 1200 300 800 5600;\nB 400 400 400 5600;\nL NP;\nB 400 400 400 5600;\nL NC;\nB 200 200 400 5600;\nL NM;\nB 400 400 1200 5600;\nL NP;\nB 400 400 1200 5600;\nL NC;\nB 200 200 1200 5600;\nE\n";
-
-/// What `route` prints of that layout, a line each.
+/// What `route` prints of the layout of two joined buffers, a line each.
 pub(crate) const SUMMARY: &str = "\
 cells 2\n\
 nets 1\n\

@@ -1,10 +1,17 @@
 //! Notes on a word of a YAL text that stands where a number is wanted.
 
 use crate::yal_notes::token_shown;
-use limits::MOST_COORDINATE;
+use limits::{MOST_COORDINATE, MOST_DECIMALS};
 use std::alloc::{AllocError, Global};
 use text_places::{Found, Part, Shown, Token, are_on_two_lines, from_byte};
 use yal_reader::Numbers;
+
+/// What says how the numbers of a text are written: the rules, if they were read, or an option with so many decimals.
+#[derive(Clone, Copy)]
+pub enum NumbersBy {
+    Rules(Option<Numbers>),
+    Decimals(u32),
+}
 
 // A word without its sign.
 fn without_sign(word: &[u8]) -> &[u8] {
@@ -71,18 +78,31 @@ fn too_far(alloc: Global, word: Shown<'_>) -> Result<String, AllocError> {
 }
 
 // A number with a point.
-fn pointed(alloc: Global, word: Shown<'_>, numbers: Option<Numbers>) -> Result<String, AllocError> {
-    let Some(Numbers::Decimal(decimals)) = numbers else {
-        return format!(in alloc;
-            "{word} has a point, and under version = 1 of the rules numbers are whole; with version = 2 and decimals = 1 to 4 they may have one"
-        );
-    };
-    if places_of(word.0) as u64 > u64::from(decimals) {
-        return format!(in alloc;
-            "{word} has more decimals than the rules allow, decimals = {decimals}"
-        );
+fn pointed(alloc: Global, word: Shown<'_>, numbers: NumbersBy) -> Result<String, AllocError> {
+    let places = places_of(word.0) as u64;
+    match numbers {
+        NumbersBy::Rules(Some(Numbers::Decimal(decimals))) => {
+            if places > u64::from(decimals) {
+                return format!(in alloc;
+                    "{word} has more decimals than the rules allow, decimals = {decimals}"
+                );
+            }
+            too_far(alloc, word)
+        }
+        NumbersBy::Rules(_) => {
+            format!(in alloc;
+                "{word} has a point, and under version = 1 of the rules numbers are whole; with version = 2 and decimals = 1 to 4 they may have one"
+            )
+        }
+        NumbersBy::Decimals(decimals) => {
+            if places > u64::from(decimals) {
+                return format!(in alloc;
+                    "{word} has more decimals than --decimals {decimals}; up to {MOST_DECIMALS} may be asked for"
+                );
+            }
+            too_far(alloc, word)
+        }
     }
-    too_far(alloc, word)
 }
 
 /// What is wrong with a word that is no number where one is wanted.
@@ -90,7 +110,7 @@ pub(crate) fn bad_number(
     alloc: Global,
     text: &[u8],
     found: &Found<'_>,
-    numbers: Option<Numbers>,
+    numbers: NumbersBy,
 ) -> Result<String, AllocError> {
     let word = token_shown(found.token);
     let wanted = number_wanted(found);

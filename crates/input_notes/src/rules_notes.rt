@@ -46,10 +46,10 @@ fn is_like_design(text: &[u8]) -> bool {
 }
 
 // A text that is no TOML.
-fn no_toml(alloc: Global, text: &[u8]) -> Result<Told, AllocError> {
+fn no_toml(alloc: Global, text: &[u8], words: &str) -> Result<Told, AllocError> {
     if is_like_design(text) {
         return Ok(Told::whole(format!(in alloc;
-            "this looks like a design, and rules are wanted; the words are route DESIGN RULES OUT, and check DESIGN RULES CIF"
+            "this looks like a design, and rules are wanted; the words are {words}"
         )?));
     }
     let Ok(letters) = str::from_utf8(text) else {
@@ -150,10 +150,15 @@ fn out_of_range(alloc: Global, text: &[u8], key: Key) -> Result<Told, AllocError
     }
 }
 
-/// What is wrong with a rules file.
-pub fn told_of_rules(alloc: Global, text: &[u8], refusal: &Refusal) -> Result<Told, AllocError> {
+/// What is wrong with a rules file, where the command's words are these.
+pub fn told_of_rules(
+    alloc: Global,
+    text: &[u8],
+    refusal: &Refusal,
+    words: &str,
+) -> Result<Told, AllocError> {
     match refusal {
-        Refusal::Toml => no_toml(alloc, text),
+        Refusal::Toml => no_toml(alloc, text, words),
         Refusal::Missing(key) => missing(alloc, text, *key),
         Refusal::Range(key) => out_of_range(alloc, text, *key),
         Refusal::Tight(rule) => told_of_tight(alloc, text, *rule),

@@ -3,7 +3,7 @@
 use crate::yal_notes::{module_shown, token_shown};
 use note_text::place_at;
 use std::alloc::{AllocError, Global};
-use text_places::{Found, Part, Shown, Sought, Token, Walk, find, word_meant};
+use text_places::{Found, Part, Shown, Sought, Token, Walk, find, first_blif_word, word_meant};
 
 /// The words that begin sections of a module, and those that begin and end modules.
 const KEYWORDS: &[&str] = &[
@@ -41,11 +41,29 @@ fn is_like_layout(text: &[u8]) -> bool {
     text.starts_with(b"(") || text.starts_with(b"DS ") || text.starts_with(b"L ")
 }
 
+// Whether a text looks like a netlist in BLIF.
+fn is_like_netlist(text: &[u8]) -> bool {
+    match first_blif_word(text) {
+        Some(word) => word.is_directive(".model"),
+        None => false,
+    }
+}
+
 // A word outside of modules.
 fn outside(alloc: Global, text: &[u8], word: Shown<'_>) -> Result<String, AllocError> {
     if is_like_layout(text) {
         return format!(in alloc;
             "MODULE is wanted here, not {word}; this looks like a layout in CIF: the words are route DESIGN RULES OUT, and check DESIGN RULES CIF"
+        );
+    }
+    if is_like_netlist(text) {
+        return format!(in alloc;
+            "MODULE is wanted here, not {word}; this looks like a netlist in BLIF: the words are import BLIF CELLS OUT"
+        );
+    }
+    if word.0.starts_with(b"library") {
+        return format!(in alloc;
+            "MODULE is wanted here, not {word}; this looks like cells in Liberty, and modules in YAL are wanted"
         );
     }
     if word.0.starts_with(b"#") || word.0.starts_with(b"//") {

@@ -1,10 +1,10 @@
 //! Notes on a text that is no YAL.
 
-use crate::number_notes::bad_number;
+use crate::number_notes::{NumbersBy, bad_number};
 use crate::word_notes::bad_word;
 use std::alloc::{AllocError, Global};
 use text_places::{Found, Part, Shown, Sought, Token, Told, Walk, find, line_of};
-use yal_reader::{Numbers, YalKind};
+use yal_reader::YalKind;
 
 // A byte that is not ASCII.
 fn foreign(alloc: Global, text: &[u8], at: usize) -> Result<String, AllocError> {
@@ -84,7 +84,7 @@ pub fn told_of_yal(
     text: &[u8],
     kind: YalKind,
     at: u64,
-    numbers: Option<Numbers>,
+    numbers: NumbersBy,
 ) -> Result<Told, AllocError> {
     let found = find(text, Sought::Byte(at));
     let what = match kind {

@@ -4,7 +4,7 @@ use channel_model::{Segment, Via, Wiring};
 use geom_core::Items;
 use greedy_router::{By, Columns, Routed, Sweep};
 use layout_notes::{LaidLayout, note_layout};
-use layout_report::Summary;
+use layout_report::{Summary, Taken};
 use note_text::{Notes, put_notes};
 use samples::{CELLS, designed, sample_rules};
 use shelf_io::MemSink;
@@ -120,7 +120,7 @@ fn routed(
     })
 }
 
-fn summary(alloc: Global) -> Summary {
+fn summary(alloc: Global, taken: Option<Taken>) -> Summary {
     Summary {
         cells: 4,
         nets: 2,
@@ -130,16 +130,22 @@ fn summary(alloc: Global) -> Summary {
         width: 2400,
         height: 12800,
         cost: 10,
+        taken,
     }
 }
 
-// The notes on the layout of a design of sample cells with these channels.
-fn told_of(alloc: Global, calls: &str, routed: &[Routed]) -> Result<Option<Vec<u8>>, AllocError> {
+// The notes on the layout of a design of sample cells with these channels, as this try of several or as the one.
+fn told_of(
+    alloc: Global,
+    calls: &str,
+    routed: &[Routed],
+    taken: Option<Taken>,
+) -> Result<Option<Vec<u8>>, AllocError> {
     let rules = sample_rules(alloc)?;
     let Ok(design) = designed(alloc, CELLS, calls) else {
         return Ok(None);
     };
-    let summary = summary(alloc);
+    let summary = summary(alloc, taken);
     let laid = LaidLayout {
         out_name: "o.cif",
         design: &design,
@@ -181,7 +187,7 @@ fn what_is_told_of_a_layout(rt: HostRuntime) -> Result<(), Fail> {
     let mut channels = Vec::new(alloc);
     channels.push(routed(alloc, 0, &[], &[])?)?;
     channels.push(routed(alloc, 3, &SEGMENTS, &VIAS)?)?;
-    let Some(told) = told_of(alloc, CALLS, channels.as_slice())? else {
+    let Some(told) = told_of(alloc, CALLS, channels.as_slice(), None)? else {
         assert!(rt; false, "no design");
         return Ok(());
     };
@@ -195,11 +201,32 @@ fn what_is_told_without_wires(rt: HostRuntime) -> Result<(), Fail> {
     let alloc = rt.alloc();
     let mut channels = Vec::new(alloc);
     channels.push(routed(alloc, 0, &[], &[])?)?;
-    let Some(told) = told_of(alloc, CALLS, channels.as_slice())? else {
+    let Some(told) = told_of(alloc, CALLS, channels.as_slice(), None)? else {
         assert!(rt; false, "no design");
         return Ok(());
     };
     let text = str::from_utf8(told.as_slice()).unwrap_or("no text");
     assert_eq!(rt; text, BARE_LINES);
+    Ok(())
+}
+
+/// The line of a try that was taken, behind all others.
+const TAKEN_LINE: &str = "taken of the tries: 2 rows, seed 7\n";
+
+#[test]
+fn what_is_told_of_a_try(rt: HostRuntime) -> Result<(), Fail> {
+    let alloc = rt.alloc();
+    let mut channels = Vec::new(alloc);
+    channels.push(routed(alloc, 0, &[], &[])?)?;
+    let taken = Some(Taken { rows: 2, seed: 7 });
+    let Some(told) = told_of(alloc, CALLS, channels.as_slice(), taken)? else {
+        assert!(rt; false, "no design");
+        return Ok(());
+    };
+    let text = str::from_utf8(told.as_slice()).unwrap_or("no text");
+    assert_eq!(rt;
+        text,
+        format!(in alloc; "{BARE_LINES}{TAKEN_LINE}")?.as_str()
+    );
     Ok(())
 }

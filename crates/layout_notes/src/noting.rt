@@ -5,6 +5,7 @@ use crate::laid::LaidLayout;
 use crate::lengths::{microns, percent, shown};
 use crate::wires::{Wires, wires_of};
 use greedy_router::{By, Routed};
+use layout_report::Taken;
 use note_text::Notes;
 use std::alloc::{AllocError, Global};
 
@@ -103,8 +104,14 @@ fn cost_line(alloc: Global, laid: &LaidLayout<'_>) -> Result<String, AllocError>
     format!(in alloc; "cost of the rows: {cost}, {first} before annealing")
 }
 
+// Which placement was taken of several.
+fn taken_line(alloc: Global, taken: Taken) -> Result<String, AllocError> {
+    let Taken { rows, seed } = taken;
+    format!(in alloc; "taken of the tries: {rows} rows, seed {seed}")
+}
+
 /// Notes a layout that was made: its size and what of it cells fill, the wire in its channels and that of feeds, the tracks of each channel and how many it needs at least, the ten nets
-/// with the most wire in channels, and the cost of its rows before and after annealing. What memory has no room for is left out.
+/// with the most wire in channels, the cost of its rows before and after annealing, and which placement was taken where there were several. What memory has no room for is left out.
 pub fn note_layout(alloc: Global, notes: &mut Notes, laid: &LaidLayout<'_>) {
     note(notes, size_line(alloc, laid));
     if let Ok(mut wires) = wires_of(alloc, laid) {
@@ -115,4 +122,7 @@ pub fn note_layout(alloc: Global, notes: &mut Notes, laid: &LaidLayout<'_>) {
     }
     note_channels(alloc, notes, laid.routed);
     note(notes, cost_line(alloc, laid));
+    if let Some(taken) = laid.summary.taken {
+        note(notes, taken_line(alloc, taken));
+    }
 }

@@ -1,11 +1,12 @@
 -- what is told of a layout that was made
-use Rattle.std.specs.Prelude.{ℕ, ◌+◌, List, [], ◌∷◌, ◌++◌, codes}
+use Rattle.std.specs.Prelude.{ℕ, ◌+◌, List, [], ◌∷◌, ◌++◌, codes, Option, None, Some}
 use Rattle.std.specs.Fmt.{decimal}
 use Rattle.greedy_router.specs.declared.sweep.By.{By}
 use Rattle.greedy_router.specs.declared.sweep.By.TheVariants.{Greedy, Plain, Edge}
 use Rattle.shelf_io.specs.Lines.{line}
 use Rattle.layout_report.specs.declared.summary.ChannelLine.{ChannelLine}
 use Rattle.layout_report.specs.declared.summary.Summary.{Summary}
+use Rattle.layout_report.specs.declared.summary.Taken.{Taken}
 
 -- lines of words, one after another
 abbrev pub lines_text : List (List (List ℕ)) → List ℕ
@@ -36,6 +37,11 @@ count_words s =
 unfoldable pub end_words : Summary → List (List (List ℕ))
 end_words s = (codes "size" ∷ decimal s.width ∷ decimal s.height ∷ []) ∷ (codes "cost" ∷ decimal s.cost ∷ []) ∷ []
 
+-- the words of the line of the placement that was taken, where there were several
+abbrev pub taken_words : Option Taken → List (List (List ℕ))
+taken_words None = []
+taken_words (Some t) = (codes "taken" ∷ codes "rows" ∷ decimal t.rows ∷ codes "seed" ∷ decimal t.seed ∷ []) ∷ []
+
 -- the lines of a summary
 unfoldable pub summary_text : Summary → List ℕ
-summary_text s = lines_text (count_words s) ++ (channels_text 0 s.channels ++ lines_text (end_words s))
+summary_text s = lines_text (count_words s) ++ (channels_text 0 s.channels ++ (lines_text (end_words s) ++ lines_text (taken_words s.taken)))

@@ -8,4 +8,4 @@ mod words;
 
 pub use made::make_design;
 pub use printing::print_summary;
-pub use summary::{ChannelLine, Summary};
+pub use summary::{ChannelLine, Summary, Taken};

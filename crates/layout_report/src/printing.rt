@@ -1,11 +1,11 @@
 //! Prints a summary, a line in one piece where the sink takes it so.
 
-ghost use Rattle.layout_report.specs.SummaryText.{by_word, channel_text, channels_text, lines_text, summary_text};
+ghost use Rattle.layout_report.specs.SummaryText.{by_word, channel_text, channels_text, lines_text, summary_text, taken_words};
 ghost use Rattle.shelf_io.specs.Lines.{word_text};
 ghost use Rattle.shelf_io.specs.Wrote.{Puts};
 ghost use Rattle.std.specs.Prelude.{◌≡◌, map};
 
-use crate::summary::{ChannelLine, Summary};
+use crate::summary::{ChannelLine, Summary, Taken};
 use geom_core::Items;
 use greedy_router::By;
 use shelf_io::LineWord::{self, Number, Text};
@@ -63,8 +63,26 @@ fn print_channels<K: Sink>(out: &mut K, channels: &Items<ChannelLine>) -> Result
     Ok(())
 }
 
+// Prints the line of the placement that was taken, where there were several.
+fn print_taken<K: Sink>(out: &mut K, taken: Option<Taken>) -> Result<(), Failed>
+    ensures { Puts result (lines_text (taken_words taken)) (K.written out.old) (K.written out.new) (K.faults out.old) (K.faults out.new) (K.same_place out.old out.new) (K.else_same out.old out.new) }
+{
+    let Some(Taken { rows, seed }) = taken else {
+        return print_lines(out, &[]);
+    };
+    let line: [&[LineWord<'_>]; 1] = [&[
+        Text(b"taken"),
+        Text(b"rows"),
+        Number(rows as u64),
+        Text(b"seed"),
+        Number(seed),
+    ]];
+    print_lines(out, &line)
+}
+
 /// Prints a summary: the lines `cells`, `nets`, `rows` and `feeds` with their numbers, for each channel from the lowest up the line `channel`
-/// with its number, its tracks, its extra columns and its router, then `size` with width and height and `cost`. Each line is put in one piece
+/// with its number, its tracks, its extra columns and its router, then `size` with width and height and `cost`, and `taken` with the rows and the seed of the placement that was taken,
+/// where there were several. Each line is put in one piece
 /// where the sink takes it so. After Failed, which comes only where the sink's count rose, a front of the lines was put. Takes no memory.
 pub fn print_summary<K: Sink>(summary: &Summary, out: &mut K) -> Result<(), Failed>
     ensures { Puts result (summary_text summary.now) (K.written out.old) (K.written out.new) (K.faults out.old) (K.faults out.new) (K.same_place out.old out.new) (K.else_same out.old out.new) }
@@ -81,5 +99,6 @@ pub fn print_summary<K: Sink>(summary: &Summary, out: &mut K) -> Result<(), Fail
         &[Text(b"size"), Number(summary.width), Number(summary.height)],
         &[Text(b"cost"), Number(summary.cost)],
     ];
-    print_lines(out, &end)
+    print_lines(out, &end)?;
+    print_taken(out, summary.taken)
 }

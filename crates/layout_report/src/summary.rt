@@ -11,8 +11,15 @@ pub struct ChannelLine {
     pub by: By,
 }
 
+/// Which placement was taken of several: in how many rows its design was set, and the seed by which these were annealed.
+#[derive(Clone, Copy, Debug, PartialEq, Eq)]
+pub struct Taken {
+    pub rows: u32,
+    pub seed: u64,
+}
+
 /// A layout in short: how many cells, nets, rows and feeds it has, its channels from the lowest up, its width and height in centimicrons, and
-/// what its rows cost.
+/// what its rows cost; and which placement was taken, where there were several.
 #[derive(Debug, Drop)]
 pub struct Summary {
     pub cells: u32,
@@ -23,4 +30,5 @@ pub struct Summary {
     pub width: u64,
     pub height: u64,
     pub cost: u64,
+    pub taken: Option<Taken>,
 }

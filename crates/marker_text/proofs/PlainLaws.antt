@@ -5,20 +5,20 @@ use Rattle.note_text.specs.Shown.{shown}
 use Rattle.marker_text.specs.Escaped.{escaped, is_plain, quoted}
 
 -- what holds of both choices holds of the choice
-of-choice : {X : Type 0} (P : X → Type 0) (b : Bool) (x y : X) → (b ≡ true → P x) → (b ≡ false → P y) → P (cond b x y)
+pub of-choice : {X : Type 0} (P : X → Type 0) (b : Bool) (x y : X) → (b ≡ true → P x) → (b ≡ false → P y) → P (cond b x y)
 of-choice P true x y first second = first refl
 of-choice P false x y first second = second refl
 
-first-true : (a b : Bool) → (a && b) ≡ true → a ≡ true
+pub first-true : (a b : Bool) → (a && b) ≡ true → a ≡ true
 first-true true b is = refl
 first-true false b is = is
 
-second-true : (a b : Bool) → (a && b) ≡ true → b ≡ true
+pub second-true : (a b : Bool) → (a && b) ≡ true → b ≡ true
 second-true true b is = is
 second-true false b is = cc
 
 -- a character that shows, and is none of those that have a meaning
-itself-plain : (c : ℕ) → nat_le 32 c ≡ true → nat_le c 126 ≡ true → (c == 34) ≡ false → (c == 39) ≡ false → (c == 60) ≡ false → (c == 62) ≡ false
+pub itself-plain : (c : ℕ) → nat_le 32 c ≡ true → nat_le c 126 ≡ true → (c == 34) ≡ false → (c == 39) ≡ false → (c == 60) ≡ false → (c == 62) ≡ false
     → list_all is_plain (c ∷ []) ≡ true
 itself-plain c low high double single less greater = rw (low, high, double, single, less, greater) refl
 
@@ -40,7 +40,7 @@ shown-plain byte =
     (λ shows. quoted-plain byte (first-true (nat_le 32 byte) (nat_le byte 126) shows) (second-true (nat_le 32 byte) (nat_le byte 126) shows))
     (λ _. refl))
 
-both-true : (a b : Bool) → a ≡ true → b ≡ true → (a && b) ≡ true
+pub both-true : (a b : Bool) → a ≡ true → b ≡ true → (a && b) ≡ true
 both-true a b one two = ap (λ x. x && b) one ∙ two
 
 -- what is escaped are plain characters

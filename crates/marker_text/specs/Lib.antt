@@ -4,3 +4,5 @@ pub mod Escaped
 pub mod Microns
 -- the value of a box
 pub mod Boxes
+-- what a file holds that could not be written whole
+pub mod Held

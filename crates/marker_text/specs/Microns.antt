@@ -15,5 +15,8 @@ sign (pos n) = []
 sign (negsuc n) = codes "-"
 
 -- so many half centimicrons, of which a micron has 200, and each has 5 thousandths of one
+unfoldable pub size_text : ℕ → List ℕ
+size_text n = decimal (n / 200) ++ fraction (n % 200 * 5)
+
 unfoldable pub microns : ℤ → List ℕ
-microns z = sign z ++ (decimal (unsigned_abs z / 200) ++ fraction (unsigned_abs z % 200 * 5))
+microns z = sign z ++ size_text (unsigned_abs z)

@@ -1,8 +1,8 @@
 //! Lengths in microns.
 
-ghost use Rattle.marker_text.specs.Microns.{digit, fraction, microns, sign};
+ghost use Rattle.marker_text.specs.Microns.{digit, fraction, microns, sign, size_text};
 ghost use Rattle.shelf_io.specs.Wrote.{Writes};
-ghost use Rattle.std.specs.Prelude.{◌≡◌};
+ghost use Rattle.std.specs.Prelude.{◌≡◌, ◌++◌};
 
 use crate::three::append_three;
 use itoa::Buffer as Digits;
@@ -34,18 +34,26 @@ fn sign(length: i64) -> &'static [u8]
     if length < 0 { b"-" } else { b"" }
 }
 
-/// Puts a length of half centimicrons in microns behind what is buffered, with three decimals.
-#[tactic(auto, unfolding(crate::specs::Microns::microns))]
-pub(crate) fn append_length<K: Sink>(
+/// Puts bytes and then a size of half centimicrons in microns, with three decimals, behind what is buffered. Takes no memory.
+#[tactic(auto, unfolding(crate::specs::Microns::size_text))]
+pub fn append_size<K: Sink>(
     buffer: &mut Buffer,
     out: &mut K,
-    length: i64,
+    before: &[u8],
+    size: u64,
 ) -> Result<(), Failed>
-    ensures { Writes result (microns length) buffer.old buffer.new (K.written out.old) (K.written out.new) (K.faults out.old) (K.faults out.new) (K.same_place out.old out.new) (K.else_same out.old out.new) }
+    ensures { Writes result (before.now ++ size_text size) buffer.old buffer.new (K.written out.old) (K.written out.new) (K.faults out.old) (K.faults out.new) (K.same_place out.old out.new) (K.else_same out.old out.new) }
 {
-    let size = length.unsigned_abs();
     let mut digits = Digits::new();
     let whole = digits.format(size / 200);
     let decimals = fraction(size % 200 * 5);
-    append_three(buffer, out, sign(length), whole.as_bytes(), &decimals)
+    append_three(buffer, out, before, whole.as_bytes(), &decimals)
+}
+
+/// Puts a length of half centimicrons in microns behind what is buffered, with three decimals. Takes no memory.
+#[tactic(auto, unfolding(crate::specs::Microns::microns))]
+pub fn append_length<K: Sink>(buffer: &mut Buffer, out: &mut K, length: i64) -> Result<(), Failed>
+    ensures { Writes result (microns length) buffer.old buffer.new (K.written out.old) (K.written out.new) (K.faults out.old) (K.faults out.new) (K.same_place out.old out.new) (K.else_same out.old out.new) }
+{
+    append_size(buffer, out, sign(length), length.unsigned_abs())
 }

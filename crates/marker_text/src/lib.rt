@@ -8,4 +8,5 @@ mod three;
 
 pub use boxes::append_box;
 pub use escaping::append_escaped;
+pub use lengths::{append_length, append_size};
 pub use three::append_three;

@@ -80,6 +80,15 @@ fn too_many_changes_have_a_note(rt: HostRuntime) -> Result<(), Fail> {
         first_line(notes.as_str()),
         "rules.toml:26: annealing would try 51000000 changes (anneal.stages 1000 * anneal.moves 1000 * 51 instances); 50000000 at most may be, as with anneal.moves 980 [limit Moves 51000000]"
     );
+    let notes = noted(
+        rt.alloc(),
+        "make|1|17|rules.toml|o.cif|--tries|3",
+        &mut shelf,
+    )?;
+    assert_eq!(rt;
+        first_line(notes.as_str()),
+        "rules.toml:26: annealing would try 51000000 changes (anneal.stages 1000 * anneal.moves 1000 * 17 instances * 3 tries); 50000000 at most may be, as with anneal.moves 980 [limit Moves 51000000]"
+    );
     Ok(())
 }
 

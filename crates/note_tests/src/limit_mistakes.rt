@@ -173,6 +173,8 @@ fn want_of_memory_has_a_note(rt: HostRuntime) -> Result<(), Fail> {
         rules: Some(RULES.as_bytes()),
         design: None,
         cif: None,
+        netlist: None,
+        cells: None,
     };
     let mut told = Notes::new(rt.alloc());
     note_stop(

@@ -68,6 +68,35 @@ fn steps_are_told_where_that_is_wished_for(rt: HostRuntime) -> Result<(), Fail> 
     Ok(())
 }
 
+/// The same of two tries, of which the second is no better.
+const TRIED: &str = "route|my.yal|rules.toml|o.cif|--rows|1|--progress|--tries|2";
+
+const TRIED_LINES: &str = "\
+annealing: stage 1 of 6
+annealing: stage 2 of 6
+annealing: stage 3 of 6
+annealing: stage 4 of 6
+annealing: stage 5 of 6
+annealing: stage 6 of 6
+routing: channel 1 of 2
+routing: channel 2 of 2
+writing: 9 of 9 shapes of channels
+";
+
+#[test]
+fn the_stages_of_all_tries_are_told(rt: HostRuntime) -> Result<(), Fail> {
+    let alloc = rt.alloc();
+    let watched = noted(alloc, TRIED, &mut shelf_of(alloc, 3)?)?;
+    assert!(rt; watched.as_str().starts_with(TRIED_LINES), "{watched}");
+    assert!(rt;
+        watched.as_str().ends_with(
+            "cost of the rows: 2, 2 before annealing\ntaken of the tries: 1 rows, seed 1\n"
+        ),
+        "{watched}"
+    );
+    Ok(())
+}
+
 #[test]
 fn there_are_at_most_a_hundred_lines(rt: HostRuntime) -> Result<(), Fail> {
     let alloc = rt.alloc();

@@ -8,15 +8,15 @@ use std::test::Fail;
 const MISTAKES: &[(&str, &str)] = &[
     (
         "",
-        "cellroute: a command is wanted: route, check, make or help [usage]",
+        "cellroute: a command is wanted: route, check, make, draw, import or help [usage]",
     ),
     (
         "rout|d|r|o",
-        "cellroute: rout is no command; route, check, make, help and version are; did you mean route? [usage]",
+        "cellroute: rout is no command; route, check, make, draw, import, help and version are; did you mean route? [usage]",
     ),
     (
         "d.yal|r.toml|o.cif",
-        "cellroute: d.yal is no command; route, check, make, help and version are [usage]",
+        "cellroute: d.yal is no command; route, check, make, draw, import, help and version are [usage]",
     ),
     (
         "route|d|r",
@@ -32,23 +32,23 @@ const MISTAKES: &[(&str, &str)] = &[
     ),
     (
         "route|d|r|o|--row|3",
-        "cellroute route: --row is no option of route; its options are --seed, --rows, --style, --edge, --ports, --progress, --quiet; did you mean --rows? [usage]",
+        "cellroute route: --row is no option of route; its options are --seed, --rows, --tries, --style, --edge, --ports, --progress, --quiet; did you mean --rows? [usage]",
     ),
     (
         "check|d|r|c|--rows|2",
-        "cellroute check: --rows is no option of check; its options are --ports, --quiet [usage]",
+        "cellroute check: --rows is no option of check; its options are --markers, --ports, --quiet [usage]",
     ),
     (
         "make|1|5|r|o|--edge",
-        "cellroute make: --edge is no option of make; its options are --progress, --quiet [usage]",
+        "cellroute make: --edge is no option of make; its options are --tries, --progress, --quiet [usage]",
     ),
     (
         "route|d|r|o|-s|5",
-        "cellroute route: -s is no option of route; its options are --seed, --rows, --style, --edge, --ports, --progress, --quiet [usage]",
+        "cellroute route: -s is no option of route; its options are --seed, --rows, --tries, --style, --edge, --ports, --progress, --quiet [usage]",
     ),
     (
         "help|rout",
-        "cellroute: help stands alone; help may have the name of one command behind it: route, check or make [usage]",
+        "cellroute: help stands alone; help may have the name of one command behind it: route, check, make, draw or import [usage]",
     ),
     (
         "route|d|r|o|-q|--quiet",
@@ -73,6 +73,10 @@ const MISTAKES: &[(&str, &str)] = &[
     (
         "route|--rows|0|d|r|o",
         "cellroute route: --rows is 0; a number from 1 to 512 is wanted [usage]",
+    ),
+    (
+        "make|1|2|r|o|--tries|65",
+        "cellroute make: --tries is 65; a number from 1 to 64 is wanted [usage]",
     ),
     (
         "route|d|r|o|--style|Near",

@@ -1,4 +1,4 @@
-//! Tests of the crates of placement: rows, feeds, and the tables of channels.
+//! Tests of the crates of placement: rows, feeds, the tables of channels, and tries.
 #![tactic(auto)]
 
 #[cfg(test)]
@@ -11,3 +11,5 @@ mod first_rows;
 mod pin_tests;
 #[cfg(test)]
 mod row_tests;
+#[cfg(test)]
+mod tries_tests;

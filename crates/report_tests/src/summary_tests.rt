@@ -2,7 +2,7 @@
 
 use geom_core::Items;
 use greedy_router::By;
-use layout_report::{ChannelLine, Summary, print_summary};
+use layout_report::{ChannelLine, Summary, Taken, print_summary};
 use shelf_io::MemSink;
 use std::alloc::{AllocError, Global};
 use std::test::Fail;
@@ -31,6 +31,7 @@ fn summary(alloc: Global, by: By) -> Result<Summary, AllocError> {
         width: 2400,
         height: 12800,
         cost: 10,
+        taken: None,
     })
 }
 
@@ -58,6 +59,30 @@ fn the_lines_of_a_summary(rt: HostRuntime) -> Result<(), Fail> {
     let told = print_summary(&summary, &mut slow).is_ok();
     assert!(rt; told);
     assert!(rt; slow.bytes() == LINES.as_bytes());
+    Ok(())
+}
+
+// The line of the placement that was taken of several.
+const TAKEN: &str = "taken rows 2 seed 18446744073709551615\n";
+
+// The rows of the summary are those of the layout with its ports, and those of the placement without them.
+#[test]
+fn the_placement_that_was_taken(rt: HostRuntime) -> Result<(), Fail> {
+    let alloc = rt.alloc();
+    let mut summary = summary(alloc, By::Plain)?;
+    summary.taken = Some(Taken {
+        rows: 2,
+        seed: 18446744073709551615,
+    });
+    let mut whole = MemSink::new(alloc)?;
+    let told = print_summary(&summary, &mut whole).is_ok();
+    assert!(rt; told);
+    assert!(rt; whole.bytes() == format!(in alloc; "{LINES}{TAKEN}")?.as_bytes());
+    let mut cut = MemSink::new(alloc)?;
+    cut.fail_at(9)?;
+    let failed = print_summary(&summary, &mut cut).is_err();
+    assert!(rt; failed);
+    assert!(rt; cut.bytes() == LINES.as_bytes());
     Ok(())
 }
 

@@ -1,6 +1,7 @@
 //! The places of words, keys and commands in texts, as far as any text has them, and the words that notes show.
 #![tactic(auto)]
 
+mod blif_tokens;
 mod cif_text_places;
 mod lengths;
 mod near;
@@ -11,6 +12,7 @@ mod unread;
 mod yal_tokens;
 mod yal_walk;
 
+pub use blif_tokens::{BlifWalk, blif_walk, first_blif_word, next_blif_token, place_of_directive};
 pub use cif_text_places::{CommandText, command_at, next_command};
 pub use lengths::units;
 pub use near::{difference, meant, nearest, word_meant};

@@ -119,7 +119,11 @@ fn append_heading<K: Sink>(buffer: &mut Buffer, out: &mut K, name: &Name) -> Res
 }
 
 /// Puts a PARENT behind what is buffered.
-fn append_parent<K: Sink>(buffer: &mut Buffer, out: &mut K, parent: &Module) -> Result<(), Failed>
+pub(crate) fn append_parent<K: Sink>(
+    buffer: &mut Buffer,
+    out: &mut K,
+    parent: &Module,
+) -> Result<(), Failed>
     ensures { Writes result (parent_text parent.now) buffer.old buffer.new (K.written out.old) (K.written out.new) (K.faults out.old) (K.faults out.new) (K.same_place out.old out.new) (K.else_same out.old out.new) }
 {
     append_heading(buffer, out, &parent.name)?;

@@ -1,13 +1,13 @@
-use Rattle.std.proofs.Common.{rules, ◌≡◌, List, ap, subst, sym, ◌∙◌, map}
+use Rattle.std.proofs.Common.{rules, ◌≡◌, ℕ, List, ap, ap₂, subst, sym, ◌∙◌, map}
 use Rattle.channel_stack.specs.Layouts.{layout_of}
 use Rattle.channel_stack.specs.Routed.{AreWired, IsRouted}
 use Rattle.channel_stack.specs.Stack.{laid_of, stack_of}
 use Rattle.design_model.specs.Good.{Good}
 use Rattle.greedy_router.specs.declared.sweep.Routed.{Routed}
 use Rattle.tech_rules.specs.Rules.{ValidRules}
-use Rattle.command_jobs.specs.Rows.{job_of}
-use Rattle.command_jobs.specs.Summarized.{line_of_channel}
+use Rattle.command_jobs.specs.Summarized.{line_of_channel, taken_among}
 use Rattle.command_jobs.specs.Text.{wirings_of}
+use Rattle.command_jobs.specs.Tries.{job_of}
 use Rattle.command_jobs.proofs.PortCells.{ports-stand}
 use Rattle.command_jobs.proofs.SummaryLaws.{summary-from}
 use Rattle.command_jobs.proofs.prepared.ready.Goals as goal
@@ -34,8 +34,9 @@ invariant_of-result c =
           (c.in_ok-laid.ensures.good c.requires.high (subst (λ (l : List Routed). AreWired d fed (wirings_of l)) (sym slice) c.requires.rows.wired));
       edges = ports-stand job fed kept (subst ValidRules c.rules.view_is c.rules.invariant) (search rules) c.requires.high c.requires.rows;
       told = c.summarized-summary.ensures
-          ∙ summary-from job fed c.args.cost kept c.in_ok-lines.lines.items c.in_ok-laid.laid c.requires.rows.is c.requires.cost
-          (c.in_ok-lines.ensures ∙ ap (map (line_of_channel fed.width)) slice) laid;
+          ∙ summary-from job fed c.args.annealed.cost kept c.in_ok-lines.lines.items c.in_ok-laid.laid (taken_among job.tries c.args.annealed.rows c.args.annealed.seed) c.requires.rows.is
+          c.requires.cost (c.in_ok-lines.ensures ∙ ap (map (line_of_channel fed.width)) slice) laid
+          (ap₂ (λ (rows seed : ℕ). taken_among job.tries rows seed) c.requires.count c.requires.seed);
       symbols = c.in_ok-symbols.ensures.drawings;
       feeds = c.in_ok-symbols.ensures.heights;
     }

@@ -80,6 +80,8 @@ module _ (names : CheckNames) (inputs : Inputs) (layout : Layout) (findings : Li
           λ none. headline-of stated bytes text names.ports inputs from (record { layout = layout; reads = reads; good = found.good.0 none }),
           λ headline. found.good.1 (good-of stated bytes text names.ports inputs from layout reads headline),
         );
+    drawn = λ other text held same layout zero told. absurd cc;
+    imported = λ other netlist cells held same first second zero told. absurd cc;
   }
 
   unmarked-so : names.markers ≢ None → AreMarked inputs layout findings names.markers (Err WriteFault) old new → Carried (Some (check names)) (Err WriteFault) [] old new
@@ -100,6 +102,8 @@ module _ (names : CheckNames) (inputs : Inputs) (layout : Layout) (findings : Li
     headline = λ other stated bytes held same states source zero told. absurd (omega (arith, zero));
     edges = λ other stated bytes held same ports states source zero told. absurd (omega (arith, zero));
     judges = λ other stated bytes text same states design cif. tt;
+    drawn = λ other text held same layout zero told. absurd cc;
+    imported = λ other netlist cells held same first second zero told. absurd cc;
   }
 
   judged-for : (e : Result Done Stop) → AreMarked inputs layout findings names.markers e mid new → Carried (Some (check names)) e [] old new

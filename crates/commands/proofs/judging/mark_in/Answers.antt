@@ -1,6 +1,6 @@
 use Rattle.std.proofs.Common.{ℕ, List, Some, inl, inr, refl, subst, arith}
 use Rattle.std.proofs.lemmas.Option.{same_Some}
-use Rattle.finding_markers.specs.Held.{HoldsFront}
+use Rattle.marker_text.specs.Held.{HoldsFront}
 use Rattle.finding_markers.specs.Markers.{markers_text}
 use Rattle.layout_check.specs.declared.finding.Finding.{Finding}
 use Rattle.shelf_io.specs.Told.{Refines}

@@ -25,7 +25,7 @@ use Rattle.command_inputs.specs.Origin.{AreInputsFrom, AreRead, IsSourceText}
 use Rattle.command_inputs.specs.Reading.{Files, OnlyRead}
 use Rattle.command_inputs.specs.Stated.{inputs_told}
 use Rattle.command_jobs.specs.Limits.{within_limits}
-use Rattle.command_jobs.specs.Rows.{job_of}
+use Rattle.command_jobs.specs.Tries.{job_of}
 use Rattle.command_jobs.specs.Text.{channels_of, job_text}
 use Rattle.command_jobs.specs.Written.{IsPortedText}
 use Rattle.command_words.specs.declared.command.Wanted.{Wanted}
@@ -85,6 +85,8 @@ written-for names inputs p e kept old mid new read is made first after =
           ported-of stated bytes held inputs (subst (λ (b : Bool). AreInputsFrom stated bytes b inputs) wished from)
           (held-text held zero (ap (λ (m : Names). new.holds m.out) here ∙ told) written);
       judges = λ other stated bytes text same states design cif. absurd cc;
+      drawn = λ other text held same layout zero told. absurd cc;
+      imported = λ other netlist cells held same first second zero told. absurd cc;
     }
   where
     -- what the file holds is a good text of the design that is drawn

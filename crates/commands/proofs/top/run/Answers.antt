@@ -33,6 +33,8 @@ returns g c =
       edges = λ names stated bytes held is ports states source zero. k.edges names stated bytes held is ports states source (omega (arith, told, zero));
       good = λ names stated bytes text is states design cif. (tells-judged n _ _ _ _ e _ t (k.judges names stated bytes text is states design cif)).0;
       faulty = λ names stated bytes text is states design cif. (tells-judged n _ _ _ _ e _ t (k.judges names stated bytes text is states design cif)).1;
+      drawn = λ names text held is layout zero. k.drawn names text held is layout (omega (arith, told, zero));
+      imported = λ names netlist cells held is first second zero. k.imported names netlist cells held is first second (omega (arith, told, zero));
       front = λ command said file comes writes nine. elim told [
         | inl stop ↦ (said-of k comes).front file writes (omega (arith, stop, nine))
         | inr done ↦ whole-front said _ _ _ ((said-of k comes).written file writes done.0)

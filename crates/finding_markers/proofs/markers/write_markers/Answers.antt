@@ -3,7 +3,7 @@ use Rattle.std.proofs.Common.{refl}
 use Rattle.std.proofs.lemmas.Result.{on_err_weaker, on_ok_weaker}
 use Rattle.shelf_io.specs.OtherFiles.{others-then}
 use Rattle.shelf_io.proofs.WritesLaws.{puts-same}
-use Rattle.finding_markers.proofs.BegunLaws.{begun-front, begun-whole}
+use Rattle.marker_text.proofs.BegunLaws.{begun-front, begun-whole}
 
 pub returns : goal.returns
 returns g c =

@@ -10,6 +10,13 @@ pub loop-track-init : goal.loop-track-init
 loop-track-init c =
     let movable = is_movable c.args.spans.now c.args.free.now c.args.kept.now in
     record {
+      room = omega (
+        arith,
+        c.in_ok-lines.ensures.len,
+        c.in_ok-lines.ensures.capacity,
+        ap (λ (l : List Track). length l) c.list-rest.ensures.list,
+        ap (λ (l : List Track). length l) c.list.ensures.list,
+      );
       counted = ap (λ (l : List Track). 1 + length l) c.list-rest.ensures.list;
       stretch = c.alone-stretch.ensures.stretch c.args.spans.now c.args.free.now;
       so_far = ap (λ (l : List ℕ). l ++ filter movable (lines_from is_held 1 c.list-rest.result.now)) c.in_ok-lines.ensures.items
@@ -26,10 +33,11 @@ loop-track-preserved c =
     let cut : c.loop-track.rest.now ≡ t ∷ above = search rules in
     let one_on : line + 1 ≡ suc line = omega arith in
     record {
+      room = omega (arith, ap (λ (l : List Track). length l) cut, c.loop-track.invariant.room, c.push_movable-stretch.ensures.long, c.push_movable-stretch.ensures.room);
       counted = omega (arith, ap (λ (l : List Track). length l) cut, c.loop-track.invariant.counted);
-      stretch = c.in_ok-stretch.ensures.stretch;
-      so_far = movable_more movable here (lines_from is_held (line + 1) above) c.loop-track.lines.items c.push_movable.new.lines.items
-          (movable_lines c.args.spans.now c.args.free.now c.args.kept.now) c.in_ok-stretch.ensures.lines
+      stretch = c.push_movable-stretch.ensures.stretch;
+      so_far = movable_more movable here (lines_from is_held (line + 1) above) c.loop-track.lines.items c.push_movable-stretch.new.lines.items
+          (movable_lines c.args.spans.now c.args.free.now c.args.kept.now) c.push_movable-stretch.ensures.lines
           (ap (λ n. c.loop-track.lines.items ++ filter movable (here ++ lines_from is_held n above)) one_on
           ∙ ap (λ (l : List Track). c.loop-track.lines.items ++ filter movable (lines_from is_held line l)) (sym cut) ∙ c.loop-track.invariant.so_far);
     }

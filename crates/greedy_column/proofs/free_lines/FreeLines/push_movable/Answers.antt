@@ -9,6 +9,6 @@ returns-then-net-eq0-clause-lines c =
 
 pub returns-clause-lines : goal.returns-clause-lines
 returns-clause-lines c =
-    movable_one (is_movable c.args.spans.now c.args.self.now c.args.kept.now) c.args.lines.now.items c.push_where.new.lines.items c.args.net c.args.line
+    movable_one (is_movable c.args.spans.now c.args.self.now c.args.kept.now) c.args.lines.now.items c.put_where.new.lines.items c.args.net c.args.line
     c.stretch_for-stretch.result.has_free c.if-net-eq0.false
-    (c.stretch_for-stretch.ensures.here ∙ ap (λ net. has_option c.args.spans.now c.args.self.now net c.args.line) c.net_on.ensures) c.in_ok-push_where.ensures
+    (c.stretch_for-stretch.ensures.here ∙ ap (λ net. has_option c.args.spans.now c.args.self.now net c.args.line) c.net_on.ensures) c.put_where.ensures.lines
