@@ -6,11 +6,15 @@ mod check_tests;
 #[cfg(test)]
 mod decimal_tests;
 #[cfg(test)]
+mod draw_tests;
+#[cfg(test)]
 mod edge_tests;
 #[cfg(test)]
 mod height_tests;
 #[cfg(test)]
 mod help_tests;
+#[cfg(test)]
+mod import_tests;
 #[cfg(test)]
 mod limit_tests;
 #[cfg(test)]
@@ -33,6 +37,8 @@ mod style_tests;
 mod summary_tests;
 #[cfg(test)]
 mod support;
+#[cfg(test)]
+mod tries_tests;
 #[cfg(test)]
 mod word_tests;
 #[cfg(test)]
