@@ -109,7 +109,7 @@ fn wait(
         CifCommand::User { kind, text } => match kind {
             UserKind::InstanceName => *waiting = Some(text.copied(alloc)?),
             UserKind::SymbolName => *waiting = None,
-            UserKind::Other => {}
+            UserKind::Label | UserKind::Other => {}
         },
         CifCommand::Comment | CifCommand::Finish | CifCommand::End => {}
         _ => *waiting = None,

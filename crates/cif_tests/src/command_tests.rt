@@ -4,7 +4,7 @@ use crate::shown::are_shown;
 use std::test::Fail;
 
 /// Texts, and the commands that each reads as. A box has `true` where it is upright, and a call where it is flipped.
-const TEXTS: [(&str, &str); 39] = [
+const TEXTS: [(&str, &str); 43] = [
     // whole texts
     (
         "DS 1; 9 INV; L NP; B 2 4 5 2; DF; 91 u; C 1 M X T 12 0; E",
@@ -35,6 +35,11 @@ const TEXTS: [(&str, &str); 39] = [
     ("99 a;E", "0 a;E"),
     ("912 a;E", "0 a;E"),
     ("81 a;E", "0 a;E"),
+    // labels
+    ("94 a b;E", "94 a b;E"),
+    ("94;E", "94 ;E"),
+    ("94\tx 1 -2 NM ;E", "94 x 1 -2 NM;E"),
+    ("944 a;E", "0 a;E"),
     // layers
     ("L NM;E", "L NM;E"),
     ("Layer0AZ9 ;E", "L 0AZ9;E"),

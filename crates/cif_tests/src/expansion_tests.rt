@@ -8,7 +8,7 @@ use std::test::Fail;
 
 /// Texts, and what each gives: its cells, each with its symbol, its turn, its first shape and how many it has, and its shapes; or
 /// the refusal with the number of the command.
-const TEXTS: [(&str, &str); 28] = [
+const TEXTS: [(&str, &str); 30] = [
     // whole texts
     (
         "DS 1; 9 INV; L NP; B 2 4 5 2; DF; 91 u; C 1 M X T 12 0; E",
@@ -38,6 +38,15 @@ const TEXTS: [(&str, &str); 28] = [
     (
         "DS 1; 9 A; DF; 91 u; C 1; 91 v; L NP; C 1; E",
         "u A false 0 0 0 0 0;",
+    ),
+    // labels are passed over, also between a name and its call, and inside a definition
+    (
+        "94 a b; 94; L NM; 94 x 1 2 NM; B 2 2 0 0; 94 y 3 4 NP; B 2 2 5 0; E",
+        "NM -2 -2 2 2;NM 8 -2 12 2;",
+    ),
+    (
+        "DS 1; 9 A; 94 s 0 0 NP; L NP; 94 t; B 2 2 0 0; DF; 91 n; 94 n 0 0 NP; C 1; 94 n 0 0; E",
+        "n A false 0 0 0 0 1;NP -2 -2 2 2;",
     ),
     // what is not called is not drawn
     ("DS 1; L NP; B 2 2 0 0; DF; E", ""),

@@ -16,6 +16,7 @@ fn digits(kind: UserKind) -> &'static str {
     match kind {
         UserKind::SymbolName => "9 ",
         UserKind::InstanceName => "91 ",
+        UserKind::Label => "94 ",
         UserKind::Other => "0 ",
     }
 }

@@ -104,6 +104,10 @@ instance-is text name =
     let bare : trimmed (blanked (text ∷ [])) ≡ text = ap trimmed (append-nil text) ∙ name.bare in
     ap (naming users.InstanceName) bare ∙ naming-some users.InstanceName text name.some
 
+pub label-is : (text : List ℕ) → IsNameText text → user_form 57 (52 ∷ blanked (text ∷ [])) ≡ Ok (Ok (commands.User users.Label text))
+unfolding user_form
+label-is text name = ap (λ (t : List ℕ). Ok (Ok (commands.User users.Label t))) (ap trimmed (append-nil text) ∙ name.bare)
+
 -- two numbers, of which a step is made
 point-is : (step : ℤ → ℤ → Step) (dx dy : ℤ) → IsCifNumber dx → IsCifNumber dy
     → point_of step (blanked (signed_decimal dx ∷ signed_decimal dy ∷ [])) ≡ Ok (step dx dy, [])

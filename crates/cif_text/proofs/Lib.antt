@@ -32,6 +32,8 @@ pub mod PlaceLaws
 -- the counts of steps and commands do not matter
 pub mod FuelLaws
 pub mod WrittenLayout
+-- the text of a label
+pub mod LabelLemmas
 -- commands that can be printed
 pub mod PrintableTexts
 -- steps of a call as moves, one after another

@@ -1,4 +1,4 @@
-use Rattle.std.proofs.Common.{◌≡◌, refl, ap, ◌∙◌, ℕ, zero, suc, ◌≤◌, List, [], ◌∷◌, ◌++◌, length, Bool, true, false, ℤ, pos, negsuc, arith, decimal}
+use Rattle.std.proofs.Common.{◌≡◌, refl, ap, ◌∙◌, ℕ, zero, suc, ◌<◌, ◌^◌, ◌≤◌, List, [], ◌∷◌, ◌++◌, length, Bool, true, false, ℤ, pos, negsuc, arith, decimal}
 use Rattle.std.proofs.lemmas.Bool.Decides.{nat_tests}
 use Rattle.std.proofs.lemmas.Fmt.{decimal_is_IsNumeral}
 use Rattle.std.proofs.lemmas.Str.Parse.{digit_from_value}
@@ -23,11 +23,17 @@ digits-all (d ∷ ds) digits =
     let range = digit_from_value d digits.0 in
     and_from (is_ascii_digit d) (list_all is_ascii_digit ds) (grind (arith, nat_tests, range)) (digits-all ds digits.1)
 
+pub decimal-digits : (n : ℕ) → n < 2 ^ 64 → list_all is_ascii_digit (decimal n) ≡ true
+decimal-digits n small = digits-all (decimal n) (decimal_is_IsNumeral n small).0.1
+
 pub decimal-all : (n : ℕ) → n ≤ greatest → list_all is_ascii_digit (decimal n) ≡ true
-decimal-all n small = digits-all (decimal n) (decimal_is_IsNumeral n (omega arith)).0.1
+decimal-all n small = decimal-digits n (omega arith)
+
+pub digits-some : (n : ℕ) → n < 2 ^ 64 → 1 ≤ length (decimal n)
+digits-some n small = omega (arith, (decimal_is_IsNumeral n small).0.0)
 
 pub decimal-some : (n : ℕ) → n ≤ greatest → 1 ≤ length (decimal n)
-decimal-some n small = omega (arith, (decimal_is_IsNumeral n (omega arith)).0.0)
+decimal-some n small = digits-some n (omega arith)
 
 -- the value of some digits, of which there are any
 value-some : (place : ℕ) (ds r : List ℕ) (n : ℕ) → 1 ≤ length ds → list_all is_ascii_digit ds ≡ true → digits_value 10 ds ≡ n → n ≤ greatest

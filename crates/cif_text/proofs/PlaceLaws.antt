@@ -180,7 +180,8 @@ user-places first body =
     let digits = (span is_ascii_digit body).0 in
     let text = trimmed (span is_ascii_digit body).1 in
     either-places (length body) (first == 57 && bytes_eq digits []) _ _ (naming-places (length body) users.SymbolName text)
-    (either-places (length body) (first == 57 && bytes_eq digits (codes "1")) _ _ (naming-places (length body) users.InstanceName text) (found-places (length body) _))
+    (either-places (length body) (first == 57 && bytes_eq digits (codes "1")) _ _ (naming-places (length body) users.InstanceName text)
+    (either-places (length body) (first == 57 && bytes_eq digits (codes "4")) _ _ (found-places (length body) _) (found-places (length body) _)))
 
 point-places : (step : ℤ → ℤ → Step) (bytes : List ℕ) → Places (length bytes) (point_of step bytes)
 point-places step bytes =

@@ -7,18 +7,19 @@ use Rattle.std.specs.Char.{is_ascii_digit}
 use Rattle.std.specs.Fmt.{signed_decimal}
 use Rattle.std.specs.List.{AllByRecursion, list_all}
 use Rattle.geom_core.specs.LayerText.{is_layer_code}
+use Rattle.geom_core.specs.Reach.{IsInReach}
 use Rattle.std.specs.Prelude.{codes, nat_le, ◌&&◌}
 use Rattle.cif_text.specs.declared.command.CifCommand.{CifCommand}
 use Rattle.cif_text.specs.Numbers.{greatest}
 use Rattle.cif_text.specs.Printing.{blanked, bytes_of, upright_parts, flip_parts, quarter_parts}
 use Rattle.cif_text.specs.Printable.{IsCifNumber, IsSize}
 use Rattle.cif_text.proofs.PrintableTexts.{is_plain_byte, IsPrintable}
-use Rattle.cif_text.proofs.NumberLemmas.{decimal-all}
+use Rattle.cif_text.proofs.NumberLemmas.{decimal-all, decimal-digits}
 use Rattle.std.proofs.lemmas.Bool.{and_parts}
 use Rattle.std_laws.proofs.Searches.{list_all-weaker, list_all-joined}
 
 -- the bytes of a printed line before its semicolon are of ASCII and no semicolon
-abbrev Plain : List ℕ → Type 0
+abbrev pub Plain : List ℕ → Type 0
 Plain bytes = list_all is_plain_byte bytes ≡ true
 
 plain-digit : (c : ℕ) → is_ascii_digit c ≡ true → is_plain_byte c ≡ true
@@ -27,7 +28,7 @@ plain-digit c digit = grind (arith, nat_tests)
 plain-layer : (c : ℕ) → is_layer_code c ≡ true → is_plain_byte c ≡ true
 plain-layer c code = grind (arith, nat_tests)
 
-plain-joined : (xs ys : List ℕ) → Plain xs → Plain ys → Plain (xs ++ ys)
+pub plain-joined : (xs ys : List ℕ) → Plain xs → Plain ys → Plain (xs ++ ys)
 plain-joined xs ys first second = list_all-joined is_plain_byte xs ys first second
 
 plain-decimal : (n : ℕ) → n ≤ greatest → Plain (decimal n)
@@ -37,11 +38,16 @@ plain-signed : (z : ℤ) → IsCifNumber z → Plain (signed_decimal z)
 plain-signed (pos n) near = plain-decimal n (omega (arith, ints))
 plain-signed (negsuc n) near = plain-decimal (suc n) (omega (arith, ints))
 
+-- a number within reach, which may be greater than those that can be read
+pub plain-reach : (z : ℤ) → IsInReach z → Plain (signed_decimal z)
+plain-reach (pos n) near = list_all-weaker is_ascii_digit is_plain_byte plain-digit (decimal n) (decimal-digits n (omega (arith, ints)))
+plain-reach (negsuc n) near = list_all-weaker is_ascii_digit is_plain_byte plain-digit (decimal (suc n)) (decimal-digits (suc n) (omega (arith, ints)))
+
 size-near : (z : ℤ) → IsSize z → IsCifNumber z
 size-near z size = record { low = omega (arith, ints); high = size.high }
 
 -- parts that are plain, each behind a blank
-plain-blanked : (parts : List (List ℕ)) → AllByRecursion Plain parts → Plain (blanked parts)
+pub plain-blanked : (parts : List (List ℕ)) → AllByRecursion Plain parts → Plain (blanked parts)
 plain-blanked [] h = refl
 plain-blanked (part ∷ parts) h = plain-joined part (blanked parts) h.0 (plain-blanked parts h.1)
 
@@ -81,5 +87,6 @@ bytes-plain (commands.Polygon path) h = absurd h
 bytes-plain commands.Comment h = refl
 bytes-plain (commands.User users.SymbolName text) h = plain-blanked (text ∷ []) (h.plain, tt)
 bytes-plain (commands.User users.InstanceName text) h = plain-blanked (text ∷ []) (h.plain, tt)
+bytes-plain (commands.User users.Label text) h = plain-blanked (text ∷ []) (h.plain, tt)
 bytes-plain (commands.User users.Other text) h = absurd h
 bytes-plain commands.End h = refl

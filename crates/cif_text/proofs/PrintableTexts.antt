@@ -25,6 +25,7 @@ IsPrintable (commands.Start n a b) = IsNatural n × IsPart a × IsPart b
 IsPrintable (commands.Call n flip quarters dx dy) = IsNatural n × (quarters ≤ 3) × IsCifNumber dx × IsCifNumber dy
 IsPrintable (commands.User users.SymbolName text) = IsNameText text
 IsPrintable (commands.User users.InstanceName text) = IsNameText text
+IsPrintable (commands.User users.Label text) = IsNameText text
 IsPrintable (commands.Wire width path) = ⊥
 IsPrintable (commands.Polygon path) = ⊥
 IsPrintable (commands.User users.Other text) = ⊥

@@ -10,7 +10,7 @@ use Rattle.cif_text.specs.CifReads.{is_end, is_open_behind, commands_at, cif_rea
 use Rattle.cif_text.specs.Printing.{bytes_of, end_of, line, text_of}
 use Rattle.cif_text.proofs.PrintableTexts.{is_plain_byte, IsPrintable, IsText}
 use Rattle.cif_text.proofs.SpanLemmas.{span-append}
-use Rattle.cif_text.proofs.FormLemmas.{box-is, layer-is, start-is, finish-is, call-is, symbol-is, instance-is}
+use Rattle.cif_text.proofs.FormLemmas.{box-is, layer-is, start-is, finish-is, call-is, symbol-is, instance-is, label-is}
 use Rattle.cif_text.proofs.PlainLemmas.{bytes-plain}
 use Rattle.std.proofs.lemmas.Bool.{and_parts, and_from}
 use Rattle.std_laws.proofs.Searches.{list_all-weaker, list_all-joined}
@@ -52,6 +52,8 @@ line-read inside (commands.User users.SymbolName text) r h stands more =
     cut-is inside _ 57 _ r _ (bytes-plain (commands.User users.SymbolName text) h) refl (symbol-is text h) stands
 line-read inside (commands.User users.InstanceName text) r h stands more =
     cut-is inside _ 57 _ r _ (bytes-plain (commands.User users.InstanceName text) h) refl (instance-is text h) stands
+line-read inside (commands.User users.Label text) r h stands more =
+    cut-is inside _ 57 _ r _ (bytes-plain (commands.User users.Label text) h) refl (label-is text h) stands
 line-read inside (commands.User users.Other text) r h stands more = absurd h
 line-read inside commands.End r h stands more = cc
 
@@ -102,6 +104,7 @@ first-ascii (commands.Polygon path) = refl
 first-ascii commands.Comment = refl
 first-ascii (commands.User users.SymbolName text) = refl
 first-ascii (commands.User users.InstanceName text) = refl
+first-ascii (commands.User users.Label text) = refl
 first-ascii (commands.User users.Other text) = refl
 first-ascii commands.End = refl
 

@@ -234,6 +234,15 @@ white_at_both_ends : cif_reads (codes "912  a b  ;E") ≡ Ok (commands.User user
 unfolding cif_reads commands_at after_comment box_end box_form layer_form start_form definition_form call_form user_form step_of steps_of natural positive number number_within
 white_at_both_ends = refl
 
+-- a label, with a text or without
+label_of_net : cif_reads (codes "94 a 1 -2;E") ≡ Ok (commands.User users.Label (codes "a 1 -2") ∷ commands.End ∷ [])
+unfolding cif_reads commands_at after_comment box_end box_form layer_form start_form definition_form call_form user_form step_of steps_of natural positive number number_within
+label_of_net = refl
+
+label_alone : cif_reads (codes "94;E") ≡ Ok (commands.User users.Label (codes "") ∷ commands.End ∷ [])
+unfolding cif_reads commands_at after_comment box_end box_form layer_form start_form definition_form call_form user_form step_of steps_of natural positive number number_within
+label_alone = refl
+
 -- the parts of calls
 call_without_blanks : cif_reads (codes "C 1T5 6MX;E") ≡ Ok (commands.Call 1 true 0 (negsuc 4) (pos 6) ∷ commands.End ∷ [])
 unfolding cif_reads commands_at after_comment box_end box_form layer_form start_form definition_form call_form user_form step_of steps_of natural positive number number_within

@@ -7,7 +7,7 @@ use Rattle.cif_text.specs.Bytes.{is_white, begins, without_tail}
 use Rattle.cif_text.specs.Printing.{line, text_of}
 use Rattle.cif_text.proofs.PrintableTexts.{is_plain_byte, IsNameText}
 use Rattle.cif_text.specs.Symbols.{symbol_of}
-use Rattle.cif_text.specs.Written.{WrittenSymbol, MainItem, alone, copy, shape_commands, copy_commands, items_commands, layer_after}
+use Rattle.cif_text.specs.Written.{WrittenSymbol, MainItem, alone, copy, label, label_commands, shape_commands, copy_commands, items_commands, layer_after}
 use Rattle.cif_text.proofs.WrittenLayout.{symbol_at, symbols_from}
 use Rattle.cif_text.proofs.SpanLemmas.{skip-stop}
 use Rattle.std.proofs.lemmas.Bool.{and_parts}
@@ -25,14 +25,14 @@ is_shown c = nat_le 33 c && nat_le c 126 && not (c == 59)
 shown-plain : (c : ℕ) → is_shown c ≡ true → is_plain_byte c ≡ true
 shown-plain c shown = grind (arith, nat_tests)
 
-shown-bare : (c : ℕ) → is_shown c ≡ true → is_white c ≡ false
+pub shown-bare : (c : ℕ) → is_shown c ≡ true → is_white c ≡ false
 shown-bare c shown = grind (arith, nat_tests)
 
 shown-begins : (text : List ℕ) → list_all is_shown text ≡ true → begins is_white text ≡ false
 shown-begins [] shown = refl
 shown-begins (c ∷ cs) shown = shown-bare c (and_parts (is_shown c) (list_all is_shown cs) shown).0
 
-shown-ends : (text : List ℕ) → list_all is_shown text ≡ true → without_tail text ≡ text
+pub shown-ends : (text : List ℕ) → list_all is_shown text ≡ true → without_tail text ≡ text
 shown-ends [] shown = refl
 shown-ends (c ∷ cs) shown =
     let parts : (is_shown c ≡ true) × (list_all is_shown cs ≡ true) = and_parts (is_shown c) (list_all is_shown cs) shown in
@@ -73,3 +73,6 @@ items-append layer (alone s ∷ xs) ys =
 items-append layer (copy name n place ∷ xs) ys =
     ap (λ (cs : List CifCommand). copy_commands name n place ++ cs) (items-append layer xs ys)
     ∙ sym (append_assoc (copy_commands name n place) (items_commands layer xs) (items_commands (layer_after layer xs) ys))
+items-append layer (label name s ∷ xs) ys =
+    ap (λ (cs : List CifCommand). label_commands layer name s ++ cs) (items-append (Some s.layer) xs ys)
+    ∙ sym (append_assoc (label_commands layer name s) (items_commands (Some s.layer) xs) (items_commands (layer_after (Some s.layer) xs) ys))

@@ -7,12 +7,13 @@ use Rattle.geom_core.specs.declared.turn.Place.{Place}
 use Rattle.geom_core.specs.Extent.{Extent}
 use Rattle.geom_core.specs.LayerText.{is_layer_text}
 use Rattle.geom_core.specs.Moving.{turn_at}
+use Rattle.geom_core.specs.Reach.{IsInReach}
 use Rattle.cif_text.specs.Numbers.{greatest}
 use Rattle.cif_text.specs.Printable.{IsCifNumber, IsSize, IsNatural}
 use Rattle.cif_text.proofs.PrintableTexts.{IsNameText}
 use Rattle.cif_text.specs.Scales.{doubled, around}
 use Rattle.cif_text.specs.Symbols.{Symbol, symbol_of, moved_shapes}
-use Rattle.cif_text.specs.Written.{WrittenSymbol, MainItem, alone, copy}
+use Rattle.cif_text.specs.Written.{WrittenSymbol, MainItem, alone, copy, label, middle}
 
 -- written symbols as symbols, of which the first has this number
 abbrev pub symbol_at : ℕ → WrittenSymbol → Symbol
@@ -26,10 +27,11 @@ abbrev pub copied_shapes : Place → Option Symbol → List Shape
 copied_shapes place None = []
 copied_shapes place (Some symbol) = moved_shapes (turn_at place) symbol.shapes
 
--- the shapes of an item
+-- the shapes of an item; a label has none, and is no cell
 abbrev pub item_shapes : List Symbol → MainItem → List Shape
 item_shapes symbols (alone s) = s ∷ []
 item_shapes symbols (copy name n place) = copied_shapes place (symbol_of n symbols)
+item_shapes symbols (label name s) = []
 
 -- the cell of a named copy, behind so many shapes
 abbrev pub cell_of : ℕ → List ℕ → Place → Option Symbol → List Cell
@@ -41,6 +43,7 @@ abbrev pub item_cells : List Symbol → ℕ → MainItem → List Cell
 item_cells symbols first (alone s) = []
 item_cells symbols first (copy None n place) = []
 item_cells symbols first (copy (Some name) n place) = cell_of first name place (symbol_of n symbols)
+item_cells symbols first (label name s) = []
 
 abbrev pub items_shapes : List Symbol → List MainItem → List Shape
 items_shapes symbols [] = []
@@ -92,9 +95,17 @@ pub record IsCopy (symbols : List Symbol) (name : Option (List ℕ)) (n : ℕ) (
   pub kind : IfSome name (λ text. IsSome symbol.name)
   pub whole : IsWhole place
 
+-- a label with a name that can be written, on a layer, at a place whose numbers have few digits
+pub record IsLabel (name : List ℕ) (s : Shape) : Type 0 where
+  pub named : IsNameText name
+  pub layer : is_layer_text s.layer ≡ true
+  pub across : IsInReach (middle s.rect.x0 s.rect.x1)
+  pub up : IsInReach (middle s.rect.y0 s.rect.y1)
+
 abbrev pub IsItem : List Symbol → MainItem → Type 0
 IsItem symbols (alone s) = IsShape s
 IsItem symbols (copy name n place) = IsCopy symbols name n place
+IsItem symbols (label name s) = IsLabel name s
 
 -- what can be written so that it reads and means what was written
 pub record IsWritable (ds : List WrittenSymbol) (is : List MainItem) : Type 0 where

@@ -15,7 +15,7 @@ use Rattle.read_base.specs.Steps.{◌>>=◌}
 use Rattle.cif_text.specs.Scales.{scaled_natural, scaled, scaled_extent, scaled_turning, doubled, around}
 use Rattle.cif_text.specs.Symbols.{Symbol, Level, State, symbol_of}
 use Rattle.cif_text.specs.Meaning.{Unmeant, layout_of, step, run, meaning}
-use Rattle.cif_text.specs.Written.{WrittenSymbol, MainItem, alone, copy, box_of, call_to, change, shape_commands, shapes_commands, symbol_commands, symbols_commands, copy_commands, items_commands, layout_commands}
+use Rattle.cif_text.specs.Written.{WrittenSymbol, MainItem, alone, copy, label, label_command, label_commands, box_of, call_to, change, shape_commands, shapes_commands, symbol_commands, symbols_commands, copy_commands, items_commands, layout_commands}
 use Rattle.geom_core.specs.Moving.{turn_at}
 use Rattle.cif_text.proofs.WrittenLayout.{symbol_at, symbols_from, copied_shapes, cell_of, item_shapes, item_cells, items_shapes, items_cells, written_layout, IsBox, IsShape, IsWhole, IsDrawn, IsCopy, IsItem, IsWritable}
 use Rattle.cif_text.proofs.WrittenText.{box-drawn, call-whole}
@@ -233,6 +233,16 @@ copy-leads symbols cells shapes layer (Some name) n place h =
     (main symbols (cells ++ cell_of (length shapes) name place (symbol_of n symbols)) (shapes ++ copied_shapes place (symbol_of n symbols)) layer None)
     (call_to n place) (named-call symbols cells shapes layer name n place h))
 
+-- a label changes the layer alone
+label-leads : (symbols : List Symbol) (cells : List Cell) (shapes : List Shape) (layer : Option (List ℕ)) (name : List ℕ) (s : Shape)
+    → Leads (main symbols cells shapes layer None) (label_commands layer name s) (main symbols (cells ++ []) (shapes ++ []) (Some s.layer) None)
+unfolding step
+label-leads symbols cells shapes layer name s =
+    leads-both (main symbols cells shapes layer None) (main symbols cells shapes (Some s.layer) None) (main symbols (cells ++ []) (shapes ++ []) (Some s.layer) None)
+    (change layer s.layer) (label_command name s ∷ [])
+    (change-leads (λ (l : Option (List ℕ)). main symbols cells shapes l None) layer s.layer (λ (before : Option (List ℕ)). rw (append-nil shapes, append-nil cells) refl))
+    (leads-one (main symbols cells shapes (Some s.layer) None) (main symbols (cells ++ []) (shapes ++ []) (Some s.layer) None) (label_command name s) refl)
+
 -- from a state on, some commands give these cells and shapes
 abbrev Means : ℕ → State → List CifCommand → List Cell → List Shape → Type 0
 Means i s cs cells shapes = (run i s cs >>= λ t. Ok (layout_of t.main)) ≡ Ok (record { cells = cells; shapes = shapes })
@@ -276,6 +286,14 @@ items-mean symbols cells shapes layer (copy name n place ∷ is) i h =
     (copy_commands name n place) (items_commands layer is)
     (copy-leads symbols cells shapes layer name n place h.0)
     (λ (j : ℕ). items-mean symbols (cells ++ its_cells) (shapes ++ its_shapes) layer is j h.1))
+items-mean symbols cells shapes layer (label name s ∷ is) i h =
+    subst (λ (k : ℕ). Means i (main symbols cells shapes layer None) (items_commands layer (label name s ∷ is) ++ (commands.End ∷ []))
+    (cells ++ items_cells symbols k is) (shapes ++ items_shapes symbols is))
+    (length-append shapes [])
+    (onward symbols cells [] (items_cells symbols (length (shapes ++ [])) is) shapes [] (items_shapes symbols is) layer (Some s.layer) i
+    (label_commands layer name s) (items_commands (Some s.layer) is)
+    (label-leads symbols cells shapes layer name s)
+    (λ (j : ℕ). items-mean symbols (cells ++ []) (shapes ++ []) (Some s.layer) is j h.1))
 
 -- what is written means the layout that was written
 pub written-means : (ds : List WrittenSymbol) (is : List MainItem) → IsWritable ds is → meaning (layout_commands ds is) ≡ Ok (written_layout ds is)

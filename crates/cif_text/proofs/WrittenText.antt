@@ -17,8 +17,9 @@ use Rattle.cif_text.proofs.PrintableTexts.{IsText, IsNameText}
 use Rattle.cif_text.specs.CifReads.{cif_reads}
 use Rattle.cif_text.specs.Scales.{doubled, around}
 use Rattle.cif_text.specs.Symbols.{Symbol}
-use Rattle.cif_text.specs.Written.{WrittenSymbol, MainItem, alone, copy, box_of, call_to, change, name_commands, shape_commands, shapes_commands, symbol_commands, symbols_commands, copy_commands, items_commands, layout_commands}
+use Rattle.cif_text.specs.Written.{WrittenSymbol, MainItem, alone, copy, label, label_command, label_commands, box_of, call_to, change, name_commands, shape_commands, shapes_commands, symbol_commands, symbols_commands, copy_commands, items_commands, layout_commands}
 use Rattle.cif_text.proofs.WrittenLayout.{IsBox, IsShape, IsWhole, IsDrawn, IsItem, IsWritable, symbols_from}
+use Rattle.cif_text.proofs.LabelLemmas.{label-named}
 use Rattle.cif_text.proofs.ReadBack.{reads-text}
 use Rattle.std_laws.proofs.Integers.{quarter-of}
 
@@ -120,6 +121,11 @@ items-before symbols layer (copy name n place ∷ is) h =
     before-both false false false (copy_commands name n place) (items_commands layer is)
     (before-both false false false (name_commands users.InstanceName name) (call_to n place ∷ []) (copy-name-before false name h.0.named) (call-before n place h.0.number h.0.whole))
     (items-before symbols layer is h.1)
+items-before symbols layer (label name s ∷ is) h =
+    before-both false false false (label_commands layer name s) (items_commands (Some s.layer) is)
+    (before-both false false false (change layer s.layer) (label_command name s ∷ []) (change-before false layer s.layer h.0.layer)
+    (λ (rest : List CifCommand) (text : IsText false rest). (label-named name s h.0, text)))
+    (items-before symbols (Some s.layer) is h.1)
 
 -- the commands of a written layout are a text
 pub written-text : (ds : List WrittenSymbol) (is : List MainItem) → IsWritable ds is → IsText false (layout_commands ds is)

@@ -34,7 +34,8 @@ quarters_along (negsuc n) quarters = Some (quarters + 2)
 abbrev pub user_kind_of : ℕ → List ℕ → UserKind
 user_kind_of first digits =
     if first == byte "9" && bytes_eq digits [] then users.SymbolName else
-    if first == byte "9" && bytes_eq digits (codes "1") then users.InstanceName else users.Other
+    if first == byte "9" && bytes_eq digits (codes "1") then users.InstanceName else
+    if first == byte "9" && bytes_eq digits (codes "4") then users.Label else users.Other
 
 -- the commands of a text that begins inside a definition or outside
 abbrev pub commands_of : Bool → List ℕ → Result (List CifCommand) Flaw

@@ -91,11 +91,12 @@ abbrev pub naming : UserKind → List ℕ → Form
 naming kind [] = Err Malformed
 naming kind (c ∷ cs) = Ok (Ok (commands.User kind (c ∷ cs)))
 
--- the product's own: `9` names the symbol, and `91` names the next call. The digits are those behind the first one
+-- the product's own: `9` names the symbol, `91` names the next call, and `94` is a label. The digits are those behind the first one
 abbrev pub user_of : ℕ → List ℕ → List ℕ → Form
 user_of first digits text =
     if first == byte "9" && bytes_eq digits [] then naming users.SymbolName text else
     if first == byte "9" && bytes_eq digits (codes "1") then naming users.InstanceName text else
+    if first == byte "9" && bytes_eq digits (codes "4") then Ok (Ok (commands.User users.Label text)) else
     Ok (Ok (commands.User users.Other text))
 
 -- CIF 2.0: a user command is digits and then any bytes

@@ -86,9 +86,10 @@ definition_behind symbols d c = do
 abbrev pub symbol_of_definition : Definition → Symbol
 symbol_of_definition d = record { number = d.number; name = d.name; shapes = d.level.shapes }
 
--- the product's own: a name waits for the call that is the next command of the main level, comments and other user commands aside
+-- the product's own: a name waits for the call that is the next command of the main level, comments, labels and other user commands aside
 abbrev pub waiting_behind : Option (List ℕ) → CifCommand → Option (List ℕ)
 waiting_behind waiting (commands.User users.InstanceName text) = Some text
+waiting_behind waiting (commands.User users.Label text) = waiting
 waiting_behind waiting (commands.User users.Other text) = waiting
 waiting_behind waiting commands.Comment = waiting
 waiting_behind waiting commands.Finish = waiting

@@ -48,6 +48,7 @@ bytes_of (commands.Polygon path) = (byte "P", blanked (path_parts path))
 bytes_of commands.Comment = (byte "(", codes "cellroute 1)")
 bytes_of (commands.User users.SymbolName text) = (byte "9", blanked (text ∷ []))
 bytes_of (commands.User users.InstanceName text) = (byte "9", codes "1" ++ blanked (text ∷ []))
+bytes_of (commands.User users.Label text) = (byte "9", codes "4" ++ blanked (text ∷ []))
 bytes_of (commands.User users.Other text) = (byte "0", blanked (text ∷ []))
 bytes_of commands.End = (byte "E", [])
 

@@ -9,6 +9,8 @@ pub enum UserKind {
     SymbolName,
     /// `91 name;`, which names the call that is the next command.
     InstanceName,
+    /// `94 text;`, a label, as KLayout and Magic write and read it: its name and its place, on the present layer. A layout is without it.
+    Label,
     /// Any other user command.
     Other,
 }

@@ -6,7 +6,7 @@ ghost use Rattle.cif_text.specs.Forms.{axis_of, box_along, box_end, box_form, de
 ghost use Rattle.cif_text.specs.Printable.{IsCifNumber, IsPart};
 ghost use Rattle.cif_text.specs.Sound.{FormIsSound, IsFormed};
 ghost use Rattle.cif_text.specs.declared.command.CifCommand.TheVariants as commands;
-ghost use Rattle.std.specs.Prelude.{◌≡◌, IfOk};
+ghost use Rattle.std.specs.Prelude.{◌≡◌, IfOk, Ok};
 
 use crate::bytes::{
     after_blanks, after_separators, are_blanks, are_separators, split_digits, split_layer,
@@ -158,6 +158,15 @@ fn user_command(alloc: Global, kind: UserKind, text: &[u8]) -> Result<CifCommand
     Ok(CifCommand::User { kind, text })
 }
 
+/// A user command that may be without a text. The one error is want of memory.
+fn unnamed(alloc: Global, kind: UserKind, text: &[u8]) -> Result<Form, AllocError>
+    ensures is { IfOk result (λ form. form ≡ Ok (Ok (commands.User kind text.now))) }
+    ensures sound { IfOk result FormIsSound }
+{
+    let command = user_command(alloc, kind, text)?;
+    Ok(Ok(Ok(command)))
+}
+
 /// A user command that names something needs a name. The one error is want of memory.
 fn naming(alloc: Global, kind: UserKind, text: &[u8]) -> Result<Form, AllocError>
     ensures is { IfOk result (λ form. naming kind text.now ≡ form) }
@@ -180,6 +189,7 @@ fn user_kind(first: u8, digits: &[u8]) -> UserKind
     match digits {
         [] => UserKind::SymbolName,
         [b'1'] => UserKind::InstanceName,
+        [b'4'] => UserKind::Label,
         _ => UserKind::Other,
     }
 }
@@ -193,10 +203,8 @@ pub(crate) fn user_form(alloc: Global, first: u8, body: &[u8]) -> Result<Form, A
     let (digits, rest) = split_digits(body);
     let text = without_white(rest);
     match user_kind(first, digits) {
-        UserKind::Other => {
-            let command = user_command(alloc, UserKind::Other, text)?;
-            Ok(Ok(Ok(command)))
-        }
+        UserKind::Label => unnamed(alloc, UserKind::Label, text),
+        UserKind::Other => unnamed(alloc, UserKind::Other, text),
         kind => naming(alloc, kind, text),
     }
 }

@@ -18,5 +18,5 @@ mod transform;
 
 pub use command::{CifCommand, UserKind};
 pub use fault::{CifFault, CifKind};
-pub use print::print_command;
+pub use print::{print_command, print_label_end};
 pub use reading::read_commands;

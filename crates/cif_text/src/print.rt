@@ -1,4 +1,4 @@
-//! The line of a command, printed to the front of a buffer of 160 bytes.
+//! The line of a command, and the end of a label's, printed to the front of a buffer of 160 bytes.
 
 ghost use Rattle.cif_text.specs.Printing.{blanked, line, flip_parts, quarter_parts, upright_parts, HasLine};
 ghost use Rattle.cif_text.specs.declared.command.CifCommand.TheVariants as commands;
@@ -94,6 +94,16 @@ fn print_call(n: u64, flip: bool, quarters: u8, dx: i64, dy: i64, into: &mut [u8
     let end = put(into, end, b" T");
     let end = put_number(into, end, dx);
     let end = put_number(into, end, dy);
+    put(into, end, b";\n")
+}
+
+/// Writes what stands behind a label's name to the front of `into`: its place, the semicolon and a line feed. Gives the length of this. Takes no memory.
+pub fn print_label_end(x: i64, y: i64, into: &mut [u8; 160]) -> usize
+    ensures text { take result into.new ≡ blanked (signed_decimal x ∷ signed_decimal y ∷ []) ++ (59 ∷ 10 ∷ []) }
+    ensures fits { result ≤ 160 }
+{
+    let end = put_number(into, 0, x);
+    let end = put_number(into, end, y);
     put(into, end, b";\n")
 }
 

@@ -22,6 +22,14 @@ pub mod HeightLaws
 pub mod FedItems
 -- risers that can be written
 pub mod WritableRisers
+-- pins and nets by their numbers
+pub mod PinLaws
+-- what labels are written from
+pub mod LabelLaws
+-- shapes at places, and their middles
+pub mod NearMiddles
+-- labels that can be written
+pub mod WritableLabels
 -- what stands at the main level can be written
 pub mod WritableItems
 -- the layout of a routed design can be written

@@ -1,8 +1,9 @@
-use Rattle.std.proofs.Common.{◌≡◌, ◌++◌, ◌∷◌, ◌∙◌, [], ap, ℕ, List, Option, None, Some}
+use Rattle.std.proofs.Common.{◌≡◌, ◌++◌, ◌∷◌, ◌∙◌, [], ap, append_assoc, ℕ, List, Option, None, Some}
 use Rattle.std.proofs.lemmas.List.{append-nil}
 use Rattle.cif_text.proofs.TextLemmas.{text_of-append}
-use Rattle.cif_text.specs.Printing.{line, text_of}
-use Rattle.cif_text.specs.Written.{name_commands, shapes_commands, symbol_commands}
+use Rattle.std.specs.Fmt.{signed_decimal}
+use Rattle.cif_text.specs.Printing.{blanked, line, text_of}
+use Rattle.cif_text.specs.Written.{label_command, label_text, middle, name_commands, shapes_commands, symbol_commands}
 use Rattle.cif_text.specs.declared.command.CifCommand.{CifCommand}
 use Rattle.cif_text.specs.declared.command.CifCommand.TheVariants as commands
 use Rattle.cif_text.specs.declared.command.UserKind.{UserKind}
@@ -25,3 +26,14 @@ symbol-text n name shapes =
     ap (λ (l : List ℕ). line (commands.Start n 1 1) ++ l)
     (text_of-append (name_commands users.SymbolName name) (shapes_commands None shapes ++ (commands.Finish ∷ []))
     ∙ ap (λ (l : List ℕ). text_of (name_commands users.SymbolName name) ++ l) (text-last (shapes_commands None shapes) commands.Finish))
+
+-- the line of a label: its digits, its name, and what stands behind the name
+abbrev pub label_end : Shape → List ℕ
+label_end s = blanked (signed_decimal (middle s.rect.x0 s.rect.x1) ∷ signed_decimal (middle s.rect.y0 s.rect.y1) ∷ []) ++ 59 ∷ 10 ∷ []
+
+pub label-text : (digits name : List ℕ) (s : Shape) → ((text : List ℕ) → line (commands.User users.Label text) ≡ digits ++ (text ++ 59 ∷ 10 ∷ []))
+    → line (label_command name s) ≡ digits ++ (name ++ label_end s)
+label-text digits name s is =
+    is (label_text name s)
+    ∙ ap (λ (l : List ℕ). digits ++ l)
+    (append_assoc name (blanked (signed_decimal (middle s.rect.x0 s.rect.x1) ∷ signed_decimal (middle s.rect.y0 s.rect.y1) ∷ [])) (59 ∷ 10 ∷ []))

@@ -1,4 +1,4 @@
-use Rattle.std.proofs.Common.{◌≡◌, ◌≤◌, ◌++◌, ◌∷◌, ◌∙◌, [], ℕ, suc, ◌+◌, List, length, map, Option, option_map, slice_get, ap, ap₂, refl, sym, arith}
+use Rattle.std.proofs.Common.{◌≡◌, ◌≤◌, ◌++◌, ◌∷◌, ◌∙◌, [], ℕ, suc, ◌+◌, Bool, List, length, map, Option, option_map, slice_get, ap, ap₂, refl, sym, arith}
 use Rattle.std.proofs.lemmas.List.{map-append}
 use Rattle.std.proofs.lemmas.Option.{slice_get_past}
 use Rattle.channel_model.specs.declared.wiring.Wiring.{Wiring}
@@ -62,11 +62,11 @@ symbols-drawn r d fed =
     ∙ ap (λ (l : List written.WrittenSymbol). map (symbol_for r) d.kinds ++ l) (with-feeds r d (length d.kinds + 0) (feed_heights fed) (omega arith))
 
 -- the whole text of a stack, by the drawings of its symbols, the heights of its feeds, and where its channels and rows lie
-pub whole-text : (r : RuleValues) (d : Netlist) (fed : Fed) (ws : List Wiring) (drawn : List (List Shape)) (tall : List ℕ) (laid : LaidOut)
+pub whole-text : (labels : Bool) (r : RuleValues) (d : Netlist) (fed : Fed) (ws : List Wiring) (drawn : List (List Shape)) (tall : List ℕ) (laid : LaidOut)
     → drawn ≡ symbol_drawings r d fed → tall ≡ feed_heights fed → laid ≡ laid_of (stack_of r d fed ws)
-    → line commands.Comment ++ text_behind (symbols_with d 0 drawn) (laid_items d tall (drawings r ws laid.channel_base) laid) ≡ placed_text r d fed (stack_of r d fed ws)
+    → line commands.Comment ++ text_behind (symbols_with d 0 drawn) (laid_items labels r d tall (drawings r ws laid.channel_base) laid) ≡ placed_text labels r d fed (stack_of r d fed ws)
 unfolding placed_text stack_of
-whole-text r d fed ws drawn tall laid drawn_are tall_are laid_is =
-    ap₂ (λ (l : List (List Shape)) (o : LaidOut). line commands.Comment ++ text_behind (symbols_with d 0 l) (laid_items d tall (drawings r ws o.channel_base) o)) drawn_are laid_is
-    ∙ ap₂ (λ (l : List written.WrittenSymbol) (hs : List ℕ). line commands.Comment ++ text_behind l (main_items d hs (stack_of r d fed ws))) (symbols-drawn r d fed) tall_are
-    ∙ sym (layout-text (symbols_of r d fed) (main_items d (feed_heights fed) (stack_of r d fed ws)))
+whole-text labels r d fed ws drawn tall laid drawn_are tall_are laid_is =
+    ap₂ (λ (l : List (List Shape)) (o : LaidOut). line commands.Comment ++ text_behind (symbols_with d 0 l) (laid_items labels r d tall (drawings r ws o.channel_base) o)) drawn_are laid_is
+    ∙ ap₂ (λ (l : List written.WrittenSymbol) (hs : List ℕ). line commands.Comment ++ text_behind l (main_items labels r d hs (stack_of r d fed ws))) (symbols-drawn r d fed) tall_are
+    ∙ sym (layout-text (symbols_of r d fed) (main_items labels r d (feed_heights fed) (stack_of r d fed ws)))

@@ -1,4 +1,4 @@
-use Rattle.std.proofs.Common.{◌≡◌, ℕ, ◌+◌, ◌*◌, ◌<◌, ◌≤◌, List, [], ◌∷◌, length, map, All, true, Some, arith, length-append, subst, sym}
+use Rattle.std.proofs.Common.{◌≡◌, ℕ, ◌+◌, ◌*◌, ◌<◌, ◌≤◌, List, [], ◌∷◌, length, map, All, Bool, true, false, Some, arith, length-append, subst, sym}
 use Rattle.std.proofs.Math.Nat.{mul-le-mul_right}
 use Rattle.std.proofs.lemmas.List.{length-map}
 use Rattle.std.proofs.lemmas.List.Elements.{recursion_from_All}
@@ -19,6 +19,8 @@ use Rattle.feed_cells.specs.declared.fed.Item.{Item}
 use Rattle.layout_laws.specs.Heights.{channel_height}
 use Rattle.cif_text.proofs.WrittenLayout.{IsDrawn, IsItem, IsWritable, symbols_from}
 use Rattle.cif_writer.specs.FeedHeights.{feed_heights, is_feed}
+use Rattle.cif_writer.specs.InReach.{IsPlaceInReach}
+use Rattle.channel_stack.specs.declared.placed.PlacedItem.{PlacedItem}
 use Rattle.cif_writer.specs.Symbols.{feed_symbol, items_of, main_items, symbol_for, symbols_of}
 use Rattle.channel_stack.specs.Routed.{IsRouted}
 use Rattle.channel_stack.specs.Stack.{channel_bases, drawings, most_columns, placed_rows, row_bases, stack_of, stack_top}
@@ -27,7 +29,7 @@ use Rattle.cif_writer.proofs.HeightLaws.{feeds-few, feeds-hold}
 use Rattle.channel_stack.proofs.Planned.{height_of_row, risers_in, row_heights}
 use Rattle.channel_stack.proofs.RowHeights.{height-within, row-low, row-room}
 use Rattle.channel_stack.proofs.StackBounds.{IsBounded, bases-within, channel-below, columns-most, heights-counted, heights-of}
-use Rattle.cif_writer.proofs.WritableItems.{IsLaid, IsRow, items-are}
+use Rattle.cif_writer.proofs.WritableItems.{IsLaid, IsRow, items-are, rows-are}
 use Rattle.cif_writer.proofs.WritableRisers.{risers-are}
 use Rattle.cif_writer.proofs.WritableSymbols.{feeds-are, kinds-are}
 use Rattle.cif_writer.proofs.WritableWires.{IsWire, drawing-is}
@@ -90,11 +92,11 @@ heights-few d fed is =
     omega (arith, feeds-few fed, heights-counted d fed is)
 
 -- the layout of a routed design can be written
-pub stack-writable : (r : RuleValues) (d : Netlist) (fed : Fed) (ws : List Wiring) → ValidRules r → IsNetlist d → IsFed d fed
+pub stack-writable : (labels : Bool) (r : RuleValues) (d : Netlist) (fed : Fed) (ws : List Wiring) → ValidRules r → IsNetlist d → IsFed d fed
     → HasRoom r d → IsRouted r d fed ws
-    → IsWritable (symbols_of r d fed) (main_items d (feed_heights fed) (stack_of r d fed ws))
+    → IsWritable (symbols_of r d fed) (main_items labels r d (feed_heights fed) (stack_of r d fed ws))
 unfolding stack_of
-stack-writable r d fed ws valid good is tall routed =
+stack-writable labels r d fed ws valid good is tall routed =
     let bounds : IsBounded r d fed ws = bases-within r d fed ws is routed in
     let few : length d.kinds < 4294967296 = good.few_kinds in
     let some : length (feed_heights fed) ≤ 1000000 = heights-few d fed is in
@@ -110,8 +112,8 @@ stack-writable r d fed ws valid good is tall routed =
           (recursion_from_All (λ (k : CellKind). least_height r ≤ k.height) d.kinds tall) (kinds-low r d fed ws good is routed.each))
           (feeds-are r (feed_heights fed) valid (feeds-within r d fed ws valid good is tall routed));
       items = subst (λ (hs : List ℕ). AllByRecursion (IsItem (symbols_from 1 (symbols_of r d fed)))
-          (items_of d (feed_heights fed) hs (drawings r ws (channel_bases r hs 0 ws)) (placed_rows r d fed.rows (row_bases r hs 0 ws)) (risers_in r d fed ws))) heights
-          (items-are r d (feed_heights fed) some valid good fed.width (stack_top r fed.heights 0 ws) bounds.width bounds.height (most_columns ws) bounds.columns
+          (items_of labels r d (feed_heights fed) hs (drawings r ws (channel_bases r hs 0 ws)) (placed_rows r d fed.rows (row_bases r hs 0 ws)) (risers_in r d fed ws))) heights
+          (items-are labels r d (feed_heights fed) some valid good fed.width (stack_top r fed.heights 0 ws) bounds.width bounds.height (most_columns ws) bounds.columns
           0 ws fed.rows (risers_in r d fed ws) (subst (λ (hs : List ℕ). stack_top r hs 0 ws ≤ stack_top r fed.heights 0 ws) (sym heights) (omega arith)) (wirings-laid r d fed ws routed)
           (rows-fit d fed good is bounds.rows) (risers-are r d fed ws valid is routed));
     }
@@ -157,3 +159,14 @@ risers-reach r d fed ws valid is routed =
     every-weaker (AllByRecursion IsWire) InReach
     (λ (rise : List Drawn) (are : AllByRecursion IsWire rise). every-weaker IsWire (λ (a : Drawn). IsShapeInReach a.shape) (λ (a : Drawn) (wire : IsWire a). wire.reach) rise are)
     (risers_in r d fed ws) (risers-are r d fed ws valid is routed)
+
+-- so are the places of its items
+pub places-reach : (r : RuleValues) (d : Netlist) (fed : Fed) (ws : List Wiring) → ValidRules r → IsNetlist d → IsFed d fed → IsRouted r d fed ws
+    → AllByRecursion (λ (row : List PlacedItem). AllByRecursion (λ (p : PlacedItem). IsPlaceInReach p.place) row) (stack_of r d fed ws).cells
+unfolding stack_of
+places-reach r d fed ws valid good is routed =
+    let bounds : IsBounded r d fed ws = bases-within r d fed ws is routed in
+    let heights : row_heights d fed.rows ≡ fed.heights = sym (heights-of d fed is) in
+    subst (λ (hs : List ℕ). AllByRecursion (λ (row : List PlacedItem). AllByRecursion (λ (p : PlacedItem). IsPlaceInReach p.place) row) (placed_rows r d fed.rows (row_bases r hs 0 ws))) heights
+    (rows-are false r d (feed_heights fed) (heights-few d fed is) valid good fed.width (stack_top r fed.heights 0 ws) bounds.width bounds.height 0 ws fed.rows
+    (subst (λ (hs : List ℕ). stack_top r hs 0 ws ≤ stack_top r fed.heights 0 ws) (sym heights) (omega arith)) (rows-fit d fed good is bounds.rows))

@@ -27,7 +27,11 @@ use Rattle.cif_text.specs.Symbols.{symbol_of}
 use Rattle.cif_text.proofs.TextLemmas.{symbol_of-written}
 use Rattle.cif_writer.specs.FeedHeights.{height_place}
 use Rattle.cif_writer.specs.Symbols.{copies_of, copy_of, feed_number, feed_symbol, items_of, name_of, number_of, symbol_for, wires_of}
+use Rattle.cif_writer.specs.InReach.{IsPlaceInReach}
+use Rattle.cif_writer.specs.Labels.{item_marks, label_of}
+use Rattle.channel_stack.specs.declared.placed.PlacedItem.{PlacedItem}
 use Rattle.cif_writer.proofs.HeightLaws.{height-placed}
+use Rattle.cif_writer.proofs.WritableLabels.{marks-are, whole-place}
 use Rattle.channel_stack.proofs.Planned.{height_of_row, row_heights}
 use Rattle.channel_stack.specs.Stack.{channel_bases, row_bases, stack_top, drawings, placed_rows, placed_from, item_place, place_at, corner_column, is_mirrored}
 use Rattle.cif_writer.proofs.FedItems.{IsThere}
@@ -60,7 +64,7 @@ first-fits left w ws total wide parted room = omega arith
 others-fit : (left w ws total wide : ℕ) → total ≡ w + ws → left + total ≤ wide → (left + w) + ws ≤ wide
 others-fit left w ws total wide parted room = omega arith
 
-module _ (r : RuleValues) (d : Netlist) (tall : List ℕ) (many : length tall ≤ 1000000) (valid : ValidRules r) (good : IsNetlist d) (wide high : ℕ)
+module _ (labels : Bool) (r : RuleValues) (d : Netlist) (tall : List ℕ) (many : length tall ≤ 1000000) (valid : ValidRules r) (good : IsNetlist d) (wide high : ℕ)
     (across : wide * r.grid.column * r.grid.centi ≤ 1000000000) (up : high * r.grid.centi ≤ 1000000000) where
   abbrev symbols : List written.WrittenSymbol
   symbols = map (symbol_for r) d.kinds ++ map (feed_symbol r) tall
@@ -141,18 +145,48 @@ module _ (r : RuleValues) (d : Netlist) (tall : List ℕ) (many : length tall �
 
   -- the items of a row are copies of symbols
   copies-are : (height base left : ℕ) (row : List items.Item) → base ≤ high → left + items_width d row ≤ wide → AllByRecursion (IsThere d tall height) row
-      → AllByRecursion (IsItem (symbols_from 1 symbols)) (copies_of d (feed_number d tall height) (placed_from r d base left row))
+      → AllByRecursion (IsItem (symbols_from 1 symbols)) (copies_of labels r d (feed_number d tall height) (placed_from r d base left row))
   copies-are height base left [] low room there = tt
   copies-are height base left (item ∷ row) low room there =
       let width : ℕ = item_width d item in
       let more : items_width d (item ∷ row) ≡ item_width d item + items_width d row = width-cons d item row in
       let first : left + item_width d item ≤ wide = first-fits left (item_width d item) (items_width d row) (items_width d (item ∷ row)) wide more room in
       let corner : corner_column (is_mirrored item) left (item_width d item) ≤ left + item_width d item = corner-within (is_mirrored item) left (item_width d item) in
+      let column : corner_column (is_mirrored item) left (item_width d item) ≤ wide = omega arith in
+      let place : Place = item_place r d base left item in
+      let whole : IsWhole place = place-whole base (is_mirrored item) (corner_column (is_mirrored item) left (item_width d item)) low column in (
+        item-is height item place there.0 whole,
+        every-append (IsItem (symbols_from 1 symbols)) (map label_of (item_marks labels r d (record { item = item; place = place })))
+            (copies_of labels r d (feed_number d tall height) (placed_from r d base (left + item_width d item) row))
+            (marks-are labels (symbols_from 1 symbols) r d valid good (record { item = item; place = place }) (whole-place place whole))
+            (copies-are height base (left + item_width d item) row low
+            (others-fit left (item_width d item) (items_width d row) (items_width d (item ∷ row)) wide more room) there.1),
+      )
+
+  -- and their places lie within reach
+  places-are : (base left : ℕ) (row : List items.Item) → base ≤ high → left + items_width d row ≤ wide
+      → AllByRecursion (λ (p : PlacedItem). IsPlaceInReach p.place) (placed_from r d base left row)
+  places-are base left [] low room = tt
+  places-are base left (item ∷ row) low room =
+      let more : items_width d (item ∷ row) ≡ item_width d item + items_width d row = width-cons d item row in
+      let first : left + item_width d item ≤ wide = first-fits left (item_width d item) (items_width d row) (items_width d (item ∷ row)) wide more room in
+      let corner : corner_column (is_mirrored item) left (item_width d item) ≤ left + item_width d item = corner-within (is_mirrored item) left (item_width d item) in
       let column : corner_column (is_mirrored item) left (item_width d item) ≤ wide = omega arith in (
-        item-is height item (item_place r d base left item) there.0
+        whole-place (item_place r d base left item)
             (place-whole base (is_mirrored item) (corner_column (is_mirrored item) left (item_width d item)) low column),
-        copies-are height base (left + item_width d item) row low
-            (others-fit left (item_width d item) (items_width d row) (items_width d (item ∷ row)) wide more room) there.1,
+        places-are base (left + item_width d item) row low
+            (others-fit left (item_width d item) (items_width d row) (items_width d (item ∷ row)) wide more room),
+      )
+
+  pub rows-are : (base : ℕ) (ws : List Wiring) (rows : List (List items.Item)) → stack_top r (row_heights d rows) base ws ≤ high
+      → AllByRecursion (IsRow d tall wide) rows
+      → AllByRecursion (λ (row : List PlacedItem). AllByRecursion (λ (p : PlacedItem). IsPlaceInReach p.place) row) (placed_rows r d rows (row_bases r (row_heights d rows) base ws))
+  rows-are base ws [] low fit = tt
+  rows-are base [] (row ∷ rows) low fit = tt
+  rows-are base (w ∷ ws) (row ∷ rows) low fit =
+      let edge : base + channel_height r w ≤ high = omega (arith, channel-below r (row_heights d (row ∷ rows)) base w ws) in (
+        places-are (base + channel_height r w) 0 row edge (omega (arith, fit.0.narrow)),
+        rows-are (base + channel_height r w + height_of_row d row) ws rows low fit.1,
       )
 
   -- wires stand alone
@@ -170,7 +204,7 @@ module _ (r : RuleValues) (d : Netlist) (tall : List ℕ) (many : length tall �
     pub items-are : (base : ℕ) (ws : List Wiring) (rows : List (List items.Item)) (risers : List (List Drawn)) → stack_top r (row_heights d rows) base ws ≤ high
         → AllByRecursion (IsLaid columns) ws → AllByRecursion (IsRow d tall wide) rows → AllByRecursion (AllByRecursion IsWire) risers
         → AllByRecursion (IsItem (symbols_from 1 symbols))
-        (items_of d tall (row_heights d rows) (drawings r ws (channel_bases r (row_heights d rows) base ws)) (placed_rows r d rows (row_bases r (row_heights d rows) base ws)) risers)
+        (items_of labels r d tall (row_heights d rows) (drawings r ws (channel_bases r (row_heights d rows) base ws)) (placed_rows r d rows (row_bases r (row_heights d rows) base ws)) risers)
     items-are base [] rows risers low laid fit rising = tt
     items-are base (w ∷ ws) [] risers low laid fit rising = wires-are base w low laid.0
     items-are base (w ∷ ws) (row ∷ rows) [] low laid fit rising = wires-are base w (omega (arith, channel-below r (row_heights d (row ∷ rows)) base w ws)) laid.0
@@ -178,9 +212,9 @@ module _ (r : RuleValues) (d : Netlist) (tall : List ℕ) (many : length tall �
         let edge : base + channel_height r w ≤ high = omega (arith, channel-below r (row_heights d (row ∷ rows)) base w ws) in
         let floor : ℕ = base + channel_height r w in
         let next : ℕ = floor + height_of_row d row in
-        let copies : List written.MainItem = copies_of d (feed_number d tall (height_of_row d row)) (placed_from r d floor 0 row) in
+        let copies : List written.MainItem = copies_of labels r d (feed_number d tall (height_of_row d row)) (placed_from r d floor 0 row) in
         let above : List written.MainItem =
-        items_of d tall (row_heights d rows) (drawings r ws (channel_bases r (row_heights d rows) next ws)) (placed_rows r d rows (row_bases r (row_heights d rows) next ws)) risers in
+        items_of labels r d tall (row_heights d rows) (drawings r ws (channel_bases r (row_heights d rows) next ws)) (placed_rows r d rows (row_bases r (row_heights d rows) next ws)) risers in
         every-append (IsItem (symbols_from 1 symbols)) (wires_of (drawing r base w)) ((copies ++ wires_of rise) ++ above)
         (wires-are base w edge laid.0)
         (every-append (IsItem (symbols_from 1 symbols)) (copies ++ wires_of rise) above

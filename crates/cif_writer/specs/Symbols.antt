@@ -1,5 +1,5 @@
 -- the symbols of a placed design, and what stands at its main level
-use Rattle.std.specs.Prelude.{ℕ, suc, ◌+◌, List, [], ◌∷◌, ◌++◌, map, length, Option, None, Some, option_map, slice_get}
+use Rattle.std.specs.Prelude.{ℕ, suc, ◌+◌, Bool, List, [], ◌∷◌, ◌++◌, map, length, Option, None, Some, option_map, slice_get}
 use Rattle.geom_core.specs.declared.layout.Shape.{Shape}
 use Rattle.geom_core.specs.declared.turn.Place.{Place}
 use Rattle.tech_rules.specs.Rules.{RuleValues}
@@ -16,6 +16,7 @@ use Rattle.channel_stack.specs.Layouts.{feed_drawing}
 use Rattle.channel_stack.specs.Stack.{LaidOut, Stacked, laid_of}
 use Rattle.channel_stack.specs.declared.placed.PlacedItem.{PlacedItem}
 use Rattle.cif_writer.specs.FeedHeights.{feed_heights, height_place}
+use Rattle.cif_writer.specs.Labels.{item_marks, label_of}
 
 -- a kind as a symbol: its name and its drawing
 abbrev pub symbol_for : RuleValues → CellKind → written.WrittenSymbol
@@ -54,32 +55,37 @@ copy_number d number (Feed net) = number
 abbrev pub copy_of : Netlist → ℕ → Item → Place → written.MainItem
 copy_of d number item place = written.copy (copy_name d item) (copy_number d number item) place
 
-abbrev pub copies_of : Netlist → ℕ → List PlacedItem → List written.MainItem
-copies_of d number items = map (λ (p : PlacedItem). copy_of d number p.item p.place) items
+-- an item, and behind it its labels, where labels are written
+abbrev pub item_items : Bool → RuleValues → Netlist → ℕ → PlacedItem → List written.MainItem
+item_items labels r d number p = copy_of d number p.item p.place ∷ map label_of (item_marks labels r d p)
+
+abbrev pub copies_of : Bool → RuleValues → Netlist → ℕ → List PlacedItem → List written.MainItem
+copies_of labels r d number [] = []
+copies_of labels r d number (p ∷ items) = item_items labels r d number p ++ copies_of labels r d number items
 
 -- rectangles of wires stand alone
 abbrev pub wires_of : List Drawn → List written.MainItem
 wires_of drawn = map (λ (a : Drawn). written.alone a.shape) drawn
 
 -- a row of this height: its items from left to right, and then its risers
-abbrev pub row_items : Netlist → List ℕ → ℕ → List PlacedItem → List Drawn → List written.MainItem
-row_items d tall height row risers = copies_of d (feed_number d tall height) row ++ wires_of risers
+abbrev pub row_items : Bool → RuleValues → Netlist → List ℕ → ℕ → List PlacedItem → List Drawn → List written.MainItem
+row_items labels r d tall height row risers = copies_of labels r d (feed_number d tall height) row ++ wires_of risers
 
 -- from the bottom up: channel 0, row 0, channel 1, and so on, with rows of these heights
-abbrev pub items_of : Netlist → List ℕ → List ℕ → List (List Drawn) → List (List PlacedItem) → List (List Drawn) → List written.MainItem
-items_of d tall heights [] rows risers = []
-items_of d tall heights (drawn ∷ channels) [] risers = wires_of drawn
-items_of d tall [] (drawn ∷ channels) (row ∷ rows) risers = wires_of drawn
-items_of d tall (h ∷ heights) (drawn ∷ channels) (row ∷ rows) [] = wires_of drawn
-items_of d tall (h ∷ heights) (drawn ∷ channels) (row ∷ rows) (rise ∷ risers) =
-    wires_of drawn ++ (row_items d tall h row rise ++ items_of d tall heights channels rows risers)
+abbrev pub items_of : Bool → RuleValues → Netlist → List ℕ → List ℕ → List (List Drawn) → List (List PlacedItem) → List (List Drawn) → List written.MainItem
+items_of labels r d tall heights [] rows risers = []
+items_of labels r d tall heights (drawn ∷ channels) [] risers = wires_of drawn
+items_of labels r d tall [] (drawn ∷ channels) (row ∷ rows) risers = wires_of drawn
+items_of labels r d tall (h ∷ heights) (drawn ∷ channels) (row ∷ rows) [] = wires_of drawn
+items_of labels r d tall (h ∷ heights) (drawn ∷ channels) (row ∷ rows) (rise ∷ risers) =
+    wires_of drawn ++ (row_items labels r d tall h row rise ++ items_of labels r d tall heights channels rows risers)
 
 -- the main level of a layout that lies so, with these rectangles of channels
-abbrev pub laid_items : Netlist → List ℕ → List (List Drawn) → LaidOut → List written.MainItem
-laid_items d tall channels laid = items_of d tall laid.row_height channels laid.cells laid.risers
+abbrev pub laid_items : Bool → RuleValues → Netlist → List ℕ → List (List Drawn) → LaidOut → List written.MainItem
+laid_items labels r d tall channels laid = items_of labels r d tall laid.row_height channels laid.cells laid.risers
 
-abbrev pub main_items : Netlist → List ℕ → Stacked → List written.MainItem
-main_items d tall placed = laid_items d tall placed.shapes (laid_of placed)
+abbrev pub main_items : Bool → RuleValues → Netlist → List ℕ → Stacked → List written.MainItem
+main_items labels r d tall placed = laid_items labels r d tall placed.shapes (laid_of placed)
 
 -- symbols with these drawings, the first of which has this number, from 0 on: those of kinds have the names of the kinds
 abbrev pub kind_name : Netlist → ℕ → Option (List ℕ)

@@ -12,6 +12,8 @@ ghost use Rattle.cif_text.specs.Written.{items_commands, layer_after, symbols_co
 ghost use Rattle.cif_text.specs.declared.command.CifCommand.TheVariants as commands;
 ghost use Rattle.cif_writer.specs.FeedHeights.{feed_heights};
 ghost use Rattle.cif_writer.specs.InReach.{AreInReach};
+ghost use Rattle.cif_writer.specs.LabelParts.{AreLabelParts};
+ghost use Rattle.cif_writer.specs.Labels.{first_pins};
 ghost use Rattle.cif_writer.specs.LayoutText.{HoldsFront, placed_text, text_behind};
 ghost use Rattle.cif_writer.specs.Symbols.{kind_name, laid_items, symbol_drawings, symbols_with, wires_of};
 ghost use Rattle.design_model.specs.Room.{HasRoom};
@@ -23,12 +25,14 @@ ghost use Rattle.shelf_io.specs.OtherFiles.{OthersSame};
 ghost use Rattle.shelf_io.specs.Told.{Refines};
 ghost use Rattle.shelf_io.specs.Wrote.{Puts, Writes};
 ghost use Rattle.std.specs.List.{All, AllByRecursion};
-ghost use Rattle.std.specs.Prelude.{◌≡◌, ◌++◌, List, None, Some, is_ok, map, option_map, OnOk, OnErr};
+ghost use Rattle.std.specs.Prelude.{◌≡◌, ◌++◌, List, None, Some, is_ok, is_some, map, option_map, IfSome, OnOk, OnErr};
 ghost use Rattle.tech_rules.specs.Rules.{ValidRules};
 ghost use Rattle.wire_geom.specs.Drawing.{drawing};
 ghost use Rattle.wire_geom.specs.declared.drawn.Drawn.{Drawn};
 
 use crate::drawings::Symbols;
+use crate::marks::RowParts;
+use crate::net_firsts::FirstPins;
 use crate::rows::write_level;
 use crate::text::Text;
 use channel_model::{HasWiring, Wiring};
@@ -94,7 +98,8 @@ fn write_wires<K: Sink>(
     Ok(())
 }
 
-/// A routed design as it is written: its rows with feeds, the wirings of its channels, where all of it lies, and its symbols.
+/// A routed design as it is written: its rows with feeds, the wirings of its channels, where all of it lies, its symbols, and the first pins of its nets where labels
+/// are to be written.
 #[derive(Drop)]
 pub struct RoutedDesign<'p, W> {
     pub design: &'p Design,
@@ -103,6 +108,7 @@ pub struct RoutedDesign<'p, W> {
     pub laid: &'p Laid,
     pub symbols: &'p Symbols,
     pub rules: &'p Rules,
+    pub labels: Option<&'p FirstPins>,
 }
 
 // How many rectangles a channel is drawn with.
@@ -127,10 +133,18 @@ fn write_main<'p, W: HasWiring, K: Sink, V: Watch>(
     all: u64,
     watch: &mut V,
 ) -> Result<(), Failed>
-    requires { AreInReach routed.now.rules.now (map W.wiring_of routed.now.wirings.now) routed.now.laid.now.channel_base routed.now.laid.now.risers routed.now.symbols.now.drawings }
-    ensures wrote { Writes result (text_of (items_commands text.old.last (laid_items routed.now.design.now routed.now.symbols.now.feed_heights (drawings routed.now.rules.now (map W.wiring_of routed.now.wirings.now) routed.now.laid.now.channel_base) routed.now.laid.now))) text.old.buffered text.new.buffered (K.written out.old) (K.written out.new) (K.faults out.old) (K.faults out.new) (K.same_place out.old out.new) (K.else_same out.old out.new) }
+    requires parts { AreLabelParts routed.now.rules.now routed.now.design.now routed.now.symbols.now.drawings (option_map (λ firsts. firsts.now) routed.now.labels) }
+    requires reach { AreInReach routed.now.rules.now (map W.wiring_of routed.now.wirings.now) routed.now.laid.now.channel_base routed.now.laid.now.cells routed.now.laid.now.risers routed.now.symbols.now.drawings }
+    ensures wrote { Writes result (text_of (items_commands text.old.last (laid_items (is_some routed.now.labels) routed.now.rules.now routed.now.design.now routed.now.symbols.now.feed_heights (drawings routed.now.rules.now (map W.wiring_of routed.now.wirings.now) routed.now.laid.now.channel_base) routed.now.laid.now))) text.old.buffered text.new.buffered (K.written out.old) (K.written out.new) (K.faults out.old) (K.faults out.new) (K.same_place out.old out.new) (K.else_same out.old out.new) }
     ensures goes { V.goes watch.old watch.new }
 {
+    let drawings = routed.symbols.drawings.items();
+    let parts = RowParts {
+        design: routed.design,
+        rules: routed.rules,
+        drawings,
+        labels: routed.labels,
+    };
     let mut written: u64 = 0;
     let mut channels = routed.wirings;
     let laid = routed.laid;
@@ -153,15 +167,7 @@ fn write_main<'p, W: HasWiring, K: Sink, V: Watch>(
         let Some((rise, rising)) = risers.split_first() else {
             return Ok(());
         };
-        write_level(
-            text,
-            out,
-            routed.design,
-            tall,
-            *height,
-            row.items(),
-            rise.items(),
-        )?;
+        write_level(text, out, &parts, tall, *height, row.items(), rise.items())?;
         written = written.saturating_add(shapes_of(one));
         watch.told(Step::Writing, written, all);
         channels = above;
@@ -179,8 +185,9 @@ fn write_all<'p, W: HasWiring, K: Sink, V: Watch>(
     routed: &'p RoutedDesign<'p, W>,
     watch: &mut V,
 ) -> Result<(), Failed>
-    requires { AreInReach routed.now.rules.now (map W.wiring_of routed.now.wirings.now) routed.now.laid.now.channel_base routed.now.laid.now.risers routed.now.symbols.now.drawings }
-    ensures put { Puts result (line commands.Comment ++ (text_behind (symbols_with routed.now.design.now 0 routed.now.symbols.now.drawings) (laid_items routed.now.design.now routed.now.symbols.now.feed_heights (drawings routed.now.rules.now (map W.wiring_of routed.now.wirings.now) routed.now.laid.now.channel_base) routed.now.laid.now))) (K.written out.old) (K.written out.new) (K.faults out.old) (K.faults out.new) (K.same_place out.old out.new) (K.else_same out.old out.new) }
+    requires parts { AreLabelParts routed.now.rules.now routed.now.design.now routed.now.symbols.now.drawings (option_map (λ firsts. firsts.now) routed.now.labels) }
+    requires reach { AreInReach routed.now.rules.now (map W.wiring_of routed.now.wirings.now) routed.now.laid.now.channel_base routed.now.laid.now.cells routed.now.laid.now.risers routed.now.symbols.now.drawings }
+    ensures put { Puts result (line commands.Comment ++ (text_behind (symbols_with routed.now.design.now 0 routed.now.symbols.now.drawings) (laid_items (is_some routed.now.labels) routed.now.rules.now routed.now.design.now routed.now.symbols.now.feed_heights (drawings routed.now.rules.now (map W.wiring_of routed.now.wirings.now) routed.now.laid.now.channel_base) routed.now.laid.now))) (K.written out.old) (K.written out.new) (K.faults out.old) (K.faults out.new) (K.same_place out.old out.new) (K.else_same out.old out.new) }
     ensures goes { V.goes watch.old watch.new }
 {
     let all = shapes_in(routed.wirings);
@@ -203,8 +210,9 @@ fn put_design<'p, W: HasWiring, S: Shelf, V: Watch>(
     routed: &'p RoutedDesign<'p, W>,
     watch: &mut V,
 ) -> Result<(), Failed>
-    requires { AreInReach routed.now.rules.now (map W.wiring_of routed.now.wirings.now) routed.now.laid.now.channel_base routed.now.laid.now.risers routed.now.symbols.now.drawings }
-    ensures put { Puts result (line commands.Comment ++ (text_behind (symbols_with routed.now.design.now 0 routed.now.symbols.now.drawings) (laid_items routed.now.design.now routed.now.symbols.now.feed_heights (drawings routed.now.rules.now (map W.wiring_of routed.now.wirings.now) routed.now.laid.now.channel_base) routed.now.laid.now))) (S.holds shelf.old file.now) (S.holds shelf.new file.now) (S.write_faults shelf.old file.now) (S.write_faults shelf.new file.now) (Unit {0}) (λ calm. OthersSame calm file.now (S.holds shelf.old) (S.holds shelf.new) (S.read_faults shelf.old) (S.read_faults shelf.new) (S.write_faults shelf.old) (S.write_faults shelf.new)) }
+    requires parts { AreLabelParts routed.now.rules.now routed.now.design.now routed.now.symbols.now.drawings (option_map (λ firsts. firsts.now) routed.now.labels) }
+    requires reach { AreInReach routed.now.rules.now (map W.wiring_of routed.now.wirings.now) routed.now.laid.now.channel_base routed.now.laid.now.cells routed.now.laid.now.risers routed.now.symbols.now.drawings }
+    ensures put { Puts result (line commands.Comment ++ (text_behind (symbols_with routed.now.design.now 0 routed.now.symbols.now.drawings) (laid_items (is_some routed.now.labels) routed.now.rules.now routed.now.design.now routed.now.symbols.now.feed_heights (drawings routed.now.rules.now (map W.wiring_of routed.now.wirings.now) routed.now.laid.now.channel_base) routed.now.laid.now))) (S.holds shelf.old file.now) (S.holds shelf.new file.now) (S.write_faults shelf.old file.now) (S.write_faults shelf.new file.now) (Unit {0}) (λ calm. OthersSame calm file.now (S.holds shelf.old) (S.holds shelf.new) (S.read_faults shelf.old) (S.read_faults shelf.new) (S.write_faults shelf.old) (S.write_faults shelf.new)) }
     ensures goes { V.goes watch.old watch.new }
 {
     let mut out = FileSink::new(shelf, file);
@@ -212,10 +220,10 @@ fn put_design<'p, W: HasWiring, S: Shelf, V: Watch>(
 }
 
 /// Makes a file hold the text of a routed design, and nothing else: the symbols of its kinds and of its feeds, and then its channels and rows from the bottom up, the
-/// risers of a row behind its items, each rectangle written as it is drawn. Its wirings are routed, it lies as its stack says, and its symbols are drawn so. Takes no
-/// memory. After Failed, which comes only where the file's write count rose, the file holds what it held before, or a front of the text.
+/// risers of a row behind its items, each rectangle written as it is drawn. Its wirings are routed, it lies as its stack says, and its symbols are drawn so. Where it has
+/// the first pins of its nets, which are those of its design, the labels of each cell stand behind the cell. Takes no memory. After Failed, which comes only where the file's write count rose, the file holds what it held before, or a front of the text.
 ///
-/// The text reads as the layout that the stack of these rows and wirings is.
+/// The text reads as the layout that the stack of these rows and wirings is, with labels or without.
 pub fn write_layout<W: HasWiring, S: Shelf>(
     shelf: &mut S,
     file: &str,
@@ -228,10 +236,11 @@ pub fn write_layout<W: HasWiring, S: Shelf>(
     requires laid { routed.now.laid.now ≡ laid_of (stack_of routed.now.rules.now routed.now.design.now routed.now.fed.now (map W.wiring_of routed.now.wirings.now)) }
     requires symbols { routed.now.symbols.now.drawings ≡ symbol_drawings routed.now.rules.now routed.now.design.now routed.now.fed.now }
     requires feeds { routed.now.symbols.now.feed_heights ≡ feed_heights routed.now.fed.now }
-    ensures text { OnOk result (Refines (S.holds shelf.new file.now) (Some (placed_text routed.now.rules.now routed.now.design.now routed.now.fed.now (stack_of routed.now.rules.now routed.now.design.now routed.now.fed.now (map W.wiring_of routed.now.wirings.now))))) }
-    ensures reads_as { ReadsAs (placed_text routed.now.rules.now routed.now.design.now routed.now.fed.now (stack_of routed.now.rules.now routed.now.design.now routed.now.fed.now (map W.wiring_of routed.now.wirings.now)))
+    requires labels { IfSome routed.now.labels (λ firsts. firsts.now ≡ first_pins routed.now.design.now) }
+    ensures text { OnOk result (Refines (S.holds shelf.new file.now) (Some (placed_text (is_some routed.now.labels) routed.now.rules.now routed.now.design.now routed.now.fed.now (stack_of routed.now.rules.now routed.now.design.now routed.now.fed.now (map W.wiring_of routed.now.wirings.now))))) }
+    ensures reads_as { ReadsAs (placed_text (is_some routed.now.labels) routed.now.rules.now routed.now.design.now routed.now.fed.now (stack_of routed.now.rules.now routed.now.design.now routed.now.fed.now (map W.wiring_of routed.now.wirings.now)))
         (layout_of routed.now.rules.now routed.now.design.now (stack_of routed.now.rules.now routed.now.design.now routed.now.fed.now (map W.wiring_of routed.now.wirings.now))) }
-    ensures front { OnErr result (HoldsFront (placed_text routed.now.rules.now routed.now.design.now routed.now.fed.now (stack_of routed.now.rules.now routed.now.design.now routed.now.fed.now (map W.wiring_of routed.now.wirings.now)))
+    ensures front { OnErr result (HoldsFront (placed_text (is_some routed.now.labels) routed.now.rules.now routed.now.design.now routed.now.fed.now (stack_of routed.now.rules.now routed.now.design.now routed.now.fed.now (map W.wiring_of routed.now.wirings.now)))
         (S.holds shelf.old file.now) (S.holds shelf.new file.now)) }
     ensures others { OthersSame (is_ok result) file.now (S.holds shelf.old) (S.holds shelf.new) (S.read_faults shelf.old) (S.read_faults shelf.new) (S.write_faults shelf.old) (S.write_faults shelf.new) }
     ensures cause { OnErr result (Rose (S.write_faults shelf.old file.now) (S.write_faults shelf.new file.now)) }
@@ -254,10 +263,11 @@ pub fn write_layout_watched<W: HasWiring, S: Shelf, V: Watch>(
     requires laid { routed.now.laid.now ≡ laid_of (stack_of routed.now.rules.now routed.now.design.now routed.now.fed.now (map W.wiring_of routed.now.wirings.now)) }
     requires symbols { routed.now.symbols.now.drawings ≡ symbol_drawings routed.now.rules.now routed.now.design.now routed.now.fed.now }
     requires feeds { routed.now.symbols.now.feed_heights ≡ feed_heights routed.now.fed.now }
-    ensures text { OnOk result (Refines (S.holds shelf.new file.now) (Some (placed_text routed.now.rules.now routed.now.design.now routed.now.fed.now (stack_of routed.now.rules.now routed.now.design.now routed.now.fed.now (map W.wiring_of routed.now.wirings.now))))) }
-    ensures reads_as { ReadsAs (placed_text routed.now.rules.now routed.now.design.now routed.now.fed.now (stack_of routed.now.rules.now routed.now.design.now routed.now.fed.now (map W.wiring_of routed.now.wirings.now)))
+    requires labels { IfSome routed.now.labels (λ firsts. firsts.now ≡ first_pins routed.now.design.now) }
+    ensures text { OnOk result (Refines (S.holds shelf.new file.now) (Some (placed_text (is_some routed.now.labels) routed.now.rules.now routed.now.design.now routed.now.fed.now (stack_of routed.now.rules.now routed.now.design.now routed.now.fed.now (map W.wiring_of routed.now.wirings.now))))) }
+    ensures reads_as { ReadsAs (placed_text (is_some routed.now.labels) routed.now.rules.now routed.now.design.now routed.now.fed.now (stack_of routed.now.rules.now routed.now.design.now routed.now.fed.now (map W.wiring_of routed.now.wirings.now)))
         (layout_of routed.now.rules.now routed.now.design.now (stack_of routed.now.rules.now routed.now.design.now routed.now.fed.now (map W.wiring_of routed.now.wirings.now))) }
-    ensures front { OnErr result (HoldsFront (placed_text routed.now.rules.now routed.now.design.now routed.now.fed.now (stack_of routed.now.rules.now routed.now.design.now routed.now.fed.now (map W.wiring_of routed.now.wirings.now)))
+    ensures front { OnErr result (HoldsFront (placed_text (is_some routed.now.labels) routed.now.rules.now routed.now.design.now routed.now.fed.now (stack_of routed.now.rules.now routed.now.design.now routed.now.fed.now (map W.wiring_of routed.now.wirings.now)))
         (S.holds shelf.old file.now) (S.holds shelf.new file.now)) }
     ensures others { OthersSame (is_ok result) file.now (S.holds shelf.old) (S.holds shelf.new) (S.read_faults shelf.old) (S.read_faults shelf.new) (S.write_faults shelf.old) (S.write_faults shelf.new) }
     ensures cause { OnErr result (Rose (S.write_faults shelf.old file.now) (S.write_faults shelf.new file.now)) }

@@ -2,7 +2,10 @@
 #![tactic(auto)]
 
 mod drawings;
+mod labels;
 mod layout;
+mod marks;
+mod net_firsts;
 mod printing;
 mod rows;
 mod text;
@@ -10,4 +13,5 @@ mod writer;
 
 pub use drawings::{Symbols, symbol_drawings};
 pub use layout::{RoutedDesign, write_layout, write_layout_watched};
+pub use net_firsts::{FirstPins, first_pins};
 pub use writer::{StartFault, Writer};

@@ -1,14 +1,15 @@
 //! Pieces of the written text, each put behind what is buffered.
 
 ghost use Rattle.cif_text.specs.Printing.{line, text_of, HasLine};
-ghost use Rattle.cif_text.specs.Written.{box_of, call_to, change, copy_commands, name_commands, shape_commands, shapes_commands, symbol_commands};
+ghost use Rattle.cif_text.specs.Written.{box_of, call_to, change, copy_commands, label_command, label_commands, middle, name_commands, shape_commands, shapes_commands, symbol_commands};
 ghost use Rattle.cif_text.specs.declared.command.CifCommand.TheVariants as commands;
-ghost use Rattle.geom_core.specs.Reach.{IsInReach, IsShapeInReach};
+ghost use Rattle.cif_writer.specs.LabelParts.{IsExtentInTwiceReach, IsInTwiceReach};
+ghost use Rattle.geom_core.specs.Reach.{IsShapeInReach};
 ghost use Rattle.shelf_io.specs.Wrote.{Writes};
 ghost use Rattle.std.specs.List.{AllByRecursion};
-ghost use Rattle.std.specs.Prelude.{◌≡◌, ◌∷◌, ◌++◌, [], ◌-ℤ◌, ◌+ℤ◌, int_div, pos, List, ℕ, None, option_map};
+ghost use Rattle.std.specs.Prelude.{◌≡◌, ◌∷◌, ◌++◌, [], ◌-ℤ◌, int_div, pos, List, ℕ, None, option_map};
 
-use cif_text::{CifCommand, UserKind, print_command};
+use cif_text::{CifCommand, UserKind, print_command, print_label_end};
 use geom_core::{LayerName, Name, Place, Shape};
 use shelf_io::{Buffer, Failed, Sink};
 
@@ -33,6 +34,7 @@ fn digits_of(kind: UserKind) -> &'static [u8]
     match kind {
         UserKind::SymbolName => b"9 ",
         UserKind::InstanceName => b"91 ",
+        UserKind::Label => b"94 ",
         UserKind::Other => b"0 ",
     }
 }
@@ -56,7 +58,7 @@ fn put_name<K: Sink>(
 
 // The box of a shape, in centimicrons.
 fn box_of(shape: &Shape) -> CifCommand
-    requires { IsShapeInReach shape.now }
+    requires { IsExtentInTwiceReach shape.now.rect }
     ensures shape { result ≡ box_of shape.now.rect }
     ensures line { HasLine result }
 {
@@ -72,8 +74,8 @@ fn box_of(shape: &Shape) -> CifCommand
 
 // The length between two places in half centimicrons, in centimicrons.
 fn length_of(low: i64, high: i64) -> i64
-    requires low { IsInReach low }
-    requires high { IsInReach high }
+    requires low { IsInTwiceReach low }
+    requires high { IsInTwiceReach high }
     ensures { result ≡ int_div (high -ℤ low) (pos 2) }
 {
     (high - low) / 2
@@ -81,9 +83,9 @@ fn length_of(low: i64, high: i64) -> i64
 
 // The middle of two places in half centimicrons, in centimicrons.
 fn middle_of(low: i64, high: i64) -> i64
-    requires low { IsInReach low }
-    requires high { IsInReach high }
-    ensures { result ≡ int_div (low +ℤ high) (pos 4) }
+    requires low { IsInTwiceReach low }
+    requires high { IsInTwiceReach high }
+    ensures { result ≡ middle low high }
 {
     (low + high) / 4
 }
@@ -185,4 +187,41 @@ pub(crate) fn put_copy<K: Sink>(
 {
     put_name(buffer, out, UserKind::InstanceName, name)?;
     put_command(buffer, out, &call_of(number, place))
+}
+
+// Puts the line of a label with this name in the middle of a shape.
+fn put_label_line<K: Sink>(
+    buffer: &mut Buffer,
+    out: &mut K,
+    name: &Name,
+    shape: &Shape,
+) -> Result<(), Failed>
+    requires { IsExtentInTwiceReach shape.now.rect }
+    ensures { Writes result (line (label_command name.now shape.now)) buffer.old buffer.new (K.written out.old) (K.written out.new) (K.faults out.old) (K.faults out.new) (K.same_place out.old out.new) (K.else_same out.old out.new) }
+{
+    let rect = shape.rect;
+    let mut text = [0; 160];
+    let end = print_label_end(
+        middle_of(rect.x0, rect.x1),
+        middle_of(rect.y0, rect.y1),
+        &mut text,
+    );
+    buffer.append(out, digits_of(UserKind::Label))?;
+    buffer.append(out, name.items())?;
+    buffer.append(out, &text[..end])
+}
+
+/// Puts a label with this name in the middle of a shape, with the line of its layer where it is not the layer written last.
+pub(crate) fn put_label<K: Sink>(
+    buffer: &mut Buffer,
+    out: &mut K,
+    last: Option<LayerName>,
+    name: &Name,
+    shape: &Shape,
+) -> Result<(), Failed>
+    requires { IsExtentInTwiceReach shape.now.rect }
+    ensures { Writes result (text_of (label_commands last name.now shape.now)) buffer.old buffer.new (K.written out.old) (K.written out.new) (K.faults out.old) (K.faults out.new) (K.same_place out.old out.new) (K.else_same out.old out.new) }
+{
+    put_layer(buffer, out, last, shape.layer)?;
+    put_label_line(buffer, out, name, shape)
 }

@@ -1,14 +1,15 @@
 //! A text in CIF that goes to a sink as it is made.
 
 ghost use Rattle.cif_text.specs.Printing.{line, text_of};
-ghost use Rattle.cif_text.specs.Written.{copy_commands, shape_commands, symbol_commands};
+ghost use Rattle.cif_text.specs.Written.{copy_commands, label_commands, shape_commands, symbol_commands};
 ghost use Rattle.cif_text.specs.declared.command.CifCommand.TheVariants as commands;
+ghost use Rattle.cif_writer.specs.LabelParts.{IsExtentInTwiceReach};
 ghost use Rattle.geom_core.specs.Reach.{IsShapeInReach};
 ghost use Rattle.shelf_io.specs.Wrote.{Puts, Writes};
 ghost use Rattle.std.specs.List.{AllByRecursion};
 ghost use Rattle.std.specs.Prelude.{◌≡◌, ◌++◌, None, Some, option_map};
 
-use crate::printing::{put_command, put_copy, put_shape, put_symbol};
+use crate::printing::{put_command, put_copy, put_label, put_shape, put_symbol};
 use cif_text::{CifCommand, print_command};
 use geom_core::{LayerName, Name, Place, Shape};
 use shelf_io::{Buffer, Failed, Sink};
@@ -82,6 +83,22 @@ impl Text {
         let last = self.last;
         self.last = Some(shape.layer);
         put_shape(&mut self.buffer, out, last, shape)
+    }
+
+    /// Writes a label with this name at the main level, in the middle of a shape, behind the line of the shape's layer where another was written last.
+    pub(crate) fn label<K: Sink>(
+        &mut self,
+        out: &mut K,
+        name: &Name,
+        shape: &Shape,
+    ) -> Result<(), Failed>
+        requires { IsExtentInTwiceReach shape.now.rect }
+        ensures wrote { Writes result (text_of (label_commands self.old.last name.now shape.now)) self.old.buffered self.new.buffered (K.written out.old) (K.written out.new) (K.faults out.old) (K.faults out.new) (K.same_place out.old out.new) (K.else_same out.old out.new) }
+        ensures layer { self.new.last ≡ Some shape.now.layer }
+    {
+        let last = self.last;
+        self.last = Some(shape.layer);
+        put_label(&mut self.buffer, out, last, name, shape)
     }
 
     /// Writes the line `E` and puts all that is buffered.

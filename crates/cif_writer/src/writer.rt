@@ -1,7 +1,7 @@
 //! A text in CIF that is written to a file as it is made.
 
 ghost use Rattle.cif_text.specs.Printing.{line, text_of};
-ghost use Rattle.cif_text.specs.Written.{copy_commands, shape_commands, symbol_commands};
+ghost use Rattle.cif_text.specs.Written.{copy_commands, label_commands, shape_commands, symbol_commands};
 ghost use Rattle.cif_text.specs.declared.command.CifCommand.TheVariants as commands;
 ghost use Rattle.cif_writer.specs.declared.writer.StartFault.TheVariants as faults;
 ghost use Rattle.geom_core.specs.Reach.{IsShapeInReach};
@@ -103,6 +103,24 @@ impl Writer {
     {
         let mut out = FileSink::new(shelf, file);
         self.text.cell(&mut out, name, number, place)?;
+        Ok(self)
+    }
+
+    /// Writes a label with this name at the main level, in the middle of a shape, behind the line of the shape's layer where another was written last.
+    pub fn label<S: Shelf>(
+        mut self,
+        shelf: &mut S,
+        file: &str,
+        name: &Name,
+        shape: &Shape,
+    ) -> Result<Writer, Failed>
+        requires { IsShapeInReach shape.now }
+        ensures wrote { IfOk result (λ writer. texts.Wrote (text_of (label_commands self.last name.now shape.now)) self.buffered writer.buffered (S.holds shelf.old file.now) (S.holds shelf.new file.now) (S.write_faults shelf.old file.now) (S.write_faults shelf.new file.now) (OthersSame true file.now (S.holds shelf.old) (S.holds shelf.new) (S.read_faults shelf.old) (S.read_faults shelf.new) (S.write_faults shelf.old) (S.write_faults shelf.new))) }
+        ensures layer { IfOk result (λ writer. writer.last ≡ Some shape.now.layer) }
+        ensures stopped { OnErr result (texts.Failed (self.buffered ++ (text_of (label_commands self.last name.now shape.now))) (S.holds shelf.old file.now) (S.holds shelf.new file.now) (S.write_faults shelf.old file.now) (S.write_faults shelf.new file.now) (OthersSame false file.now (S.holds shelf.old) (S.holds shelf.new) (S.read_faults shelf.old) (S.read_faults shelf.new) (S.write_faults shelf.old) (S.write_faults shelf.new))) }
+    {
+        let mut out = FileSink::new(shelf, file);
+        self.text.label(&mut out, name, shape)?;
         Ok(self)
     }
 

@@ -34,6 +34,7 @@ rows, joins each net by wires, writes the layout to OUT, and prints it in short.
   --style NAME   how channels are swept: best, deft, near, lean or high; else best
   --edge         route channels without vertical constraints by left edges
   --ports        make the terminals of the PARENT cells at the edges, wired to their nets
+  --labels       write labels with the names of cells and nets, as viewers show them
   --progress     notes on the standard error of how far it has come
   -q, --quiet    no notes on the standard error
 ";

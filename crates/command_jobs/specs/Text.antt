@@ -1,5 +1,5 @@
 -- the rows with feeds of a job, its channels, also routed, and the text of its layout
-use Rattle.std.specs.Prelude.{◌≡◌, ◌≤◌, ℕ, List, map}
+use Rattle.std.specs.Prelude.{◌≡◌, ◌≤◌, ℕ, Bool, List, map}
 use Rattle.limits.specs.declared.TheConstants.{MOST_COLUMNS}
 use Rattle.tech_rules.specs.Rules.{RuleValues}
 use Rattle.design_model.specs.Netlist.{Netlist}
@@ -21,9 +21,9 @@ use Rattle.command_jobs.specs.Rows.{rows_of}
 abbrev pub wirings_of : List Routed → List Wiring
 wirings_of kept = map (λ (r : Routed). r.wiring) kept
 
--- the text of rows with feeds and of the wirings of the channels between them
-abbrev pub routed_text : RuleValues → Netlist → Fed → List Wiring → List ℕ
-routed_text r d fed wirings = placed_text r d fed (stack_of r d fed wirings)
+-- the text of rows with feeds and of the wirings of the channels between them, with labels or without
+abbrev pub routed_text : Bool → RuleValues → Netlist → Fed → List Wiring → List ℕ
+routed_text labels r d fed wirings = placed_text labels r d fed (stack_of r d fed wirings)
 
 -- the rows of a job with feeds
 unfoldable pub rows_with_feeds : Job → Fed
@@ -44,7 +44,7 @@ channels_of job = tables_of job.drawn.design (rows_with_feeds job)
 
 -- the text of a job with these routed channels: that of its rows with feeds and of their wirings
 unfoldable pub job_text : Job → List Routed → List ℕ
-job_text job kept = routed_text job.rules job.drawn.design (rows_with_feeds job) (wirings_of kept)
+job_text job kept = routed_text job.labels job.rules job.drawn.design (rows_with_feeds job) (wirings_of kept)
 
 -- the size that the layout of a job is within
 abbrev pub bound_for : Job → Bound

@@ -19,6 +19,7 @@ try_of rules designs wanted number = record {
   rows = rows_for rules (placed_in designs) wanted.rows number;
   seed = seed_at wanted.seed number;
   tries = wanted.tries;
+  labels = wanted.labels;
 }
 
 -- the estimate of the area of a job's layout

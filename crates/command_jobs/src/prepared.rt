@@ -7,6 +7,7 @@ ghost use Rattle.command_jobs.specs.Summarized.{cost_for, summary_of};
 ghost use Rattle.command_jobs.specs.Text.{AreRoutedRows, channels_of, job_text};
 ghost use Rattle.command_jobs.specs.Tries.{estimate_for, job_of, taken_try, try_of};
 ghost use Rattle.command_jobs.specs.Written.{IsPortedText};
+ghost use Rattle.cif_writer.specs.Labels.{first_pins};
 ghost use Rattle.cif_writer.specs.LayoutText.{HoldsFront};
 ghost use Rattle.design_model.specs.Room.{HasRoom};
 ghost use Rattle.greedy_router.specs.Answers.{AreRouted};
@@ -20,7 +21,7 @@ ghost use Rattle.row_model.specs.declared.rows.Seat.{Seat};
 ghost use Rattle.shelf_io.specs.Count.{Rose};
 ghost use Rattle.shelf_io.specs.OtherFiles.{OthersSame};
 ghost use Rattle.shelf_io.specs.Told.{Refines};
-ghost use Rattle.std.specs.Prelude.{◌≡◌, ◌≢◌, ◌≤◌, List, length, is_ok, Some, IfErr, IfOk, OnErr, OnOk, ℕ};
+ghost use Rattle.std.specs.Prelude.{◌≡◌, ◌≢◌, ◌≤◌, List, length, is_ok, is_some, Some, IfErr, IfOk, IfSome, OnErr, OnOk, ℕ};
 
 use crate::job_limits::moves_refusal;
 use crate::placing::{Annealed, Placed};
@@ -29,9 +30,10 @@ use crate::summarizing::{channel_lines, feed_wire, summarized};
 use crate::trying::job_placed;
 use channel_stack::{Laid, lay};
 use choose_core::{Chooser, Chooses, Style};
-use cif_writer::{RoutedDesign, Symbols, symbol_drawings, write_layout_watched};
+use cif_writer::{FirstPins, RoutedDesign, Symbols, first_pins, symbol_drawings, write_layout_watched};
 use command_ends::Refusal;
 use command_words::Wanted;
+use design_model::Design;
 use feed_cells::FedRows;
 use greedy_router::Routed;
 use layout_notes::{LaidLayout, note_layout};
@@ -55,6 +57,7 @@ pub struct Prepared {
     kept: Vec<Routed>,
     laid: Laid,
     symbols: Symbols,
+    first_pins: Option<FirstPins>,
     summary: Summary,
     first_cost: u64,
 }
@@ -74,6 +77,22 @@ impl Model for Prepared {
     ghost view = { job_in };
 
     ghost invariant = { IsPrepared };
+}
+
+// The first pins of the nets of a design where labels are wished for. The one error is want of memory.
+fn pins_to_label(
+    alloc: Global,
+    design: &Design,
+    labels: bool,
+) -> Result<Option<FirstPins>, AllocError>
+    ensures given { IfOk result (λ found. is_some found ≡ labels) }
+    ensures first { IfOk result (λ found. IfSome found (λ pins. pins ≡ first_pins design.now)) }
+{
+    if labels {
+        Ok(Some(first_pins(alloc, design)?))
+    } else {
+        Ok(None)
+    }
 }
 
 // Lays the rows of a job with feeds and routed channels, draws their symbols, and tells of them in short. They were annealed so. The one error is want of memory.
@@ -102,6 +121,7 @@ fn ready(
     let lines = channel_lines(alloc, wirings, &fed)?;
     let symbols = symbol_drawings(alloc, drawn, &fed, &rules)?;
     let laid = lay(alloc, drawn, &fed, channels.as_slice(), wirings, &rules)?;
+    let first_pins = pins_to_label(alloc, drawn, wanted.labels)?;
     let summary = summarized(drawn, &fed, lines, &laid, annealed, wanted.tries);
     Ok(Prepared {
         rules,
@@ -111,6 +131,7 @@ fn ready(
         kept: routed,
         laid,
         symbols,
+        first_pins,
         summary,
         first_cost: annealed.first_cost,
     })
@@ -175,6 +196,7 @@ impl Prepared {
             wirings: self.kept.as_slice(),
             laid: &self.laid,
             symbols: &self.symbols,
+            labels: self.first_pins.as_ref(),
             rules: &self.rules,
         };
         write_layout_watched(shelf, out, &routed, watch)

@@ -16,6 +16,8 @@ mod help_tests;
 #[cfg(test)]
 mod import_tests;
 #[cfg(test)]
+mod label_tests;
+#[cfg(test)]
 mod limit_tests;
 #[cfg(test)]
 mod line_tests;

@@ -107,7 +107,10 @@ fn is_taken(alloc: Global, count: u32, words: &str, end: &str) -> Result<bool, A
 #[test]
 fn the_first_of_least_estimate_is_taken(rt: HostRuntime) -> Result<(), Fail> {
     for (count, words, end) in TAKEN {
-        assert!(rt; is_taken(rt.alloc(), *count, words, end)?, "{count} {words}");
+        assert!(rt;
+            is_taken(rt.alloc(), *count, words, end)?,
+            "{count} {words}"
+        );
     }
     Ok(())
 }

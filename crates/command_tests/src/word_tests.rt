@@ -41,6 +41,10 @@ route|d|r|o|--style|near|--style|near\n\
 route|d|r|o|--ports|--ports\n\
 route|d|r|o|--ports=x\n\
 make|1|2|r|o|--ports\n\
+route|d|r|o|--labels|--labels\n\
+route|d|r|o|--labels=1\n\
+make|1|2|r|o|--labels\n\
+check|d|r|c|--labels\n\
 route|d|r|o|-q|-q\n\
 route|d|r|o|-q|--quiet\n\
 route|d|r|o|--quiet=1\n\

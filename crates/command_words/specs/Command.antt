@@ -43,10 +43,10 @@ abbrev pub named_app : Text → Text → App
 named_app name last = with_rule (with_rule (with_rule (new_app name)
     (positional_rule (codes "design"))) (positional_rule (codes "rules"))) (positional_rule last)
 
--- `route` with three names, with a seed, a number of rows, a style and a number of tries, and with the wishes for left edges, for ports, to be told of progress and for no notes
+-- `route` with three names, with a seed, a number of rows, a style and a number of tries, and with the wishes for left edges, for ports, for labels, to be told of progress and for no notes
 abbrev pub route_app : App
-route_app = with_rule (with_rule (with_rule (with_rule (with_rule (with_rule (with_rule (with_rule (named_app (codes "route") (codes "out"))
-    (option_rule (codes "seed"))) (option_rule (codes "rows"))) (option_rule (codes "style"))) (option_rule (codes "tries"))) (flag_rule (codes "edge"))) (flag_rule (codes "ports"))) progress_rule) quiet_rule
+route_app = with_rule (with_rule (with_rule (with_rule (with_rule (with_rule (with_rule (with_rule (with_rule (named_app (codes "route") (codes "out"))
+    (option_rule (codes "seed"))) (option_rule (codes "rows"))) (option_rule (codes "style"))) (option_rule (codes "tries"))) (flag_rule (codes "edge"))) (flag_rule (codes "ports"))) (flag_rule (codes "labels"))) progress_rule) quiet_rule
 
 -- `check` with three names, with a file for markers, and with the wishes for ports and for no notes
 abbrev pub check_app : App
@@ -76,12 +76,13 @@ abbrev pub tries_given : Option Text → Option ℕ
 tries_given None = Some 1
 tries_given (Some text) = tries_in text
 
--- how a design is to be laid out, by the seed, the rows, the tries, and whether left edges and ports are wished for
-abbrev pub wanted_from : Option ℕ → Option (Option ℕ) → Option ℕ → Bool → Bool → Option Wanted
-wanted_from (Some seed) (Some rows) (Some tries) edge ports = Some (record { seed = seed; rows = rows; tries = tries; edge = edge; ports = ports })
-wanted_from (Some seed) (Some rows) None edge ports = None
-wanted_from (Some seed) None tries edge ports = None
-wanted_from None rows tries edge ports = None
+-- how a design is to be laid out, by the seed, the rows, the tries, and whether left edges, ports and labels are wished for
+abbrev pub wanted_from : Option ℕ → Option (Option ℕ) → Option ℕ → Bool → Bool → Bool → Option Wanted
+wanted_from (Some seed) (Some rows) (Some tries) edge ports labels =
+    Some (record { seed = seed; rows = rows; tries = tries; edge = edge; ports = ports; labels = labels })
+wanted_from (Some seed) (Some rows) None edge ports labels = None
+wanted_from (Some seed) None tries edge ports labels = None
+wanted_from None rows tries edge ports labels = None
 
 -- the place of the first style of a name, among the names of all
 abbrev pub place_of : List Text → Text → Option ℕ
@@ -105,7 +106,7 @@ names_from None rules out wanted style quiet progress = None
 -- the seed, the rows, the tries and the flags among the values that words gave, and all that they say
 abbrev pub wanted_in : List Row → Option Wanted
 wanted_in values = wanted_from (seed_given (first_of (codes "seed") values)) (rows_given (first_of (codes "rows") values)) (tries_given (first_of (codes "tries") values))
-    (is_given (first_of (codes "edge") values)) (is_given (first_of (codes "ports") values))
+    (is_given (first_of (codes "edge") values)) (is_given (first_of (codes "ports") values)) (is_given (first_of (codes "labels") values))
 
 abbrev pub names_in : List Text → List Row → Option Names
 names_in styles values = names_from (first_of (codes "design") values) (first_of (codes "rules") values) (first_of (codes "out") values) (wanted_in values)
@@ -122,13 +123,13 @@ abbrev pub check_in : List Row → Option CheckNames
 check_in values = check_from (first_of (codes "design") values) (first_of (codes "rules") values) (first_of (codes "cif") values)
     (first_of (codes "markers") values) (is_given (first_of (codes "ports") values)) (is_given (first_of (codes "quiet") values))
 
--- a design that is made, and laid out by the same seed, in rows as usual, as the best of these tries, by the first style, without left edges and without ports
+-- a design that is made, and laid out by the same seed, in rows as usual, as the best of these tries, by the first style, without left edges, ports and labels
 abbrev pub make_names : ℕ → ℕ → ℕ → Text → Text → Bool → Bool → Names
 make_names seed count tries rules out quiet progress = record {
   design = from_seed seed count;
   rules = rules;
   out = out;
-  wanted = record { seed = seed; rows = None; tries = tries; edge = false; ports = false };
+  wanted = record { seed = seed; rows = None; tries = tries; edge = false; ports = false; labels = false };
   style = 0;
   quiet = quiet;
   progress = progress;

@@ -20,8 +20,8 @@ use clap::ArgMatches;
 use std::alloc::Global;
 
 /// How a design is to be laid out: the seed of its annealing, the number of rows, 1 to 512, if one is asked for, of how many placements,
-/// 1 to 64, the best is taken, whether channels without vertical constraints are to be routed by the left edges of their nets, and whether
-/// the terminals of the PARENT become ports.
+/// 1 to 64, the best is taken, whether channels without vertical constraints are to be routed by the left edges of their nets, whether
+/// the terminals of the PARENT become ports, and whether cells and nets get labels.
 #[derive(Clone, Copy, Debug)]
 pub struct Wanted {
     pub seed: u64,
@@ -29,6 +29,7 @@ pub struct Wanted {
     pub tries: TryCount,
     pub edge: bool,
     pub ports: bool,
+    pub labels: bool,
 }
 
 /// Where a design comes from.
@@ -100,6 +101,7 @@ fn wanted_of<'a>(matches: &ArgMatches<'a>) -> Option<Wanted>
         tries: tries_given(value_of(matches, "tries"))?,
         edge: is_given(value_of(matches, "edge")),
         ports: is_given(value_of(matches, "ports")),
+        labels: is_given(value_of(matches, "labels")),
     })
 }
 
@@ -185,6 +187,7 @@ fn make_of<'a>(matches: &ArgMatches<'a>) -> Option<Route<'a>>
             tries,
             edge: false,
             ports: false,
+            labels: false,
         },
         style: 0,
         quiet: is_given(value_of(matches, "quiet")),

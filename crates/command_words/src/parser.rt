@@ -83,12 +83,13 @@ fn with_options<'a>(alloc: Global, command: Parser<'a>) -> Result<Parser<'a>, Al
     with_arg(command, option(alloc, "tries"))
 }
 
-// The command with the wishes for left edges, for ports and to be told of progress.
+// The command with the wishes for left edges, for ports, for labels and to be told of progress.
 fn with_flags<'a>(alloc: Global, command: Parser<'a>) -> Result<Parser<'a>, AllocError>
-    ensures { IfOk result (λ c. app_of c ≡ with_rule (with_rule (with_rule (app_of command.entry) (flag_rule (codes "edge"))) (flag_rule (codes "ports"))) progress_rule) }
+    ensures { IfOk result (λ c. app_of c ≡ with_rule (with_rule (with_rule (with_rule (app_of command.entry) (flag_rule (codes "edge"))) (flag_rule (codes "ports"))) (flag_rule (codes "labels"))) progress_rule) }
 {
     let command = with_arg(command, flag(alloc, "edge"))?;
     let command = with_arg(command, flag(alloc, "ports"))?;
+    let command = with_arg(command, flag(alloc, "labels"))?;
     with_arg(command, progress_flag(alloc))
 }
 

@@ -43,12 +43,13 @@ pub struct Ended {
 
 /// Does the command that the words give.
 ///
-/// `route DESIGN RULES OUT [--seed N] [--rows K] [--tries N] [--style NAME] [--edge] [--ports] [--progress] [-q]` reads the rules from the file RULES and the design in YAL from
+/// `route DESIGN RULES OUT [--seed N] [--rows K] [--tries N] [--style NAME] [--edge] [--ports] [--labels] [--progress] [-q]` reads the rules from the file RULES and the design in YAL from
 /// the file DESIGN, sets its cells in K rows, from 1 to 512, or in as many as make the layout about square, anneals the rows as the rules
 /// say with the seed N, below 2^64, or 1, sets feeds where nets cross rows, joins each net by wires in the channels between the rows, by the
 /// choices of the first of the styles that has the name NAME, or of the first of all, writes the layout in CIF into the file OUT, and prints it in
 /// short. There are one to sixteen styles. With `--edge` channels without vertical constraints are routed by the left edges of their nets, and with `--ports` the terminals of the
-/// design's PARENT become cells, which are not annealed: the inputs in a further row below, the outputs in one above, each wired to its net. With `--tries N`, 1 to 64, the first of N
+/// design's PARENT become cells, which are not annealed: the inputs in a further row below, the outputs in one above, each wired to its net. With `--labels` the text has labels with the names of cells and nets, which
+/// mean nothing for the layout. With `--tries N`, 1 to 64, the first of N
 /// placements whose layout is estimated to have the least area is routed; their seeds go up from the one that is given, and without `--rows` their rows by a list.
 ///
 /// `make SEED N RULES OUT` does so for a design of N instances, from 1 to 20,000, that is made under the rules from SEED, which also anneals, in rows as

@@ -53,6 +53,11 @@ const PORTS: OptionForm = OptionForm {
     value: None,
 };
 
+const LABELS: OptionForm = OptionForm {
+    word: "--labels",
+    value: None,
+};
+
 const MARKERS: OptionForm = OptionForm {
     word: "--markers",
     value: Some("FILE"),
@@ -86,7 +91,7 @@ const QUIET: OptionForm = OptionForm {
 const ROUTE: Form = Form {
     word: "route",
     names: &["DESIGN", "RULES", "OUT"],
-    options: &[SEED, ROWS, TRIES, STYLE, EDGE, PORTS, PROGRESS, QUIET],
+    options: &[SEED, ROWS, TRIES, STYLE, EDGE, PORTS, LABELS, PROGRESS, QUIET],
     topic: Topic::RouteCommand,
 };
 

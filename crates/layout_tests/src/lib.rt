@@ -2,6 +2,8 @@
 #![tactic(auto)]
 
 #[cfg(test)]
+mod label_tests;
+#[cfg(test)]
 mod mirror;
 #[cfg(test)]
 mod mirror_tests;

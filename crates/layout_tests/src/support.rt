@@ -11,7 +11,7 @@ ghost use Rattle.tech_rules.specs.Rules.{ValidRules};
 
 use crate::mirror::mirrored;
 use crate::routing::route_channels;
-use crate::written::text_written;
+use crate::written::{Texts, texts_written};
 use channel_model::{Channel, Wiring};
 use channel_stack::{Placed, stack};
 use design_model::Design;
@@ -92,11 +92,11 @@ fn routed_rows(
     Ok(Some(RoutedRows { channels, wirings }))
 }
 
-/// A layout: what is stacked, and its text.
+/// A layout: what is stacked, and its texts without labels and with them.
 #[derive(Drop)]
 pub(crate) struct Shown {
     pub(crate) placed: Placed,
-    pub(crate) text: Vec<u8>,
+    pub(crate) texts: Texts,
 }
 
 /// The layout of a routed design; None where it has no text.
@@ -114,11 +114,11 @@ fn shown_routed(
     requires channels { channels.now ≡ tables_of design.now fed.now }
     requires routed { IsRouted rules.now design.now fed.now wirings.now }
 {
-    let Some(text) = text_written(alloc, design, fed, channels, wirings, rules)? else {
+    let Some(texts) = texts_written(alloc, design, fed, channels, wirings, rules)? else {
         return Ok(None);
     };
     let placed = stack(alloc, design, fed, channels, wirings, rules)?;
-    Ok(Some(Shown { placed, text }))
+    Ok(Some(Shown { placed, texts }))
 }
 
 /// Whether each kind of cells of a design has room for its pins.

@@ -69,7 +69,7 @@ const RISEN: &[&str] = &[
 /// Whether the text of a design in rows is made of these pieces.
 fn is_text(alloc: Global, rowed: Rowed, pieces: &[&str]) -> Result<bool, Fail> {
     match layout_for(alloc, rowed)? {
-        Some(made) => Ok(is_made_of(made.text.as_slice(), pieces)),
+        Some(made) => Ok(is_made_of(made.texts.bare.as_slice(), pieces)),
         None => Ok(false),
     }
 }
@@ -99,7 +99,7 @@ fn a_mirrored_cell_is_called_by_its_right_edge(rt: HostRuntime) -> Result<(), Fa
 /// Whether the text of a design in rows begins with these pieces.
 fn begins_so(alloc: Global, rowed: Rowed, pieces: &[&str]) -> Result<bool, Fail> {
     match layout_for(alloc, rowed)? {
-        Some(made) => Ok(behind(made.text.as_slice(), pieces).is_some()),
+        Some(made) => Ok(behind(made.texts.bare.as_slice(), pieces).is_some()),
         None => Ok(false),
     }
 }
@@ -127,7 +127,7 @@ fn are_calls(alloc: Global, text: &[u8], wanted: &str) -> Result<bool, Fail> {
 /// The same of the text of a design in rows.
 fn has_calls(alloc: Global, rowed: Rowed, wanted: &str) -> Result<bool, Fail> {
     match layout_for(alloc, rowed)? {
-        Some(made) => are_calls(alloc, made.text.as_slice(), wanted),
+        Some(made) => are_calls(alloc, made.texts.bare.as_slice(), wanted),
         None => Ok(false),
     }
 }

@@ -3,6 +3,10 @@ use Rattle.cif_text.specs.Printing.{line}
 use Rattle.cif_text.specs.Written.{box_of, change}
 use Rattle.shelf_io.proofs.WritesLaws.{writes-both, writes-stopped}
 use Rattle.cif_writer.proofs.Lines.{text-last}
+use Rattle.cif_writer.proofs.NearMiddles.{shape-twice}
+
+pub box_of-requires : goal.box_of-requires
+box_of-requires g c = shape-twice c.args.shape.now.rect c.requires
 
 pub returns-in_err-put_layer : goal.returns-in_err-put_layer
 returns-in_err-put_layer g c =

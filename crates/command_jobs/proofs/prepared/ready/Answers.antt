@@ -39,4 +39,6 @@ invariant_of-result c =
           (ap₂ (λ (rows seed : ℕ). taken_among job.tries rows seed) c.requires.count c.requires.seed);
       symbols = c.in_ok-symbols.ensures.drawings;
       feeds = c.in_ok-symbols.ensures.heights;
+      labels = c.in_ok-first_pins.ensures.given;
+      first = c.in_ok-first_pins.ensures.first;
     }
