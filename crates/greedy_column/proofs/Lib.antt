@@ -15,9 +15,8 @@ pub mod StartLaws
 pub mod LastLaws
 -- the joins of a column
 pub mod JoinLaws
--- sorted numbers, and tracks that are freed one after another
+-- sorted numbers
 pub mod SortedLaws
-pub mod FreedLaws
 -- neighbouring tracks, and the groups that end
 pub mod DeskLaws
 pub mod MarkLaws
