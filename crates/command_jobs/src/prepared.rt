@@ -30,7 +30,9 @@ use crate::summarizing::{channel_lines, feed_wire, summarized};
 use crate::trying::job_placed;
 use channel_stack::{Laid, lay};
 use choose_core::{Chooser, Chooses, Style};
-use cif_writer::{FirstPins, RoutedDesign, Symbols, first_pins, symbol_drawings, write_layout_watched};
+use cif_writer::{
+    FirstPins, RoutedDesign, Symbols, first_pins, symbol_drawings, write_layout_watched,
+};
 use command_ends::Refusal;
 use command_words::Wanted;
 use design_model::Design;

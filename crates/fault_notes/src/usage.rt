@@ -91,7 +91,9 @@ const QUIET: OptionForm = OptionForm {
 const ROUTE: Form = Form {
     word: "route",
     names: &["DESIGN", "RULES", "OUT"],
-    options: &[SEED, ROWS, TRIES, STYLE, EDGE, PORTS, LABELS, PROGRESS, QUIET],
+    options: &[
+        SEED, ROWS, TRIES, STYLE, EDGE, PORTS, LABELS, PROGRESS, QUIET,
+    ],
     topic: Topic::RouteCommand,
 };
 
