@@ -32,7 +32,7 @@ const MISTAKES: &[(&str, &str)] = &[
     ),
     (
         "route|d|r|o|--row|3",
-        "cellroute route: --row is no option of route; its options are --seed, --rows, --tries, --style, --edge, --ports, --progress, --quiet; did you mean --rows? [usage]",
+        "cellroute route: --row is no option of route; its options are --seed, --rows, --tries, --style, --edge, --ports, --labels, --progress, --quiet; did you mean --rows? [usage]",
     ),
     (
         "check|d|r|c|--rows|2",
@@ -44,7 +44,7 @@ const MISTAKES: &[(&str, &str)] = &[
     ),
     (
         "route|d|r|o|-s|5",
-        "cellroute route: -s is no option of route; its options are --seed, --rows, --tries, --style, --edge, --ports, --progress, --quiet [usage]",
+        "cellroute route: -s is no option of route; its options are --seed, --rows, --tries, --style, --edge, --ports, --labels, --progress, --quiet [usage]",
     ),
     (
         "help|rout",
