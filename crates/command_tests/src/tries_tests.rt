@@ -162,7 +162,7 @@ fn tries_in_as_many_rows(rt: HostRuntime) -> Result<(), Fail> {
     let mut found = 0u32;
     for seed in 7..11u64 {
         if is_alone(alloc, &mut shelf, lines.as_slice(), 3, seed)? {
-            found += 1;
+            found = found.saturating_add(1);
         }
     }
     assert!(rt; found == 1);
