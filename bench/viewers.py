@@ -91,7 +91,10 @@ def saved_by_magic(magic, layout, folder):
     ran = subprocess.run(words, cwd=room, stdin=subprocess.DEVNULL, capture_output=True, text=True, timeout=120)
     if not (room / "saved.cif").exists():
         raise SystemExit(f"Magic saved nothing of {layout}:\n{ran.stdout}{ran.stderr}")
-    return room / "saved.cif"
+    saved = room / "saved.cif"
+    # Magic puts a layer behind the place of a label that lies on one, where KLayout wants the height of its letters.
+    saved.write_text(re.sub(r"^(94 \S+ -?\d+ -?\d+) \w+;", r"\1;", saved.read_text(), flags=re.M))
+    return saved
 
 
 def told_by_klayout(klayout, layout, saved, folder):
