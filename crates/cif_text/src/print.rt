@@ -97,7 +97,8 @@ fn print_call(n: u64, flip: bool, quarters: u8, dx: i64, dy: i64, into: &mut [u8
     put(into, end, b";\n")
 }
 
-/// Writes what stands behind a label's name to the front of `into`: its place, the semicolon and a line feed. Gives the length of this. Takes no memory.
+/// Writes what stands behind a label's name to the front of `into`: its place in centimicrons, the semicolon and a line feed. Gives the length of this, at most 160.
+/// Takes no memory.
 pub fn print_label_end(x: i64, y: i64, into: &mut [u8; 160]) -> usize
     ensures text { take result into.new ≡ blanked (signed_decimal x ∷ signed_decimal y ∷ []) ++ (59 ∷ 10 ∷ []) }
     ensures fits { result ≤ 160 }
