@@ -5,7 +5,8 @@ Usage: viewers.py PROGRAM [--klayout klayout] [--magic magic]
 
 PROGRAM is the built cellroute. The layouts are those that it routes of the examples with labels, and the drawn one. KLayout loads each with klayout.lyp, without a window: each line of its list of layers
 must be a layer of the layout, where the layout has shapes on it. Magic reads each with magic.tech and saves it as CIF, and KLayout compares both: on each layer they must cover the same area. Both must
-have each label of the layout, by its name and its place; and `check` must find nothing in it. The last line is `N layouts, M differ`.
+have each label of the layout, by its name and its place; and `check` must find nothing in it. KLayout saves each routed layout as CIF again, in which `check --labels` must find nothing, and
+`check --labels` must read what Magic saved of it. The last line is `N layouts, M differ`.
 """
 import argparse
 import os
@@ -50,6 +51,10 @@ def areas(layout):
             region += pya.Region(cell.begin_shapes_rec(index))
         found[layout.get_info(index).name] = region.merged()
     return found
+
+options = pya.SaveLayoutOptions()
+options.format = "CIF"
+one.write(third, options)
 
 here, there = areas(one), areas(other)
 for name in sorted(set(here) | set(there)):
@@ -97,11 +102,11 @@ def saved_by_magic(magic, layout, folder):
     return saved
 
 
-def told_by_klayout(klayout, layout, saved, folder):
-    """The lines that the script prints, as a set of names for each first word."""
+def told_by_klayout(klayout, layout, saved, again, folder):
+    """The lines that the script prints, as a set of names for each first word. The layout is saved again."""
     script = folder / "compare.py"
     script.write_text(SCRIPT)
-    values = {"first": layout, "second": saved, "layers": VIEWERS / "klayout.lyp"}
+    values = {"first": layout, "second": saved, "third": again, "layers": VIEWERS / "klayout.lyp"}
     words = [klayout, "-zz", "-r", script]
     for name, value in values.items():
         words += ["-rd", f"{name}={value}"]
@@ -121,10 +126,10 @@ def labels_of(text, scale):
     return {f"{name} {round(int(x) * scale)} {round(int(y) * scale)}" for name, x, y in re.findall(r"^94 (\S+) (-?\d+) (-?\d+);", text, re.M)}
 
 
-def is_clean(program, design, layout):
-    """Whether `check` finds nothing in a layout of an example."""
-    ran = subprocess.run([program, "check", design, EXAMPLES / "everyday.toml", layout, "-q"], capture_output=True, text=True)
-    return ran.stdout == "findings 0\n"
+def checked(program, design, layout, *options):
+    """The last line that `check` prints of a layout of an example."""
+    ran = subprocess.run([program, "check", design, EXAMPLES / "everyday.toml", layout, "-q", *options], capture_output=True, text=True)
+    return ran.stdout.splitlines()[-1]
 
 
 def main():
@@ -139,7 +144,8 @@ def main():
         for title, layout in layouts(asked.program.resolve(), folder):
             shown = set(re.findall(r"^L (\w+);", layout.read_text(), re.M)) or {"NM", "NP", "NC", "XP"}
             saved = saved_by_magic(asked.magic, layout, folder)
-            told = told_by_klayout(asked.klayout, layout, saved, folder)
+            again = folder / "again.cif"
+            told = told_by_klayout(asked.klayout, layout, saved, again, folder)
             wanted = labels_of(layout.read_text(), 1)
             design = EXAMPLES / ("joined.yal" if title == "drawn" else f"{title}.yal")
             count += 1
@@ -148,8 +154,13 @@ def main():
             faults += [f"differs {layer}" for layer in sorted(told["differs"])]
             faults += [f"KLayout has no label {label}" for label in sorted(wanted - told["label"])]
             faults += [f"Magic has no label {label}" for label in sorted(wanted - labels_of(saved.read_text(), MAGIC_UNIT))]
-            if not is_clean(asked.program.resolve(), design, layout):
+            program = asked.program.resolve()
+            if checked(program, design, layout) != "findings 0":
                 faults.append("findings")
+            if title != "drawn" and checked(program, design, again, "--labels") != "findings 0":
+                faults.append("findings by labels")
+            if title != "drawn" and not checked(program, design, saved, "--labels").startswith("findings "):
+                faults.append("not read by labels")
             differ += bool(faults)
             print(title, "; ".join(faults) or "same", flush=True)
     print(f"{count} layouts, {differ} differ")

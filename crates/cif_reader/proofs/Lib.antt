@@ -34,3 +34,5 @@ pub mod ExpandLemmas
 pub mod PlacesLaws
 -- it is what they mean, within the limits
 pub mod Agreement
+-- the main level at another scale, and another name that waits
+pub mod ExpanderLaws

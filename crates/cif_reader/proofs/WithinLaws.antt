@@ -151,13 +151,13 @@ given-fit symbols l c shapes is =
     drawn-fit symbols l c shapes parts.0 parts.1
 
 -- the main level is within the limits; its cells are at most so many
-record MainWithin (most : ℕ) (m : Main) : Type 0 where
-  few : length m.level.shapes ≤ most_shapes
-  shapes : AllByRecursion IsShapeWithin m.level.shapes
-  cells : AllByRecursion (IsCellWithin (length m.level.shapes)) m.cells
-  few_cells : length m.cells ≤ most
+pub record MainWithin (most : ℕ) (m : Main) : Type 0 where
+  pub few : length m.level.shapes ≤ most_shapes
+  pub shapes : AllByRecursion IsShapeWithin m.level.shapes
+  pub cells : AllByRecursion (IsCellWithin (length m.level.shapes)) m.cells
+  pub few_cells : length m.cells ≤ most
 
-still-within : (most : ℕ) (m n : Main) → MainWithin most m → n.level.shapes ≡ m.level.shapes → n.cells ≡ m.cells → MainWithin (suc most) n
+pub still-within : (most : ℕ) (m n : Main) → MainWithin most m → n.level.shapes ≡ m.level.shapes → n.cells ≡ m.cells → MainWithin (suc most) n
 still-within most m n h shapes cells = record {
   few = rw shapes h.few;
   shapes = rw shapes h.shapes;
@@ -269,11 +269,23 @@ step-within most s t c h sound none is = by c s.inside sound none is
         subst (λ (u : State). MainWithin (suc most) u.main) whole (still-within most s.main s.main h refl refl)
 
 -- one command, and all
-refused-ok : {A : Type 0} (i : ℕ) (r : Result A ExpandKind) (a : A) → refused_at i r ≡ Ok a → r ≡ Ok a
+pub refused-ok : {A : Type 0} (i : ℕ) (r : Result A ExpandKind) (a : A) → refused_at i r ≡ Ok a → r ≡ Ok a
 refused-ok i (Ok b) a is = cc
 refused-ok i (Err kind) a is = cc
 
-advance-within : (most : ℕ) (p q : Progress) (c : CifCommand) → MainWithin most p.state.main → IsSound c → advance p c ≡ Ok q → MainWithin (suc most) q.state.main
+-- the state behind a command that is taken
+pub advance-step : (p q : Progress) (c : CifCommand) → advance p c ≡ Ok q → step p.state c ≡ Ok q.state
+unfolding advance
+advance-step p q c is =
+    let limit : Option ExpandKind = limit_passed p.state.symbols (present_level p.state p.state.inside) c in
+    let meant = given (within limit (step p.state c)) _ q is in
+    let depth = given (depth_by p.state.symbols p.depths c) _ q meant.2 in
+    let parts = within-ok limit (step p.state c) meant.0 meant.1 in
+    let whole : progress_to p c meant.0 depth.0 ≡ q = cc depth.2 in
+    let same : meant.0 ≡ q.state = sym (progress-state p c meant.0 depth.0) ∙ ap (λ (x : Progress). x.state) whole in
+    parts.1 ∙ ap (λ (s : State). Ok s) same
+
+pub advance-within : (most : ℕ) (p q : Progress) (c : CifCommand) → MainWithin most p.state.main → IsSound c → advance p c ≡ Ok q → MainWithin (suc most) q.state.main
 unfolding advance
 advance-within most p q c h sound is =
     let limit : Option ExpandKind = limit_passed p.state.symbols (present_level p.state p.state.inside) c in
@@ -298,7 +310,7 @@ progress-within (c ∷ cs) i most p q h sound is =
     let count : length cs + suc most ≡ length (c ∷ cs) + most = omega arith in
     subst (λ (n : ℕ). MainWithin n q.state.main) count all
 
-sound-each : (inside : Bool) (cs : List CifCommand) → AreSound inside cs → AllByRecursion IsSound cs
+pub sound-each : (inside : Bool) (cs : List CifCommand) → AreSound inside cs → AllByRecursion IsSound cs
 sound-each inside [] h = absurd h
 sound-each inside (commands.End ∷ cs) h = rw h.1 (tt, tt)
 sound-each inside (commands.Finish ∷ cs) h = (tt, sound-each false cs h.1)

@@ -30,3 +30,6 @@ pub mod Behind
 pub mod Expanding
 -- sound commands
 pub mod SoundCommands
+-- what stands behind some commands, for whoever takes them in an order of their own
+pub mod Expanders
+pub mod ExpandersView

@@ -15,7 +15,7 @@ use cif_text::CifCommand;
 use geom_core::{Items, Layout};
 use std::alloc::Global;
 
-fn fault_at(refusal: ExpandStop, at: u32) -> ExpandFault
+pub(crate) fn fault_at(refusal: ExpandStop, at: u32) -> ExpandFault
     ensures { result ≡ fault_of refusal at }
 {
     match refusal {
@@ -24,7 +24,7 @@ fn fault_at(refusal: ExpandStop, at: u32) -> ExpandFault
     }
 }
 
-fn layout_of(standing: Standing) -> Layout
+pub(crate) fn layout_of(standing: Standing) -> Layout
     ensures { result ≡ record { cells = standing.main.cells.items; shapes = standing.main.shapes.items } }
 {
     Layout {

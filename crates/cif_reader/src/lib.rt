@@ -8,6 +8,7 @@
 mod bounds;
 mod calls;
 mod drawing_command;
+mod expander;
 mod expanding;
 mod fault;
 mod found;
@@ -27,5 +28,7 @@ mod table;
 mod unscaled;
 mod wires;
 
+pub use expander::Expander;
 pub use expanding::expand;
 pub use fault::{ExpandFault, ExpandKind};
+pub use scales::{WideCorner, place_at_scale};

@@ -83,7 +83,7 @@ fn push_cell(cells: &mut Vec<Cell>, cell: Option<Cell>) -> Result<(), AllocError
 }
 
 /// Draws what a command gives.
-fn draw(alloc: Global, shapes: &mut Vec<Shape>, given: &Given) -> Result<(), AllocError>
+pub(crate) fn draw(alloc: Global, shapes: &mut Vec<Shape>, given: &Given) -> Result<(), AllocError>
     ensures { OnOk result (shapes.new.items ≡ shapes.old.items ++ shapes_made given.now) }
 {
     match given {

@@ -1,10 +1,11 @@
 //! The scale of a definition, and box sides, corners and call offsets in half centimicrons, however far they are.
 
-ghost use Rattle.cif_text.specs.Printable.{IsPart};
-ghost use Rattle.cif_text.specs.Scales.{scaled, scaled_corner, scaled_extent, scaled_natural, scaled_turning};
+ghost use Rattle.cif_text.specs.Printable.{IsNearCorner, IsPart};
+ghost use Rattle.cif_text.specs.Scales.{doubled_corner, scaled, scaled_corner, scaled_extent, scaled_natural, scaled_turning};
 ghost use Rattle.std.specs.Prelude.{◌≡◌, ◌≤◌, ◌^◌, nat_abs, option_map, pos, IfSome};
 
 use crate::unscaled::{Sides, UnscaledTurn};
+use crate::wires::doubled_corner;
 use geom_core::Corner;
 use std::marker::Model;
 
@@ -41,9 +42,9 @@ impl Model for WideSides {
 
 /// A point in half centimicrons, however far it is.
 #[derive(Clone, Copy, Debug)]
-pub(crate) struct WideCorner {
-    pub(crate) x: i128,
-    pub(crate) y: i128,
+pub struct WideCorner {
+    pub x: i128,
+    pub y: i128,
 }
 
 impl Model for WideCorner {
@@ -145,4 +146,14 @@ impl Scale {
             dy,
         })
     }
+}
+
+/// A point of a level whose numbers count as `a / b` centimicrons each, where it is whole in half centimicrons. Takes no memory.
+pub fn place_at_scale(a: u64, b: u64, place: Corner) -> Option<WideCorner>
+    requires a { IsPart a }
+    requires b { IsPart b }
+    requires near { IsNearCorner place }
+    ensures { result ≡ scaled_corner a b (doubled_corner place) }
+{
+    Scale { a, b }.scaled_corner(doubled_corner(place))
 }

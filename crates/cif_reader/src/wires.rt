@@ -21,8 +21,9 @@ use geom_core::{Corner, Items, LayerName, Rect, Shape};
 use region_cut::strokes;
 use std::alloc::{AllocError, Global};
 
+/// A point in half of the unit that its coordinates have.
 #[tactic(auto, using(std::proofs::lemmas::Int::ints))]
-fn doubled_corner(corner: Corner) -> Corner
+pub(crate) fn doubled_corner(corner: Corner) -> Corner
     requires { IsNearCorner corner }
     ensures is { result ≡ doubled_corner corner }
     ensures reach { IsCornerInReach result }

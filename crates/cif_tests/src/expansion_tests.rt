@@ -141,7 +141,15 @@ pub(crate) fn expanded(
 
 /// What the text gives, shown as a text.
 pub(crate) fn shown(alloc: Global, text: &[u8]) -> Result<Vec<u8>, AllocError> {
-    match expanded(alloc, text)? {
+    told(alloc, expanded(alloc, text)?)
+}
+
+/// A layout or a refusal, shown as a text.
+pub(crate) fn told(
+    alloc: Global,
+    found: Option<Result<Layout, ExpandFault>>,
+) -> Result<Vec<u8>, AllocError> {
+    match found {
         Some(Ok(layout)) => shown_layout(alloc, &layout),
         Some(Err(ExpandFault::Bad { kind, at })) => format!(in alloc; "{kind:?} {at}")?
             .as_bytes()

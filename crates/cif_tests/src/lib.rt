@@ -10,6 +10,8 @@ mod expansion_tests;
 #[cfg(test)]
 mod fault_tests;
 #[cfg(test)]
+mod label_tests;
+#[cfg(test)]
 mod long_path_tests;
 #[cfg(test)]
 mod many_tests;

@@ -11,6 +11,8 @@ pub mod Forms
 pub mod Calls
 -- the forms of wires and polygons
 pub mod Paths
+-- what the text of a label says
+pub mod Labels
 -- a command, by its first byte, and its faults
 pub mod Flaws
 pub mod Commands

@@ -1,6 +1,7 @@
 //! Blanks, separators, digits and layer letters at the front of a text, and a command's bytes up to its semicolon.
 
 ghost use Rattle.cif_text.specs.Bytes.{begins, is_between as is_between_byte, is_blank as is_blank_byte, is_separator as is_separator_byte, is_white as is_white_byte, not_semicolon, skip, span, trimmed, without_tail};
+ghost use Rattle.cif_text.specs.Labels.{is_word};
 ghost use Rattle.geom_core.specs.LayerText.{is_layer_code};
 ghost use Rattle.std.specs.Char.{is_ascii_digit as is_digit_byte};
 ghost use Rattle.std.specs.List.{list_all, prefix_len};
@@ -142,6 +143,19 @@ pub(crate) fn split_digits(bytes: &[u8]) -> (&[u8], &[u8])
     ensures { (result.0.now, result.1.now) ≡ span is_digit_byte bytes.now }
 {
     bytes.split_at(digits_len(bytes))
+}
+
+fn word_len(text: &[u8]) -> usize
+    ensures { result ≡ prefix_len is_word text.now }
+{
+    text.iter().take_while(|byte| !is_white(**byte)).count()
+}
+
+/// The text up to the first white, and what stands from it on.
+pub(crate) fn split_word(text: &[u8]) -> (&[u8], &[u8])
+    ensures { (result.0.now, result.1.now) ≡ span is_word text.now }
+{
+    text.split_at(word_len(text))
 }
 
 fn is_layer_byte(byte: u8) -> bool

@@ -9,6 +9,7 @@ mod commands;
 mod directions;
 mod fault;
 mod forms;
+mod labels;
 mod misfit;
 mod numbers;
 mod paths;
@@ -18,5 +19,6 @@ mod transform;
 
 pub use command::{CifCommand, UserKind};
 pub use fault::{CifFault, CifKind};
+pub use labels::{Label, label_of};
 pub use print::{print_command, print_label_end};
 pub use reading::read_commands;

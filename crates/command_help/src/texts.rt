@@ -48,6 +48,7 @@ for each thing that is wrong with it, and their number. It writes no file but FI
 
   --markers FILE write it to FILE too, as a report database of KLayout
   --ports        judge it for the design with the terminals of the PARENT as cells
+  --labels       take a call as the cell whose label lies in its outline
   -q, --quiet    no notes on the standard error
 ";
 

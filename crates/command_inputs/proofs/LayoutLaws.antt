@@ -1,4 +1,4 @@
-use Rattle.std.proofs.Common.{◌≡◌, ◌<◌, ◌^◌, ℕ, List, length, Result, Ok, Err, refl, arith}
+use Rattle.std.proofs.Common.{◌≡◌, ◌<◌, ◌^◌, ℕ, List, length, None, Some, Result, Ok, Err, refl, arith}
 use Rattle.std.specs.Prelude.{ℤ, pos, negsuc}
 use Rattle.std.proofs.lemmas.Int.{ints}
 use Rattle.std.proofs.lemmas.List.Elements.{All-from_recursion, All-weaker}
@@ -13,6 +13,8 @@ use Rattle.cif_text.specs.declared.fault.CifKind.{CifKind}
 use Rattle.cif_reader.proofs.AgreementLaws.{expansion-means}
 use Rattle.cif_reader.specs.Expansion.{expansion}
 use Rattle.cif_reader.specs.declared.fault.ExpandKind.{ExpandKind}
+use Rattle.label_reader.specs.Labelled.{labelled}
+use Rattle.label_reader.specs.ReadsByLabels.{ReadsByLabels}
 use Rattle.command_ends.specs.Refusing.{◌>>=◌}
 use Rattle.command_ends.specs.declared.refusal.Refusal.{Refusal}
 use Rattle.cif_reader.specs.Within.{IsCellWithin, IsLayoutWithin, IsNotFar, IsShapeWithin}
@@ -41,23 +43,37 @@ measured most l few within = record {
   shapes = All-weaker IsShapeWithin IsShapeInReach shape-in-reach l.shapes (All-from_recursion IsShapeWithin l.shapes within.shapes);
 }
 
+said-reads : (read : Result (List CifCommand) (CifKind × ℕ)) (commands : List CifCommand) → cif_said read ≡ Ok commands → read ≡ Ok commands
+said-reads (Ok found) commands is = cc
+said-reads (Err bad) commands is = cc
+
+said-means : (found : Result Layout (ExpandKind × ℕ)) (layout : Layout) → meaning_said found ≡ Ok layout → found ≡ Ok layout
+said-means (Ok l) layout is = cc
+said-means (Err bad) layout is = cc
+
 -- the layout that the bytes of a file give is the one as which they read
-pub layout-reads : (bytes : List ℕ) (layout : Layout) → layout_verdict bytes ≡ Ok layout → ReadsAs bytes layout
+pub layout-reads : (bytes : List ℕ) (layout : Layout) → layout_verdict None bytes ≡ Ok layout → ReadsAs bytes layout
 unfolding layout_verdict commands_verdict
 layout-reads bytes layout is = by (commands_verdict bytes) refl is
   where
-    said-reads : (read : Result (List CifCommand) (CifKind × ℕ)) (commands : List CifCommand) → cif_said read ≡ Ok commands → read ≡ Ok commands
-    said-reads (Ok found) commands is = cc
-    said-reads (Err bad) commands is = cc
-
-    said-means : (found : Result Layout (ExpandKind × ℕ)) → meaning_said found ≡ Ok layout → found ≡ Ok layout
-    said-means (Ok l) is = cc
-    said-means (Err bad) is = cc
-
     by : (said : Result (List CifCommand) Refusal) → commands_verdict bytes ≡ said → (said >>= (λ cs. meaning_said (expansion cs))) ≡ Ok layout → ReadsAs bytes layout
     by (Ok commands) found is = record {
       commands = commands;
       reads = said-reads (cif_reads bytes) commands (within-next _ _ bytes (λ whole. cif_said (cif_reads whole)) commands found);
-      means = expansion-means commands layout (said-means (expansion commands) is);
+      means = expansion-means commands layout (said-means (expansion commands) layout is);
+    }
+    by (Err refusal) found is = cc
+
+-- and by labels it is the one as which they read by these
+pub layout-labels : (outline bytes : List ℕ) (layout : Layout) → layout_verdict (Some outline) bytes ≡ Ok layout → ReadsByLabels outline bytes layout
+unfolding layout_verdict commands_verdict
+layout-labels outline bytes layout is = by (commands_verdict bytes) refl is
+  where
+    by : (said : Result (List CifCommand) Refusal) → commands_verdict bytes ≡ said → (said >>= (λ cs. meaning_said (labelled outline cs))) ≡ Ok layout
+        → ReadsByLabels outline bytes layout
+    by (Ok commands) found is = record {
+      commands = commands;
+      reads = said-reads (cif_reads bytes) commands (within-next _ _ bytes (λ whole. cif_said (cif_reads whole)) commands found);
+      labelled_is = said-means (labelled outline commands) layout is;
     }
     by (Err refusal) found is = cc

@@ -1,5 +1,5 @@
 -- the commands and the layout that the bytes of a layout's file give, or why the file is refused
-use Rattle.std.specs.Prelude.{◌<◌, ◌^◌, ℕ, List, false, length, Result, Ok, Err}
+use Rattle.std.specs.Prelude.{◌<◌, ◌^◌, ℕ, List, false, length, Option, None, Some, Result, Ok, Err}
 use Rattle.limits.specs.declared.TheConstants.{MOST_LAYOUT_BYTES}
 use Rattle.geom_core.specs.declared.layout.Layout.{Layout}
 use Rattle.cif_text.specs.CifReads.{cif_reads}
@@ -8,6 +8,7 @@ use Rattle.cif_text.specs.declared.command.CifCommand as cif
 use Rattle.cif_text.specs.declared.fault.CifKind.{CifKind}
 use Rattle.cif_reader.specs.Expansion.{expansion}
 use Rattle.cif_reader.specs.declared.fault.ExpandKind.{ExpandKind}
+use Rattle.label_reader.specs.Labelled.{labelled}
 use Rattle.command_ends.specs.Limits.{within_limit}
 use Rattle.command_ends.specs.Refusing.{◌>>=◌}
 use Rattle.command_ends.specs.declared.refusal.Limited.TheVariants as limits
@@ -33,8 +34,13 @@ commands_verdict bytes = do
   whole ← within_limit limits.Cif MOST_LAYOUT_BYTES bytes
   cif_said (cif_reads whole)
 
+-- the layout that commands give, by names or by the labels on an outline layer
+abbrev pub expansion_by : Option (List ℕ) → List cif.CifCommand → Result Layout (ExpandKind × ℕ)
+expansion_by None commands = expansion commands
+expansion_by (Some outline) commands = labelled outline commands
+
 -- the layout that they give, within the limits of the reader
-unfoldable pub layout_verdict : List ℕ → Result Layout Refusal
-layout_verdict bytes = do
+unfoldable pub layout_verdict : Option (List ℕ) → List ℕ → Result Layout Refusal
+layout_verdict outline bytes = do
   commands ← commands_verdict bytes
-  meaning_said (expansion commands)
+  meaning_said (expansion_by outline commands)

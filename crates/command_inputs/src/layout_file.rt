@@ -1,11 +1,13 @@
 //! What the file of a layout says.
 
-ghost use Rattle.cif_reader.specs.Expansion.{expansion};
+ghost use Rattle.cif_reader.specs.Expanding.{told_of};
+ghost use Rattle.cif_reader.specs.Within.{IsLayoutWithin};
 ghost use Rattle.cif_text.specs.CifReads.{cif_reads};
 ghost use Rattle.command_inputs.specs.Failures.{FileFails};
-ghost use Rattle.command_inputs.specs.LayoutFile.{AreExpandable, cif_said, commands_verdict, layout_verdict, meaning_said};
+ghost use Rattle.command_inputs.specs.LayoutFile.{AreExpandable, cif_said, commands_verdict, expansion_by, layout_verdict, meaning_said};
 ghost use Rattle.command_inputs.specs.Reading.{Loads, Says, files};
 ghost use Rattle.layout_check.specs.Measured.{IsMeasured};
+ghost use Rattle.read_base.specs.Answers.{AnswersAs};
 ghost use Rattle.std.specs.Prelude.{◌<◌, ◌^◌, length, IfOk};
 
 use crate::stages::{load_within, or_stop};
@@ -13,7 +15,8 @@ use crate::texts::Texts;
 use cif_reader::{ExpandFault, expand};
 use cif_text::{CifCommand, CifFault, read_commands};
 use command_ends::{Limited, Refusal, Stop};
-use geom_core::Layout;
+use geom_core::{LayerName, Layout};
+use label_reader::expand_labelled;
 use limits::MOST_LAYOUT_BYTES;
 use shelf_io::Shelf;
 use std::alloc::Global;
@@ -48,30 +51,52 @@ fn load_commands<S: Shelf>(
     commands
 }
 
-// The layout that commands give.
-fn expand_commands(alloc: Global, commands: &[CifCommand]) -> Result<Layout, Refusal>
+// The layout that commands give, by names or by the labels on an outline layer.
+fn expand_by(
+    alloc: Global,
+    commands: &[CifCommand],
+    outline: Option<LayerName>,
+) -> Result<Layout, ExpandFault>
     requires { AreExpandable commands.now }
-    ensures says { Says (λ layout. layout) result (meaning_said (expansion commands.now)) }
+    ensures expands { AnswersAs (λ layout. layout) told_of result (expansion_by outline commands.now) }
+    ensures within { IfOk result (λ layout. IsLayoutWithin (length commands.now) layout) }
+{
+    match outline {
+        Some(outline) => expand_labelled(alloc, commands, &outline),
+        None => expand(alloc, commands),
+    }
+}
+
+// The same, or why the file is refused.
+fn expand_commands(
+    alloc: Global,
+    commands: &[CifCommand],
+    outline: Option<LayerName>,
+) -> Result<Layout, Refusal>
+    requires { AreExpandable commands.now }
+    ensures says { Says (λ layout. layout) result (meaning_said (expansion_by outline commands.now)) }
     ensures measured { IfOk result IsMeasured }
 {
-    match expand(alloc, commands) {
+    match expand_by(alloc, commands, outline) {
         Ok(layout) => Ok(layout),
         Err(ExpandFault::Bad { kind, at }) => Err(Refusal::Meaning(kind, at)),
         Err(ExpandFault::Memory) => Err(Refusal::Memory),
     }
 }
 
-/// The layout of a file of CIF, within the limits of the reader. The text is kept, a refused one too. The files stay as they are; ReadFault comes only where the file's read count rose.
+/// The layout of a file of CIF, within the limits of the reader: its cells are told by their names, or by their labels on an outline layer, where there is to be one. The text is
+/// kept, a refused one too. The files stay as they are; ReadFault comes only where the file's read count rose.
 pub fn load_layout<S: Shelf>(
     alloc: Global,
     shelf: &mut S,
     name: &str,
+    outline: Option<LayerName>,
     texts: &mut Texts,
 ) -> Result<Layout, Stop>
-    ensures loads { Loads (λ layout. layout) layout_verdict (λ told. told name.now) (FileFails name.now) result
+    ensures loads { Loads (λ layout. layout) (layout_verdict outline) (λ told. told name.now) (FileFails name.now) result
         (files (S.holds shelf.old) (S.read_faults shelf.old) (S.write_faults shelf.old)) (files (S.holds shelf.new) (S.read_faults shelf.new) (S.write_faults shelf.new)) }
     ensures measured { IfOk result IsMeasured }
 {
     let commands = load_commands(alloc, shelf, name, texts)?;
-    or_stop(expand_commands(alloc, commands.as_slice()))
+    or_stop(expand_commands(alloc, commands.as_slice(), outline))
 }

@@ -47,3 +47,49 @@ fn a_net_has_one_label(rt: HostRuntime) -> Result<(), Fail> {
     assert!(rt; is_ended(rt.alloc(), "check|d|r|o", &mut shelf, 0, "findings 0\n")?);
     Ok(())
 }
+
+/// That layout of one inverter as KLayout (0.28.5) saves it: in tenths of a centimicron, without the name of the call, and without a main level.
+const SAVED: &str = "\
+(CIF file written by KLayout);
+DS 1 1 10;
+9 INV;
+L XP;
+B 8000 40000 4000,20000;
+L NP;
+B 3000 4000 4000,2000;
+DF;
+DS 2 1 10;
+9 CIF_TOP;
+C1 R1,0 T0,8000;
+L XP;
+94 u1 4000,28000 0;
+L NP;
+94 n1 4000,10000 0;
+DF;
+E
+";
+
+#[test]
+fn a_layout_that_klayout_saved(rt: HostRuntime) -> Result<(), Fail> {
+    let mut shelf = inverter_shelf(rt.alloc())?;
+    shelf.set("c", SAVED.as_bytes())?;
+    assert!(rt;
+        is_ended(
+            rt.alloc(),
+            "check|d|r|c|--labels",
+            &mut shelf,
+            0,
+            "findings 0\n"
+        )?
+    );
+    assert!(rt;
+        is_ended(
+            rt.alloc(),
+            "check|d|r|c",
+            &mut shelf,
+            1,
+            "Missing u1\nfindings 1\n"
+        )?
+    );
+    Ok(())
+}

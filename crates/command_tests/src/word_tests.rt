@@ -44,7 +44,7 @@ make|1|2|r|o|--ports\n\
 route|d|r|o|--labels|--labels\n\
 route|d|r|o|--labels=1\n\
 make|1|2|r|o|--labels\n\
-check|d|r|c|--labels\n\
+check|d|r|c|--labels|--labels\n\
 route|d|r|o|-q|-q\n\
 route|d|r|o|-q|--quiet\n\
 route|d|r|o|--quiet=1\n\

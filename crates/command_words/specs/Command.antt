@@ -29,13 +29,14 @@ pub record Names : Type 0 where
   pub progress : Bool
 
 -- what a command to check says: the design's file, the rules file, the file of the layout, the file to write markers of the findings to, if there is to be one, whether the
--- terminals of the PARENT are to be ports, and whether there are to be no notes
+-- terminals of the PARENT are to be ports, whether labels tell which calls are cells, and whether there are to be no notes
 pub record CheckNames : Type 0 where
   pub design : List ℕ
   pub rules : List ℕ
   pub cif : List ℕ
   pub markers : Option (List ℕ)
   pub ports : Bool
+  pub labels : Bool
   pub quiet : Bool
 
 -- a command with three names, the first two of them those of the design's file and of the rules file
@@ -48,9 +49,9 @@ abbrev pub route_app : App
 route_app = with_rule (with_rule (with_rule (with_rule (with_rule (with_rule (with_rule (with_rule (with_rule (named_app (codes "route") (codes "out"))
     (option_rule (codes "seed"))) (option_rule (codes "rows"))) (option_rule (codes "style"))) (option_rule (codes "tries"))) (flag_rule (codes "edge"))) (flag_rule (codes "ports"))) (flag_rule (codes "labels"))) progress_rule) quiet_rule
 
--- `check` with three names, with a file for markers, and with the wishes for ports and for no notes
+-- `check` with three names, with a file for markers, and with the wishes for ports, for labels and for no notes
 abbrev pub check_app : App
-check_app = with_rule (with_rule (with_rule (named_app (codes "check") (codes "cif")) (option_rule (codes "markers"))) (flag_rule (codes "ports"))) quiet_rule
+check_app = with_rule (with_rule (with_rule (with_rule (named_app (codes "check") (codes "cif")) (option_rule (codes "markers"))) (flag_rule (codes "ports"))) (flag_rule (codes "labels"))) quiet_rule
 
 -- `make` with a seed, a number of instances and two names
 abbrev pub seeded_app : App
@@ -112,16 +113,16 @@ abbrev pub names_in : List Text → List Row → Option Names
 names_in styles values = names_from (first_of (codes "design") values) (first_of (codes "rules") values) (first_of (codes "out") values) (wanted_in values)
     (style_given styles (first_of (codes "style") values)) (is_given (first_of (codes "quiet") values)) (is_given (first_of (codes "progress") values))
 
-abbrev pub check_from : Option Text → Option Text → Option Text → Option Text → Bool → Bool → Option CheckNames
-check_from (Some design) (Some rules) (Some cif) markers ports quiet =
-    Some (record { design = design; rules = rules; cif = cif; markers = markers; ports = ports; quiet = quiet })
-check_from (Some design) (Some rules) None markers ports quiet = None
-check_from (Some design) None cif markers ports quiet = None
-check_from None rules cif markers ports quiet = None
+abbrev pub check_from : Option Text → Option Text → Option Text → Option Text → Bool → Bool → Bool → Option CheckNames
+check_from (Some design) (Some rules) (Some cif) markers ports labels quiet =
+    Some (record { design = design; rules = rules; cif = cif; markers = markers; ports = ports; labels = labels; quiet = quiet })
+check_from (Some design) (Some rules) None markers ports labels quiet = None
+check_from (Some design) None cif markers ports labels quiet = None
+check_from None rules cif markers ports labels quiet = None
 
 abbrev pub check_in : List Row → Option CheckNames
 check_in values = check_from (first_of (codes "design") values) (first_of (codes "rules") values) (first_of (codes "cif") values)
-    (first_of (codes "markers") values) (is_given (first_of (codes "ports") values)) (is_given (first_of (codes "quiet") values))
+    (first_of (codes "markers") values) (is_given (first_of (codes "ports") values)) (is_given (first_of (codes "labels") values)) (is_given (first_of (codes "quiet") values))
 
 -- a design that is made, and laid out by the same seed, in rows as usual, as the best of these tries, by the first style, without left edges, ports and labels
 abbrev pub make_names : ℕ → ℕ → ℕ → Text → Text → Bool → Bool → Names

@@ -31,6 +31,7 @@ check_seen names = record {
   cif = names.cif.now;
   markers = option_map (λ name. name.now) names.markers;
   ports = names.ports;
+  labels = names.labels;
   quiet = names.quiet;
 }
 

@@ -55,8 +55,8 @@ pub struct Route<'a> {
 }
 
 /// The command to check a layout: the names of the design's file, of the rules file and of the layout's file, that of the file to
-/// write markers of the findings to, if there is to be one, whether the terminals of the PARENT are to be ports, and whether there
-/// are to be no notes.
+/// write markers of the findings to, if there is to be one, whether the terminals of the PARENT are to be ports, whether labels
+/// tell which calls are cells, and whether there are to be no notes.
 #[derive(Clone, Copy, Debug)]
 pub struct Check<'a> {
     pub design: &'a str,
@@ -64,6 +64,7 @@ pub struct Check<'a> {
     pub cif: &'a str,
     pub markers: Option<&'a str>,
     pub ports: bool,
+    pub labels: bool,
     pub quiet: bool,
 }
 
@@ -150,6 +151,7 @@ fn check_of<'a>(matches: &ArgMatches<'a>) -> Option<Check<'a>>
         cif: value_of(matches, "cif")?,
         markers: value_of(matches, "markers"),
         ports: is_given(value_of(matches, "ports")),
+        labels: is_given(value_of(matches, "labels")),
         quiet: is_given(value_of(matches, "quiet")),
     })
 }

@@ -110,6 +110,7 @@ pub(crate) fn check_parser<'a>(alloc: Global) -> Result<Parser<'a>, AllocError>
     let command = named_parser(alloc, "check", "cif")?;
     let command = with_arg(command, option(alloc, "markers"))?;
     let command = with_arg(command, flag(alloc, "ports"))?;
+    let command = with_arg(command, flag(alloc, "labels"))?;
     with_arg(command, quiet_flag(alloc))
 }
 

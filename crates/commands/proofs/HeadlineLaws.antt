@@ -16,7 +16,9 @@ use Rattle.command_inputs.specs.Drawn.{drawn_said, ported_said}
 use Rattle.command_inputs.specs.Origin.{AreDesignsFor, AreInputsFrom}
 use Rattle.command_inputs.specs.declared.stages.Inputs.{Inputs}
 use Rattle.command_jobs.specs.Written.{IsGoodText, IsPortedText}
-use Rattle.commands.specs.Headline.{Headline, IsGoodSo, PortedHeadline}
+use Rattle.commands.specs.Headline.{HeadlineSo, IsGoodByLabels, IsGoodSo, IsGoodTextSo, PortedHeadline, ReadsSo}
+use Rattle.label_reader.specs.Labelled.{labelled}
+use Rattle.label_reader.specs.ReadsByLabels.{ReadsByLabels}
 use Rattle.yal_reader.specs.Numbers.{numbers_of}
 use Rattle.yal_reader.specs.YalReads.{yal_reads}
 use Rattle.std_laws.proofs.Options.{ok-same}
@@ -35,16 +37,16 @@ ported-drawn rules file d designs is = by (ported_of rules file d) is
         ap (λ (x : Designs). let answer : Result Ported PortFault = Ok x.drawn in answer) (ok-same (ported_said d (Ok ported)) (ported_designs d ported) designs refl found)
     by (Err fault) found = cc
 
--- a text that is a good layout of the design that is drawn is so of what the file says
-good-so : (ports : Bool) (rules : RuleValues) (file : YalFile) (designs : Designs) (text : List ℕ) → AreDesignsFor rules ports file designs
-    → IsGoodText rules designs.drawn.design text → IsGoodSo ports rules file text
-good-so false rules file designs text are good = record {
+-- what holds of the design that is drawn does so of that of the file
+good-so : (ports : Bool) (rules : RuleValues) (file : YalFile) (designs : Designs) (holds : Netlist → Type 0) → AreDesignsFor rules ports file designs
+    → holds designs.drawn.design → IsGoodSo ports rules file holds
+good-so false rules file designs holds are good = record {
   design = designs.drawn.design;
   checked = subst (λ (d : Netlist). on_grid rules file ≡ Ok d) (bare-drawn rules file (placed_in designs) designs are.drawn) are.checked;
   nets = are.nets;
   good = good;
 }
-good-so true rules file designs text are good = record {
+good-so true rules file designs holds are good = record {
   design = placed_in designs;
   checked = are.checked;
   ported = designs.drawn;
@@ -61,39 +63,61 @@ one-layout rules d text layout reads good =
     let shown : good.layout ≡ layout = ok-same (meaning good.reads.commands) good.layout layout good.reads.means (ap meaning commands ∙ reads.means) in
     subst (λ (l : Layout). Good rules d l) shown good.good
 
--- what a file says is one design, so that a good layout of it is one of the design that is drawn
-so-good : (ports : Bool) (rules : RuleValues) (file : YalFile) (designs : Designs) (text : List ℕ) → AreDesignsFor rules ports file designs
-    → IsGoodSo ports rules file text → IsGoodText rules designs.drawn.design text
-so-good false rules file designs text are so =
+-- and by its labels too
+one-labelled : (rules : RuleValues) (d : Netlist) (text : List ℕ) (layout : Layout) → ReadsByLabels rules.outline.layer text layout → IsGoodByLabels rules d text
+    → Good rules d layout
+one-labelled rules d text layout reads good =
+    let commands : good.reads.commands ≡ reads.commands = ok-same _ good.reads.commands reads.commands good.reads.reads reads.reads in
+    let shown : good.layout ≡ layout =
+    ok-same (labelled rules.outline.layer good.reads.commands) good.layout layout good.reads.labelled_is (ap (labelled rules.outline.layer) commands ∙ reads.labelled_is) in
+    subst (λ (l : Layout). Good rules d l) shown good.good
+
+one-so : (labels : Bool) (rules : RuleValues) (d : Netlist) (text : List ℕ) (layout : Layout) → ReadsSo labels rules text layout → IsGoodTextSo labels rules text d
+    → Good rules d layout
+one-so false rules d text layout reads good = one-layout rules d text layout reads good
+one-so true rules d text layout reads good = one-labelled rules d text layout reads good
+
+-- a text that reads as a good layout
+pub text-so : (labels : Bool) (rules : RuleValues) (d : Netlist) (text : List ℕ) (layout : Layout) → ReadsSo labels rules text layout → Good rules d layout
+    → IsGoodTextSo labels rules text d
+text-so false rules d text layout reads good = record { layout = layout; reads = reads; good = good }
+text-so true rules d text layout reads good = record { layout = layout; reads = reads; good = good }
+
+-- what a file says is one design, so that what holds of it does so of the design that is drawn
+so-good : (ports : Bool) (rules : RuleValues) (file : YalFile) (designs : Designs) (holds : Netlist → Type 0) → AreDesignsFor rules ports file designs
+    → IsGoodSo ports rules file holds → holds designs.drawn.design
+so-good false rules file designs holds are so =
     let same : so.design ≡ placed_in designs = ok-same (on_grid rules file) so.design (placed_in designs) so.checked are.checked in
-    subst (λ (d : Netlist). IsGoodText rules d text) (same ∙ bare-drawn rules file (placed_in designs) designs are.drawn) so.good
-so-good true rules file designs text are so =
+    subst holds (same ∙ bare-drawn rules file (placed_in designs) designs are.drawn) so.good
+so-good true rules file designs holds are so =
     let same : so.design ≡ placed_in designs = ok-same (on_grid rules file) so.design (placed_in designs) so.checked are.checked in
     let drawn : so.ported ≡ designs.drawn =
     ok-same (ported_of rules file (placed_in designs)) so.ported designs.drawn (ap (ported_of rules file) (sym same) ∙ so.has)
     (ported-drawn rules file (placed_in designs) designs are.drawn) in
-    subst (λ (p : Ported). IsGoodText rules p.design text) drawn so.good
+    subst (λ (p : Ported). holds p.design) drawn so.good
 
 -- of what the bytes of a rules file and of a design's file say
-module _ (stated bytes text : List ℕ) (ports : Bool) (inputs : Inputs) (from : AreInputsFrom stated bytes ports inputs) where
+module _ (stated bytes text : List ℕ) (labels ports : Bool) (inputs : Inputs) (from : AreInputsFrom stated bytes ports inputs) where
   -- a text that is a good layout of it is so of what they say
-  pub headline-of : IsGoodText inputs.rules inputs.designs.drawn.design text → Headline ports stated bytes text
+  pub headline-of : IsGoodTextSo labels inputs.rules text inputs.designs.drawn.design → HeadlineSo labels ports stated bytes text
   headline-of good = record {
     rules = inputs.rules;
     states = from.states;
-    good = record { file = inputs.file; read = from.read; good = good-so ports inputs.rules inputs.file inputs.designs text from.is good };
+    good = record { file = inputs.file; read = from.read; good = good-so ports inputs.rules inputs.file inputs.designs (IsGoodTextSo labels inputs.rules text) from.is good };
   }
 
   -- what files say is one design under one set of rules, and a text reads as one layout, so that the headline is a fact of these
-  pub good-of : (layout : Layout) → ReadsAs text layout → Headline ports stated bytes text → Good inputs.rules inputs.designs.drawn.design layout
+  pub good-of : (layout : Layout) → ReadsSo labels inputs.rules text layout → HeadlineSo labels ports stated bytes text → Good inputs.rules inputs.designs.drawn.design layout
   good-of layout reads headline =
       let rules : headline.rules ≡ inputs.rules = ok-same _ headline.rules inputs.rules headline.states from.states in
       let file : headline.good.file ≡ inputs.file =
       ok-same _ headline.good.file inputs.file headline.good.read
       (ap (λ (r : RuleValues). yal_reads bytes (numbers_of r.version r.decimals)) rules ∙ from.read) in
-      let so : IsGoodSo ports inputs.rules inputs.file text =
-      subst (λ (f : YalFile). IsGoodSo ports inputs.rules f text) file (subst (λ (r : RuleValues). IsGoodSo ports r headline.good.file text) rules headline.good.good) in
-      one-layout inputs.rules inputs.designs.drawn.design text layout reads (so-good ports inputs.rules inputs.file inputs.designs text from.is so)
+      let so : IsGoodSo ports inputs.rules inputs.file (IsGoodTextSo labels inputs.rules text) =
+      subst (λ (f : YalFile). IsGoodSo ports inputs.rules f (IsGoodTextSo labels inputs.rules text)) file
+      (subst (λ (r : RuleValues). IsGoodSo ports r headline.good.file (IsGoodTextSo labels r text)) rules headline.good.good) in
+      one-so labels inputs.rules inputs.designs.drawn.design text layout reads
+      (so-good ports inputs.rules inputs.file inputs.designs (IsGoodTextSo labels inputs.rules text) from.is so)
 
 -- a text in which ports stand at the edges
 pub ported-of : (stated bytes text : List ℕ) (inputs : Inputs) → AreInputsFrom stated bytes true inputs → IsPortedText inputs.rules inputs.designs.drawn text

@@ -9,7 +9,7 @@ use Rattle.commands.specs.Causes.{ReadFails}
 use Rattle.commands.specs.Changes.{Changes, IsAsSaid, IsLaidOut, IsMarkedIn}
 use Rattle.commands.specs.Done.{Done, helped, judged, laid_out, wrote}
 use Rattle.commands.specs.Drawn.{IsPictureOf}
-use Rattle.commands.specs.Headline.{Headline, PortedHeadline}
+use Rattle.commands.specs.Headline.{Headline, HeadlineSo, PortedHeadline}
 use Rattle.commands.specs.Imported.{IsImportOf}
 use Rattle.commands.specs.Verdict.{asked_verdict}
 use Rattle.greedy_router.specs.declared.sweep.Routed.{Routed}
@@ -36,7 +36,7 @@ pub record Carried (asked : Option Command) (ending : Result Done Stop) (kept : 
   pub headline : (names : Names) (stated bytes held : List ℕ) → asked ≡ Some (route names) → old.holds names.rules ≡ Some stated
       → IsSourceText names.design old.holds stated bytes → ending_status ending ≡ 0 → new.holds names.out ≡ Some held → Headline names.wanted.ports stated bytes held
   pub judges : (names : CheckNames) (stated bytes text : List ℕ) → asked ≡ Some (check names) → old.holds names.rules ≡ Some stated
-      → old.holds names.design ≡ Some bytes → old.holds names.cif ≡ Some text → IfOk ending (IsJudgedBy (Headline names.ports stated bytes text))
+      → old.holds names.design ≡ Some bytes → old.holds names.cif ≡ Some text → IfOk ending (IsJudgedBy (HeadlineSo names.labels names.ports stated bytes text))
   pub edges : (names : Names) (stated bytes held : List ℕ) → asked ≡ Some (route names) → names.wanted.ports ≡ true → old.holds names.rules ≡ Some stated
       → IsSourceText names.design old.holds stated bytes → ending_status ending ≡ 0 → new.holds names.out ≡ Some held → PortedHeadline stated bytes held
   -- what is written is the picture of a layout, or a design that carries a netlist

@@ -12,43 +12,66 @@ use Rattle.netlist_core.specs.SignalWords.{parent_calls, word_of}
 use Rattle.port_rows.specs.PortWords.{BearWords, ported_word}
 use Rattle.port_rows.specs.Ported.{ported_of}
 use Rattle.port_rows.specs.declared.ported.Ported.{Ported}
+use Rattle.cif_text.specs.ReadsAs.{ReadsAs}
 use Rattle.command_jobs.specs.Written.{IsGoodText, StandAtEdges}
+use Rattle.design_model.specs.Good.{Good}
+use Rattle.geom_core.specs.declared.layout.Layout.{Layout}
+use Rattle.label_reader.specs.ReadsByLabels.{ReadsByLabels}
 
--- a text is a good layout of what a file says: the file is a design on the grid, whose nets are its pins of equal signal words
-pub record IsGoodFor (rules : RuleValues) (file : YalFile) (text : List ℕ) : Type 0 where
+-- this holds of the design of a file: the file is a design on the grid, whose nets are its pins of equal signal words
+pub record IsGoodFor (rules : RuleValues) (file : YalFile) (holds : Netlist → Type 0) : Type 0 where
   pub design : Netlist
   pub checked : on_grid rules file ≡ Ok design
   pub nets : SameNet (word_of (parent_calls file)) design.pins
-  pub good : IsGoodText rules design text
+  pub good : holds design
 
--- a text is a good layout of what a file says with the ports of its PARENT: the file is a design on the grid, which has these ports, each pin's net bears the pin's signal
+-- this holds of the design of a file with the ports of its PARENT: the file is a design on the grid, which has these ports, each pin's net bears the pin's signal
 -- word, that of a port being its name, and the nets are the pins of equal signal words
-pub record IsGoodWithPorts (rules : RuleValues) (file : YalFile) (text : List ℕ) : Type 0 where
+pub record IsGoodWithPorts (rules : RuleValues) (file : YalFile) (holds : Netlist → Type 0) : Type 0 where
   pub design : Netlist
   pub checked : on_grid rules file ≡ Ok design
   pub ported : Ported
   pub has : ported_of rules file design ≡ Ok ported
   pub words : BearWords (ported_word file) ported.design
   pub nets : SameNet (ported_word file) ported.design.pins
-  pub good : IsGoodText rules ported.design text
+  pub good : holds ported.design
 
--- a text is a good layout of what a file says, with ports where these are wished for
-abbrev pub IsGoodSo : Bool → RuleValues → YalFile → List ℕ → Type 0
-IsGoodSo false rules file text = IsGoodFor rules file text
-IsGoodSo true rules file text = IsGoodWithPorts rules file text
+-- the same with ports where these are wished for
+abbrev pub IsGoodSo : Bool → RuleValues → YalFile → (Netlist → Type 0) → Type 0
+IsGoodSo false rules file holds = IsGoodFor rules file holds
+IsGoodSo true rules file holds = IsGoodWithPorts rules file holds
 
--- a text is a good layout of what a text of YAL says
-pub record IsGoodOf (ports : Bool) (rules : RuleValues) (bytes text : List ℕ) : Type 0 where
+-- and of the design of a text of YAL
+pub record IsGoodOf (ports : Bool) (rules : RuleValues) (bytes : List ℕ) (holds : Netlist → Type 0) : Type 0 where
   pub file : YalFile
   pub read : yal_reads bytes (numbers_of rules.version rules.decimals) ≡ Ok file
-  pub good : IsGoodSo ports rules file text
+  pub good : IsGoodSo ports rules file holds
 
--- the headline: the bytes of the rules file state rules, those of the design's file are a design, and the text is a good layout of it
--- under these rules, with the ports of its PARENT where these are wished for
-pub record Headline (ports : Bool) (stated bytes text : List ℕ) : Type 0 where
+-- a text reads as a layout, by the labels on the outline layer where these tell the cells
+abbrev pub ReadsSo : Bool → RuleValues → List ℕ → Layout → Type 0
+ReadsSo false rules text layout = ReadsAs text layout
+ReadsSo true rules text layout = ReadsByLabels rules.outline.layer text layout
+
+-- a text reads by its labels as a good layout of a design
+pub record IsGoodByLabels (rules : RuleValues) (d : Netlist) (text : List ℕ) : Type 0 where
+  pub layout : Layout
+  pub reads : ReadsByLabels rules.outline.layer text layout
+  pub good : Good rules d layout
+
+abbrev pub IsGoodTextSo : Bool → RuleValues → List ℕ → Netlist → Type 0
+IsGoodTextSo false rules text d = IsGoodText rules d text
+IsGoodTextSo true rules text d = IsGoodByLabels rules d text
+
+-- the bytes of the rules file state rules, those of the design's file are a design, and the text is a good layout of it under these rules, with the ports of its PARENT where
+-- these are wished for, and by its labels where these tell the cells
+pub record HeadlineSo (labels ports : Bool) (stated bytes text : List ℕ) : Type 0 where
   pub rules : RuleValues
   pub states : rules_of stated ≡ Ok rules
-  pub good : IsGoodOf ports rules bytes text
+  pub good : IsGoodOf ports rules bytes (IsGoodTextSo labels rules text)
+
+-- the headline: the text is a good layout as any reader of CIF takes it
+abbrev pub Headline : Bool → List ℕ → List ℕ → List ℕ → Type 0
+Headline ports stated bytes text = HeadlineSo false ports stated bytes text
 
 -- and these ports stand at the edges: those of the lower edge in the lowest row, and those of the upper edge in the highest
 abbrev pub PortedHeadline : List ℕ → List ℕ → List ℕ → Type 0

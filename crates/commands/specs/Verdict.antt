@@ -1,5 +1,5 @@
 -- what a command's words and files ask for: a design to lay out, a layout to judge, a text to write, a text of help, or the first refusal
-use Rattle.std.specs.Prelude.{◌≡◌, ◌++◌, ℕ, List, Option, Some, None, option_map, Result, Ok, Err}
+use Rattle.std.specs.Prelude.{◌≡◌, ◌++◌, ℕ, List, Bool, true, false, Option, Some, None, option_map, Result, Ok, Err}
 use Rattle.command_words.specs.Command.{Command, check, command_of, draw, from_file, help, import, route}
 use Rattle.commands.specs.Accepted.{Accepted, to_help, to_judge, to_lay_out, to_write}
 use Rattle.commands.specs.Drawn.{drawn_text, view_of}
@@ -27,16 +27,21 @@ job_verdict wanted inputs = do
   job ← within_limits (job_of inputs.rules inputs.designs wanted)
   Ok (to_lay_out job)
 
--- the judgement of the layout that the bytes of a file are, for a design under rules, with a file for markers or none
-unfoldable pub judgement_verdict : Inputs → Option (List ℕ) → List ℕ → Result Accepted Refusal
-judgement_verdict inputs markers bytes = do
-  layout ← layout_verdict bytes
+-- the layer whose labels tell the cells, where they are to
+abbrev pub labels_on : Bool → RuleValues → Option (List ℕ)
+labels_on false rules = None
+labels_on true rules = Some rules.outline.layer
+
+-- the judgement of the layout that the bytes of a file are, by labels or not, for a design under rules, with a file for markers or none
+unfoldable pub judgement_verdict : Bool → Inputs → Option (List ℕ) → List ℕ → Result Accepted Refusal
+judgement_verdict labels inputs markers bytes = do
+  layout ← layout_verdict (labels_on labels inputs.rules) bytes
   Ok (to_judge inputs layout markers)
 
 -- the picture of the layout that the bytes of a file are, of a part of it or of all, with the roles of its layers under rules, if there are some
 unfoldable pub picture_verdict : Option Extent → Option RuleValues → List ℕ → Result Accepted Refusal
 picture_verdict part rules bytes = do
-  layout ← layout_verdict bytes
+  layout ← layout_verdict None bytes
   text ← drawn_text layout (view_of part rules)
   Ok (to_write text)
 
@@ -52,7 +57,7 @@ import_verdict decimals netlist bytes = do
 unfoldable pub command_verdict : Command → (List ℕ → Option (List ℕ)) → Option (Result Accepted Refusal)
 command_verdict (route names) told = told_then (inputs_told names.rules names.design names.wanted.ports told) (λ inputs. Some (job_verdict names.wanted inputs))
 command_verdict (check names) told =
-    told_then (inputs_told names.rules (from_file names.design) names.ports told) (λ inputs. option_map (judgement_verdict inputs names.markers) (told names.cif))
+    told_then (inputs_told names.rules (from_file names.design) names.ports told) (λ inputs. option_map (judgement_verdict names.labels inputs names.markers) (told names.cif))
 command_verdict (draw names) told = told_then (rules_given names.rules told) (λ rules. option_map (picture_verdict names.part rules) (told names.cif))
 command_verdict (import names) told =
     told_then (option_map netlist_verdict (told names.netlist)) (λ netlist. option_map (import_verdict names.decimals netlist) (told names.cells))

@@ -86,7 +86,7 @@ pub(crate) fn draw<S: Shelf>(
         (files (S.holds shelf.old) (S.read_faults shelf.old) (S.write_faults shelf.old)) (files (S.holds shelf.new) (S.read_faults shelf.new) (S.write_faults shelf.new)) }
 {
     let rules = load_given_rules(alloc, shelf, names.rules, &mut heard.texts)?;
-    let layout = load_layout(alloc, shelf, names.cif, &mut heard.texts)?;
+    let layout = load_layout(alloc, shelf, names.cif, None, &mut heard.texts)?;
     let view = view_of(names.part, &rules);
     match picture_of(alloc, &layout, view) {
         Ok(picture) => {

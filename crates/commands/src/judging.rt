@@ -6,6 +6,7 @@ ghost use Rattle.command_words.specs.Seen.{check_seen};
 ghost use Rattle.commands.specs.Carried.{Carried};
 ghost use Rattle.commands.specs.Changes.{AreMarked};
 ghost use Rattle.commands.specs.Done.{AreFound, end_seen};
+ghost use Rattle.commands.specs.Verdict.{labels_on};
 ghost use Rattle.design_model.specs.Room.{HasRoom};
 ghost use Rattle.layout_check.specs.Measured.{IsMeasured};
 ghost use Rattle.std.specs.Prelude.{◌≡◌, [], Some, IfOk, option_map};
@@ -16,10 +17,11 @@ use command_ends::{Refusal, Stop};
 use command_inputs::{Inputs, load_inputs, load_layout};
 use command_words::{Check, Source};
 use finding_markers::write_markers;
-use geom_core::Layout;
+use geom_core::{LayerName, Layout};
 use layout_check::check;
 use shelf_io::{Failed, Shelf};
 use std::alloc::{AllocError, Global};
+use tech_rules::Rules;
 
 // Finds what is wrong with a layout.
 fn judge_layout(alloc: Global, inputs: Inputs, layout: Layout) -> Result<Judged, AllocError>
@@ -61,6 +63,17 @@ fn mark<S: Shelf>(shelf: &mut S, file: Option<&str>, judged: Judged) -> Result<D
     }
 }
 
+// The layer whose labels tell the cells, where they are to.
+fn labels_on(labels: bool, rules: &Rules) -> Option<LayerName>
+    ensures { result ≡ labels_on labels rules.now }
+{
+    if labels {
+        Some(rules.outline.layer)
+    } else {
+        None
+    }
+}
+
 /// Reads rules, a design and a layout, finds what is wrong with it, and writes that into the file for markers, if there is one. All other files stay as they are.
 pub(crate) fn judge<S: Shelf>(
     alloc: Global,
@@ -80,7 +93,8 @@ pub(crate) fn judge<S: Shelf>(
         names.ports,
         &mut heard.texts,
     )?;
-    let layout = load_layout(alloc, shelf, names.cif, &mut heard.texts)?;
+    let outline = labels_on(names.labels, &inputs.rules);
+    let layout = load_layout(alloc, shelf, names.cif, outline, &mut heard.texts)?;
     match judge_layout(alloc, inputs, layout) {
         Ok(judged) => mark(shelf, names.markers, judged),
         Err(AllocError) => Err(Stop::Refused(Refusal::Memory)),

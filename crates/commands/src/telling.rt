@@ -27,11 +27,12 @@ fn bytes_of(text: &Option<Vec<u8>>) -> Option<&[u8]> {
 
 // Notes what was found of a layout that was judged, and what is unusual about it.
 fn note_judged<'a>(alloc: Global, notes: &mut Notes, reached: &Reached<'a>, judged: &'a Judged) {
-    let cif_name = match reached.command {
-        Some(Command::Check(names)) => names.cif,
-        _ => "",
+    // By labels the shapes do not come in the order of their lines.
+    let (cif_name, text) = match reached.command {
+        Some(Command::Check(names)) if names.labels => (names.cif, None),
+        Some(Command::Check(names)) => (names.cif, reached.cif),
+        _ => ("", reached.cif),
     };
-    let text = reached.cif;
     let layout = JudgedLayout {
         cif_name,
         text,

@@ -7,7 +7,7 @@ ghost use Rattle.commands.specs.Done.{IsStatusOf};
 ghost use Rattle.commands.specs.Drawn.{IsPictureOf};
 ghost use Rattle.commands.specs.Imported.{IsImportOf};
 ghost use Rattle.commands.specs.Noted.{Noted};
-ghost use Rattle.commands.specs.Headline.{Headline, PortedHeadline};
+ghost use Rattle.commands.specs.Headline.{Headline, HeadlineSo, PortedHeadline};
 ghost use Rattle.command_inputs.specs.Origin.{IsSourceText};
 ghost use Rattle.commands.specs.Outcome.{AreKept, EndsAs, Holds, HoldsFront, IsMarked};
 ghost use Rattle.command_ends.specs.Gains.{Gains};
@@ -130,13 +130,13 @@ pub fn run<S: Shelf, K: Sink, N: Sink>(
         → names.wanted.ports ≡ true → S.holds shelf.old names.rules ≡ Some stated → IsSourceText names.design (S.holds shelf.old) stated bytes
         → result.status ≡ 0 → S.holds shelf.new names.out ≡ Some held → PortedHeadline stated bytes held }
 
-    // What `check` says of a layout: with status 0 that it is so, with status 1 that it is not.
+    // What `check` says of a layout, read by its labels where these are to tell the cells: with status 0 that it is so, with status 1 that it is not.
     ensures good { (names : CheckNames) (stated bytes text : List ℕ) → command_of (map (λ s. s.chooser.name) styles.now) words.now ≡ Some (asked.check names)
         → S.holds shelf.old names.rules ≡ Some stated → S.holds shelf.old names.design ≡ Some bytes → S.holds shelf.old names.cif ≡ Some text
-        → result.status ≡ 0 → Headline names.ports stated bytes text }
+        → result.status ≡ 0 → HeadlineSo names.labels names.ports stated bytes text }
     ensures faulty { (names : CheckNames) (stated bytes text : List ℕ) → command_of (map (λ s. s.chooser.name) styles.now) words.now ≡ Some (asked.check names)
         → S.holds shelf.old names.rules ≡ Some stated → S.holds shelf.old names.design ≡ Some bytes → S.holds shelf.old names.cif ≡ Some text
-        → result.status ≡ 1 → Headline names.ports stated bytes text → ⊥ }
+        → result.status ≡ 1 → HeadlineSo names.labels names.ports stated bytes text → ⊥ }
 
     // What `draw` writes is the picture of the layout as which CIF reads.
     ensures drawn { (names : DrawNames) (text held : List ℕ) → command_of (map (λ s. s.chooser.name) styles.now) words.now ≡ Some (asked.draw names)

@@ -100,7 +100,7 @@ const ROUTE: Form = Form {
 const CHECK: Form = Form {
     word: "check",
     names: &["DESIGN", "RULES", "CIF"],
-    options: &[MARKERS, PORTS, QUIET],
+    options: &[MARKERS, PORTS, LABELS, QUIET],
     topic: Topic::CheckCommand,
 };
 

@@ -15,8 +15,9 @@ pub mod StartLaws
 pub mod LastLaws
 -- the joins of a column
 pub mod JoinLaws
--- sorted numbers
+-- sorted numbers, and tracks that are freed one after another
 pub mod SortedLaws
+pub mod FreedLaws
 -- neighbouring tracks, and the groups that end
 pub mod DeskLaws
 pub mod MarkLaws

@@ -6,10 +6,13 @@ ghost use Rattle.std.specs.Prelude.{◌≡◌, IfOk};
 use crate::lasts::lasts_of;
 use crate::starts::{own_uses, starts_of};
 use crate::table::entry;
-use crate::uses::{Use, first_behind, next_at, sort_by_net, uses_of};
+use crate::uses::{Use, first_behind, next_at, next_in, sort_by_net, uses_of};
 use channel_model::Channel;
 use choose_core::Next;
 use std::alloc::{AllocError, Global};
+
+/// Up to so many uses of a net are looked at one after another, which is faster there than halving.
+const FEW: usize = 8;
 
 /// For each net of a channel its pin columns.
 #[derive(Debug, Drop)]
@@ -48,7 +51,10 @@ impl Ahead {
         ensures { result ≡ next_after self.now.uses.items column net }
     {
         let own = own_uses(&self.uses, &self.starts, net);
-        next_at(first_behind(own, net, column), net)
+        if own.len() > FEW {
+            return next_at(first_behind(own, net, column), net);
+        }
+        next_in(own, net, column)
     }
 
     // Whether a net has no pins after a column.

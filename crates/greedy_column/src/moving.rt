@@ -196,7 +196,7 @@ pub fn held_by(tracks: &[Track], id: u32) -> u32
 }
 
 // One track, given to a net where it has this id.
-fn given(id: u32, net: u32, track: Track) -> Track
+pub(crate) fn given(id: u32, net: u32, track: Track) -> Track
     ensures { result ≡ given id net track }
 {
     if track.id == id {

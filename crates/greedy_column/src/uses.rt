@@ -51,6 +51,20 @@ pub(crate) fn next_at(used: Option<Use>, net: u32) -> Next
     }
 }
 
+// Where a net has its next pins after a column, from some uses that are looked at one after another.
+pub(crate) fn next_in(uses: &[Use], net: u32, column: u32) -> Next
+    ensures { result ≡ next_after uses.now column net }
+{
+    let mut rest = uses;
+    while let Some((used, later)) = rest.split_first() {
+        if used.net == net && column < used.column {
+            return used.next;
+        }
+        rest = later;
+    }
+    Next::Ends
+}
+
 // The uses by the pins of all columns, by column.
 pub(crate) fn uses_of(alloc: Global, channel: &Channel) -> Result<Vec<Use>, AllocError>
     ensures uses { IfOk result (λ uses. uses.items ≡ uses_from channel.now.top channel.now.bottom 0) }

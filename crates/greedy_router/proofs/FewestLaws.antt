@@ -1,7 +1,6 @@
-use Rattle.std.proofs.Common.{◌≡◌, inl, inr, ◌<◌, ◌≤◌, ◌+◌, ◌++◌, ℕ, zero, suc, List, [], ◌∷◌, Option, Some, None, length, take, refl, sym, subst, ap, ◌∙◌, arith, get_or, length-append}
-use Rattle.std.specs.Prelude.{slice_get}
+use Rattle.std.proofs.Common.{◌≡◌, inl, inr, ◌<◌, ◌≤◌, ◌+◌, ◌++◌, ℕ, List, [], ◌∷◌, Option, Some, None, length, refl, sym, subst, ap, ◌∙◌, arith, get_or, length-append}
 use Rattle.std.proofs.lemmas.Bool.{cases_lt}
-use Rattle.std.proofs.lemmas.List.{append-nil, length-map, take-append-le, take_all}
+use Rattle.std.proofs.lemmas.List.{append-nil, length-map, take_all}
 use Rattle.std.proofs.lemmas.Option.{slice_get_within, slice_get-get_or}
 use Rattle.channel_model.specs.Limits.{most_extra, most_tracks}
 use Rattle.channel_model.specs.Nets.{nets_of}
@@ -14,8 +13,7 @@ use Rattle.greedy_column.specs.declared.column.Column.{Column}
 use Rattle.greedy_column.specs.declared.column.Track.{Track}
 use Rattle.greedy_column.specs.Held.{IsHeld}
 use Rattle.greedy_column.specs.Replay.{free_tracks, replay}
-use Rattle.greedy_column.specs.Tracks.{ids}
-use Rattle.greedy_router.specs.Answers.{AreFewest, GoesOn, HasNoFewer, IsFinished, IsOver, IsPlanned, IsRoutedBy, IsRoutedWithin, IsTried}
+use Rattle.greedy_router.specs.Answers.{AreFewest, GoesOn, HasNoFewer, IsFinished, IsOver, IsPlanned, IsRoutedBy, IsTried}
 use Rattle.greedy_router.specs.Begun.{begun_of}
 use Rattle.greedy_router.specs.Moments.{tracks_after}
 use Rattle.greedy_router.specs.Sweeps.{IsDone, IsPastAt}

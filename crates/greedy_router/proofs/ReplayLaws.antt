@@ -1,11 +1,11 @@
-use Rattle.std.proofs.Common.{◌≡◌, ◌≤◌, ◌+◌, ℕ, suc, List, [], ◌∷◌, length, sym, subst, ap, ◌∙◌, arith}
+use Rattle.std.proofs.Common.{◌≡◌, ◌≤◌, ◌+◌, ℕ, suc, List, ◌∷◌, length, sym, subst, ap, ◌∙◌, arith}
 use Rattle.channel_model.specs.Pins.{Pins}
 use Rattle.greedy_column.specs.declared.column.Track.{Track}
 use Rattle.greedy_column.specs.declared.column.Column.{Column}
 use Rattle.greedy_column.specs.Tracks.{ids}
 use Rattle.greedy_column.specs.Replay.{freed, entered, after, replay_from}
 use Rattle.greedy_column.specs.Fair.{AllFair}
-use Rattle.greedy_column.proofs.IdLaws.{ids-entered, ids-freed, ids-moved}
+use Rattle.greedy_column.proofs.IdLaws.{ids-freed, ids-moved}
 use Rattle.greedy_column.proofs.TableLaws.{length-ids}
 use Rattle.greedy_router.proofs.GrowLaws.{replay_from-grows}
 

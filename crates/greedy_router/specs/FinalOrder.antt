@@ -1,5 +1,5 @@
 -- the tracks of a sweep after its last column as contracts see them, and that the table has their lines
-use Rattle.std.specs.Prelude.{◌≡◌, ◌<◌, ◌+◌, ◌^◌, ℕ, List, Contains, length}
+use Rattle.std.specs.Prelude.{◌<◌, ◌+◌, ◌^◌, ℕ, List, Contains, length}
 use Rattle.greedy_column.specs.Tracks.{ids, line_of}
 use Rattle.greedy_router.specs.Tables.{Tells}
 use Rattle.greedy_router.specs.declared.final_order.FinalOrder.TheInside.{Inside}

@@ -8,6 +8,8 @@ pub mod Begun
 pub mod SweepWiring
 -- what the calls answer
 pub mod Answers
+-- marks of tracks by their ids
+pub mod Marks
 -- the same wiring, from tables by ids
 pub mod Tables
 -- the final order of the tracks, with a table of their lines

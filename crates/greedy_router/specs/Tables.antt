@@ -22,6 +22,17 @@ pub record HasAll (order : List ℕ) (by_id : ById) : Type 0 where
   pub within : (id : ℕ) → Contains order id → id < length by_id.since.items
   pub nets : length by_id.nets.items ≡ length by_id.since.items
   pub laters : length by_id.laters.items ≡ length by_id.since.items
+  pub lefts : length by_id.lefts.rounds.items ≡ length by_id.since.items
+  pub ends : length by_id.ends.rounds.items ≡ length by_id.since.items
+
+-- as many columns have been marked
+pub record AreRounds (columns : ℕ) (by_id : ById) : Type 0 where
+  pub lefts : by_id.lefts.round ≡ columns
+  pub ends : by_id.ends.round ≡ columns
+
+-- a join or a move of a column ends on a track
+abbrev pub has_end : Column → ℕ → Bool
+has_end done id = list_any (is_of id) done.joins || list_any (is_of id) done.moves
 
 -- since when a track is held, from tables: a track that was free has been entered in this column if at all
 abbrev pub since_by : ℕ → List ℕ → List ℕ → ℕ → ℕ

@@ -1,19 +1,22 @@
 //! The segments and the vias of one column of a sweep, on the lines of the final order of tracks.
 
 ghost use Rattle.channel_model.specs.declared.wiring.Segment.{Segment};
-ghost use Rattle.greedy_router.specs.SweepWiring.{is_of, leaves};
-ghost use Rattle.greedy_router.specs.Tables.{across_on, along_by, alongs_by, column_segments_by, has_via_by, meets_by, pair_span, via_by, vias_by};
+ghost use Rattle.greedy_router.specs.Marks.{is_marked};
+ghost use Rattle.greedy_router.specs.SweepWiring.{leaves};
+ghost use Rattle.greedy_router.specs.Tables.{across_on, along_by, alongs_by, column_segments_by, has_end, has_via_by, meets_by, pair_span, via_by, vias_by};
 ghost use Rattle.std.specs.List.{list_any};
-ghost use Rattle.std.specs.Prelude.{◌≡◌, ◌==◌, ◌<◌, ◌+◌, ◌^◌, ◌++◌, ℕ, IfOk, OnOk, false, length, map};
+ghost use Rattle.std.specs.Prelude.{◌≡◌, ◌<◌, ◌+◌, ◌^◌, ◌++◌, ◌||◌, ℕ, Contains, IfOk, OnOk, false, filter, length, map};
 
 use crate::final_order::FinalOrder;
+use crate::marks::Marks;
 use crate::tables::entry;
 use channel_model::{Segment, Via};
 use greedy_column::{Column, Span, Track, held_by, line_of};
 use std::alloc::{AllocError, Global};
 
 // A column of a sweep that is drawn: its record, the tracks once its pins have entered, those of the final order, on whose lines it is
-// drawn, the pieces of its pins, and by ids the nets that hold the tracks, those that hold them after the column, and since when.
+// drawn, the pieces of its pins, and by ids the nets that hold the tracks, those that hold them after the column, and since when; and marks of
+// the tracks that are left, and of those on which its joins and moves end.
 #[derive(Clone, Copy)]
 pub(crate) struct Moment<'a> {
     pub(crate) column: u32,
@@ -24,7 +27,11 @@ pub(crate) struct Moment<'a> {
     pub(crate) nets: &'a [u32],
     pub(crate) laters: &'a [u32],
     pub(crate) since: &'a [u32],
+    pub(crate) lefts: &'a Marks,
+    pub(crate) ends: &'a Marks,
     ghost few_entered: { length entered.now + 1 < 2 ^ 32 },
+    ghost left: { (id : ℕ) → Contains order.now id → is_marked lefts.now.rounds.items lefts.now.round id ≡ leaves done.now id },
+    ghost ended: { (id : ℕ) → Contains order.now id → is_marked ends.now.rounds.items ends.now.round id ≡ has_end done.now id },
 }
 
 // A piece of wire in a column.
@@ -51,46 +58,11 @@ fn push_across(segments: &mut Vec<Segment>, column: u32, spans: &[Span]) -> Resu
     Ok(())
 }
 
-// Whether a net leaves a track in a column.
-fn leaves(done: &Column, id: u32) -> bool
-    ensures { result ≡ leaves done.now id }
-{
-    is_among(done.ended.items(), id) || is_left(done.moves.items(), id)
-}
-
 // Whether a net may leave a track in a column.
 fn leaves_some(done: &Column) -> bool
     ensures { result ≡ false → (id : ℕ) → leaves done.now id ≡ false }
 {
     !(done.ended.items().is_empty() && done.moves.items().is_empty())
-}
-
-// Whether an id is among some.
-fn is_among(ids: &[u32], id: u32) -> bool
-    ensures { result ≡ list_any (λ one. one == id) ids.now }
-{
-    ids.iter().any(|one| *one == id)
-}
-
-// Whether a move leaves a track.
-fn is_left(moves: &[(u32, u32)], id: u32) -> bool
-    ensures { result ≡ list_any (λ (move : ℕ × ℕ). move.0 == id) moves.now }
-{
-    moves.iter().any(|step| step.0 == id)
-}
-
-// Whether a pair has an id.
-fn is_of(id: u32, pair: (u32, u32)) -> bool
-    ensures { result ≡ is_of id pair }
-{
-    pair.0 == id || pair.1 == id
-}
-
-// Whether one of some pairs has an id.
-fn is_in_some(id: u32, pairs: &[(u32, u32)]) -> bool
-    ensures { result ≡ list_any (is_of id) pairs.now }
-{
-    pairs.iter().any(|pair| is_of(id, *pair))
 }
 
 impl Moment<'_> {
@@ -147,8 +119,16 @@ impl Moment<'_> {
         if !leaves_some(self.done) {
             return Ok(Vec::new(alloc));
         }
+        self.marked_alongs(alloc)
+    }
+
+    // The wires along the tracks that are marked as left, from bottom to top.
+    fn marked_alongs(&self, alloc: Global) -> Result<Vec<Segment>, AllocError>
+        ensures { IfOk result (λ alongs. alongs.items
+            ≡ map (along_by self.now.order.now self.now.column self.now.nets.now self.now.since.now) (filter (is_marked self.now.lefts.now.rounds.items self.now.lefts.now.round) self.now.order.now)) }
+    {
         let ids = self.order.tracks().iter().map(|track| track.id);
-        ids.filter(|id| leaves(self.done, *id))
+        ids.filter(|id| self.lefts.has(*id))
             .map(|id| self.along(id))
             .collect(alloc)
     }
@@ -189,12 +169,11 @@ impl Moment<'_> {
         self.pins.iter().any(|span| self.meets(id, *span))
     }
 
-    // Whether a track has a via.
-    fn has_via(&self, id: u32) -> bool
-        ensures { result ≡ has_via_by self.now.order.now self.now.nets.now self.now.pins.now self.now.done.now id }
+    // Whether a piece of some pin meets a track of its net, or the track is marked.
+    fn is_met_or_marked(&self, id: u32) -> bool
+        ensures { result ≡ (list_any (meets_by self.now.order.now self.now.nets.now id) self.now.pins.now || is_marked self.now.ends.now.rounds.items self.now.ends.now.round id) }
     {
-        self.is_met(id)
-            || (is_in_some(id, self.done.joins.items()) || is_in_some(id, self.done.moves.items()))
+        self.is_met(id) || self.ends.has(id)
     }
 
     // Whether a track may have a via.
@@ -230,8 +209,16 @@ impl Moment<'_> {
         if !self.has_some() {
             return Ok(Vec::new(alloc));
         }
+        self.marked_vias(alloc)
+    }
+
+    // The vias of the tracks that pins' pieces meet and of those that are marked, from bottom to top.
+    fn marked_vias(&self, alloc: Global) -> Result<Vec<Via>, AllocError>
+        ensures { IfOk result (λ vias. vias.items ≡ map (via_by self.now.order.now self.now.column self.now.nets.now self.now.laters.now)
+            (filter (λ id. list_any (meets_by self.now.order.now self.now.nets.now id) self.now.pins.now || is_marked self.now.ends.now.rounds.items self.now.ends.now.round id) self.now.order.now)) }
+    {
         let ids = self.order.tracks().iter().map(|track| track.id);
-        ids.filter(|id| self.has_via(*id))
+        ids.filter(|id| self.is_met_or_marked(*id))
             .map(|id| self.via(id))
             .collect(alloc)
     }

@@ -3,10 +3,10 @@
 ghost use Rattle.greedy_column.specs.Lawful.{AreMadeFrom};
 ghost use Rattle.greedy_column.specs.Joining.{span_in};
 ghost use Rattle.greedy_column.specs.Replay.{after, entered, free_tracks};
-ghost use Rattle.greedy_column.specs.Tracks.{ids};
+ghost use Rattle.greedy_column.specs.Tracks.{held_by, ids};
 ghost use Rattle.greedy_column.specs.Verticals.{pin_verticals, verticals};
 ghost use Rattle.greedy_router.specs.SweepWiring.{across, alongs, column_vias, segments_from, since_after, vias_from};
-ghost use Rattle.greedy_router.specs.Tables.{HasAll, Tells};
+ghost use Rattle.greedy_router.specs.Tables.{AreRounds, HasAll, Tells};
 ghost use Rattle.std.specs.List.Sorted.{IsNonDecreasing};
 ghost use Rattle.std.specs.Prelude.{◌≡◌, ◌<◌, ◌+◌, ◌^◌, ◌++◌, ℕ, IfOk, OnOk, Contains, length, map, slice_index};
 
@@ -37,6 +37,7 @@ struct Turn<'a> {
     entered: &'a [Track],
     left: &'a [Track],
     ghost few_entered: { length entered.now + 1 < 2 ^ 32 },
+    ghost few_columns: { column + 1 < 2 ^ 32 },
 }
 
 impl Turn<'_> {
@@ -60,7 +61,10 @@ impl Turn<'_> {
 
     // Adds the segments and the vias, where a table has since when the tracks are held, by tables that are made to tell of the nets.
     fn draw(&self, alloc: Global, wires: &mut Wires, by_id: &mut ById) -> Result<(), AllocError>
-        requires { HasAll self.now.order.now by_id.old }
+        requires all { HasAll self.now.order.now by_id.old }
+        requires rounds { AreRounds self.now.column by_id.old }
+        ensures rounds { OnOk result (AreRounds (self.now.column + 1) by_id.new) }
+        ensures laters { OnOk result (Tells by_id.new.laters.items (held_by self.now.left.now)) }
         ensures since { OnOk result (by_id.new.since.items ≡ by_id.old.since.items) }
         ensures all { OnOk result (HasAll self.now.order.now by_id.new) }
         ensures segments { OnOk result (wires.new.segments.items ≡ wires.old.segments.items
@@ -73,6 +77,7 @@ impl Turn<'_> {
     {
         let pins = self.pins(alloc)?;
         by_id.tell(self.entered, self.left);
+        by_id.mark(self.done);
         let moment = Moment {
             column: self.column,
             done: self.done,
@@ -82,14 +87,20 @@ impl Turn<'_> {
             nets: &by_id.nets,
             laters: &by_id.laters,
             since: &by_id.since,
+            lefts: &by_id.lefts,
+            ends: &by_id.ends,
         };
         moment.push_segments(alloc, &mut wires.segments)?;
         moment.push_vias(alloc, &mut wires.vias)
     }
 
-    // Notes since when the tracks are held, and adds the segments and the vias.
+    // Notes since when the tracks are held, from the nets that the column before has left, and adds the segments and the vias.
     fn wire(&self, alloc: Global, wires: &mut Wires, by_id: &mut ById) -> Result<(), AllocError>
-        requires { HasAll self.now.order.now by_id.old }
+        requires all { HasAll self.now.order.now by_id.old }
+        requires rounds { AreRounds self.now.column by_id.old }
+        requires told { Tells by_id.old.laters.items (held_by self.now.before.now) }
+        ensures rounds { OnOk result (AreRounds (self.now.column + 1) by_id.new) }
+        ensures laters { OnOk result (Tells by_id.new.laters.items (held_by self.now.left.now)) }
         ensures since { OnOk result (Tells by_id.new.since.items (since_after self.now.column self.now.before.now (λ id. slice_index by_id.old.since.items id))) }
         ensures all { OnOk result (HasAll self.now.order.now by_id.new) }
         ensures segments { OnOk result (wires.new.segments.items ≡ wires.old.segments.items
@@ -100,7 +111,7 @@ impl Turn<'_> {
             ++ column_vias self.now.order.now self.now.column self.now.entered.now self.now.left.now
             (pin_verticals self.now.channel.now self.now.column self.now.done.now) self.now.done.now) }
     {
-        by_id.note_free(self.before, self.column);
+        by_id.note_free(self.column);
         self.draw(alloc, wires, by_id)
     }
 }

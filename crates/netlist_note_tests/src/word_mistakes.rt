@@ -75,7 +75,7 @@ const MISTAKES: &[(&str, &str)] = &[
     ),
     (
         "check|d|r|c|--marker|f",
-        "cellroute check: --marker is no option of check; its options are --markers, --ports, --quiet; did you mean --markers? [usage]",
+        "cellroute check: --marker is no option of check; its options are --markers, --ports, --labels, --quiet; did you mean --markers? [usage]",
     ),
     (
         "check|d|r|c|--markers",

@@ -36,7 +36,7 @@ const MISTAKES: &[(&str, &str)] = &[
     ),
     (
         "check|d|r|c|--rows|2",
-        "cellroute check: --rows is no option of check; its options are --markers, --ports, --quiet [usage]",
+        "cellroute check: --rows is no option of check; its options are --markers, --ports, --labels, --quiet [usage]",
     ),
     (
         "make|1|5|r|o|--edge",
@@ -127,6 +127,7 @@ Judges the layout in CIF for the design in DESIGN under the rules in RULES: prin
 for each thing that is wrong with it, and their number. It writes no file but FILE.
   --markers FILE write it to FILE too, as a report database of KLayout
   --ports        judge it for the design with the terminals of the PARENT as cells
+  --labels       take a call as the cell whose label lies in its outline
   -q, --quiet    no notes on the standard error
 "
     );

@@ -1,6 +1,7 @@
-use Rattle.std.proofs.Common.{◌≡◌, ◌<◌, ◌≤◌, ℕ, ◌+◌, ◌-◌, ◌*◌, List, [], ◌∷◌, length, map, sum, Bool, true, false, cond, Some, refl, ap, sym, ◌∙◌, subst, arith}
+use Rattle.std.proofs.Common.{◌≡◌, ◌<◌, ◌≤◌, ℕ, ◌+◌, ◌-◌, ◌*◌, List, [], ◌∷◌, ◌++◌, length, map, sum, take, drop, Bool, true, false, cond, Some, refl, ap, sym, ◌∙◌, subst, arith}
 use Rattle.std.proofs.lemmas.List.Elements.{recursion_from_All}
-use Rattle.std.proofs.lemmas.List.{length-map}
+use Rattle.std.proofs.lemmas.List.Sums.{sum_by-append}
+use Rattle.std.proofs.lemmas.List.{length-map, map-append, take-append-drop}
 use Rattle.std.proofs.lemmas.Option.{same_Some}
 use Rattle.std.specs.List.{slice_get, AllByRecursion, Contains}
 use Rattle.std.specs.Prelude.{nat_eq}
@@ -102,6 +103,20 @@ marked-few d mark most one few (n ∷ ns) =
       length-map (pins_of_instance d n) (pin_with_net d),
       few n,
       sum-cons (marked_pins d mark n) (map (marked_pins d mark) ns),
+    )
+
+-- the marked pins of seats, and those of their front and of the others
+pub marked-parts : (d : Netlist) (mark : ℕ × NetPin → ℕ) (f : Seat → ℕ) (k : ℕ) (seats : List Seat)
+    → marked_in d mark (map f (take k seats)) + marked_in d mark (map f (drop k seats)) ≡ marked_in d mark (map f seats)
+marked-parts d mark f k seats =
+    let front = map f (take k seats) in
+    let back = map f (drop k seats) in
+    let whole : front ++ back ≡ map f seats = sym (map-append f (take k seats) (drop k seats)) ∙ ap (map f) (take-append-drop k seats) in
+    omega (
+      arith,
+      ap (λ (l : List ℕ). marked_in d mark l) whole,
+      ap sum (map-append (marked_pins d mark) front back),
+      sum_by-append (λ (n : ℕ). n) (map (marked_pins d mark) front) (map (marked_pins d mark) back),
     )
 
 pub ends-one : (d : Netlist) (trial : List Spot) (side : Side) (p : ℕ × NetPin) → ends_net d trial side p ≤ 1

@@ -95,15 +95,13 @@ impl Spreads {
 
     /// 1 where a number stands at the extreme on a side of a list that has any, else 0, and 1 where it stands alone at that across. Takes no memory.
     pub(crate) fn ends(&self, side: Side, list: usize, number: u64) -> Ends
+        requires { list < length self.now.lists }
         ensures ends { (n : ℕ) (ns : List ℕ) → slice_get self.now.lists list ≡ Some (n ∷ ns) → result.ends ≡ at_end (extreme_of side (n ∷ ns)) number }
         ensures alone { (n : ℕ) (ns : List ℕ) → slice_get self.now.lists list ≡ Some (n ∷ ns) → result.alone ≡ alone_at_end (extreme_of (across side) (n ∷ ns)) number }
         ensures few { result.ends ≤ 1 }
         ensures few_alone { result.alone ≤ 1 }
     {
-        match self.lists.get(list) {
-            Some(extremes) => extremes.ends(side, number),
-            None => Ends { ends: 0, alone: 0 },
-        }
+        self.lists[list].ends(side, number)
     }
 
     /// The sum of how far each list spreads. Takes no memory.

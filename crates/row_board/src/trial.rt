@@ -20,7 +20,7 @@ use crate::row_lengths::{RowLengths, difference};
 use crate::seats::row_at;
 use crate::standings::Standing;
 use geom_core::Items;
-use limits::{MOST_INSTANCES, MOST_KIND_COLUMNS};
+use limits::{MOST_INSTANCES, MOST_KIND_COLUMNS, MOST_PINS};
 use row_model::Seat;
 
 /// What rows cost by their tables: the sum of what the nets cost, and the columns by which the rows miss their target as the weights tell. Takes no memory.
@@ -54,6 +54,38 @@ fn instead(a: u32, b: u32, instance: u32) -> u32
     instance
 }
 
+// How many pins of the instances of seats, once two have exchanged their places, end their nets on a side, and how many alone end theirs across.
+fn all_ends(costs: &NetCosts, seats: &[Seat], a: u32, b: u32, side: Side) -> Ends
+    requires { length seats.now ≤ MOST_INSTANCES }
+    ensures ends { result.ends ≡ marked_in costs.now.design (ends_net costs.now.design costs.now.standings side) (instances_instead a b seats.now) }
+    ensures alone { result.alone ≡ marked_in costs.now.design (ends_net_alone costs.now.design costs.now.standings (across side)) (instances_instead a b seats.now) }
+    ensures few { result.ends ≤ MOST_PINS * length seats.now }
+    ensures few_alone { result.alone ≤ MOST_PINS * length seats.now }
+{
+    let mut found = Ends { ends: 0, alone: 0 };
+    let mut rest = seats;
+    while let Some((seat, after)) = rest.split_first() {
+        let more = costs.ends(side, instead(a, b, seat.instance));
+        found.ends += more.ends;
+        found.alone += more.alone;
+        rest = after;
+    }
+    found
+}
+
+// How many of these seats are read at once, where their instances have at most so many pins each and what is read is to bring an excess down to nothing: no pin brings it down by more
+// than two, one as it doesn't end its net and one as it alone ends it across.
+fn seats_at_once(seats: &[Seat], most: u64, excess: u64) -> usize
+    requires some { 0 < length seats.now }
+    requires few { most ≤ MOST_PINS }
+    requires small { excess < 2 ^ 62 }
+    ensures some { 0 < result }
+    ensures within { result ≤ length seats.now }
+{
+    let count = excess / (2 * most).max(1) + 1;
+    count.min(seats.len() as u64) as usize
+}
+
 // At most how many pins of the instances of seats, once two have exchanged their places, end their nets on a side, and at least how many alone end theirs across. The
 // seats are read until the first, with `others`, are surely no more than the second, with `enough`.
 fn ends_in(
@@ -76,12 +108,15 @@ fn ends_in(
     let most = costs.most_pins();
     let mut found = Ends { ends: 0, alone: 0 };
     let mut rest = seats;
-    while let Some((seat, after)) = rest.split_first() {
+    while !rest.is_empty() {
         let ends = found.ends + most * rest.len() as u64;
-        if ends + others <= enough + found.alone {
+        let enough = enough + found.alone;
+        if ends + others <= enough {
             return Ends { ends, ..found };
         }
-        let more = costs.ends(side, instead(a, b, seat.instance));
+        let excess = ends + others - enough;
+        let (now, after) = rest.split_at(seats_at_once(rest, most, excess));
+        let more = all_ends(costs, now, a, b, side);
         found.ends += more.ends;
         found.alone += more.alone;
         rest = after;

@@ -1,4 +1,4 @@
-use Rattle.std.proofs.Common.{◌≡◌, None, Ok, Option, refl, sym, arith}
+use Rattle.std.proofs.Common.{None, Ok, Option, refl, sym, arith}
 use Rattle.std.proofs.lemmas.Option.{same_Some}
 use Rattle.command_ends.proofs.FindsLaws.{of-file}
 use Rattle.command_inputs.specs.GivenRules.{rules_given, some_rules}

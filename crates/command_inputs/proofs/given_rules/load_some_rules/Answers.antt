@@ -1,4 +1,4 @@
-use Rattle.std.proofs.Common.{◌≡◌, Option, Some, Ok, Err, refl}
+use Rattle.std.proofs.Common.{Option, Some, Ok, Err, refl}
 use Rattle.tech_rules.specs.Rules.{RuleValues}
 use Rattle.command_inputs.specs.GivenRules.{some_rules}
 use Rattle.command_inputs.proofs.ReadingLaws.{loads-on, loads-stop}

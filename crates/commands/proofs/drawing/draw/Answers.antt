@@ -1,9 +1,7 @@
-use Rattle.std.proofs.Common.{◌≡◌, ◌∙◌, ℕ, List, [], Option, Some, Result, Ok, Err, Bool, true, false, cond, inl, inr, is_ok, nat_lt, option_map, refl, sym, ap, subst}
-use Rattle.std_laws.proofs.Options.{ok-same}
+use Rattle.std.proofs.Common.{None, ◌≡◌, ◌∙◌, ℕ, List, [], Option, Some, Result, Ok, Err, Bool, true, false, cond, inl, inr, is_ok, nat_lt, option_map, refl, sym, ap, subst}
 use Rattle.command_ends.proofs.FindsLaws.{found-refusal, of-file, stops, told-goes-on, told-next, told-stops, told-value}
 use Rattle.command_ends.specs.Answers.{Finds}
 use Rattle.command_ends.specs.Refusing.{◌>>=◌}
-use Rattle.command_ends.specs.Status.{ending_status}
 use Rattle.command_ends.specs.declared.refusal.Limited.TheVariants as limits
 use Rattle.command_ends.specs.declared.refusal.Refusal.{Refusal}
 use Rattle.command_ends.specs.declared.refusal.Refusal.TheVariants as refusals
@@ -13,10 +11,9 @@ use Rattle.command_inputs.proofs.LayoutLaws.{layout-reads}
 use Rattle.command_inputs.proofs.ReadingLaws.{loads-after, read-also, read-refused, read-same}
 use Rattle.command_inputs.specs.GivenRules.{rules_given}
 use Rattle.command_inputs.specs.LayoutFile.{layout_verdict}
-use Rattle.command_inputs.specs.Reading.{Files, Loads, OnlyRead}
+use Rattle.command_inputs.specs.Reading.{Files, OnlyRead}
 use Rattle.command_words.specs.Command.{DrawNames, draw}
 use Rattle.command_words.specs.Seen.{draw_seen}
-use Rattle.geom_core.specs.Extent.{Extent}
 use Rattle.geom_core.specs.declared.layout.Layout.{Layout}
 use Rattle.layout_picture.specs.Pictures.{picture_text}
 use Rattle.layout_picture.specs.declared.picture.TheConstants.{MOST_SHOWN}
@@ -44,16 +41,16 @@ drawn-is layout view text is = by (nat_lt MOST_SHOWN (shown_count layout view)) 
 -- where the rules are read, if there are some
 module _ (names : DrawNames) (rules : Option RuleValues) (holds : List ℕ → Option (List ℕ)) (given : (s : Result (Option RuleValues) Refusal) → rules_given names.rules holds ≡ Some s → s ≡ Ok rules) where
   -- what stops the reading of the layout stops the command
-  layout-stops : (stop : Stop) (said : Result Accepted Refusal) → ((bytes : List ℕ) → holds names.cif ≡ Some bytes → Finds {X = Layout} (λ l. l) (Err stop) (layout_verdict bytes))
+  layout-stops : (stop : Stop) (said : Result Accepted Refusal) → ((bytes : List ℕ) → holds names.cif ≡ Some bytes → Finds {X = Layout} (λ l. l) (Err stop) (layout_verdict None bytes))
       → command_verdict (draw names) holds ≡ Some said → Finds {X = Accepted} (λ a. a) (Err stop) said
   unfolding command_verdict picture_verdict
   layout-stops stop said told is =
       told-goes-on (λ (a : Accepted). a) (Err stop) _ rules _ said given
       (of-file (λ (a : Accepted). a) (Err stop) (picture_verdict names.part rules) _
-      (λ bytes at. stops (λ (l : Layout). l) (λ (a : Accepted). a) stop (layout_verdict bytes) (λ (l : Layout). drawn_text l (view_of names.part rules) >>= (λ text. Ok (to_write text))) (told bytes at))) is
+      (λ bytes at. stops (λ (l : Layout). l) (λ (a : Accepted). a) stop (layout_verdict None bytes) (λ (l : Layout). drawn_text l (view_of names.part rules) >>= (λ text. Ok (to_write text))) (told bytes at))) is
 
   -- and where that is read too, it is to draw it
-  draw-said : (layout : Layout) (said : Result Accepted Refusal) → ((bytes : List ℕ) → holds names.cif ≡ Some bytes → layout_verdict bytes ≡ Ok layout)
+  draw-said : (layout : Layout) (said : Result Accepted Refusal) → ((bytes : List ℕ) → holds names.cif ≡ Some bytes → layout_verdict None bytes ≡ Ok layout)
       → command_verdict (draw names) holds ≡ Some said → said ≡ (drawn_text layout (view_of names.part rules) >>= (λ text. Ok (to_write text)))
   unfolding command_verdict picture_verdict
   draw-said layout said told is =
@@ -64,7 +61,7 @@ module _ (names : DrawNames) (rules : Option RuleValues) (holds : List ℕ → O
 -- what was done where the picture was written, or could not be
 drawn-for : (names : DrawNames) (rules : Option RuleValues) (layout : Layout) (text : List ℕ) (e : Result Done Stop) {First : (List ℕ → ℕ) → (List ℕ → ℕ) → Type 0} (old mid new : Files)
     → ((s : Result (Option RuleValues) Refusal) → rules_given names.rules old.holds ≡ Some s → s ≡ Ok rules)
-    → ((bytes : List ℕ) → old.holds names.cif ≡ Some bytes → layout_verdict bytes ≡ Ok layout) → OnlyRead 0 First old mid
+    → ((bytes : List ℕ) → old.holds names.cif ≡ Some bytes → layout_verdict None bytes ≡ Ok layout) → OnlyRead 0 First old mid
     → drawn_text layout (view_of names.part rules) ≡ Ok text → IsTextWritten text names.out e mid new → Carried (Some (draw names)) e [] old new
 drawn-for names rules layout text e old mid new given told read is after =
     let written = subst (λ (m : Files). IsTextWritten text names.out e m new) (read-same old mid read) after in

@@ -1,4 +1,4 @@
-use Rattle.std.proofs.Common.{◌≡◌, ◌∙◌, ◌++◌, ℕ, List, [], Bool, false, Option, Some, option_map, Result, Ok, Err, inl, inr, is_ok, refl, rules, sym, ap, subst}
+use Rattle.std.proofs.Common.{◌≡◌, ◌∙◌, ◌++◌, ℕ, List, [], false, Option, Some, option_map, Result, Ok, Err, inl, inr, is_ok, refl, rules, sym, ap, subst}
 use Rattle.blif_reader.specs.declared.file.BlifFile.{BlifFile}
 use Rattle.command_ends.proofs.FindsLaws.{found-refusal, of-file, stops, told-goes-on, told-next, told-stops, told-value}
 use Rattle.command_ends.specs.Answers.{Finds}

@@ -1,4 +1,4 @@
-use Rattle.std.proofs.Common.{Err, [], inl, inr, refl, arith, ◌≡◌, ◌≢◌, ◌↔◌, ◌∙◌, ℕ, List, Option, Some, None, Result, Ok, sym, ap, subst}
+use Rattle.std.proofs.Common.{Err, [], inl, inr, refl, arith, ◌≡◌, ◌≢◌, ◌↔◌, ◌∙◌, ℕ, List, Bool, true, false, Option, Some, None, Result, Ok, sym, ap, subst}
 use Rattle.command_ends.proofs.FindsLaws.{told-stops, of-file, stops, told-goes-on}
 use Rattle.command_ends.specs.declared.refusal.Refusal.TheVariants.{Memory}
 use Rattle.command_ends.specs.declared.stop.Stop.TheVariants.{Refused, WriteFault}
@@ -8,15 +8,16 @@ use Rattle.command_inputs.specs.declared.stages.Inputs.{Inputs}
 use Rattle.command_words.specs.Command.{CheckNames, check, from_file}
 use Rattle.command_words.specs.Seen.{check_seen}
 use Rattle.commands.specs.Accepted.{Accepted, to_judge}
-use Rattle.commands.specs.Verdict.{command_verdict, judgement_verdict}
+use Rattle.commands.specs.Verdict.{command_verdict, judgement_verdict, labels_on}
 use Rattle.commands.proofs.CarriedLaws.{stopped-early}
 use Rattle.geom_core.specs.declared.layout.Layout.{Layout}
+use Rattle.tech_rules.specs.Rules.{RuleValues}
 use Rattle.layout_check.specs.declared.finding.Finding.{Finding}
 use Rattle.command_ends.specs.Answers.{Finds}
 use Rattle.command_ends.specs.Refusing.{◌>>=◌}
 use Rattle.command_ends.specs.declared.refusal.Refusal.{Refusal}
 use Rattle.command_ends.specs.declared.stop.Stop.{Stop}
-use Rattle.command_inputs.proofs.LayoutLaws.{layout-reads}
+use Rattle.command_inputs.proofs.LayoutLaws.{layout-labels, layout-reads}
 use Rattle.command_inputs.specs.LayoutFile.{layout_verdict}
 use Rattle.command_inputs.specs.Origin.{AreRead}
 use Rattle.command_inputs.specs.Reading.{Files, Loads}
@@ -25,22 +26,27 @@ use Rattle.commands.specs.Changes.{AreMarked}
 use Rattle.commands.specs.Done.{AreFound, Done, judged}
 use Rattle.commands.specs.Ends.{Ends}
 use Rattle.commands.specs.Outcome.{Holds, HoldsFront}
-use Rattle.commands.specs.Headline.{Headline}
-use Rattle.commands.proofs.HeadlineLaws.{good-of, headline-of}
+use Rattle.commands.specs.Headline.{HeadlineSo, ReadsSo}
+use Rattle.commands.proofs.HeadlineLaws.{good-of, headline-of, text-so}
 use Rattle.commands.proofs.judging.judge.Goals as goal
 
 -- what is said of a layout, with a file for markers or none
 abbrev seen-as : Inputs → Option (List ℕ) → Layout → Accepted
 seen-as inputs markers layout = to_judge inputs layout markers
 
+-- a layout is the one as which its text reads
+reads-so : (labels : Bool) (rules : RuleValues) (text : List ℕ) (layout : Layout) → layout_verdict (labels_on labels rules) text ≡ Ok layout → ReadsSo labels rules text layout
+reads-so false rules text layout is = layout-reads text layout is
+reads-so true rules text layout is = layout-labels rules.outline.layer text layout is
+
 -- what is found of a layout for a command to check, where the rules and the design are read
 layout-found : (names : CheckNames) (inputs : Inputs) (result : Result Layout Stop) {Fails : (List ℕ → ℕ) → (List ℕ → ℕ) → Type 0} (old new : Files) (said : Result Accepted Refusal)
-    → AreRead names.rules (from_file names.design) names.ports old.holds inputs → Loads (λ (l : Layout). l) layout_verdict (λ told. told names.cif) Fails result old new
+    → AreRead names.rules (from_file names.design) names.ports old.holds inputs → Loads (λ (l : Layout). l) (layout_verdict (labels_on names.labels inputs.rules)) (λ told. told names.cif) Fails result old new
     → command_verdict (check names) old.holds ≡ Some said → Finds (seen-as inputs names.markers) result said
 unfolding command_verdict judgement_verdict
 layout-found names inputs result old new said read loads is =
     told-goes-on (seen-as inputs names.markers) result _ inputs _ said (λ s at. read-told names.rules (from_file names.design) names.ports old.holds inputs s read at)
-    (of-file (seen-as inputs names.markers) result (judgement_verdict inputs names.markers) _ (λ bytes told. by result (layout_verdict bytes) (loads.told bytes told))) is
+    (of-file (seen-as inputs names.markers) result (judgement_verdict names.labels inputs names.markers) _ (λ bytes told. by result (layout_verdict (labels_on names.labels inputs.rules) bytes) (loads.told bytes told))) is
   where
     by : (result : Result Layout Stop) (found : Result Layout Refusal) → Finds (λ (l : Layout). l) result found
         → Finds (seen-as inputs names.markers) result (found >>= (λ l. Ok (to_judge inputs l names.markers)))
@@ -50,7 +56,7 @@ layout-found names inputs result old new said read loads is =
 -- what was done where a layout was judged, whose findings are written, if they are to be, or could not be
 module _ (names : CheckNames) (inputs : Inputs) (layout : Layout) (findings : List Finding) {Fails : (List ℕ → ℕ) → (List ℕ → ℕ) → Type 0} (old mid new : Files)
     (read : AreRead names.rules (from_file names.design) names.ports old.holds inputs)
-    (loads : Loads (λ (l : Layout). l) layout_verdict (λ told. told names.cif) Fails (Ok layout) old mid) (found : AreFound inputs layout findings) where
+    (loads : Loads (λ (l : Layout). l) (layout_verdict (labels_on names.labels inputs.rules)) (λ told. told names.cif) Fails (Ok layout) old mid) (found : AreFound inputs layout findings) where
   verdict : (said : Result Accepted Refusal) → command_verdict (check names) old.holds ≡ Some said → Ok (to_judge inputs layout names.markers) ≡ said
   verdict said says = sym (layout-found names inputs (Ok layout) old mid said read loads says)
 
@@ -75,10 +81,11 @@ module _ (names : CheckNames) (inputs : Inputs) (layout : Layout) (findings : Li
         let here : names ≡ other = cc in
         let from = inputs-from names.rules (from_file names.design) names.ports old.holds inputs stated bytes read (ap (λ (m : CheckNames). old.holds m.rules) here ∙ states)
         (ap (λ (m : CheckNames). old.holds m.design) here ∙ design) in
-        let reads = layout-reads text layout (loads.told text (ap (λ (m : CheckNames). old.holds m.cif) here ∙ cif)) in
-        subst (λ (m : CheckNames). (findings ≡ []) ↔ Headline m.ports stated bytes text) here (
-          λ none. headline-of stated bytes text names.ports inputs from (record { layout = layout; reads = reads; good = found.good.0 none }),
-          λ headline. found.good.1 (good-of stated bytes text names.ports inputs from layout reads headline),
+        let reads = reads-so names.labels inputs.rules text layout (loads.told text (ap (λ (m : CheckNames). old.holds m.cif) here ∙ cif)) in
+        subst (λ (m : CheckNames). (findings ≡ []) ↔ HeadlineSo m.labels m.ports stated bytes text) here (
+          λ none. headline-of stated bytes text names.labels names.ports inputs from
+              (text-so names.labels inputs.rules inputs.designs.drawn.design text layout reads (found.good.0 none)),
+          λ headline. found.good.1 (good-of stated bytes text names.labels names.ports inputs from layout reads headline),
         );
     drawn = λ other text held same layout zero told. absurd cc;
     imported = λ other netlist cells held same first second zero told. absurd cc;
@@ -129,7 +136,7 @@ returns-in_err-layout g c =
     let names : CheckNames = check_seen c.args.names.now in
     let inputs : Inputs = c.in_ok-inputs.inputs in
     let stop = c.in_err-layout.field-0.0 in
-    let loads = loads-after c.in_ok-inputs.ensures.read c.in_err-layout.ensures.loads in
+    let loads = loads-after c.in_ok-inputs.ensures.read (rw c.labels_on-outline.ensures at c.in_err-layout.ensures.loads) in
     stopped-early (seen-as inputs names.markers) (check names) stop c.from_residual-in_err-layout.result [] _ _ c.from_residual-in_err-layout.ensures.1
     (λ said says. layout-found names inputs (Err stop) _ _ said c.in_ok-inputs.ensures.are loads says)
     (read-also (λ eight rose. inr (rose, (inputs.rules, read-passed names.rules (from_file names.design) names.ports _ inputs c.in_ok-inputs.ensures.are))) loads.read) refl
@@ -138,7 +145,7 @@ pub returns-in-Ok : goal.returns-in-Ok
 returns-in-Ok g c =
     let names : CheckNames = check_seen c.args.names.now in
     judged-for names c.in_ok-inputs.inputs c.in_ok-layout.layout c.in-Ok.judged.findings.items _ _ _ c.in_ok-inputs.ensures.are
-    (loads-after c.in_ok-inputs.ensures.read c.in_ok-layout.ensures.loads)
+    (loads-after c.in_ok-inputs.ensures.read (rw c.labels_on-outline.ensures at c.in_ok-layout.ensures.loads))
     (rw (c.in-Ok.ensures.inputs, c.in-Ok.ensures.layout) at c.in-Ok.ensures.found) _
     (rw (c.in-Ok.ensures.inputs, c.in-Ok.ensures.layout) at c.mark.ensures)
 
@@ -147,4 +154,4 @@ returns-in-Err g c =
     let names : CheckNames = check_seen c.args.names.now in
     stopped-early (λ (a : Accepted). a) (check names) (Refused Memory) (Err (Refused Memory)) [] _ _ refl (λ said says. tt)
     (read-refused Memory (λ two. absurd (omega (arith, two)))
-    (loads-after c.in_ok-inputs.ensures.read c.in_ok-layout.ensures.loads).read) refl
+    (loads-after c.in_ok-inputs.ensures.read (rw c.labels_on-outline.ensures at c.in_ok-layout.ensures.loads)).read) refl

@@ -1,4 +1,4 @@
-use Rattle.std.proofs.Common.{◌∙◌, Ok, Err, refl, subst, sym, ◌≡◌, ◌<◌, ℕ, List, length, get_or, Option, Some, Bool, true, Result, slice_get, ap, arith}
+use Rattle.std.proofs.Common.{false, ◌∙◌, Ok, Err, refl, subst, sym, ◌≡◌, ◌<◌, ℕ, List, length, get_or, Option, Some, Bool, true, Result, slice_get, ap, arith}
 use Rattle.command_ends.proofs.FindsLaws.{found-refusal, stops, told-stops, told-next}
 use Rattle.command_ends.specs.Answers.{Finds}
 use Rattle.command_ends.specs.declared.stop.Stop.TheVariants.{Refused}
@@ -74,7 +74,7 @@ written-for names inputs p e kept old mid new read is made first after =
           let here : names ≡ other = cc in
           let ported = held-text held zero (ap (λ (m : Names). new.holds m.out) here ∙ told) written in
           subst (λ (m : Names). Headline m.wanted.ports stated bytes held) here
-          (headline-of stated bytes held names.wanted.ports inputs
+          (headline-of stated bytes held false names.wanted.ports inputs
           (inputs-from names.rules names.design names.wanted.ports old.holds inputs stated bytes read (ap (λ (m : Names). old.holds m.rules) here ∙ states)
           (subst (λ (m : Names). IsSourceText m.design old.holds stated bytes) (sym here) source)) ported.is);
       edges = λ other stated bytes held same ports states source zero told.

@@ -1,4 +1,4 @@
-use Rattle.std.proofs.Common.{◌≡◌, ◌<◌, ◌+◌, ◌++◌, ℕ, List, get_or, length}
+use Rattle.std.proofs.Common.{◌≡◌, ◌+◌, ◌++◌, List, length}
 use Rattle.greedy_column.specs.Tracks.{ids, line_of}
 use Rattle.greedy_column.specs.declared.column.Track.{Track}
 use Rattle.greedy_router.specs.Tables.{Tells}

@@ -1,8 +1,7 @@
-use Rattle.std.proofs.Common.{◌≡◌, ◌<◌, ◌≤◌, ◌+◌, ◌++◌, ◌∷◌, [], ℕ, List, length, take, get_or, rules, sym, subst, ap, ◌∙◌}
+use Rattle.std.proofs.Common.{◌<◌, ℕ, List, length, take, get_or, rules, sym, subst, ap}
 use Rattle.std.proofs.lemmas.List.{take_more}
-use Rattle.channel_model.specs.Limits.{most_extra, most_tracks}
+use Rattle.channel_model.specs.Limits.{most_extra}
 use Rattle.channel_model.specs.Nets.{nets_of}
-use Rattle.channel_model.specs.declared.wiring.Wiring.{Wiring}
 use Rattle.greedy_router.specs.Answers.{IsChannelRouted, IsPlanned}
 use Rattle.greedy_router.specs.Begun.{begun_of}
 use Rattle.greedy_router.specs.Runs.{Ran, routed_of}

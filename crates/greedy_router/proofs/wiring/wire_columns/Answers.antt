@@ -4,10 +4,14 @@ use Rattle.std.proofs.lemmas.List.Elements.{All-head, All-tail}
 use Rattle.std.specs.List.Sorted.{IsNonDecreasing}
 use Rattle.greedy_column.specs.declared.column.Track.{Track}
 use Rattle.greedy_column.specs.declared.column.Column.{Column}
-use Rattle.greedy_column.specs.Tracks.{ids}
-use Rattle.greedy_column.specs.Replay.{after, entered}
+use Rattle.greedy_column.specs.Tracks.{held_by, ids}
+use Rattle.greedy_column.specs.Replay.{after, entered, free_tracks}
+use Rattle.greedy_column.proofs.StateLaws.{nets-free}
 use Rattle.greedy_column.proofs.TableLaws.{length-ids}
+use Rattle.greedy_router.specs.Runs.{Ran}
 use Rattle.greedy_router.specs.SweepWiring.{since_after}
+use Rattle.greedy_router.specs.Tables.{Tells}
+use Rattle.greedy_router.proofs.CourseLaws.{held_by-none}
 use Rattle.greedy_router.proofs.TellLaws.{segments_from-agree}
 use Rattle.greedy_router.proofs.ReplayLaws.{entered-few, fair-more, replay-more}
 use Rattle.greedy_router.proofs.WiringLaws.{segments-more, vias-more}
@@ -40,7 +44,14 @@ loop-done-init c =
         within = λ id member. let less = below id member in omega (arith, less, ap (λ (l : List ℕ). length l) since, length-replicate {A = ℕ} room 0);
         nets = ap (λ (l : List ℕ). length l) (c.in_ok-by_id.ensures.nets ∙ sym since);
         laters = ap (λ (l : List ℕ). length l) (c.in_ok-by_id.ensures.laters ∙ sym since);
+        lefts = c.in_ok-by_id.ensures.lefts ∙ sym (ap (λ (l : List ℕ). length l) since ∙ length-replicate {A = ℕ} room 0);
+        ends = c.in_ok-by_id.ensures.ends ∙ sym (ap (λ (l : List ℕ). length l) since ∙ length-replicate {A = ℕ} room 0);
       };
+      rounds = record { lefts = c.in_ok-by_id.ensures.lefts_round; ends = c.in_ok-by_id.ensures.ends_round };
+      told = λ id inside.
+          ap (λ (l : List ℕ). get_or l id 0) c.in_ok-by_id.ensures.laters
+          ∙ get_or-replicate {A = ℕ} room id 0 0 (omega (arith, inside, ap (λ (l : List ℕ). length l) c.in_ok-by_id.ensures.laters, length-replicate {A = ℕ} room 0))
+          ∙ sym (held_by-none (free_tracks c.run.inside.begun) (nets-free c.run.inside.begun) id);
       segments = rw c.new-2.ensures.items
           (segments_from-agree order c.run.inside.surveyed.now.channel.now 0 _ (λ id. get_or c.in_ok-by_id.by_id.since.items id 0) (λ id. 0)
           c.run.inside.columns.items (λ id member. ap (λ l. get_or l id 0) since ∙ get_or-replicate {A = ℕ} room id 0 0 (below id member)));
@@ -86,6 +97,8 @@ loop-done-preserved c =
       ascending = All-tail (λ (d : Column). IsNonDecreasing d.ended) done later kept.ascending;
       replay = replay-more pins column (column + 1) before c.in_ok-entered.field-0.left.items order done later one left kept.replay;
       all = made.all;
+      rounds = made.rounds;
+      told = subst (λ (l : List Track). Tells c.wire.new.by_id.laters.items (held_by l)) (sym left) made.laters;
       segments = segments-more order pins column (column + 1) before c.in_ok-entered.field-0.left.items done later c.loop-done.wires.segments.items
           c.wire.new.wires.segments.items _ (λ id. get_or c.loop-done.by_id.since.items id 0) (λ id. get_or c.wire.new.by_id.since.items id 0) one left noted
           made.segments kept.segments;
@@ -105,4 +118,8 @@ invariant_of-turn c =
     let now : c.in_ok-entered.field-0.entered.items ≡ entered pins column done before = rw c.deref.ensures.value at c.in_ok-entered.ensures.entered in
     let few = entered-few pins column before (ids c.order.inside.tracks.now) done later kept.replay in
     let order = ap (λ (l : List ℕ). length l) (c.order.view_is ∙ c.in_ok-order.ensures) ∙ length-ids c.items-tracks.result.now ∙ ap (λ (l : List Track). length l) c.items-tracks.ensures in
-    rw (c.deref-in-Some-2.ensures.value, now) (omega (arith, few, order, c.run.invariant.few_tracks))
+    let seen = ap (λ (r : Ran). length r.sweep.columns) c.run.view_is in
+    record {
+      few_entered = rw (c.deref-in-Some-2.ensures.value, now) (omega (arith, few, order, c.run.invariant.few_tracks));
+      few_columns = let counted = kept.counted in omega (arith, counted, seen, c.run.invariant.few_columns);
+    }

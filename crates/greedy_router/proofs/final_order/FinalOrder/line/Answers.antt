@@ -1,4 +1,4 @@
-use Rattle.std.proofs.Common.{◌≡◌, ◌<◌, ◌≤◌, ◌+◌, ℕ, Contains, length, arith, rules, sym, ap, ◌∙◌}
+use Rattle.std.proofs.Common.{◌≤◌, ◌+◌, length, arith, rules, sym, ap, ◌∙◌}
 use Rattle.greedy_column.specs.Tracks.{ids}
 use Rattle.greedy_column.proofs.TableLaws.{length-ids}
 use Rattle.greedy_router.proofs.OrderLaws.{line_of-absent}

@@ -1,4 +1,4 @@
-use Rattle.std.proofs.Common.{◌≡◌, ◌<◌, ◌+◌, ◌^◌, ℕ, Contains, length, arith, rules}
+use Rattle.std.proofs.Common.{arith}
 use Rattle.greedy_router.proofs.final_order.FinalOrder.new.Goals as goal
 
 pub invariant_of-result : goal.invariant_of-result

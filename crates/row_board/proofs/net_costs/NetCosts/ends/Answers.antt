@@ -1,7 +1,9 @@
-use Rattle.std.proofs.Common.{◌≡◌, ℕ, List, ap, sym, ◌∙◌, arith, length, map, subst, sum}
-use Rattle.std.specs.List.{AllByRecursion}
+use Rattle.std.proofs.Common.{◌≡◌, ◌+◌, ℕ, List, ap, sym, ◌∙◌, arith, length, map, subst, sum}
+use Rattle.std.proofs.lemmas.List.FromFn.{length-range_with_len}
+use Rattle.std.proofs.lemmas.List.{length-map}
+use Rattle.std.specs.List.{range_with_len, AllByRecursion}
 use Rattle.row_board.specs.Extreme.{across, alone_at_end, at_end, extreme_of}
-use Rattle.row_board.specs.NetPins.{as_net_pin, own_pin, pin_column}
+use Rattle.row_board.specs.NetPins.{as_net_pin, net_pins, own_pin, pin_column}
 use Rattle.row_board.specs.PinPlaces.{instance_column}
 use Rattle.row_board.specs.Spot.{Spot}
 use Rattle.row_board.specs.Spreads.{NumberLists}
@@ -27,6 +29,19 @@ loop-pin-init c =
       few = omega (arith, few);
       few_alone = omega (arith, few);
     }
+
+pub ends-more-requires : goal.ends-more-requires
+ends-more-requires c =
+    let d = c.self.inside.nets in
+    let t = c.self.inside.standings.items in
+    let of = subst (λ (l : List InstancePin). AllByRecursion (IsOfNet d) (map (own_pin c.args.instance) l)) c.in-Some.ensures.cases.0 c.loop-pin.invariant.of_nets in
+    omega (
+      arith,
+      of.0.0,
+      ap (λ (v : NumberLists). length v.lists) c.self.invariant.columns,
+      length-map (range_with_len 0 (length d.nets + 1)) (λ (net : ℕ). map (pin_column t) (net_pins d net)),
+      length-range_with_len 0 (length d.nets + 1),
+    )
 
 pub loop-pin-preserved : goal.loop-pin-preserved
 loop-pin-preserved c =
