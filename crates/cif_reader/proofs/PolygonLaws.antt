@@ -1,19 +1,17 @@
-use Rattle.std.proofs.Common.{◌≡◌, refl, ap, sym, ℕ, zero, suc, ℤ, List, [], ◌∷◌, ◌++◌, append_assoc, Bool, true, false, Option, Some, None, arith, Ordering, Less, Equal, Greater}
+use Rattle.std.proofs.Common.{◌≡◌, refl, ap, sym, ℕ, ℤ, List, [], ◌∷◌, ◌++◌, append_assoc, Bool, true, false, Option, Some, None, arith}
 use Rattle.std.proofs.lemmas.Bool.Decides.{nat_tests}
 use Rattle.std.specs.Prelude.{if◌then◌else◌, nat_lt, nat_abs, map}
-use Rattle.std.specs.BTreeSet.{insert_key}
-use Rattle.std.specs.List.{AllByRecursion, fold}
-use Rattle.std.specs.Ordering.{int_cmp, match_ordering}
+use Rattle.std.specs.List.{AllByRecursion}
 use Rattle.geom_core.specs.declared.corner.Corner.{Corner}
 use Rattle.geom_core.specs.declared.layout.Shape.{Shape}
 use Rattle.geom_core.specs.Extent.{Extent}
-use Rattle.region_cut.specs.Blocks.{Block, maximal_blocks}
-use Rattle.region_cut.specs.Cells.{ascending, columns, is_filled, line, lines_across, lines_up, strips}
-use Rattle.region_cut.specs.Maximal.{extent_of, maximal}
+use Rattle.region_cut.specs.Cells.{grid_of, lines_across, lines_up}
+use Rattle.region_cut.specs.Maximal.{maximal}
+use Rattle.region_cut.proofs.SideLaws.{OfSides, blocks-all, every-ascending}
 use Rattle.cif_text.specs.Scales.{scaled_corner, with_corner, scaled_corners}
 use Rattle.cif_reader.specs.Limits.{farthest, first_far, coordinates_of_corner, coordinates_of_path}
 use Rattle.cif_reader.specs.Within.{IsNotFar, IsShapeWithin}
-use Rattle.std_laws.proofs.Every.{every-map}
+use Rattle.std_laws.proofs.Every.{every-map, every-weaker}
 
 -- points before others, at a scale
 abbrev pub with_path : List Corner → Option (List Corner) → Option (List Corner)
@@ -56,43 +54,20 @@ corner-near c cs none = by (nat_lt farthest (nat_abs c.x)) (nat_lt farthest (nat
     by false true is = cc
     by false false is = refl
 
--- the sides of a path's blocks are coordinates of its corners
-near-insert : (k : ℤ) (xs : List ℤ) → IsNotFar k → AllByRecursion IsNotFar xs → AllByRecursion IsNotFar (insert_key int_cmp xs k)
-near-insert k [] one all = (one, tt)
-near-insert k (x ∷ xs) one all = by (int_cmp k x) (near-insert k xs one all.1)
-  where
-    by : (o : Ordering) → AllByRecursion IsNotFar (insert_key int_cmp xs k)
-        → AllByRecursion IsNotFar (match_ordering o (k ∷ x ∷ xs) (x ∷ xs) (x ∷ insert_key int_cmp xs k))
-    by Less more = (one, all)
-    by Equal more = all
-    by Greater more = (all.0, more)
-
-near-fold : (so_far xs : List ℤ) → AllByRecursion IsNotFar so_far → AllByRecursion IsNotFar xs → AllByRecursion IsNotFar (fold (insert_key int_cmp) so_far xs)
-near-fold so_far [] before all = before
-near-fold so_far (x ∷ xs) before all = near-fold (insert_key int_cmp so_far x) xs (near-insert x so_far all.0 before) all.1
-
-near-lines : (xs : List ℤ) → AllByRecursion IsNotFar xs → AllByRecursion IsNotFar (ascending xs)
-unfolding ascending
-near-lines xs all = near-fold [] xs tt all
-
-near-line : (lines : List ℤ) (k : ℕ) → AllByRecursion IsNotFar lines → IsNotFar (line lines k)
-near-line [] k all = omega arith
-near-line (x ∷ xs) zero all = all.0
-near-line (x ∷ xs) (suc k) all = near-line xs k all.1
-
+-- the lines of a path are coordinates of its corners
 record IsNearCorner (c : Corner) : Type 0 where
   x : IsNotFar c.x
   y : IsNotFar c.y
 
 near-x : (path : List Corner) → AllByRecursion IsNearCorner path → AllByRecursion IsNotFar (lines_across path)
-near-x path all = near-lines (map (λ c. c.x) path) (across path all)
+near-x path all = every-ascending IsNotFar (map (λ c. c.x) path) (across path all)
   where
     across : (path : List Corner) → AllByRecursion IsNearCorner path → AllByRecursion IsNotFar (map (λ c. c.x) path)
     across [] all = tt
     across (c ∷ cs) all = (all.0.x, across cs all.1)
 
 near-y : (path : List Corner) → AllByRecursion IsNearCorner path → AllByRecursion IsNotFar (lines_up path)
-near-y path all = near-lines (map (λ c. c.y) path) (up path all)
+near-y path all = every-ascending IsNotFar (map (λ c. c.y) path) (up path all)
   where
     up : (path : List Corner) → AllByRecursion IsNearCorner path → AllByRecursion IsNotFar (map (λ c. c.y) path)
     up [] all = tt
@@ -109,9 +84,8 @@ near-path (c ∷ cs) none = by (nat_lt farthest (nat_abs c.x)) (nat_lt farthest 
     by false true x y others none = cc
     by false false x y others none = (record { x = grind (arith, nat_tests); y = grind (arith, nat_tests) }, others none)
 
-each : {X : Type 0} (P : X → Type 0) → ((x : X) → P x) → (xs : List X) → AllByRecursion P xs
-each P all [] = tt
-each P all (x ∷ xs) = (all x, each P all xs)
+near-shape : (layer : List ℕ) (rect : Extent) → OfSides IsNotFar rect → IsShapeWithin (record { layer = layer; rect = rect })
+near-shape layer rect near = record { x0 = near.0; y0 = near.2; x1 = near.1; y1 = near.3 }
 
 -- the maximal blocks of a path that is not too far are not too far
 pub near-blocks : (layer : List ℕ) (path : List Corner) → first_far (coordinates_of_path path) ≡ None
@@ -119,15 +93,7 @@ pub near-blocks : (layer : List ℕ) (path : List Corner) → first_far (coordin
 unfolding maximal
 near-blocks layer path none =
     let near = near-path path none in
-    let across = near-x path near in
-    let up = near-y path near in
     let shaped : Extent → Shape = λ rect. record { layer = layer; rect = rect } in
-    let blocks : List Block = maximal_blocks (is_filled path) (strips path) (columns path) in
-    every-map IsShapeWithin shaped (map (extent_of path) blocks)
-    (every-map (λ rect. IsShapeWithin (shaped rect)) (extent_of path) blocks
-    (each (λ b. IsShapeWithin (shaped (extent_of path b))) (λ b. record {
-      x0 = near-line (lines_across path) b.left across;
-      y0 = near-line (lines_up path) b.low up;
-      x1 = near-line (lines_across path) b.right across;
-      y1 = near-line (lines_up path) b.high up;
-    }) blocks))
+    every-map IsShapeWithin shaped (maximal path)
+    (every-weaker (OfSides IsNotFar) (λ rect. IsShapeWithin (shaped rect)) (near-shape layer) (maximal path)
+    (blocks-all IsNotFar (grid_of path) (near-x path near) (near-y path near)))

@@ -12,7 +12,8 @@ use Rattle.geom_core.specs.declared.corner.Corner.{Corner}
 use Rattle.std_laws.proofs.Integers.{int-itself}
 use Rattle.std_laws.proofs.Places.{drop-past}
 use Rattle.region_cut.specs.Ceilings.{AreUnder}
-use Rattle.region_cut.specs.Cells.{columns, is_filled, line, lines_across, lines_up, spans, stands_left}
+use Rattle.region_cut.specs.Cells.{grid_of, is_filled, lines_across, lines_up, spans, stands_left}
+use Rattle.region_cut.specs.Grids.{columns, line}
 use Rattle.region_cut.specs.Steps.{Step, closed_steps, steps_from}
 
 -- a cell that is flipped where a step stands at its left
@@ -164,25 +165,25 @@ itself true = refl
 itself false = refl
 
 -- under another those are that an odd number of edges flip
-pub under-flipped : (path : List Corner) (strip : ℕ) (cells new : List Bool) (across up : List ℤ) (low high : ℤ) → cells ≡ replicate (columns path) false → 0 < strip
+pub under-flipped : (path : List Corner) (strip : ℕ) (cells new : List Bool) (across up : List ℤ) (low high : ℤ) → cells ≡ replicate (columns (grid_of path)) false → 0 < strip
     → across ≡ lines_across path → up ≡ lines_up path → low ≡ line up (strip - 1) → high ≡ line up strip → length new ≡ length cells
     → ((column : ℕ) → column < length cells → slice_index_or new column false
     ≡ cond (count_by (stands_left (line across column) low high) (closed_steps path) % 2 == 1) (not (slice_index_or cells column false)) (slice_index_or cells column false))
-    → AreUnder (is_filled path) (columns path) strip new
+    → AreUnder (is_filled path) (columns (grid_of path)) strip new
 under-flipped path strip cells new across up low high none some crossed raised from to long flips = by strip refl
   where
-    width : length cells ≡ columns path
-    width = ap length none ∙ length-replicate (columns path) false
+    width : length cells ≡ columns (grid_of path)
+    width = ap length none ∙ length-replicate (columns (grid_of path)) false
 
-    by : (s : ℕ) → strip ≡ s → AreUnder (is_filled path) (columns path) strip new
+    by : (s : ℕ) → strip ≡ s → AreUnder (is_filled path) (columns (grid_of path)) strip new
     by zero is = absurd (omega arith)
     by (suc s) is =
         let under : strip - 1 ≡ s = omega arith in
         let over : strip ≡ s + 1 = omega arith in
-        subst (λ k. AreUnder (is_filled path) (columns path) k new) (sym is) (record {
+        subst (λ k. AreUnder (is_filled path) (columns (grid_of path)) k new) (sym is) (record {
           long = long ∙ width;
           each = λ column within.
-              let empty : slice_index_or cells column false ≡ false = ap (λ (l : List Bool). get_or l column false) none ∙ get_or-replicate (columns path) column false false within in
+              let empty : slice_index_or cells column false ≡ false = ap (λ (l : List Bool). get_or l column false) none ∙ get_or-replicate (columns (grid_of path)) column false false within in
               flips column (omega (arith, width)) ∙ ap (λ b. cond (count_by (stands_left (line across column) low high) (closed_steps path) % 2 == 1) (not b) b) empty
               ∙ itself (count_by (stands_left (line across column) low high) (closed_steps path) % 2 == 1)
               ∙ ap (λ (l : List ℤ). count_by (stands_left (line l column) low high) (closed_steps path) % 2 == 1) crossed

@@ -1,25 +1,18 @@
-use Rattle.std.proofs.Common.{◌≡◌, ◌∙◌, ◌<◌, ◌≤◌, ◌+◌, ◌-◌, inl, inr, ℕ, Bool, true, false, cond, ◌&&◌, List, [], ◌∷◌, ◌++◌, append_assoc, length, length-append, map, min, ap, refl, reverse, sym, arith}
-use Rattle.std.proofs.lemmas.Bool.{and_parts, cases_lt}
-use Rattle.std.proofs.lemmas.Bool.Decides.{nat_tests}
+use Rattle.std.proofs.Common.{◌≡◌, ◌∙◌, ◌<◌, ◌≤◌, ◌+◌, ◌-◌, inl, inr, ℕ, List, [], ◌∷◌, ◌++◌, append_assoc, length, length-append, map, max, ap, reverse, subst, sym, arith}
+use Rattle.std.proofs.lemmas.Bool.{cases_lt}
 use Rattle.std.proofs.lemmas.Grind.{flat_map-append}
 use Rattle.std.proofs.lemmas.List.{append-nil, length-map, length-reverse, reverse-append}
 use Rattle.std.specs.List.{flat_map, range_with_len}
-use Rattle.std.specs.Prelude.{nat_lt, slice_index, Result, Ok, Err, OnOk}
+use Rattle.std.specs.Prelude.{slice_index, Option, None}
 use Rattle.geom_core.specs.Extent.{Extent}
-use Rattle.geom_core.specs.declared.corner.Corner.{Corner}
 use Rattle.region_cut.specs.Blocks.{Block, numbers}
-use Rattle.region_cut.specs.Ceilings.{AreCeilings, IsRun}
-use Rattle.region_cut.specs.Cells.{columns, is_filled, strips}
-use Rattle.region_cut.specs.Maximal.{corner_rects, extent_of}
-use Rattle.region_cut.specs.declared.run.Run.{Run}
+use Rattle.region_cut.specs.Ceilings.{AreCeilings, IsHeld, IsLeast, IsLowest}
+use Rattle.region_cut.specs.Falls.{IsFall}
+use Rattle.region_cut.specs.Grids.{Grid, columns, extent_of, strips}
+use Rattle.region_cut.specs.Maximal.{corner_rects}
 use Rattle.region_cut.proofs.GrowthLaws.{block}
 use Rattle.region_cut.proofs.RowLaws.{corner-rows, numbers-first, numbers-split, rows_above}
-use Rattle.region_cut.proofs.RunLaws.{IsFloor, floor-low, rows-done, rows-floor, rows-more, rows-pass, rows-start}
-
--- what follows where a call succeeds
-pub on-ok : {T E : Type 0} (r : Result T E) (P Q : Type 0) → OnOk r P → (P → Q) → OnOk r Q
-on-ok (Ok x) P Q has f = f has
-on-ok (Err e) P Q has f = has
+use Rattle.region_cut.proofs.CornerLaws.{IsFloor, floor-low, rows-floor, rows-lowest, rows-more, rows-next, rows-none, top-end}
 
 -- no list for no numbers
 pub numbers-start : {X : Type 0} (f : ℕ → List X) (a b : ℕ) (old : List X) → b ≤ a → old ≡ old ++ reverse (flat_map f (numbers a b))
@@ -50,83 +43,64 @@ numbers-many {X} f a b most old items less was many =
     let all = numbers-longer f 0 a b (omega arith) (omega arith) in
     omega (arith, long, turned, first, all, many)
 
--- one block more, or none
-pass-more : {X : Type 0} (draw : Block → X) (old items new : List X) (b : Block) (held : Bool) (below above : List Block) → items ≡ old ++ reverse (map draw above)
-    → new ≡ items ++ cond held (draw b ∷ []) [] → below ≡ cond held (b ∷ []) [] ++ above → new ≡ old ++ reverse (map draw below)
-pass-more {X} draw old items new b true below above was more all =
-    more ∙ ap (λ (l : List X). l ++ draw b ∷ []) was ∙ append_assoc old (reverse (map draw above)) (draw b ∷ [])
-    ∙ ap (λ (l : List X). old ++ l) (sym (reverse-append (draw b ∷ []) (map draw above))) ∙ ap (λ (l : List Block). old ++ reverse (map draw l)) (sym all)
-pass-more {X} draw old items new b false below above was more all =
-    more ∙ append-nil items ∙ was ∙ ap (λ (l : List Block). old ++ reverse (map draw l)) (sym all)
-
-module _ (path : List Corner) (low : ℕ) (tops : List ℕ) (ceilings : AreCeilings (is_filled path) (strips path) (columns path) low tops) where
+module _ (g : Grid) (low : ℕ) (tops : List ℕ) (ceilings : AreCeilings g.filled (strips g) (columns g) low tops) where
   abbrev pub rects_above : ℕ → ℕ → List Extent
-  rects_above left high = map (extent_of path) (rows_above (is_filled path) (strips path) (columns path) low left high)
+  rects_above left high = map (extent_of g) (rows_above g.filled (strips g) (columns g) low left high)
 
-  corner-all : (left : ℕ) → corner_rects path low left ≡ rects_above left low
+  corner-all : (left : ℕ) → corner_rects g low left ≡ rects_above left low
   unfolding corner_rects
-  corner-all left = ap (map (extent_of path)) (corner-rows (is_filled path) (strips path) (columns path) low left)
+  corner-all left = ap (map (extent_of g)) (corner-rows g.filled (strips g) (columns g) low left)
 
-  -- a corner that can grow to the left at all heights
-  pub corner-none : (left floor : ℕ) (old : List Extent) → left < columns path → IsFloor low left tops floor → slice_index tops left ≤ floor → old ≡ old ++ reverse (corner_rects path low left)
-  corner-none left floor old within base past =
+  -- a corner whose blocks can all grow down
+  pub corner-none : (left : ℕ) (lowest : Option ℕ) (old : List Extent) → lowest ≡ None → IsLowest g.filled (columns g) low tops left lowest → old ≡ old ++ reverse (corner_rects g low left)
+  corner-none left lowest old is full =
       sym (append-nil old)
       ∙ ap (λ (l : List Extent). old ++ reverse l)
-      (sym (corner-all left ∙ ap (map (extent_of path)) (rows-done (is_filled path) (strips path) (columns path) low tops ceilings left floor within base past)))
+      (sym (corner-all left ∙ ap (map (extent_of g)) (rows-none g.filled (strips g) (columns g) low tops ceilings left (subst (IsLowest g.filled (columns g) low tops left) is full))))
 
-  -- before the first column is passed
-  pub corner-start : (left : ℕ) (old : List Extent) → left < columns path → old ≡ old ++ reverse (rects_above left (slice_index tops left))
-  corner-start left old within =
+  -- before the first block
+  pub corner-start : (left floor column : ℕ) (old : List Extent) → left < columns g → IsFloor low left tops floor → IsLeast g.filled (columns g) low tops left column
+      → old ≡ old ++ reverse (rects_above left (max floor (slice_index tops column)))
+  corner-start left floor column old within base least =
+      let from = (floor-low g.filled (strips g) (columns g) low tops ceilings left floor within base).0 in
       sym (append-nil old)
       ∙ ap (λ (l : List Extent). old ++ reverse l)
-      (sym (ap (map (extent_of path)) (rows-start (is_filled path) (strips path) (columns path) low tops ceilings left (slice_index tops left) within (omega arith))))
+      (sym (ap (map (extent_of g)) (rows-lowest g.filled (strips g) (columns g) low tops ceilings left (max floor (slice_index tops column)) column (omega arith) least (omega arith))))
 
-  module _ (run : Run) (floor top : ℕ) (old items : List Extent) (is : IsRun (is_filled path) (strips path) (columns path) low tops run) (base : IsFloor low run.left tops floor)
-      (above : floor < run.high) (was : items ≡ old ++ reverse (rects_above run.left run.high)) where
-    from : low ≤ floor
-    from = (floor-low (is_filled path) (strips path) (columns path) low tops ceilings run.left floor (omega (arith, is.wide, is.within)) base).0
+  -- at the floor
+  pub corner-end : (left floor column : ℕ) (old items : List Extent) → left < columns g → IsFloor low left tops floor → (column < columns g → slice_index tops column ≤ floor)
+      → items ≡ old ++ reverse (rects_above left (max floor (slice_index tops column))) → items ≡ old ++ reverse (corner_rects g low left)
+  corner-end left floor column old items within base past was =
+      was
+      ∙ ap (λ (l : List Extent). old ++ reverse l)
+      (ap (λ k. rects_above left k) same
+      ∙ sym (corner-all left ∙ ap (map (extent_of g)) (rows-floor g.filled (strips g) (columns g) low tops ceilings left floor within base)))
+    where
+      same : max floor (slice_index tops column) ≡ floor
+      same = elim (cases_lt column (columns g)) [
+        | inl inside ↦ let no_more = past inside in omega arith
+        | inr end ↦ let none = top-end g.filled (strips g) (columns g) low tops ceilings column end in omega arith
+      ]
 
-    lower : (held : Bool) → top < run.high → (nat_lt top run.high && held) ≡ held
-    lower held less = let test : nat_lt top run.high ≡ true = grind (arith, nat_tests) in rw test refl
+  -- one block more
+  module _ (left floor column next : ℕ) (old items : List Extent) (within : left < columns g) (held : IsHeld g.filled (columns g) low tops left column) (inside : column < columns g)
+      (fall : IsFall tops column next) (base : IsFloor low left tops floor) (above : floor < slice_index tops column)
+      (was : items ≡ old ++ reverse (rects_above left (max floor (slice_index tops column)))) where
+    pub corner-next : (new : List Extent) → new ≡ items ++ extent_of g (block low left (slice_index tops column) next) ∷ []
+        → new ≡ old ++ reverse (rects_above left (max floor (slice_index tops next)))
+    corner-next new more =
+        more ∙ ap (λ (l : List Extent). l ++ extent_of g (block low left (slice_index tops column) next) ∷ []) was
+        ∙ append_assoc old (reverse (rects_above left (max floor (slice_index tops column)))) (extent_of g (block low left (slice_index tops column) next) ∷ [])
+        ∙ ap (λ (l : List Extent). old ++ l) (sym (reverse-append (extent_of g (block low left (slice_index tops column) next) ∷ []) (rects_above left (max floor (slice_index tops column)))))
+        ∙ ap (λ (l : List Block). old ++ reverse (map (extent_of g) l))
+        (sym (rows-next g.filled (strips g) (columns g) low tops ceilings left floor column next held inside fall base above within))
 
-    -- a column more, which goes on above the floor
-    pub corner-next : (new : List Extent) → run.right < columns path → top ≡ slice_index tops run.right → floor < top
-        → new ≡ items ++ cond (nat_lt top run.high && run.held) (extent_of path (block low run.left run.high run.right) ∷ []) []
-        → new ≡ old ++ reverse (rects_above run.left (min run.high top))
-    corner-next new within at over more = elim (cases_lt top run.high) [
-      | inl less ↦
-          let least : min run.high top ≡ top = omega arith in
-          rw least
-          (pass-more (extent_of path) old items new (block low run.left run.high run.right) run.held _ _ was
-          (more ∙ ap (λ b. items ++ cond b (extent_of path (block low run.left run.high run.right) ∷ []) []) (lower run.held less))
-          (rows-pass (is_filled path) (strips path) (columns path) low tops ceilings run floor top is base above (let low_floor = from in omega arith) less (λ inside. omega arith)))
-      | inr no_less ↦
-          let least : min run.high top ≡ run.high = omega arith in
-          let test : nat_lt top run.high ≡ false = grind (arith, nat_tests) in
-          rw least
-          (more ∙ ap (λ b. items ++ cond (b && run.held) (extent_of path (block low run.left run.high run.right) ∷ []) []) test ∙ append-nil items ∙ was)
-    ]
-
-    -- the last column, or one that does not
-    pub corner-end : (new : List Extent) → (run.right < columns path → slice_index tops run.right ≤ floor) → top ≤ floor
-        → new ≡ items ++ cond (nat_lt top run.high && run.held) (extent_of path (block low run.left run.high run.right) ∷ []) []
-        → new ≡ old ++ reverse (corner_rects path low run.left)
-    corner-end new stops under more =
-        pass-more (extent_of path) old items new (block low run.left run.high run.right) run.held _ _ was
-        (more ∙ ap (λ b. items ++ cond b (extent_of path (block low run.left run.high run.right) ∷ []) []) (lower run.held (omega arith)))
-        (rows-pass (is_filled path) (strips path) (columns path) low tops ceilings run floor floor is base above from above stops)
-        ∙ ap (λ (l : List Extent). old ++ reverse l)
-        (sym (corner-all run.left ∙ ap (map (extent_of path)) (rows-floor (is_filled path) (strips path) (columns path) low tops ceilings run.left floor (omega (arith, is.wide, is.within)) base)))
-
-    -- and where the block is one too many
-    pub corner-many : (most : ℕ) → (run.right < columns path → top ≡ slice_index tops run.right) → (nat_lt top run.high && run.held) ≡ true → most ≤ length items
-        → most < length old + length (corner_rects path low run.left)
-    corner-many most at yes_held many =
-        let both = and_parts (nat_lt top run.high) run.held yes_held in
-        let less : top < run.high = grind (arith, nat_tests, both.0) in
-        let more = rows-more (is_filled path) (strips path) (columns path) low tops ceilings run floor is base above (λ inside. let e = at inside in omega arith) both.1 in
-        let long = ap length was ∙ length-append old (reverse (rects_above run.left run.high)) in
-        let turned = length-reverse (rects_above run.left run.high) in
-        let drawn = length-map (rows_above (is_filled path) (strips path) (columns path) low run.left run.high) (extent_of path) in
-        let whole = ap length (corner-all run.left) ∙ length-map (rows_above (is_filled path) (strips path) (columns path) low run.left low) (extent_of path) in
+    -- and where it is one too many
+    pub corner-many : (most : ℕ) → most ≤ length items → most < length old + length (corner_rects g low left)
+    corner-many most many =
+        let more = rows-more g.filled (strips g) (columns g) low tops ceilings left floor column next held inside fall base above within in
+        let long = ap length was ∙ length-append old (reverse (rects_above left (max floor (slice_index tops column)))) in
+        let turned = length-reverse (rects_above left (max floor (slice_index tops column))) in
+        let drawn = length-map (rows_above g.filled (strips g) (columns g) low left (max floor (slice_index tops column))) (extent_of g) in
+        let whole = ap length (corner-all left) ∙ length-map (rows_above g.filled (strips g) (columns g) low left low) (extent_of g) in
         omega (arith, more, long, turned, drawn, whole, many)

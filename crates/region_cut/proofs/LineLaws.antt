@@ -3,10 +3,10 @@ use Rattle.std.proofs.lemmas.Cmp.{int_ranked}
 use Rattle.std.proofs.lemmas.List.Elements.{All-cons, All-nil, All-weaker}
 use Rattle.std.proofs.lemmas.Map.Views.{All-insert_key}
 use Rattle.std.specs.declared.cmp.Ordering.TheVariants.{Less, Equal, Greater}
-use Rattle.region_cut.specs.Cells.{ascending, line}
+use Rattle.region_cut.specs.Grids.{ascending, line}
 use Rattle.std.proofs.lemmas.Int.{ints, to_z-of_z}
 use Rattle.std.specs.BTreeSet.{insert_key}
-use Rattle.std.specs.List.{fold}
+use Rattle.std.specs.List.{flat_map, fold}
 use Rattle.std.specs.Ordering.{MatchOrdering, int_cmp, match_ordering}
 
 -- one number more, which is written and read back
@@ -15,6 +15,15 @@ pub one-line : {X : Type 0} (f : X → ℤ) (found keys all : List ℤ) (x : X) 
 one-line {X} f found keys all x rest later fits is more was =
     let read : keys ≡ insert_key int_cmp found (f x) = rw (to_z-of_z w64 (f x) fits) at more in
     rw read (subst (λ (l : List X). fold (insert_key int_cmp) found (map f l) ≡ all) is was)
+
+-- two numbers more
+pub two-lines : {X : Type 0} (f g : X → ℤ) (found keys both all : List ℤ) (x : X) (a b : ℤ) (rest later : List X) → SFits w64 a → SFits w64 b → a ≡ f x → b ≡ g x → rest ≡ x ∷ later
+    → keys ≡ insert_key int_cmp found (to_z w64 (of_z w64 a)) → both ≡ insert_key int_cmp keys (to_z w64 (of_z w64 b))
+    → fold (insert_key int_cmp) found (flat_map (λ r. f r ∷ (g r ∷ [])) rest) ≡ all → fold (insert_key int_cmp) both (flat_map (λ r. f r ∷ (g r ∷ [])) later) ≡ all
+two-lines {X} f g found keys both all x a b rest later first second low high is one two was =
+    let read : keys ≡ insert_key int_cmp found a = rw (to_z-of_z w64 a first) at one in
+    let again : both ≡ insert_key int_cmp keys b = rw (to_z-of_z w64 b second) at two in
+    rw (again, read, low, high) (subst (λ (l : List X). fold (insert_key int_cmp) found (flat_map (λ r. f r ∷ (g r ∷ [])) l) ≡ all) is was)
 
 -- numbers each of which is below the next
 abbrev pub Rises : List ℤ → Type 0
@@ -49,8 +58,8 @@ rises-lines (x ∷ xs) i zero up less within = absurd (omega arith)
 rises-lines (x ∷ xs) zero (suc j) up less within = up.0 j (pos 0) (omega arith)
 rises-lines (x ∷ xs) (suc i) (suc j) up less within = rises-lines xs i j up.1 (omega arith) (omega arith)
 
--- two lines of a path, as they are written and read back
-pub read-lines : (lines numbers : List ℤ) (i j : ℕ) → lines ≡ ascending numbers → i < j → j ≤ length (ascending numbers) - 1
-    → SFits w64 (line lines i) → SFits w64 (line lines j) → to_z w64 (of_z w64 (line lines i)) <ℤ to_z w64 (of_z w64 (line lines j))
-read-lines lines numbers i j are less within first second =
-    rw (to_z-of_z w64 (line lines i) first, to_z-of_z w64 (line lines j) second, are) (rises-lines (ascending numbers) i j (rises-ascending numbers) less (omega arith))
+-- two lines, as they are written and read back
+pub read-lines : (lines all : List ℤ) (i j : ℕ) → Rises all → lines ≡ all → i < j → j ≤ length all - 1 → SFits w64 (line lines i) → SFits w64 (line lines j)
+    → to_z w64 (of_z w64 (line lines i)) <ℤ to_z w64 (of_z w64 (line lines j))
+read-lines lines all i j up are less within first second =
+    rw (to_z-of_z w64 (line lines i) first, to_z-of_z w64 (line lines j) second, are) (rises-lines all i j up less (omega arith))

@@ -7,12 +7,11 @@ use Rattle.std.specs.List.{flat_map, list_all}
 use Rattle.std_laws.proofs.Members.{all-fails, filter-from, filter-member, map-cases, map-member}
 use Rattle.geom_core.specs.Extent.{Extent}
 use Rattle.geom_core.specs.Rectangles.{Encloses}
-use Rattle.geom_core.specs.declared.corner.Corner.{Corner}
 use Rattle.region_cut.specs.Blocks.{Block, IsBlock, blocks, blocks_at, blocks_from, is_filled_block, is_maximal, lies_in, maximal_blocks, numbers}
-use Rattle.region_cut.specs.Cells.{columns, is_filled, line, lines_across, lines_up, strips}
-use Rattle.region_cut.specs.Maximal.{Fill, cell, corner_rects, extent_of, maximal, rects_from, strip_rects}
+use Rattle.region_cut.specs.Grids.{Grid, blocks_of, cell, columns, extent_of, line, strips}
+use Rattle.region_cut.specs.Maximal.{Fill, corner_rects, rects_from, strip_rects}
 use Rattle.region_cut.proofs.BlockLaws.{LiesIn, blocks-are, blocks-has, filled-cell, filled-from, lies-true, maximal-filled, true-lies}
-use Rattle.region_cut.proofs.LineLaws.{Rises, rises-ascending, rises-lines}
+use Rattle.region_cut.proofs.LineLaws.{Rises, rises-lines}
 
 -- what is drawn of lists one after the other
 drawn : {X : Type 0} (p : Block → Bool) (f : Block → X) (g : ℕ → List Block) (xs : List ℕ) → map f (filter p (flat_map g xs)) ≡ flat_map (λ x. map f (filter p (g x))) xs
@@ -25,13 +24,13 @@ flat-same f g [] same = refl
 flat-same f g (x ∷ xs) same = ap₂ (λ a b. a ++ b) (same x) (flat-same f g xs same)
 
 -- all maximal blocks, corner by corner
-pub maximal-rects : (path : List Corner) → maximal path ≡ rects_from path 0
-unfolding maximal corner_rects
-maximal-rects path =
-    drawn (is_maximal (is_filled path) (strips path) (columns path)) (extent_of path) (blocks_from (strips path) (columns path)) (numbers 0 (strips path))
-    ∙ flat-same (λ low. map (extent_of path) (filter (is_maximal (is_filled path) (strips path) (columns path)) (blocks_from (strips path) (columns path) low)))
-    (λ low. strip_rects path low 0) (numbers 0 (strips path))
-    (λ low. drawn (is_maximal (is_filled path) (strips path) (columns path)) (extent_of path) (blocks_at (strips path) (columns path) low) (numbers 0 (columns path)))
+pub all-rects : (g : Grid) → blocks_of g ≡ rects_from g 0
+unfolding corner_rects
+all-rects g =
+    drawn (is_maximal g.filled (strips g) (columns g)) (extent_of g) (blocks_from (strips g) (columns g)) (numbers 0 (strips g))
+    ∙ flat-same (λ low. map (extent_of g) (filter (is_maximal g.filled (strips g) (columns g)) (blocks_from (strips g) (columns g) low)))
+    (λ low. strip_rects g low 0) (numbers 0 (strips g))
+    (λ low. drawn (is_maximal g.filled (strips g) (columns g)) (extent_of g) (blocks_at (strips g) (columns g) low) (numbers 0 (columns g)))
 
 module _ (filled : ℕ → ℕ → Bool) (rows cols : ℕ) where
   same-block : (b : Block) → LiesIn b b
@@ -96,7 +95,7 @@ module _ (filled : ℕ → ℕ → Bool) (rows cols : ℕ) where
   in-maximal b valid full = lies-maximal (room b) b (omega arith) valid full
 
 -- lines do not fall
-line-rises : (lines : List ℤ) (i j : ℕ) → Rises lines → i ≤ j → j < length lines → line lines i ≤ℤ line lines j
+pub line-rises : (lines : List ℤ) (i j : ℕ) → Rises lines → i ≤ j → j < length lines → line lines i ≤ℤ line lines j
 line-rises lines i j up less within = elim (cases_lt i j) [
   | inl below ↦ let strict = rises-lines lines i j up below within in omega (arith, ints)
   | inr above ↦ let same : i ≡ j = omega arith in subst (λ k. line lines i ≤ℤ line lines k) same (omega (arith, ints))
@@ -108,48 +107,47 @@ line-order lines i j up within below inside = elim (cases_lt i j) [
   | inr fits ↦ fits
 ]
 
-module _ (path : List Corner) where
+module _ (g : Grid) (rises : Rises g.across) (climbs : Rises g.up) where
   -- a block lies in another just where its rectangle does
-  encloses : (b c : Block) → IsBlock (strips path) (columns path) c → LiesIn b c → b.left < b.right → b.low < b.high → Encloses (extent_of path c) (extent_of path b)
+  encloses : (b c : Block) → IsBlock (strips g) (columns g) c → LiesIn b c → b.left < b.right → b.low < b.high → Encloses (extent_of g c) (extent_of g b)
   encloses b c valid inside wide tall = record {
-    left = line-rises (lines_across path) c.left b.left (rises-ascending _) inside.left (omega (arith, valid.wide, valid.across, inside.right));
-    low = line-rises (lines_up path) c.low b.low (rises-ascending _) inside.low (omega (arith, valid.tall, valid.up, inside.high));
-    right = line-rises (lines_across path) b.right c.right (rises-ascending _) inside.right (omega (arith, valid.wide, valid.across));
-    high = line-rises (lines_up path) b.high c.high (rises-ascending _) inside.high (omega (arith, valid.tall, valid.up));
+    left = line-rises g.across c.left b.left rises inside.left (omega (arith, valid.wide, valid.across, inside.right));
+    low = line-rises g.up c.low b.low climbs inside.low (omega (arith, valid.tall, valid.up, inside.high));
+    right = line-rises g.across b.right c.right rises inside.right (omega (arith, valid.wide, valid.across));
+    high = line-rises g.up b.high c.high climbs inside.high (omega (arith, valid.tall, valid.up));
   }
 
-  enclosed : (b c : Block) → IsBlock (strips path) (columns path) b → IsBlock (strips path) (columns path) c → Encloses (extent_of path c) (extent_of path b) → LiesIn b c
+  enclosed : (b c : Block) → IsBlock (strips g) (columns g) b → IsBlock (strips g) (columns g) c → Encloses (extent_of g c) (extent_of g b) → LiesIn b c
   enclosed b c valid block inside = record {
-    left = line-order (lines_across path) b.left c.left (rises-ascending _) (omega (arith, valid.wide, valid.across)) inside.left (omega (arith, block.wide, block.across));
-    low = line-order (lines_up path) b.low c.low (rises-ascending _) (omega (arith, valid.tall, valid.up)) inside.low (omega (arith, block.tall, block.up));
-    right = line-order (lines_across path) c.right b.right (rises-ascending _) (omega (arith, block.wide, block.across)) inside.right (omega (arith, valid.wide, valid.across));
-    high = line-order (lines_up path) c.high b.high (rises-ascending _) (omega (arith, block.tall, block.up)) inside.high (omega (arith, valid.tall, valid.up));
+    left = line-order g.across b.left c.left rises (omega (arith, valid.wide, valid.across)) inside.left (omega (arith, block.wide, block.across));
+    low = line-order g.up b.low c.low climbs (omega (arith, valid.tall, valid.up)) inside.low (omega (arith, block.tall, block.up));
+    right = line-order g.across c.right b.right rises (omega (arith, block.wide, block.across)) inside.right (omega (arith, valid.wide, valid.across));
+    high = line-order g.up c.high b.high climbs (omega (arith, block.tall, block.up)) inside.high (omega (arith, valid.tall, valid.up));
   }
 
-  fill-blocks : (b : Block) → IsBlock (strips path) (columns path) b → is_filled_block (is_filled path) b ≡ true
-      → (r : Extent) × Contains (map (extent_of path) (maximal_blocks (is_filled path) (strips path) (columns path))) r × Encloses r (extent_of path b)
+  fill-blocks : (b : Block) → IsBlock (strips g) (columns g) b → is_filled_block g.filled b ≡ true
+      → (r : Extent) × Contains (map (extent_of g) (maximal_blocks g.filled (strips g) (columns g))) r × Encloses r (extent_of g b)
   fill-blocks b valid full =
-      let found = in-maximal (is_filled path) (strips path) (columns path) b valid full in
-      let block = blocks-are (strips path) (columns path) found.0 (filter-from (is_maximal (is_filled path) (strips path) (columns path)) (blocks (strips path) (columns path)) found.0 found.1).0 in
-      (extent_of path found.0, map-member (extent_of path) _ found.0 found.1, encloses b found.0 block found.2 valid.wide valid.tall)
+      let found = in-maximal g.filled (strips g) (columns g) b valid full in
+      let block = blocks-are (strips g) (columns g) found.0 (filter-from (is_maximal g.filled (strips g) (columns g)) (blocks (strips g) (columns g)) found.0 found.1).0 in
+      (extent_of g found.0, map-member (extent_of g) _ found.0 found.1, encloses b found.0 block found.2 valid.wide valid.tall)
 
-  -- the maximal blocks fill just the area of the path
-  pub fill : Fill path (maximal path)
-  unfolding maximal
+  -- the maximal blocks fill just the filled cells
+  pub fill : Fill g (blocks_of g)
   fill = record {
     cells = λ strip column up across.
-        let is : IsBlock (strips path) (columns path) (cell strip column) = record { wide = omega arith; tall = omega arith; across = omega arith; up = omega arith } in (
+        let is : IsBlock (strips g) (columns g) (cell strip column) = record { wide = omega arith; tall = omega arith; across = omega arith; up = omega arith } in (
           λ has.
-              let from = map-cases (extent_of path) (maximal_blocks (is_filled path) (strips path) (columns path)) has.0 has.1 in
-              let kept = filter-from (is_maximal (is_filled path) (strips path) (columns path)) (blocks (strips path) (columns path)) from.0 from.1 in
-              let block = blocks-are (strips path) (columns path) from.0 kept.0 in
-              let inside = enclosed (cell strip column) from.0 is block (subst (λ r. Encloses r (extent_of path (cell strip column))) (sym from.2) has.2) in
-              filled-cell (is_filled path) from.0 strip column (maximal-filled (is_filled path) (strips path) (columns path) from.0 kept.1)
+              let from = map-cases (extent_of g) (maximal_blocks g.filled (strips g) (columns g)) has.0 has.1 in
+              let kept = filter-from (is_maximal g.filled (strips g) (columns g)) (blocks (strips g) (columns g)) from.0 from.1 in
+              let block = blocks-are (strips g) (columns g) from.0 kept.0 in
+              let inside = enclosed (cell strip column) from.0 is block (subst (λ r. Encloses r (extent_of g (cell strip column))) (sym from.2) has.2) in
+              filled-cell g.filled from.0 strip column (maximal-filled g.filled (strips g) (columns g) from.0 kept.1)
               inside.low (omega (arith, inside.high)) inside.left (omega (arith, inside.right)),
-          λ full. fill-blocks (cell strip column) is (filled-from (is_filled path) (cell strip column) (λ s k low high left right.
+          λ full. fill-blocks (cell strip column) is (filled-from g.filled (cell strip column) (λ s k low high left right.
               let first : strip ≡ s = omega arith in
               let second : column ≡ k = omega arith in
-              subst (λ t. is_filled path t k ≡ true) first (subst (λ t. is_filled path strip t ≡ true) second full))),
+              subst (λ t. g.filled t k ≡ true) first (subst (λ t. g.filled strip t ≡ true) second full))),
         );
     blocks = fill-blocks;
   }

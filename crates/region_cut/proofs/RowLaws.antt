@@ -1,4 +1,4 @@
-use Rattle.std.proofs.Common.{◌≡◌, ◌≢◌, ◌∙◌, ◌<◌, ◌≤◌, ◌+◌, ◌-◌, inl, inr, ℕ, zero, suc, Bool, true, false, cond, List, [], ◌∷◌, ◌++◌, filter, map, ap, ap₂, refl, sym, subst, arith}
+use Rattle.std.proofs.Common.{◌≡◌, ◌⊎◌, ◌≢◌, ◌∙◌, ◌<◌, ◌≤◌, ◌+◌, ◌-◌, inl, inr, ℕ, zero, suc, Bool, true, false, cond, List, [], ◌∷◌, ◌++◌, filter, map, ap, ap₂, refl, sym, subst, arith}
 use Rattle.std.proofs.lemmas.Bool.{both_ways, cases_eq, cases_lt, cond-false}
 use Rattle.std.proofs.lemmas.List.Elements.{filter-append}
 use Rattle.std.specs.List.{flat_map, range_with_len}
@@ -18,10 +18,10 @@ filter-none p f a zero none = refl
 filter-none p f a (suc n) none =
     cond-false (p (f a)) _ _ (none a (omega arith) (omega arith)) ∙ filter-none p f (a + 1) n (λ k from to. none k (omega arith) (omega arith))
 
-filter-only : {X : Type 0} (p : X → Bool) (f : ℕ → X) (a n e : ℕ) (held : Bool) → a ≤ e → e < a + n → ((k : ℕ) → k ≢ e → a ≤ k → k < a + n → p (f k) ≡ false) → p (f e) ≡ held
-    → filter p (map f (range_with_len a n)) ≡ cond held (f e ∷ []) []
-filter-only p f a zero e held from to others one = absurd (omega arith)
-filter-only {X = X} p f a (suc n) e held from to others one =
+filter-only : {X : Type 0} (p : X → Bool) (f : ℕ → X) (a n e : ℕ) → a ≤ e → e < a + n → ((k : ℕ) → k ≢ e → a ≤ k → k < a + n → p (f k) ≡ false) → p (f e) ≡ true
+    → filter p (map f (range_with_len a n)) ≡ f e ∷ []
+filter-only p f a zero e from to others one = absurd (omega arith)
+filter-only {X = X} p f a (suc n) e from to others one =
     elim (cases_eq a e) [
       | inl same ↦
           let none = filter-none p f (a + 1) n (λ k first last. others k (omega arith) (omega arith) (omega arith)) in
@@ -29,7 +29,7 @@ filter-only {X = X} p f a (suc n) e held from to others one =
           ∙ ap (λ k. cond (p (f k)) (f k ∷ []) []) same ∙ ap (λ b. cond b (f e ∷ []) []) one
       | inr other ↦
           cond-false (p (f a)) _ _ (others a other (omega arith) (omega arith))
-          ∙ filter-only p f (a + 1) n e held (omega arith) (omega arith) (λ k apart first last. others k apart (omega arith) (omega arith)) one
+          ∙ filter-only p f (a + 1) n e (omega arith) (omega arith) (λ k apart first last. others k apart (omega arith) (omega arith)) one
     ]
 
 -- numbers one after the other
@@ -69,10 +69,30 @@ module _ (filled : ℕ → ℕ → Bool) (strips columns : ℕ) where
     row-none high none =
         filter-none (is_maximal filled strips columns) (block low left high) (left + 1) (columns + 1 - (left + 1)) (λ right from to. none right (omega arith) (omega arith))
 
-    -- so above the ceiling of the first column
-    pub row-above : (high : ℕ) → left < columns → tops left < high → high ≤ strips → row_of low left high ≡ []
-    row-above high within past up =
-        row-none high (λ right from to. past-ceiling filled strips columns low tops ceilings left high right left to up (omega arith) from past)
+    -- a block can grow down where all cells under it are filled
+    fills-down : (high right : ℕ) → low < high → high ≤ strips → left < right → right ≤ columns
+        → ((column : ℕ) → left ≤ column → column < right → is_filled_under filled low column ≡ true) → is_maximal filled strips columns (block low left high right) ≡ false
+    fills-down high right tall up wide within full = by low refl
+      where
+        by : (l : ℕ) → low ≡ l → is_maximal filled strips columns (block low left high right) ≡ false
+        by zero is =
+            let never = full left (omega arith) wide in
+            absurd (both_ways (is_filled_under filled zero left) refl (subst (λ k. is_filled_under filled k left ≡ true) is never))
+        by (suc before) is =
+            subst (λ k. is_maximal filled strips columns (block k left high right) ≡ false) (sym is)
+            (grows-down filled strips columns before left high right (omega arith) up wide within
+            (λ c first last. subst (λ k. is_filled_under filled k c ≡ true) is (full c first last)))
+
+    -- and where each of them has a column that does not reach its upper side, or can grow down
+    pub row-limited : (high : ℕ) → low < high → high ≤ strips
+        → ((right : ℕ) → left < right → right ≤ columns
+        → ((column : ℕ) × (left ≤ column) × (column < right) × (tops column < high)) ⊎ ((column : ℕ) → left ≤ column → column < right → is_filled_under filled low column ≡ true))
+        → row_of low left high ≡ []
+    row-limited high tall up each =
+        row-none high (λ right from to. elim (each right from to) [
+          | inl past ↦ past-ceiling filled strips columns low tops ceilings left high right past.0 to up past.1 past.2 past.3
+          | inr full ↦ fills-down high right tall up from to full
+        ])
 
     -- up to the ceiling of the column before the first
     pub row-beside : (before high : ℕ) → left ≡ suc before → left < columns → low < high → high ≤ tops before → high ≤ strips → row_of low left high ≡ []
@@ -94,16 +114,15 @@ module _ (filled : ℕ → ℕ → Bool) (strips columns : ℕ) where
         ])
 
     -- a row has one where the columns up to one go up to it, one of them no further, and where one of the cells under them is not filled
-    pub row-held : (high right : ℕ) (held : Bool) → low < high → high ≤ strips → left < right → right ≤ columns
+    pub row-held : (high right : ℕ) → low < high → high ≤ strips → left < right → right ≤ columns
         → ((column : ℕ) → left ≤ column → column < right → high ≤ tops column)
         → (right < columns → tops right < high)
         → ((before : ℕ) → left ≡ suc before → tops before < high)
         → (column : ℕ) → left ≤ column → column < right → tops column ≡ high
-        → (held ≡ true → (other : ℕ) × (left ≤ other) × (other < right) × (is_filled_under filled low other ≡ false))
-        → (held ≡ false → (other : ℕ) → left ≤ other → other < right → is_filled_under filled low other ≡ true)
-        → row_of low left high ≡ cond held (block low left high right ∷ []) []
-    row-held high right held tall up wide within under stops begins column from to met empty full =
-        filter-only (is_maximal filled strips columns) (block low left high) (left + 1) (columns + 1 - (left + 1)) right held (omega arith) (omega arith)
+        → (other : ℕ) → left ≤ other → other < right → is_filled_under filled low other ≡ false
+        → row_of low left high ≡ block low left high right ∷ []
+    row-held high right tall up wide within under stops begins column from to met other on under_end empty =
+        filter-only (is_maximal filled strips columns) (block low left high) (left + 1) (columns + 1 - (left + 1)) right (omega arith) (omega arith)
         (λ r apart first last. elim (cases_lt right r) [
           | inl more ↦ past-ceiling filled strips columns low tops ceilings left high r right (omega arith) up (omega arith) more (stops (omega arith))
           | inr fits ↦
@@ -111,19 +130,4 @@ module _ (filled : ℕ → ℕ → Bool) (strips columns : ℕ) where
               grows-right filled strips columns low left high r tall up (omega arith) (omega arith)
               (λ s below above. cell-under filled strips columns low tops ceilings s r high (omega arith) (under r (omega arith) less) below above)
         ])
-        (by held refl)
-      where
-        none : (l : ℕ) → low ≡ l → held ≡ false → is_maximal filled strips columns (block low left high right) ≡ false
-        none zero is kept =
-            let never = full kept left (omega arith) wide in
-            absurd (both_ways (is_filled_under filled zero left) refl (subst (λ k. is_filled_under filled k left ≡ true) is never))
-        none (suc before) is kept =
-            subst (λ k. is_maximal filled strips columns (block k left high right) ≡ false) (sym is)
-            (grows-down filled strips columns before left high right (omega arith) up wide within
-            (λ c first last. subst (λ k. is_filled_under filled k c ≡ true) is (full kept c first last)))
-
-        by : (b : Bool) → held ≡ b → is_maximal filled strips columns (block low left high right) ≡ held
-        by true is =
-            let at = empty is in
-            cannot-grow filled strips columns low tops ceilings left high right tall up wide within under stops begins column from to met at.0 at.1 at.2 at.3 ∙ sym is
-        by false is = none low refl is ∙ sym is
+        (cannot-grow filled strips columns low tops ceilings left high right tall up wide within under stops begins column from to met other on under_end empty)

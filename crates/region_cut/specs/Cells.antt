@@ -1,15 +1,11 @@
 -- the lines of a closed path, the cells between them, and which of these are filled
-use Rattle.std.specs.Prelude.{ℕ, ◌+◌, ◌-◌, ◌%◌, ◌==◌, ◌&&◌, Bool, ℤ, pos, int_le, List, [], map, fold, length, slice_index_or}
-use Rattle.std.specs.BTreeSet.{insert_key}
+use Rattle.std.specs.Prelude.{ℕ, ◌+◌, ◌%◌, ◌==◌, ◌&&◌, Bool, ℤ, int_le, List, map}
 use Rattle.std.specs.Int.{int_min, int_max}
 use Rattle.std.specs.List.{count_by}
-use Rattle.std.specs.Ordering.{int_cmp, int_eq}
+use Rattle.std.specs.Ordering.{int_eq}
 use Rattle.geom_core.specs.declared.corner.Corner.{Corner}
+use Rattle.region_cut.specs.Grids.{Grid, ascending, line}
 use Rattle.region_cut.specs.Steps.{Step, closed_steps}
-
--- different numbers, ascending
-unfoldable pub ascending : List ℤ → List ℤ
-ascending numbers = fold (insert_key int_cmp) [] numbers
 
 -- the lines of a path: the different x and the different y of its corners
 abbrev pub lines_across : List Corner → List ℤ
@@ -17,17 +13,6 @@ lines_across path = ascending (map (λ c. c.x) path)
 
 abbrev pub lines_up : List Corner → List ℤ
 lines_up path = ascending (map (λ c. c.y) path)
-
--- between two neighbouring x lies a column of cells, and between two neighbouring y a strip of them, both numbered from 0 on
-abbrev pub columns : List Corner → ℕ
-columns path = length (lines_across path) - 1
-
-abbrev pub strips : List Corner → ℕ
-strips path = length (lines_up path) - 1
-
--- where a line lies, by its number
-abbrev pub line : List ℤ → ℕ → ℤ
-line lines k = slice_index_or lines k (pos 0)
 
 -- a vertical edge that spans all from one height to another
 abbrev pub spans : ℤ → ℤ → Step → Bool
@@ -41,3 +26,7 @@ stands_left place low high s = spans low high s && int_le s.from.x place
 unfoldable pub is_filled : List Corner → ℕ → ℕ → Bool
 is_filled path strip column =
     count_by (stands_left (line (lines_across path) column) (line (lines_up path) strip) (line (lines_up path) (strip + 1))) (closed_steps path) % 2 == 1
+
+-- the grid of a path
+abbrev pub grid_of : List Corner → Grid
+grid_of path = record { across = lines_across path; up = lines_up path; filled = is_filled path }

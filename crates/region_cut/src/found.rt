@@ -1,14 +1,16 @@
-//! The maximal blocks of a path, the last one first.
+//! The maximal blocks of an area, the last one first.
 
-ghost use Rattle.region_cut.specs.Ceilings.{AreCeilings, AreUnder, IsRun};
-ghost use Rattle.region_cut.specs.Cells.{columns, is_filled, strips};
-ghost use Rattle.region_cut.specs.Maximal.{corner_rects, extent_of, rects_from, strip_rects};
+ghost use Rattle.region_cut.specs.Areas.{grid_in};
+ghost use Rattle.region_cut.specs.Ceilings.{AreCeilings, AreUnder, IsLowest};
+ghost use Rattle.region_cut.specs.Grids.{columns, extent_of, strips};
+ghost use Rattle.region_cut.specs.Maximal.{corner_rects, rects_from, strip_rects};
 ghost use Rattle.region_cut.specs.declared.fault.CutFault.TheVariants.{TooMany};
 ghost use Rattle.std.specs.Prelude.{◌≡◌, ◌<◌, ◌≤◌, ◌+◌, ◌++◌, ◌&&◌, ◌∷◌, [], ℕ, false, Err, IfOk, OnOk, if◌then◌else◌, length, nat_lt, reverse, slice_index, slice_index_or, true};
 
+use crate::falls::falls;
 use crate::fault::CutFault;
 use crate::lined::Lined;
-use crate::run::{Run, Strip};
+use crate::strip::Strip;
 use geom_core::Rect;
 use std::alloc::{AllocError, Global};
 
@@ -34,53 +36,46 @@ impl Found {
         Ok(())
     }
 
-    // The block of a run, if it cannot grow to the right, where the next column is filled up to `top`, nor down.
-    fn pass(&mut self, strip: &Strip, run: &Run, top: usize) -> Result<(), CutFault>
-        requires { IsRun (is_filled strip.now.lined.now.path.now) (strips strip.now.lined.now.path.now) (columns strip.now.lined.now.path.now) strip.now.low strip.now.tops.now run.now }
-        ensures added { OnOk result (self.new.rects.items ≡ self.old.rects.items ++ (if nat_lt top run.now.high && run.now.held then extent_of strip.now.lined.now.path.now (record { low = strip.now.low; left = run.now.left; high = run.now.high; right = run.now.right }) ∷ [] else [])) }
+    // The maximal blocks with one lower left corner, the highest first: each has an upper side at which a column ends, and goes right up to
+    // the next that ends lower. Those at or under the floor can grow to the left.
+    fn add_corner(
+        &mut self,
+        strip: &Strip,
+        left: usize,
+        lowest: Option<usize>,
+    ) -> Result<(), CutFault>
+        requires within { left < columns (grid_in strip.now.lined.now.area) }
+        requires lowest { IsLowest (grid_in strip.now.lined.now.area).filled (columns (grid_in strip.now.lined.now.area)) strip.now.low strip.now.tops.now left lowest }
+        ensures added { OnOk result (self.new.rects.items ≡ self.old.rects.items ++ reverse (corner_rects (grid_in strip.now.lined.now.area) strip.now.low left)) }
         ensures most { self.new.most ≡ self.old.most }
-        ensures many { result ≡ Err TooMany → ((nat_lt top run.now.high && run.now.held) ≡ true) × (self.old.most ≤ length self.old.rects.items) }
+        ensures many { result ≡ Err TooMany → self.old.most < length self.old.rects.items + length (corner_rects (grid_in strip.now.lined.now.area) strip.now.low left) }
     {
-        if top < run.high && run.held {
-            let rect = strip.lined.rect(strip.low, run.left, run.high, run.right);
+        let Some(first) = lowest else {
+            return Ok(());
+        };
+        let floor = strip.floor(left);
+        let mut column = first;
+        while column < strip.tops.len() && strip.tops[column] > floor {
+            let next = strip.falls[column];
+            let rect = strip.lined.rect(strip.low, left, strip.tops[column], next);
             self.add(rect)?;
+            column = next;
         }
         Ok(())
     }
 
-    // The maximal blocks with one lower left corner, the highest first.
-    fn add_corner(&mut self, strip: &Strip, left: usize) -> Result<(), CutFault>
-        requires { left < columns strip.now.lined.now.path.now }
-        ensures added { OnOk result (self.new.rects.items ≡ self.old.rects.items ++ reverse (corner_rects strip.now.lined.now.path.now strip.now.low left)) }
-        ensures most { self.new.most ≡ self.old.most }
-        ensures many { result ≡ Err TooMany → self.old.most < length self.old.rects.items + length (corner_rects strip.now.lined.now.path.now strip.now.low left) }
-    {
-        let floor = strip.floor(left);
-        if strip.tops[left] <= floor {
-            return Ok(());
-        }
-        let mut run = strip.run_of(left);
-        for right in left + 1..strip.tops.len() {
-            let top = strip.tops[right];
-            self.pass(strip, &run, top)?;
-            if top <= floor {
-                return Ok(());
-            }
-            run = strip.widened(run);
-        }
-        self.pass(strip, &run, strip.low)
-    }
-
     // The maximal blocks with their lower side on one line, from right to left.
     fn add_strip(&mut self, strip: &Strip) -> Result<(), CutFault>
-        ensures added { OnOk result (self.new.rects.items ≡ self.old.rects.items ++ reverse (strip_rects strip.now.lined.now.path.now strip.now.low 0)) }
+        ensures added { OnOk result (self.new.rects.items ≡ self.old.rects.items ++ reverse (strip_rects (grid_in strip.now.lined.now.area) strip.now.low 0)) }
         ensures most { self.new.most ≡ self.old.most }
-        ensures many { result ≡ Err TooMany → self.old.most < length self.old.rects.items + length (strip_rects strip.now.lined.now.path.now strip.now.low 0) }
+        ensures many { result ≡ Err TooMany → self.old.most < length self.old.rects.items + length (strip_rects (grid_in strip.now.lined.now.area) strip.now.low 0) }
     {
         let mut left = strip.tops.len();
+        let mut lowest = None;
         while left > 0 {
             left -= 1;
-            self.add_corner(strip, left)?;
+            lowest = strip.lowest(left, lowest);
+            self.add_corner(strip, left, lowest)?;
         }
         Ok(())
     }
@@ -99,11 +94,12 @@ fn lower(tops: &mut [usize], cells: &[bool], strip: usize)
     }
 }
 
-/// The maximal blocks of a path, from the highest lower side on and from right to left, the highest first.
+/// The maximal blocks of an area, from the highest lower side on and from right to left, the highest first. Takes O(C) time for each
+/// strip of C columns, besides what it takes to find its cells, and O(1) for each block.
 pub(crate) fn maximal_blocks(alloc: Global, lined: &Lined, most: u64) -> Result<Found, CutFault>
-    ensures found { IfOk result (λ found. found.rects.items ≡ reverse (rects_from lined.now.path.now 0)) }
+    ensures found { IfOk result (λ found. found.rects.items ≡ reverse (rects_from (grid_in lined.now.area) 0)) }
     ensures most { IfOk result (λ found. found.most ≡ most) }
-    ensures many { result ≡ Err TooMany → most < length (rects_from lined.now.path.now 0) }
+    ensures many { result ≡ Err TooMany → most < length (rects_from (grid_in lined.now.area) 0) }
 {
     let mut found = Found {
         rects: Vec::new(alloc),
@@ -116,10 +112,12 @@ pub(crate) fn maximal_blocks(alloc: Global, lined: &Lined, most: u64) -> Result<
         low -= 1;
         lower(&mut tops, &cells, low);
         cells = lined.cells_under(alloc, low)?;
+        let falls = falls(alloc, &tops)?;
         let strip = Strip {
             lined: &*lined,
             low,
             tops: tops.as_slice(),
+            falls: falls.as_slice(),
             under: cells.as_slice(),
         };
         found.add_strip(&strip)?;

@@ -8,6 +8,8 @@ mod every_tests;
 #[cfg(test)]
 mod large_tests;
 #[cfg(test)]
+mod merge_tests;
+#[cfg(test)]
 mod plain;
 #[cfg(test)]
 mod row_tests;

@@ -1,19 +1,22 @@
 use Rattle.std.proofs.Common.{◌∙◌, ap, subst, sym, arith, length, reverse}
 use Rattle.std.proofs.lemmas.List.{length-reverse, reverse-reverse}
 use Rattle.std.proofs.lemmas.Result.{err_from_is_err_and}
+use Rattle.region_cut.specs.Cells.{grid_of}
 use Rattle.region_cut.specs.Maximal.{Fill, rects_from}
-use Rattle.region_cut.proofs.MaximalLaws.{fill, maximal-rects}
+use Rattle.region_cut.proofs.LineLaws.{rises-ascending}
+use Rattle.region_cut.proofs.MaximalLaws.{fill}
+use Rattle.region_cut.proofs.PathLaws.{maximal-is, maximal-rects}
 use Rattle.region_cut.proofs.polygon.cut.Goals as goal
 
 pub returns-clause-is : goal.returns-clause-is
 returns-clause-is c =
-    c.reverse.ensures.items ∙ ap reverse c.in_ok-rects.ensures.found ∙ reverse-reverse (rects_from c.args.path.now 0) ∙ sym (maximal-rects c.args.path.now)
+    c.reverse.ensures.items ∙ ap reverse c.in_ok-rects.ensures.found ∙ reverse-reverse (rects_from (grid_of c.args.path.now) 0) ∙ sym (maximal-rects c.args.path.now)
 
 pub returns-clause-fill : goal.returns-clause-fill
 returns-clause-fill c =
-    subst (Fill c.args.path.now)
-    (sym (c.reverse.ensures.items ∙ ap reverse c.in_ok-rects.ensures.found ∙ reverse-reverse (rects_from c.args.path.now 0) ∙ sym (maximal-rects c.args.path.now)))
-    (fill c.args.path.now)
+    subst (Fill (grid_of c.args.path.now))
+    (sym (c.reverse.ensures.items ∙ ap reverse c.in_ok-rects.ensures.found ∙ reverse-reverse (rects_from (grid_of c.args.path.now) 0) ∙ sym (maximal-rects c.args.path.now) ∙ maximal-is c.args.path.now))
+    (fill (grid_of c.args.path.now) (rises-ascending _) (rises-ascending _))
 
 pub returns-clause-few : goal.returns-clause-few
 returns-clause-few c =

@@ -1,16 +1,18 @@
-use Rattle.std.proofs.Common.{◌≡◌, ◌++◌, ◌<◌, map, reverse}
-use Rattle.region_cut.specs.Cells.{columns, is_filled, strips}
-use Rattle.region_cut.specs.Ceilings.{IsRun}
-use Rattle.region_cut.specs.Maximal.{extent_of}
+use Rattle.std.proofs.Common.{◌≡◌, ◌≤◌, ◌-◌, ◌++◌, map, max, reverse}
+use Rattle.std.specs.Prelude.{slice_index}
+use Rattle.region_cut.specs.Areas.{grid_in}
+use Rattle.region_cut.specs.Ceilings.{IsHeld}
+use Rattle.region_cut.specs.Grids.{columns, extent_of, strips}
 use Rattle.region_cut.proofs.RowLaws.{rows_above}
 use Rattle.region_cut.proofs.found.Found.add_corner.Given as goal
 
-abbrev pub invariant-loop-right : goal.invariant-loop-right
-invariant-loop-right l = record {
-  run : IsRun (is_filled l.strip.lined.now.path.now) (strips l.strip.lined.now.path.now) (columns l.strip.lined.now.path.now) l.strip.low l.strip.tops.now l.run;
-  left : l.run.left ≡ l.left;
-  right : l.run.right ≡ l.right;
-  above : l.floor < l.run.high;
-  made : l.self.rects.items ≡ l.fn.self.rects.items ++ reverse (map (extent_of l.strip.lined.now.path.now) (rows_above (is_filled l.strip.lined.now.path.now) (strips l.strip.lined.now.path.now) (columns l.strip.lined.now.path.now) l.strip.low l.run.left l.run.high));
+abbrev pub invariant-loop-column : goal.invariant-loop-column
+invariant-loop-column l = record {
+  held : IsHeld (grid_in l.strip.lined.now.area).filled (columns (grid_in l.strip.lined.now.area)) l.strip.low l.strip.tops.now l.left l.column;
+  within : l.column ≤ columns (grid_in l.strip.lined.now.area);
+  made : l.self.rects.items ≡ l.fn.self.rects.items ++ reverse (map (extent_of (grid_in l.strip.lined.now.area)) (rows_above (grid_in l.strip.lined.now.area).filled (strips (grid_in l.strip.lined.now.area)) (columns (grid_in l.strip.lined.now.area)) l.strip.low l.left (max l.floor (slice_index l.strip.tops.now l.column))));
   most : l.self.most ≡ l.fn.self.most;
 }
+
+abbrev pub decreases-loop-column : goal.decreases-loop-column
+decreases-loop-column l = columns (grid_in l.strip.lined.now.area) - l.column

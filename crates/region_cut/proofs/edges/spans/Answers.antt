@@ -1,6 +1,6 @@
 use Rattle.std.proofs.Common.{rules}
 use Rattle.region_cut.proofs.CellLaws.{spans-last}
-use Rattle.region_cut.proofs.lined.spans.Goals as goal
+use Rattle.region_cut.proofs.edges.spans.Goals as goal
 
 pub returns : goal.returns
 returns c =
