@@ -1,7 +1,7 @@
 //! Designs and layouts of texts, and what is wrong with them.
 
 ghost use Rattle.design_model.specs.Room.{HasRoom};
-ghost use Rattle.layout_check.specs.Measured.{IsMeasured};
+ghost use Rattle.layout_merge.specs.Near.{IsMergeable};
 ghost use Rattle.std.specs.Prelude.{IfOk, IfSome};
 ghost use Rattle.samples.specs.Sample.{sample};
 
@@ -28,9 +28,9 @@ pub(crate) const WIRE: &str =
 /// Two buffers in one net.
 pub(crate) const ONE_NET: &str = "u1 BUF n1; u2 BUF n1;";
 
-// The layout of a text of CIF, or None where it has none.
-fn layout_of(alloc: Global, text: &[u8]) -> Result<Option<Layout>, AllocError>
-    ensures { IfOk result (λ found. IfSome found IsMeasured) }
+/// The layout of a text of CIF, or None where it has none.
+pub(crate) fn layout_of(alloc: Global, text: &[u8]) -> Result<Option<Layout>, AllocError>
+    ensures { IfOk result (λ found. IfSome found IsMergeable) }
 {
     if text.len() >= 1 << 24 {
         return Ok(None);
@@ -44,8 +44,12 @@ fn layout_of(alloc: Global, text: &[u8]) -> Result<Option<Layout>, AllocError>
     }
 }
 
-// The design of these modules and calls under the sample rules, or None where there is none.
-fn sampled(alloc: Global, modules: &str, calls: &str) -> Result<Option<Design>, AllocError>
+/// The design of these modules and calls under the sample rules, or None where there is none.
+pub(crate) fn sampled(
+    alloc: Global,
+    modules: &str,
+    calls: &str,
+) -> Result<Option<Design>, AllocError>
     ensures { IfOk result (λ found. IfSome found (HasRoom sample)) }
 {
     match designed(alloc, modules, calls) {
