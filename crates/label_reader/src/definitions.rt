@@ -8,9 +8,9 @@ use std::alloc::{AllocError, Global};
 
 /// A definition of a text, by the numbers of the commands that start and finish it, from 0 on.
 #[derive(Clone, Copy, Debug, PartialEq, Eq)]
-pub struct DefinitionPlace {
-    pub start: u32,
-    pub finish: u32,
+pub(crate) struct DefinitionPlace {
+    pub(crate) start: u32,
+    pub(crate) finish: u32,
 }
 
 /// The definitions of a text, in their order. The one error is want of memory.

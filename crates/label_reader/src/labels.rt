@@ -26,9 +26,9 @@ pub(crate) struct TopScale {
 
 /// A label of the top on the outline layer: its name, and its place in half centimicrons.
 #[derive(Debug, Drop)]
-pub struct PlacedName {
-    pub name: Name,
-    pub place: WideCorner,
+pub(crate) struct PlacedName {
+    pub(crate) name: Name,
+    pub(crate) place: WideCorner,
 }
 
 // The label at its place in half centimicrons, where that is whole.

@@ -11,6 +11,4 @@ mod naming;
 mod reading;
 mod tops;
 
-pub use definitions::DefinitionPlace;
-pub use labels::PlacedName;
 pub use reading::expand_labelled;
