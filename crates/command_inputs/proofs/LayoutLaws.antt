@@ -1,4 +1,4 @@
-use Rattle.std.proofs.Common.{◌≡◌, ◌<◌, ◌^◌, ℕ, List, length, None, Some, Result, Ok, Err, refl, arith}
+use Rattle.std.proofs.Common.{◌≡◌, ◌<◌, ◌^◌, ℕ, List, All, length, None, Some, Result, Ok, Err, refl, arith}
 use Rattle.std.specs.Prelude.{ℤ, pos, negsuc}
 use Rattle.std.proofs.lemmas.Int.{ints}
 use Rattle.std.proofs.lemmas.List.Elements.{All-from_recursion, All-weaker}
@@ -19,6 +19,7 @@ use Rattle.command_ends.specs.Refusing.{◌>>=◌}
 use Rattle.command_ends.specs.declared.refusal.Refusal.{Refusal}
 use Rattle.cif_reader.specs.Within.{IsCellWithin, IsLayoutWithin, IsNotFar, IsShapeWithin}
 use Rattle.layout_check.specs.Measured.{IsCellAmong, IsMeasured}
+use Rattle.layout_merge.specs.Near.{IsCellNear, IsNear}
 use Rattle.command_inputs.specs.LayoutFile.{cif_said, commands_verdict, layout_verdict, meaning_said}
 use Rattle.command_inputs.proofs.LimitLaws.{within-next}
 
@@ -42,6 +43,18 @@ measured most l few within = record {
       (All-from_recursion (IsCellWithin (length l.shapes)) l.cells within.cells);
   shapes = All-weaker IsShapeWithin IsShapeInReach shape-in-reach l.shapes (All-from_recursion IsShapeWithin l.shapes within.shapes);
 }
+
+is-near : (z : ℤ) → IsNotFar z → IsNear z
+is-near (pos n) near = record { low = omega (arith, ints, near); high = omega (arith, ints, near) }
+is-near (negsuc n) near = record { low = omega (arith, ints, near); high = omega (arith, ints, near) }
+
+cell-near : (shapes : ℕ) (c : Cell) → IsCellWithin shapes c → IsCellNear c
+cell-near shapes c near = record { across = is-near _ near.across; up = is-near _ near.up }
+
+-- and merged
+pub cells-near : (most : ℕ) (l : Layout) → IsLayoutWithin most l → All IsCellNear l.cells
+cells-near most l within =
+    All-weaker (IsCellWithin (length l.shapes)) IsCellNear (cell-near (length l.shapes)) l.cells (All-from_recursion (IsCellWithin (length l.shapes)) l.cells within.cells)
 
 said-reads : (read : Result (List CifCommand) (CifKind × ℕ)) (commands : List CifCommand) → cif_said read ≡ Ok commands → read ≡ Ok commands
 said-reads (Ok found) commands is = cc

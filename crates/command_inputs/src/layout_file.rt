@@ -7,8 +7,9 @@ ghost use Rattle.command_inputs.specs.Failures.{FileFails};
 ghost use Rattle.command_inputs.specs.LayoutFile.{AreExpandable, cif_said, commands_verdict, expansion_by, layout_verdict, meaning_said};
 ghost use Rattle.command_inputs.specs.Reading.{Loads, Says, files};
 ghost use Rattle.layout_check.specs.Measured.{IsMeasured};
+ghost use Rattle.layout_merge.specs.Near.{IsCellNear};
 ghost use Rattle.read_base.specs.Answers.{AnswersAs};
-ghost use Rattle.std.specs.Prelude.{◌<◌, ◌^◌, length, IfOk};
+ghost use Rattle.std.specs.Prelude.{◌<◌, ◌^◌, length, All, IfOk};
 
 use crate::stages::{load_within, or_stop};
 use crate::texts::Texts;
@@ -76,6 +77,7 @@ fn expand_commands(
     requires { AreExpandable commands.now }
     ensures says { Says (λ layout. layout) result (meaning_said (expansion_by outline commands.now)) }
     ensures measured { IfOk result IsMeasured }
+    ensures near { IfOk result (λ layout. All IsCellNear layout.cells) }
 {
     match expand_by(alloc, commands, outline) {
         Ok(layout) => Ok(layout),
@@ -96,6 +98,7 @@ pub fn load_layout<S: Shelf>(
     ensures loads { Loads (λ layout. layout) (layout_verdict outline) (λ told. told name.now) (FileFails name.now) result
         (files (S.holds shelf.old) (S.read_faults shelf.old) (S.write_faults shelf.old)) (files (S.holds shelf.new) (S.read_faults shelf.new) (S.write_faults shelf.new)) }
     ensures measured { IfOk result IsMeasured }
+    ensures near { IfOk result (λ layout. All IsCellNear layout.cells) }
 {
     let commands = load_commands(alloc, shelf, name, texts)?;
     or_stop(expand_commands(alloc, commands.as_slice(), outline))

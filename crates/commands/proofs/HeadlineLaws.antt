@@ -16,9 +16,10 @@ use Rattle.command_inputs.specs.Drawn.{drawn_said, ported_said}
 use Rattle.command_inputs.specs.Origin.{AreDesignsFor, AreInputsFrom}
 use Rattle.command_inputs.specs.declared.stages.Inputs.{Inputs}
 use Rattle.command_jobs.specs.Written.{IsGoodText, IsPortedText}
-use Rattle.commands.specs.Headline.{HeadlineSo, IsGoodByLabels, IsGoodSo, IsGoodTextSo, PortedHeadline, ReadsSo}
+use Rattle.commands.specs.Headline.{HeadlineSo, IsGoodByLabels, IsGoodSo, IsGoodTextSo, PortedHeadline, ReadsSo, layout_so}
 use Rattle.label_reader.specs.Labelled.{labelled}
 use Rattle.label_reader.specs.ReadsByLabels.{ReadsByLabels}
+use Rattle.layout_merge.specs.MergedLayout.{merged_layout}
 use Rattle.yal_reader.specs.Numbers.{numbers_of}
 use Rattle.yal_reader.specs.YalReads.{yal_reads}
 use Rattle.std_laws.proofs.Options.{ok-same}
@@ -65,20 +66,20 @@ one-layout rules d text layout reads good =
 
 -- and by its labels too
 one-labelled : (rules : RuleValues) (d : Netlist) (text : List ℕ) (layout : Layout) → ReadsByLabels rules.outline.layer text layout → IsGoodByLabels rules d text
-    → Good rules d layout
+    → Good rules d (merged_layout rules d layout)
 one-labelled rules d text layout reads good =
     let commands : good.reads.commands ≡ reads.commands = ok-same _ good.reads.commands reads.commands good.reads.reads reads.reads in
     let shown : good.layout ≡ layout =
     ok-same (labelled rules.outline.layer good.reads.commands) good.layout layout good.reads.labelled_is (ap (labelled rules.outline.layer) commands ∙ reads.labelled_is) in
-    subst (λ (l : Layout). Good rules d l) shown good.good
+    subst (λ (l : Layout). Good rules d (merged_layout rules d l)) shown good.good
 
 one-so : (labels : Bool) (rules : RuleValues) (d : Netlist) (text : List ℕ) (layout : Layout) → ReadsSo labels rules text layout → IsGoodTextSo labels rules text d
-    → Good rules d layout
+    → Good rules d (layout_so labels rules d layout)
 one-so false rules d text layout reads good = one-layout rules d text layout reads good
 one-so true rules d text layout reads good = one-labelled rules d text layout reads good
 
 -- a text that reads as a good layout
-pub text-so : (labels : Bool) (rules : RuleValues) (d : Netlist) (text : List ℕ) (layout : Layout) → ReadsSo labels rules text layout → Good rules d layout
+pub text-so : (labels : Bool) (rules : RuleValues) (d : Netlist) (text : List ℕ) (layout : Layout) → ReadsSo labels rules text layout → Good rules d (layout_so labels rules d layout)
     → IsGoodTextSo labels rules text d
 text-so false rules d text layout reads good = record { layout = layout; reads = reads; good = good }
 text-so true rules d text layout reads good = record { layout = layout; reads = reads; good = good }
@@ -107,7 +108,8 @@ module _ (stated bytes text : List ℕ) (labels ports : Bool) (inputs : Inputs) 
   }
 
   -- what files say is one design under one set of rules, and a text reads as one layout, so that the headline is a fact of these
-  pub good-of : (layout : Layout) → ReadsSo labels inputs.rules text layout → HeadlineSo labels ports stated bytes text → Good inputs.rules inputs.designs.drawn.design layout
+  pub good-of : (layout : Layout) → ReadsSo labels inputs.rules text layout → HeadlineSo labels ports stated bytes text
+      → Good inputs.rules inputs.designs.drawn.design (layout_so labels inputs.rules inputs.designs.drawn.design layout)
   good-of layout reads headline =
       let rules : headline.rules ≡ inputs.rules = ok-same _ headline.rules inputs.rules headline.states from.states in
       let file : headline.good.file ≡ inputs.file =

@@ -17,6 +17,7 @@ use Rattle.command_jobs.specs.Written.{IsGoodText, StandAtEdges}
 use Rattle.design_model.specs.Good.{Good}
 use Rattle.geom_core.specs.declared.layout.Layout.{Layout}
 use Rattle.label_reader.specs.ReadsByLabels.{ReadsByLabels}
+use Rattle.layout_merge.specs.MergedLayout.{merged_layout}
 
 -- this holds of the design of a file: the file is a design on the grid, whose nets are its pins of equal signal words
 pub record IsGoodFor (rules : RuleValues) (file : YalFile) (holds : Netlist → Type 0) : Type 0 where
@@ -52,11 +53,16 @@ abbrev pub ReadsSo : Bool → RuleValues → List ℕ → Layout → Type 0
 ReadsSo false rules text layout = ReadsAs text layout
 ReadsSo true rules text layout = ReadsByLabels rules.outline.layer text layout
 
--- a text reads by its labels as a good layout of a design
+-- the layout that is judged: one that is read by labels stands for the one of the same areas
+abbrev pub layout_so : Bool → RuleValues → Netlist → Layout → Layout
+layout_so false rules d layout = layout
+layout_so true rules d layout = merged_layout rules d layout
+
+-- a text reads by its labels as a layout of the same areas as a good one of a design
 pub record IsGoodByLabels (rules : RuleValues) (d : Netlist) (text : List ℕ) : Type 0 where
   pub layout : Layout
   pub reads : ReadsByLabels rules.outline.layer text layout
-  pub good : Good rules d layout
+  pub good : Good rules d (merged_layout rules d layout)
 
 abbrev pub IsGoodTextSo : Bool → RuleValues → List ℕ → Netlist → Type 0
 IsGoodTextSo false rules text d = IsGoodText rules d text

@@ -1,6 +1,7 @@
 -- what a command's words and files ask for: a design to lay out, a layout to judge, a text to write, a text of help, or the first refusal
 use Rattle.std.specs.Prelude.{◌≡◌, ◌++◌, ℕ, List, Bool, true, false, Option, Some, None, option_map, Result, Ok, Err}
 use Rattle.command_words.specs.Command.{Command, check, command_of, draw, from_file, help, import, route}
+use Rattle.commands.specs.Headline.{layout_so}
 use Rattle.commands.specs.Accepted.{Accepted, to_help, to_judge, to_lay_out, to_write}
 use Rattle.commands.specs.Drawn.{drawn_text, view_of}
 use Rattle.commands.specs.Imported.{import_said}
@@ -32,11 +33,11 @@ abbrev pub labels_on : Bool → RuleValues → Option (List ℕ)
 labels_on false rules = None
 labels_on true rules = Some rules.outline.layer
 
--- the judgement of the layout that the bytes of a file are, by labels or not, for a design under rules, with a file for markers or none
+-- the judgement of the layout that the bytes of a file are, by labels and areas or not, for a design under rules, with a file for markers or none
 unfoldable pub judgement_verdict : Bool → Inputs → Option (List ℕ) → List ℕ → Result Accepted Refusal
 judgement_verdict labels inputs markers bytes = do
   layout ← layout_verdict (labels_on labels inputs.rules) bytes
-  Ok (to_judge inputs layout markers)
+  Ok (to_judge inputs (layout_so labels inputs.rules inputs.designs.drawn.design layout) markers)
 
 -- the picture of the layout that the bytes of a file are, of a part of it or of all, with the roles of its layers under rules, if there are some
 unfoldable pub picture_verdict : Option Extent → Option RuleValues → List ℕ → Result Accepted Refusal

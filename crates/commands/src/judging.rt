@@ -6,9 +6,11 @@ ghost use Rattle.command_words.specs.Seen.{check_seen};
 ghost use Rattle.commands.specs.Carried.{Carried};
 ghost use Rattle.commands.specs.Changes.{AreMarked};
 ghost use Rattle.commands.specs.Done.{AreFound, end_seen};
+ghost use Rattle.commands.specs.Headline.{layout_so};
 ghost use Rattle.commands.specs.Verdict.{labels_on};
 ghost use Rattle.design_model.specs.Room.{HasRoom};
 ghost use Rattle.layout_check.specs.Measured.{IsMeasured};
+ghost use Rattle.layout_merge.specs.Near.{IsMergeable};
 ghost use Rattle.std.specs.Prelude.{◌≡◌, [], Some, IfOk, option_map};
 
 use crate::done::{Done, Judged};
@@ -19,18 +21,44 @@ use command_words::{Check, Source};
 use finding_markers::write_markers;
 use geom_core::{LayerName, Layout};
 use layout_check::check;
+use layout_merge::merge_layout;
 use shelf_io::{Failed, Shelf};
 use std::alloc::{AllocError, Global};
 use tech_rules::Rules;
 
-// Finds what is wrong with a layout.
-fn judge_layout(alloc: Global, inputs: Inputs, layout: Layout) -> Result<Judged, AllocError>
-    requires measured { IsMeasured layout }
+// The layout that is judged: one that is read by labels stands for the one of the same areas.
+fn layout_so(
+    alloc: Global,
+    labels: bool,
+    inputs: &Inputs,
+    layout: Layout,
+) -> Result<Layout, AllocError>
+    requires layout { IsMergeable layout }
+    requires room { HasRoom inputs.now.rules inputs.now.designs.drawn.design }
+    ensures is { IfOk result (λ l. l ≡ layout_so labels inputs.now.rules inputs.now.designs.drawn.design layout) }
+    ensures measured { IfOk result IsMeasured }
+{
+    if labels {
+        merge_layout(alloc, layout, &inputs.designs.drawn.design, &inputs.rules)
+    } else {
+        Ok(layout)
+    }
+}
+
+// Finds what is wrong with a layout that is read by labels or not.
+fn judge_layout(
+    alloc: Global,
+    labels: bool,
+    inputs: Inputs,
+    layout: Layout,
+) -> Result<Judged, AllocError>
+    requires layout { IsMergeable layout }
     requires room { HasRoom inputs.rules inputs.designs.drawn.design }
     ensures inputs { IfOk result (λ j. j.inputs ≡ inputs) }
-    ensures layout { IfOk result (λ j. j.layout ≡ layout) }
+    ensures layout { IfOk result (λ j. j.layout ≡ layout_so labels inputs.rules inputs.designs.drawn.design layout) }
     ensures found { IfOk result (λ j. AreFound j.inputs j.layout j.findings.items) }
 {
+    let layout = layout_so(alloc, labels, &inputs, layout)?;
     let findings = check(alloc, &layout, &inputs.designs.drawn.design, &inputs.rules)?;
     Ok(Judged {
         inputs,
@@ -95,7 +123,7 @@ pub(crate) fn judge<S: Shelf>(
     )?;
     let outline = labels_on(names.labels, &inputs.rules);
     let layout = load_layout(alloc, shelf, names.cif, outline, &mut heard.texts)?;
-    match judge_layout(alloc, inputs, layout) {
+    match judge_layout(alloc, names.labels, inputs, layout) {
         Ok(judged) => mark(shelf, names.markers, judged),
         Err(AllocError) => Err(Stop::Refused(Refusal::Memory)),
     }

@@ -26,13 +26,16 @@ use Rattle.commands.specs.Changes.{AreMarked}
 use Rattle.commands.specs.Done.{AreFound, Done, judged}
 use Rattle.commands.specs.Ends.{Ends}
 use Rattle.commands.specs.Outcome.{Holds, HoldsFront}
-use Rattle.commands.specs.Headline.{HeadlineSo, ReadsSo}
+use Rattle.commands.specs.Headline.{HeadlineSo, ReadsSo, layout_so}
 use Rattle.commands.proofs.HeadlineLaws.{good-of, headline-of, text-so}
 use Rattle.commands.proofs.judging.judge.Goals as goal
 
--- what is said of a layout, with a file for markers or none
-abbrev seen-as : Inputs → Option (List ℕ) → Layout → Accepted
-seen-as inputs markers layout = to_judge inputs layout markers
+-- what is said of a layout, by labels and areas or not, with a file for markers or none
+abbrev shown-of : Bool → Inputs → Layout → Layout
+shown-of labels inputs layout = layout_so labels inputs.rules inputs.designs.drawn.design layout
+
+abbrev seen-as : CheckNames → Inputs → Layout → Accepted
+seen-as names inputs layout = to_judge inputs (shown-of names.labels inputs layout) names.markers
 
 -- a layout is the one as which its text reads
 reads-so : (labels : Bool) (rules : RuleValues) (text : List ℕ) (layout : Layout) → layout_verdict (labels_on labels rules) text ≡ Ok layout → ReadsSo labels rules text layout
@@ -42,28 +45,31 @@ reads-so true rules text layout is = layout-labels rules.outline.layer text layo
 -- what is found of a layout for a command to check, where the rules and the design are read
 layout-found : (names : CheckNames) (inputs : Inputs) (result : Result Layout Stop) {Fails : (List ℕ → ℕ) → (List ℕ → ℕ) → Type 0} (old new : Files) (said : Result Accepted Refusal)
     → AreRead names.rules (from_file names.design) names.ports old.holds inputs → Loads (λ (l : Layout). l) (layout_verdict (labels_on names.labels inputs.rules)) (λ told. told names.cif) Fails result old new
-    → command_verdict (check names) old.holds ≡ Some said → Finds (seen-as inputs names.markers) result said
+    → command_verdict (check names) old.holds ≡ Some said → Finds (seen-as names inputs) result said
 unfolding command_verdict judgement_verdict
 layout-found names inputs result old new said read loads is =
-    told-goes-on (seen-as inputs names.markers) result _ inputs _ said (λ s at. read-told names.rules (from_file names.design) names.ports old.holds inputs s read at)
-    (of-file (seen-as inputs names.markers) result (judgement_verdict names.labels inputs names.markers) _ (λ bytes told. by result (layout_verdict (labels_on names.labels inputs.rules) bytes) (loads.told bytes told))) is
+    told-goes-on (seen-as names inputs) result _ inputs _ said (λ s at. read-told names.rules (from_file names.design) names.ports old.holds inputs s read at)
+    (of-file (seen-as names inputs) result (judgement_verdict names.labels inputs names.markers) _ (λ bytes told. by result (layout_verdict (labels_on names.labels inputs.rules) bytes) (loads.told bytes told))) is
   where
     by : (result : Result Layout Stop) (found : Result Layout Refusal) → Finds (λ (l : Layout). l) result found
-        → Finds (seen-as inputs names.markers) result (found >>= (λ l. Ok (to_judge inputs l names.markers)))
-    by (Ok layout) found is = ap (λ (read : Result Layout Refusal). read >>= (λ (l : Layout). Ok (to_judge inputs l names.markers))) is
-    by (Err stop) found is = stops (λ (l : Layout). l) (seen-as inputs names.markers) stop found (λ (l : Layout). Ok (to_judge inputs l names.markers)) is
+        → Finds (seen-as names inputs) result (found >>= (λ l. Ok (seen-as names inputs l)))
+    by (Ok layout) found is = ap (λ (read : Result Layout Refusal). read >>= (λ (l : Layout). Ok (seen-as names inputs l))) is
+    by (Err stop) found is = stops (λ (l : Layout). l) (seen-as names inputs) stop found (λ (l : Layout). Ok (seen-as names inputs l)) is
 
 -- what was done where a layout was judged, whose findings are written, if they are to be, or could not be
 module _ (names : CheckNames) (inputs : Inputs) (layout : Layout) (findings : List Finding) {Fails : (List ℕ → ℕ) → (List ℕ → ℕ) → Type 0} (old mid new : Files)
     (read : AreRead names.rules (from_file names.design) names.ports old.holds inputs)
-    (loads : Loads (λ (l : Layout). l) (layout_verdict (labels_on names.labels inputs.rules)) (λ told. told names.cif) Fails (Ok layout) old mid) (found : AreFound inputs layout findings) where
-  verdict : (said : Result Accepted Refusal) → command_verdict (check names) old.holds ≡ Some said → Ok (to_judge inputs layout names.markers) ≡ said
+    (loads : Loads (λ (l : Layout). l) (layout_verdict (labels_on names.labels inputs.rules)) (λ told. told names.cif) Fails (Ok layout) old mid) (found : AreFound inputs (shown-of names.labels inputs layout) findings) where
+  abbrev shown : Layout
+  shown = shown-of names.labels inputs layout
+
+  verdict : (said : Result Accepted Refusal) → command_verdict (check names) old.holds ≡ Some said → Ok (to_judge inputs shown names.markers) ≡ said
   verdict said says = sym (layout-found names inputs (Ok layout) old mid said read loads says)
 
-  judged-so : AreMarked inputs layout findings names.markers (Ok (judged inputs layout findings)) old new → Carried (Some (check names)) (Ok (judged inputs layout findings)) [] old new
+  judged-so : AreMarked inputs shown findings names.markers (Ok (judged inputs shown findings)) old new → Carried (Some (check names)) (Ok (judged inputs shown findings)) [] old new
   judged-so marks = record {
     said = λ said says. record {
-      ends = subst (λ (s : Result Accepted Refusal). Ends [] (Ok (judged inputs layout findings)) s) (verdict said says)
+      ends = subst (λ (s : Result Accepted Refusal). Ends [] (Ok (judged inputs shown findings)) s) (verdict said says)
           (record { same_inputs = refl; same_layout = refl; found = found });
       written = λ name is zero. subst (λ (s : Result Accepted Refusal). Holds s [] (new.holds name)) (verdict said says) (findings, (found, marks.holds name is refl));
       front = λ name is nine. absurd (omega (arith, nine));
@@ -91,7 +97,7 @@ module _ (names : CheckNames) (inputs : Inputs) (layout : Layout) (findings : Li
     imported = λ other netlist cells held same first second zero told. absurd cc;
   }
 
-  unmarked-so : names.markers ≢ None → AreMarked inputs layout findings names.markers (Err WriteFault) old new → Carried (Some (check names)) (Err WriteFault) [] old new
+  unmarked-so : names.markers ≢ None → AreMarked inputs shown findings names.markers (Err WriteFault) old new → Carried (Some (check names)) (Err WriteFault) [] old new
   unmarked-so some marks = record {
     said = λ said says. record {
       ends = subst (λ (s : Result Accepted Refusal). Ends [] (Err WriteFault) s) (verdict said says) some;
@@ -113,16 +119,16 @@ module _ (names : CheckNames) (inputs : Inputs) (layout : Layout) (findings : Li
     imported = λ other netlist cells held same first second zero told. absurd cc;
   }
 
-  judged-for : (e : Result Done Stop) → AreMarked inputs layout findings names.markers e mid new → Carried (Some (check names)) e [] old new
+  judged-for : (e : Result Done Stop) → AreMarked inputs shown findings names.markers e mid new → Carried (Some (check names)) e [] old new
   judged-for e after = elim marks.ends [
     | inl is ↦ subst (λ (o : Result Done Stop). Carried (Some (check names)) o [] old new) (sym is)
-        (judged-so (subst (λ (o : Result Done Stop). AreMarked inputs layout findings names.markers o old new) is marks))
+        (judged-so (subst (λ (o : Result Done Stop). AreMarked inputs shown findings names.markers o old new) is marks))
     | inr is ↦ subst (λ (o : Result Done Stop). Carried (Some (check names)) o [] old new) (sym is.0)
-        (unmarked-so is.1 (subst (λ (o : Result Done Stop). AreMarked inputs layout findings names.markers o old new) is.0 marks))
+        (unmarked-so is.1 (subst (λ (o : Result Done Stop). AreMarked inputs shown findings names.markers o old new) is.0 marks))
   ]
     where
-      marks : AreMarked inputs layout findings names.markers e old new
-      marks = subst (λ (m : Files). AreMarked inputs layout findings names.markers e m new) (read-same old mid loads.read) after
+      marks : AreMarked inputs shown findings names.markers e old new
+      marks = subst (λ (m : Files). AreMarked inputs shown findings names.markers e m new) (read-same old mid loads.read) after
 
 pub returns-in_err-inputs : goal.returns-in_err-inputs
 unfolding command_verdict
@@ -137,7 +143,7 @@ returns-in_err-layout g c =
     let inputs : Inputs = c.in_ok-inputs.inputs in
     let stop = c.in_err-layout.field-0.0 in
     let loads = loads-after c.in_ok-inputs.ensures.read (rw c.labels_on-outline.ensures at c.in_err-layout.ensures.loads) in
-    stopped-early (seen-as inputs names.markers) (check names) stop c.from_residual-in_err-layout.result [] _ _ c.from_residual-in_err-layout.ensures.1
+    stopped-early (seen-as names inputs) (check names) stop c.from_residual-in_err-layout.result [] _ _ c.from_residual-in_err-layout.ensures.1
     (λ said says. layout-found names inputs (Err stop) _ _ said c.in_ok-inputs.ensures.are loads says)
     (read-also (λ eight rose. inr (rose, (inputs.rules, read-passed names.rules (from_file names.design) names.ports _ inputs c.in_ok-inputs.ensures.are))) loads.read) refl
 
