@@ -1,7 +1,9 @@
-//! Paths of 2,000 points, whose maximal blocks are told by formulas, and paths that reach as far as a layout may.
+//! Paths of 2,000 points and stairs of 2,000 rectangles, whose maximal blocks are told by formulas, and paths that reach as far as a layout
+//! may.
 
-use crate::blocks::{Block, is_cut_into};
-use geom_core::Corner;
+use crate::blocks::{Block, are_at, is_cut_into};
+use geom_core::{Corner, Rect};
+use region_cut::merge;
 use std::alloc::{AllocError, Global};
 use std::test::Fail;
 
@@ -205,6 +207,66 @@ fn a_board_by_bars_that_cross(rt: HostRuntime) -> Result<(), Fail> {
     let blocks = squares(rt.alloc(), 499)?;
     assert!(rt; path.len() == 2_000 && blocks.len() == 124_500);
     assert!(rt; is_cut_into(rt.alloc(), path.as_slice(), blocks.as_slice())?);
+    Ok(())
+}
+
+/// Rows one high, each from one further right than the row under it, and all up to the same right side.
+fn rising_rows(alloc: Global, rows: u16) -> Result<Vec<Rect>, AllocError> {
+    let mut rects = Vec::new(alloc);
+    for row in 0..rows {
+        rects.push(Rect {
+            x0: i64::from(row),
+            y0: i64::from(row),
+            x1: i64::from(rows),
+            y1: i64::from(row) + 1,
+        })?;
+    }
+    Ok(rects)
+}
+
+/// The blocks of these rows: each has its left side and its upper side on those of a row, and reaches down to the lowest row.
+fn rising_blocks(alloc: Global, rows: u16) -> Result<Vec<Block>, AllocError> {
+    let mut blocks = Vec::new(alloc);
+    for row in 0..u32::from(rows) {
+        blocks.push(block_at(0, row, row + 1, u32::from(rows)))?;
+    }
+    Ok(blocks)
+}
+
+/// Rows one high, all from the same left side, and each up to one less far right than the row under it.
+fn falling_rows(alloc: Global, rows: u16) -> Result<Vec<Rect>, AllocError> {
+    let mut rects = Vec::new(alloc);
+    for row in 0..rows {
+        rects.push(Rect {
+            x0: 0,
+            y0: i64::from(row),
+            x1: i64::from(rows - row),
+            y1: i64::from(row) + 1,
+        })?;
+    }
+    Ok(rects)
+}
+
+/// The blocks of these rows, which have the same lower left corner.
+fn falling_blocks(alloc: Global, rows: u16) -> Result<Vec<Block>, AllocError> {
+    let mut blocks = Vec::new(alloc);
+    for row in 0..u32::from(rows) {
+        blocks.push(block_at(0, 0, row + 1, u32::from(rows) - row))?;
+    }
+    Ok(blocks)
+}
+
+#[test]
+fn stairs_of_rows(rt: HostRuntime) -> Result<(), Fail> {
+    // 2,000 strips of 2,000 columns, and as many rectangles
+    let rising = rising_rows(rt.alloc(), 2_000)?;
+    let blocks = rising_blocks(rt.alloc(), 2_000)?;
+    let merged = merge(rt.alloc(), rising.as_slice(), 8_000_000)?;
+    assert!(rt; are_at(merged.as_slice(), blocks.as_slice()));
+    let falling = falling_rows(rt.alloc(), 2_000)?;
+    let blocks = falling_blocks(rt.alloc(), 2_000)?;
+    let merged = merge(rt.alloc(), falling.as_slice(), 8_000_000)?;
+    assert!(rt; are_at(merged.as_slice(), blocks.as_slice()));
     Ok(())
 }
 
