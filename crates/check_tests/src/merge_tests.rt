@@ -1,5 +1,8 @@
 //! Layouts whose shapes are merged, with those of the same areas that they stand for, told by hand.
 
+ghost use Rattle.layout_merge.specs.Near.{IsMergeable};
+ghost use Rattle.std.specs.Prelude.{IfOk, IfSome};
+
 use crate::texts::{CELLS, ONE_NET, SYMBOL, layout_of, sampled};
 use geom_core::{Cell, Layout};
 use layout_check::check;
@@ -115,7 +118,9 @@ const CASES: [Case; 7] = [
 ];
 
 // The layout of a text of CIF in pieces.
-fn layout_of_pieces(alloc: Global, pieces: &[&str]) -> Result<Option<Layout>, AllocError> {
+fn layout_of_pieces(alloc: Global, pieces: &[&str]) -> Result<Option<Layout>, AllocError>
+    ensures { IfOk result (λ found. IfSome found IsMergeable) }
+{
     let mut text = String::new(alloc);
     for piece in pieces {
         text.push_str(piece)?;
