@@ -27,6 +27,8 @@ pub mod SoundLaws
 pub mod WiredLaws
 -- past a channel's end each column leaves fewer tracks held
 pub mod FewerLaws
+-- columns in which nothing happens
+pub mod IdleLaws
 -- tables tell what the wiring is made of
 pub mod TellLaws
 -- tracks are never taken away

@@ -7,6 +7,8 @@ use Rattle.greedy_column.specs.Replay.{freed, entered, after, replay_from}
 use Rattle.greedy_column.specs.Fair.{AllFair}
 use Rattle.greedy_column.proofs.IdLaws.{ids-freed, ids-moved}
 use Rattle.greedy_column.proofs.TableLaws.{length-ids}
+use Rattle.greedy_column.specs.State.{AreNumbered}
+use Rattle.greedy_router.proofs.OrderLaws.{AreNumbered-after}
 use Rattle.greedy_router.proofs.GrowLaws.{replay_from-grows}
 
 -- as many tracks have the same ids
@@ -34,9 +36,11 @@ entered-few pins column before order done columns same =
 
 -- from one column to the next
 pub fair-more : (pins : Pins) (column next fresh : ℕ) (before later : List Track) (done : Column) (columns : List Column) → next ≡ suc column
-    → later ≡ after pins column done before → AllFair pins column fresh before (done ∷ columns) → (x : ℕ) × AllFair pins next x later columns
-fair-more pins column next fresh before later done columns one left fair = (
+    → later ≡ after pins column done before → AreNumbered fresh before → AllFair pins column fresh before (done ∷ columns)
+    → (x : ℕ) × AreNumbered x later × AllFair pins next x later columns
+fair-more pins column next fresh before later done columns one left numbered fair = (
   fresh + length done.made,
+  subst (λ (l : List Track). AreNumbered (fresh + length done.made) l) (sym left) (AreNumbered-after pins column fresh before done numbered fair.0),
   subst (λ n. AllFair pins n (fresh + length done.made) later columns) (sym one)
       (subst (λ (l : List Track). AllFair pins (suc column) (fresh + length done.made) l columns) (sym left) fair.1),
 )

@@ -1,5 +1,5 @@
 -- the same wiring, from tables by ids
-use Rattle.std.specs.Prelude.{◌≡◌, ◌<◌, ◌++◌, ◌==◌, ◌&&◌, ◌||◌, if◌then◌else◌, nat_le, Bool, ℕ, List, Contains, map, filter, length, slice_index}
+use Rattle.std.specs.Prelude.{◌≡◌, ◌<◌, ◌≤◌, ◌++◌, ◌==◌, ◌&&◌, ◌||◌, if◌then◌else◌, nat_le, Bool, ℕ, List, Contains, map, filter, length, slice_index}
 use Rattle.std.specs.List.{list_any}
 use Rattle.channel_model.specs.declared.wiring.Segment.{Segment}
 use Rattle.channel_model.specs.declared.wiring.Segment.TheVariants.{Across, Along}
@@ -25,10 +25,10 @@ pub record HasAll (order : List ℕ) (by_id : ById) : Type 0 where
   pub lefts : length by_id.lefts.rounds.items ≡ length by_id.since.items
   pub ends : length by_id.ends.rounds.items ≡ length by_id.since.items
 
--- as many columns have been marked
+-- at most so many columns have been marked
 pub record AreRounds (columns : ℕ) (by_id : ById) : Type 0 where
-  pub lefts : by_id.lefts.round ≡ columns
-  pub ends : by_id.ends.round ≡ columns
+  pub lefts : by_id.lefts.round ≤ columns
+  pub ends : by_id.ends.round ≤ columns
 
 -- a join or a move of a column ends on a track
 abbrev pub has_end : Column → ℕ → Bool

@@ -5,10 +5,11 @@ ghost use Rattle.greedy_column.specs.Joining.{span_in};
 ghost use Rattle.greedy_column.specs.Replay.{after, entered, free_tracks};
 ghost use Rattle.greedy_column.specs.Tracks.{held_by, ids};
 ghost use Rattle.greedy_column.specs.Verticals.{pin_verticals, verticals};
+ghost use Rattle.greedy_router.specs.Idle.{IsIdle};
 ghost use Rattle.greedy_router.specs.SweepWiring.{across, alongs, column_vias, segments_from, since_after, vias_from};
 ghost use Rattle.greedy_router.specs.Tables.{AreRounds, HasAll, Tells};
 ghost use Rattle.std.specs.List.Sorted.{IsNonDecreasing};
-ghost use Rattle.std.specs.Prelude.{◌≡◌, ◌<◌, ◌+◌, ◌^◌, ◌++◌, ℕ, IfOk, OnOk, Contains, length, map, slice_index};
+ghost use Rattle.std.specs.Prelude.{◌≡◌, ◌<◌, ◌+◌, ◌^◌, ◌++◌, ℕ, IfOk, OnOk, Contains, length, map, slice_index, true};
 
 use crate::by_id::ById;
 use crate::final_order::FinalOrder;
@@ -116,6 +117,18 @@ impl Turn<'_> {
     }
 }
 
+// Whether nothing happens in a column, so that it has no wire and leaves the tracks as they were.
+fn is_idle(channel: &Channel, column: u32, done: &Column) -> bool
+    ensures { result ≡ true → IsIdle channel.now column done.now }
+{
+    let pins_none = pin_in(channel.top.items(), column) == 0
+        && pin_in(channel.bottom.items(), column) == 0;
+    let enters_none = done.made.items().is_empty() && done.top == 0 && done.bottom == 0;
+    let joins_none = !done.straight && done.joins.items().is_empty();
+    let leaves_none = done.ended.items().is_empty() && done.moves.items().is_empty();
+    pins_none && enters_none && joins_none && leaves_none
+}
+
 // The tracks once the pins of a column have entered, and those that the column leaves.
 #[derive(Drop)]
 struct Passed {
@@ -170,6 +183,11 @@ pub(crate) fn wire_columns(alloc: Global, run: &Run) -> Result<Wires, AllocError
     let mut column = 0u32;
     let mut rest = run.columns.as_slice();
     while let Some((done, later)) = rest.split_first() {
+        if is_idle(channel, column, done) {
+            column += 1;
+            rest = later;
+            continue;
+        }
         let Passed { entered, left } = pass(alloc, channel, column, done, &before)?;
         let turn = Turn {
             channel,
