@@ -27,16 +27,17 @@ pub mod SoundLaws
 pub mod WiredLaws
 -- past a channel's end each column leaves fewer tracks held
 pub mod FewerLaws
--- columns in which nothing happens
-pub mod IdleLaws
+-- the tables of a wiring, from column to column
+pub mod TurnLaws
+-- a column, by its tables
+pub mod ByTableLaws
 -- tables tell what the wiring is made of
 pub mod TellLaws
 -- tracks are never taken away
 pub mod GrowLaws
--- the tracks after some columns
-pub mod ReplayLaws
 -- the wiring, column by column
 pub mod WiringLaws
+pub mod WayLaws
 -- a sweep, record by record
 pub mod SweepLaws
 pub mod GoingLaws

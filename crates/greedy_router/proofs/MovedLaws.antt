@@ -47,7 +47,7 @@ sources moves = map (λ (m : ℕ × ℕ). m.0) moves
 abbrev pub targets : List (ℕ × ℕ) → List ℕ
 targets moves = map (λ (m : ℕ × ℕ). m.1) moves
 
-ids_one : (m : ℕ × ℕ) (tracks : List Track) → ids (move_one m tracks) ≡ ids tracks
+pub ids_one : (m : ℕ × ℕ) (tracks : List Track) → ids (move_one m tracks) ≡ ids tracks
 ids_one m tracks = ids-hold m.1 (held_by tracks m.0) (hold m.0 0 tracks) ∙ ids-hold m.0 0 tracks
 
 pub moved-other : (moves : List (ℕ × ℕ)) (tracks : List Track) (id : ℕ) → (Contains (sources moves) id → ⊥) → (Contains (targets moves) id → ⊥)

@@ -12,8 +12,8 @@ pub mod Answers
 pub mod Marks
 -- the same wiring, from tables by ids
 pub mod Tables
--- columns in which nothing happens
-pub mod Idle
+-- the tables from column to column
+pub mod Turns
 -- the final order of the tracks, with a table of their lines
 pub mod FinalOrder
 -- whether a sweep goes on

@@ -4,12 +4,9 @@ use Rattle.std.specs.List.{list_any}
 use Rattle.channel_model.specs.declared.wiring.Segment.{Segment}
 use Rattle.channel_model.specs.declared.wiring.Segment.TheVariants.{Across, Along}
 use Rattle.channel_model.specs.declared.wiring.Via.{Via}
-use Rattle.greedy_column.specs.declared.column.Track.{Track}
 use Rattle.greedy_column.specs.declared.column.Column.{Column}
 use Rattle.greedy_column.specs.declared.span.Span.{Span}
 use Rattle.greedy_column.specs.Tracks.{line_of}
-use Rattle.greedy_column.specs.Joining.{span_in}
-use Rattle.greedy_column.specs.Verticals.{between}
 use Rattle.greedy_router.specs.SweepWiring.{leaves, is_of}
 use Rattle.greedy_router.specs.declared.by_id.ById.{ById}
 
@@ -34,17 +31,16 @@ pub record AreRounds (columns : ℕ) (by_id : ById) : Type 0 where
 abbrev pub has_end : Column → ℕ → Bool
 has_end done id = list_any (is_of id) done.joins || list_any (is_of id) done.moves
 
--- since when a track is held, from tables: a track that was free has been entered in this column if at all
-abbrev pub since_by : ℕ → List ℕ → List ℕ → ℕ → ℕ
-since_by column nets since id = if slice_index nets id == 0 then column else slice_index since id
-
 -- a piece of wire in a column
 abbrev pub across_on : ℕ → Span → Segment
 across_on column span = Across span.net column span.low span.high
 
--- the piece between two tracks, on the lines of the final order
-abbrev pub pair_span : List Track → List ℕ → (ℕ × ℕ) → Span
-pair_span now order pair = span_in order (between now pair)
+-- the piece between two tracks, on the lines of the final order, of the net that holds the first by a table
+abbrev pub pair_span : List ℕ → List ℕ → (ℕ × ℕ) → Span
+pair_span nets order pair =
+    if nat_le (line_of order pair.0) (line_of order pair.1)
+    then record { net = slice_index nets pair.0; low = line_of order pair.0; high = line_of order pair.1 }
+    else record { net = slice_index nets pair.0; low = line_of order pair.1; high = line_of order pair.0 }
 
 -- the wires along the tracks that are left in a column, from tables of nets and of the columns since when they hold their tracks
 abbrev pub along_by : List ℕ → ℕ → List ℕ → List ℕ → ℕ → Segment
@@ -54,9 +50,9 @@ abbrev pub alongs_by : List ℕ → ℕ → List ℕ → List ℕ → Column →
 alongs_by order column nets since done = map (along_by order column nets since) (filter (leaves done) order)
 
 -- the segments of a column, from the pieces of its pins
-abbrev pub column_segments_by : List ℕ → ℕ → List Track → List ℕ → List ℕ → List Span → Column → List Segment
-column_segments_by order column now nets since spans done =
-    map (across_on column) ((spans ++ map (pair_span now order) done.joins) ++ map (pair_span now order) done.moves)
+abbrev pub column_segments_by : List ℕ → ℕ → List ℕ → List ℕ → List Span → Column → List Segment
+column_segments_by order column nets since spans done =
+    map (across_on column) ((spans ++ map (pair_span nets order) done.joins) ++ map (pair_span nets order) done.moves)
     ++ alongs_by order column nets since done
 
 -- a pin's piece of wire meets a track of its net

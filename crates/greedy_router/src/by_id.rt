@@ -1,15 +1,14 @@
 //! The tables by the ids of tracks that the wiring of a sweep uses again in each column.
 
-ghost use Rattle.greedy_column.specs.Tracks.{held_by};
-ghost use Rattle.greedy_column.specs.declared.column.Track.{Track as OneTrack};
 ghost use Rattle.greedy_router.specs.Marks.{is_marked};
-ghost use Rattle.greedy_router.specs.SweepWiring.{leaves, since_after};
-ghost use Rattle.greedy_router.specs.Tables.{Tells, has_end};
-ghost use Rattle.std.specs.Prelude.{◌≡◌, ◌<◌, ◌+◌, ◌^◌, ℕ, List, IfOk, length, replicate, slice_index};
+ghost use Rattle.greedy_router.specs.SweepWiring.{leaves};
+ghost use Rattle.greedy_router.specs.Tables.{has_end};
+ghost use Rattle.greedy_router.specs.Turns.{entered_by, left_by, since_entered, since_moved};
+ghost use Rattle.std.specs.Prelude.{◌≡◌, ◌<◌, ◌+◌, ◌^◌, ℕ, IfOk, length, replicate, slice_set};
 
 use crate::marks::Marks;
-use crate::tables::{note_column, tell_nets};
-use greedy_column::{Column, Track};
+use crate::tables::{carry_all, entry, free_all, note_moves, put};
+use greedy_column::Column;
 use std::alloc::{AllocError, Global};
 
 // By the ids of tracks: the nets that hold them and those that hold them later, as they are told, since which column they are held, which of
@@ -43,17 +42,57 @@ impl ById {
         })
     }
 
-    // Notes the column for the tracks that were free before it, as is told of those that the column before has left.
-    pub(crate) fn note_free(&mut self, column: u32)
-        ensures since { (before : List OneTrack) → Tells self.old.laters.items (held_by before) → length self.old.since.items ≡ length self.old.laters.items
-            → Tells self.new.since.items (since_after column before (λ id. slice_index self.old.since.items id)) }
-        ensures long { length self.new.since.items ≡ length self.old.since.items }
-        ensures nets { self.new.nets.items ≡ self.old.nets.items }
-        ensures laters { self.new.laters.items ≡ self.old.laters.items }
+    // A net enters a track in a column, which is noted where the track was free.
+    fn enter(&mut self, column: u32, id: u32, net: u32)
+        ensures nets { self.new.nets.items ≡ slice_set self.old.nets.items id net }
+        ensures laters { self.new.laters.items ≡ slice_set self.old.laters.items id net }
+        ensures since { self.new.since.items ≡ since_entered column self.old.nets.items id self.old.since.items }
         ensures lefts { self.new.lefts ≡ self.old.lefts }
         ensures ends { self.new.ends ≡ self.old.ends }
     {
-        note_column(&mut self.since, &self.laters, column);
+        if entry(&self.nets, id) == 0 {
+            put(&mut self.since, id, column);
+        }
+        put(&mut self.nets, id, net);
+        put(&mut self.laters, id, net);
+    }
+
+    // The nets of a column's pins enter their tracks.
+    pub(crate) fn enter_pins(&mut self, column: u32, done: &Column, top: u32, bottom: u32)
+        ensures nets { self.new.nets.items ≡ entered_by done.now top bottom self.old.nets.items }
+        ensures laters { self.new.laters.items ≡ entered_by done.now top bottom self.old.laters.items }
+        ensures since { self.new.since.items ≡ since_entered column (slice_set self.old.nets.items done.now.bottom bottom) done.now.top
+            (since_entered column self.old.nets.items done.now.bottom self.old.since.items) }
+        ensures lefts { self.new.lefts ≡ self.old.lefts }
+        ensures ends { self.new.ends ≡ self.old.ends }
+    {
+        self.enter(column, done.bottom, bottom);
+        self.enter(column, done.top, top);
+    }
+
+    // Notes which nets hold tracks after a column.
+    pub(crate) fn leave(&mut self, done: &Column)
+        ensures nets { self.new.nets.items ≡ self.old.nets.items }
+        ensures laters { self.new.laters.items ≡ left_by done.now self.old.laters.items }
+        ensures since { self.new.since.items ≡ self.old.since.items }
+        ensures lefts { self.new.lefts ≡ self.old.lefts }
+        ensures ends { self.new.ends ≡ self.old.ends }
+    {
+        free_all(&mut self.laters, done.ended.items());
+        carry_all(&mut self.laters, done.moves.items());
+    }
+
+    // Goes on behind a column: tells the nets as they are after it, and notes it for the tracks to which nets moved.
+    pub(crate) fn pass(&mut self, column: u32, done: &Column)
+        ensures nets { self.new.nets.items ≡ left_by done.now self.old.nets.items }
+        ensures laters { self.new.laters.items ≡ self.old.laters.items }
+        ensures since { self.new.since.items ≡ since_moved column done.now.moves self.old.since.items }
+        ensures lefts { self.new.lefts ≡ self.old.lefts }
+        ensures ends { self.new.ends ≡ self.old.ends }
+    {
+        free_all(&mut self.nets, done.ended.items());
+        carry_all(&mut self.nets, done.moves.items());
+        note_moves(&mut self.since, done.moves.items(), column);
     }
 
     // Marks the tracks that are left in a column, and those on which its joins and moves end.
@@ -76,19 +115,5 @@ impl ById {
         self.ends.begin();
         self.ends.add_both(done.joins.items());
         self.ends.add_both(done.moves.items());
-    }
-
-    // Tells which nets hold tracks once the pins of a column have entered, and after it.
-    pub(crate) fn tell(&mut self, entered: &[Track], left: &[Track])
-        ensures nets { Tells self.new.nets.items (held_by entered.now) }
-        ensures laters { Tells self.new.laters.items (held_by left.now) }
-        ensures since { self.new.since.items ≡ self.old.since.items }
-        ensures lefts { self.new.lefts ≡ self.old.lefts }
-        ensures ends { self.new.ends ≡ self.old.ends }
-        ensures nets_long { length self.new.nets.items ≡ length self.old.nets.items }
-        ensures laters_long { length self.new.laters.items ≡ length self.old.laters.items }
-    {
-        tell_nets(&mut self.nets, entered);
-        tell_nets(&mut self.laters, left);
     }
 }

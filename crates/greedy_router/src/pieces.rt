@@ -5,23 +5,22 @@ ghost use Rattle.greedy_router.specs.Marks.{is_marked};
 ghost use Rattle.greedy_router.specs.SweepWiring.{leaves};
 ghost use Rattle.greedy_router.specs.Tables.{across_on, along_by, alongs_by, column_segments_by, has_end, has_via_by, meets_by, pair_span, via_by, vias_by};
 ghost use Rattle.std.specs.List.{list_any};
-ghost use Rattle.std.specs.Prelude.{◌≡◌, ◌<◌, ◌+◌, ◌^◌, ◌++◌, ◌||◌, ℕ, Contains, IfOk, OnOk, false, filter, length, map};
+ghost use Rattle.std.specs.Prelude.{◌≡◌, ◌++◌, ◌||◌, ℕ, Contains, IfOk, OnOk, false, filter, map};
 
 use crate::final_order::FinalOrder;
 use crate::marks::Marks;
 use crate::tables::entry;
 use channel_model::{Segment, Via};
-use greedy_column::{Column, Span, Track, held_by, line_of};
+use greedy_column::{Column, Span};
 use std::alloc::{AllocError, Global};
 
-// A column of a sweep that is drawn: its record, the tracks once its pins have entered, those of the final order, on whose lines it is
+// A column of a sweep that is drawn: its record, the tracks of the final order, on whose lines it is
 // drawn, the pieces of its pins, and by ids the nets that hold the tracks, those that hold them after the column, and since when; and marks of
 // the tracks that are left, and of those on which its joins and moves end.
 #[derive(Clone, Copy)]
 pub(crate) struct Moment<'a> {
     pub(crate) column: u32,
     pub(crate) done: &'a Column,
-    pub(crate) entered: &'a [Track],
     pub(crate) order: &'a FinalOrder<'a>,
     pub(crate) pins: &'a [Span],
     pub(crate) nets: &'a [u32],
@@ -29,7 +28,6 @@ pub(crate) struct Moment<'a> {
     pub(crate) since: &'a [u32],
     pub(crate) lefts: &'a Marks,
     pub(crate) ends: &'a Marks,
-    ghost few_entered: { length entered.now + 1 < 2 ^ 32 },
     ghost left: { (id : ℕ) → Contains order.now id → is_marked lefts.now.rounds.items lefts.now.round id ≡ leaves done.now id },
     ghost ended: { (id : ℕ) → Contains order.now id → is_marked ends.now.rounds.items ends.now.round id ≡ has_end done.now id },
 }
@@ -68,12 +66,12 @@ fn leaves_some(done: &Column) -> bool
 impl Moment<'_> {
     // The piece between two tracks, on the lines of the final order.
     fn pair_span(&self, pair: (u32, u32)) -> Span
-        ensures { result ≡ pair_span self.now.entered.now self.now.order.now pair }
+        ensures { result ≡ pair_span self.now.nets.now self.now.order.now pair }
     {
-        let net = held_by(self.entered, pair.0);
+        let net = entry(self.nets, pair.0);
         let first = self.order.line(pair.0);
         let second = self.order.line(pair.1);
-        if line_of(self.entered, pair.0) <= line_of(self.entered, pair.1) {
+        if first <= second {
             Span {
                 net,
                 low: first,
@@ -91,7 +89,7 @@ impl Moment<'_> {
     // Those of several pairs.
     fn pair_spans(&self, alloc: Global, pairs: &[(u32, u32)]) -> Result<Vec<Span>, AllocError>
         ensures { IfOk result (λ spans.
-            spans.items ≡ map (pair_span self.now.entered.now self.now.order.now) pairs.now) }
+            spans.items ≡ map (pair_span self.now.nets.now self.now.order.now) pairs.now) }
     {
         pairs
             .iter()
@@ -140,7 +138,7 @@ impl Moment<'_> {
         segments: &mut Vec<Segment>,
     ) -> Result<(), AllocError>
         ensures { OnOk result (segments.new.items ≡ segments.old.items ++ column_segments_by self.now.order.now self.now.column
-            self.now.entered.now self.now.nets.now self.now.since.now self.now.pins.now self.now.done.now) }
+            self.now.nets.now self.now.since.now self.now.pins.now self.now.done.now) }
     {
         let joins = self.pair_spans(alloc, self.done.joins.items())?;
         let moves = self.pair_spans(alloc, self.done.moves.items())?;

@@ -1,10 +1,7 @@
 //! Tables by the ids of tracks: which net holds each track, and since which column.
 
-ghost use Rattle.greedy_column.specs.Tracks.{held_by};
-ghost use Rattle.greedy_router.specs.Tables.{Tells, since_by};
-ghost use Rattle.std.specs.Prelude.{◌≡◌, ◌==◌, ℕ, length, slice_index, slice_set};
-
-use greedy_column::Track;
+ghost use Rattle.greedy_router.specs.Turns.{freed_by, moved_by, since_moved};
+ghost use Rattle.std.specs.Prelude.{◌≡◌, slice_index, slice_set};
 
 // What a table has for an id, 0 past its end.
 pub(crate) fn entry(table: &[u32], id: u32) -> u32
@@ -13,16 +10,6 @@ pub(crate) fn entry(table: &[u32], id: u32) -> u32
     match table.get(id as usize) {
         Some(value) => *value,
         None => 0,
-    }
-}
-
-// Whether a table has 0 for an id, as it has past its end.
-fn is_blank(table: &[u32], id: usize) -> bool
-    ensures { result ≡ (slice_index table.now id == 0) }
-{
-    match table.get(id) {
-        Some(value) => *value == 0,
-        None => true,
     }
 }
 
@@ -36,37 +23,37 @@ pub(crate) fn put(table: &mut [u32], id: u32, value: u32)
     }
 }
 
-// Sets all entries of a table to 0.
-fn clear(table: &mut [u32])
-    ensures blank { (id : ℕ) → slice_index table.new id ≡ 0 }
-    ensures long { length table.new ≡ length table.old }
+// Notes that tracks are free.
+pub(crate) fn free_all(table: &mut [u32], ended: &[u32])
+    ensures { table.new ≡ freed_by ended.now table.old }
 {
-    for id in 0..table.len() {
-        table[id] = 0;
+    let mut rest = ended;
+    while let Some((id, later)) = rest.split_first() {
+        put(table, *id, 0);
+        rest = later;
     }
 }
 
-// Makes a table tell which nets hold tracks, by the ids of these, and 0 for all others.
-pub(crate) fn tell_nets(table: &mut [u32], tracks: &[Track])
-    ensures tells { Tells table.new (held_by tracks.now) }
-    ensures long { length table.new ≡ length table.old }
+// Carries the nets of tracks to others.
+pub(crate) fn carry_all(table: &mut [u32], moves: &[(u32, u32)])
+    ensures { table.new ≡ moved_by moves.now table.old }
 {
-    clear(table);
-    let mut rest = tracks;
-    while let Some((track, below)) = rest.split_last() {
-        put(table, track.id, track.net);
-        rest = below;
+    let mut rest = moves;
+    while let Some((pair, later)) = rest.split_first() {
+        let net = entry(table, pair.0);
+        put(table, pair.0, 0);
+        put(table, pair.1, net);
+        rest = later;
     }
 }
 
-// Notes the column as that since when each track is held that was free before it, from the nets before.
-pub(crate) fn note_column(since: &mut [u32], nets: &[u32], column: u32)
-    ensures tells { Tells since.new (since_by column nets.now since.old) }
-    ensures long { length since.new ≡ length since.old }
+// Notes a column as that since when the tracks are held to which nets are carried.
+pub(crate) fn note_moves(since: &mut [u32], moves: &[(u32, u32)], column: u32)
+    ensures { since.new ≡ since_moved column moves.now since.old }
 {
-    for id in 0..since.len() {
-        if is_blank(nets, id) {
-            since[id] = column;
-        }
+    let mut rest = moves;
+    while let Some((pair, later)) = rest.split_first() {
+        put(since, pair.1, column);
+        rest = later;
     }
 }

@@ -1,22 +1,20 @@
 //! Draws a sweep that has ended: goes through its columns once more, and adds the segments and vias of each.
 
-ghost use Rattle.greedy_column.specs.Lawful.{AreMadeFrom};
 ghost use Rattle.greedy_column.specs.Joining.{span_in};
 ghost use Rattle.greedy_column.specs.Replay.{after, entered, free_tracks};
-ghost use Rattle.greedy_column.specs.Tracks.{held_by, ids};
-ghost use Rattle.greedy_column.specs.Verticals.{pin_verticals, verticals};
-ghost use Rattle.greedy_router.specs.Idle.{IsIdle};
-ghost use Rattle.greedy_router.specs.SweepWiring.{across, alongs, column_vias, segments_from, since_after, vias_from};
-ghost use Rattle.greedy_router.specs.Tables.{AreRounds, HasAll, Tells};
-ghost use Rattle.std.specs.List.Sorted.{IsNonDecreasing};
-ghost use Rattle.std.specs.Prelude.{◌≡◌, ◌<◌, ◌+◌, ◌^◌, ◌++◌, ℕ, IfOk, OnOk, Contains, length, map, slice_index, true};
+ghost use Rattle.greedy_column.specs.Verticals.{pin_verticals};
+ghost use Rattle.greedy_column.specs.declared.column.Track.{Track as OneTrack};
+ghost use Rattle.greedy_router.specs.SweepWiring.{column_segments, column_vias, segments_from, since_after, vias_from};
+ghost use Rattle.greedy_router.specs.Tables.{AreRounds, HasAll, column_segments_by, vias_by};
+ghost use Rattle.greedy_router.specs.Turns.{IsTold, IsTurn};
+ghost use Rattle.std.specs.Prelude.{◌≡◌, ◌<◌, ◌+◌, ◌^◌, ◌++◌, ℕ, List, IfOk, OnOk, map};
 
 use crate::by_id::ById;
 use crate::final_order::FinalOrder;
 use crate::pieces::Moment;
 use crate::run::Run;
 use channel_model::{Channel, Segment, Via};
-use greedy_column::{Column, ColumnState, Span, Track, entered, left, pin_in, pin_spans};
+use greedy_column::{Column, Span, pin_in, pin_spans};
 use std::alloc::{AllocError, Global};
 
 // The segments and the vias of some columns.
@@ -26,18 +24,13 @@ pub(crate) struct Wires {
     pub(crate) vias: Vec<Via>,
 }
 
-// A column of a sweep that is wired: its record, and the tracks before it, once its pins have entered and after it. It is drawn on the lines
-// of the final order.
+// A column of a sweep that is wired: its record, and the tracks of the final order, on whose lines it is drawn.
 #[derive(Clone, Copy)]
 struct Turn<'a> {
     channel: &'a Channel,
     order: &'a FinalOrder<'a>,
     column: u32,
     done: &'a Column,
-    before: &'a [Track],
-    entered: &'a [Track],
-    left: &'a [Track],
-    ghost few_entered: { length entered.now + 1 < 2 ^ 32 },
     ghost few_columns: { column + 1 < 2 ^ 32 },
 }
 
@@ -60,29 +53,27 @@ impl Turn<'_> {
         )
     }
 
-    // Adds the segments and the vias, where a table has since when the tracks are held, by tables that are made to tell of the nets.
+    // Adds the segments and the vias, by tables of the nets and of since when the tracks are held.
     fn draw(&self, alloc: Global, wires: &mut Wires, by_id: &mut ById) -> Result<(), AllocError>
         requires all { HasAll self.now.order.now by_id.old }
         requires rounds { AreRounds self.now.column by_id.old }
         ensures rounds { OnOk result (AreRounds (self.now.column + 1) by_id.new) }
-        ensures laters { OnOk result (Tells by_id.new.laters.items (held_by self.now.left.now)) }
-        ensures since { OnOk result (by_id.new.since.items ≡ by_id.old.since.items) }
         ensures all { OnOk result (HasAll self.now.order.now by_id.new) }
+        ensures nets { OnOk result (by_id.new.nets.items ≡ by_id.old.nets.items) }
+        ensures laters { OnOk result (by_id.new.laters.items ≡ by_id.old.laters.items) }
+        ensures since { OnOk result (by_id.new.since.items ≡ by_id.old.since.items) }
         ensures segments { OnOk result (wires.new.segments.items ≡ wires.old.segments.items
-            ++ (map (across self.now.order.now self.now.column)
-            (verticals self.now.channel.now self.now.column self.now.done.now self.now.entered.now)
-            ++ alongs self.now.order.now self.now.column self.now.entered.now (λ id. slice_index by_id.old.since.items id) self.now.done.now)) }
+            ++ column_segments_by self.now.order.now self.now.column by_id.old.nets.items by_id.old.since.items
+            (map (span_in self.now.order.now) (pin_verticals self.now.channel.now self.now.column self.now.done.now)) self.now.done.now) }
         ensures vias { OnOk result (wires.new.vias.items ≡ wires.old.vias.items
-            ++ column_vias self.now.order.now self.now.column self.now.entered.now self.now.left.now
-            (pin_verticals self.now.channel.now self.now.column self.now.done.now) self.now.done.now) }
+            ++ vias_by self.now.order.now self.now.column by_id.old.nets.items by_id.old.laters.items
+            (map (span_in self.now.order.now) (pin_verticals self.now.channel.now self.now.column self.now.done.now)) self.now.done.now) }
     {
         let pins = self.pins(alloc)?;
-        by_id.tell(self.entered, self.left);
         by_id.mark(self.done);
         let moment = Moment {
             column: self.column,
             done: self.done,
-            entered: self.entered,
             order: self.order,
             pins: &pins,
             nets: &by_id.nets,
@@ -95,71 +86,37 @@ impl Turn<'_> {
         moment.push_vias(alloc, &mut wires.vias)
     }
 
-    // Notes since when the tracks are held, from the nets that the column before has left, and adds the segments and the vias.
+    // Adds the segments and the vias, where tables tell of the tracks before the column, and makes them tell of those after it.
     fn wire(&self, alloc: Global, wires: &mut Wires, by_id: &mut ById) -> Result<(), AllocError>
         requires all { HasAll self.now.order.now by_id.old }
         requires rounds { AreRounds self.now.column by_id.old }
-        requires told { Tells by_id.old.laters.items (held_by self.now.before.now) }
         ensures rounds { OnOk result (AreRounds (self.now.column + 1) by_id.new) }
-        ensures laters { OnOk result (Tells by_id.new.laters.items (held_by self.now.left.now)) }
-        ensures since { OnOk result (Tells by_id.new.since.items (since_after self.now.column self.now.before.now (λ id. slice_index by_id.old.since.items id))) }
         ensures all { OnOk result (HasAll self.now.order.now by_id.new) }
-        ensures segments { OnOk result (wires.new.segments.items ≡ wires.old.segments.items
-            ++ (map (across self.now.order.now self.now.column)
-            (verticals self.now.channel.now self.now.column self.now.done.now self.now.entered.now)
-            ++ alongs self.now.order.now self.now.column self.now.entered.now (λ id. slice_index by_id.new.since.items id) self.now.done.now)) }
-        ensures vias { OnOk result (wires.new.vias.items ≡ wires.old.vias.items
-            ++ column_vias self.now.order.now self.now.column self.now.entered.now self.now.left.now
+        ensures told { (before : List OneTrack) (since : ℕ → ℕ) → IsTurn self.now.order.now self.now.channel.now self.now.column before self.now.done.now
+            → IsTold self.now.order.now before since by_id.old
+            → OnOk result (IsTold self.now.order.now (after self.now.channel.now self.now.column self.now.done.now before)
+            (since_after self.now.column before since) by_id.new) }
+        ensures segments { (before : List OneTrack) (since : ℕ → ℕ) → IsTurn self.now.order.now self.now.channel.now self.now.column before self.now.done.now
+            → IsTold self.now.order.now before since by_id.old
+            → OnOk result (wires.new.segments.items ≡ wires.old.segments.items
+            ++ column_segments self.now.order.now self.now.channel.now self.now.column before
+            (entered self.now.channel.now self.now.column self.now.done.now before) since self.now.done.now) }
+        ensures vias { (before : List OneTrack) (since : ℕ → ℕ) → IsTurn self.now.order.now self.now.channel.now self.now.column before self.now.done.now
+            → IsTold self.now.order.now before since by_id.old
+            → OnOk result (wires.new.vias.items ≡ wires.old.vias.items
+            ++ column_vias self.now.order.now self.now.column (entered self.now.channel.now self.now.column self.now.done.now before)
+            (after self.now.channel.now self.now.column self.now.done.now before)
             (pin_verticals self.now.channel.now self.now.column self.now.done.now) self.now.done.now) }
     {
-        by_id.note_free(self.column);
-        self.draw(alloc, wires, by_id)
+        let channel = self.channel;
+        let top = pin_in(channel.top.items(), self.column);
+        let bottom = pin_in(channel.bottom.items(), self.column);
+        by_id.enter_pins(self.column, self.done, top, bottom);
+        by_id.leave(self.done);
+        self.draw(alloc, wires, by_id)?;
+        by_id.pass(self.column, self.done);
+        Ok(())
     }
-}
-
-// Whether nothing happens in a column, so that it has no wire and leaves the tracks as they were.
-fn is_idle(channel: &Channel, column: u32, done: &Column) -> bool
-    ensures { result ≡ true → IsIdle channel.now column done.now }
-{
-    let pins_none = pin_in(channel.top.items(), column) == 0
-        && pin_in(channel.bottom.items(), column) == 0;
-    let enters_none = done.made.items().is_empty() && done.top == 0 && done.bottom == 0;
-    let joins_none = !done.straight && done.joins.items().is_empty();
-    let leaves_none = done.ended.items().is_empty() && done.moves.items().is_empty();
-    pins_none && enters_none && joins_none && leaves_none
-}
-
-// The tracks once the pins of a column have entered, and those that the column leaves.
-#[derive(Drop)]
-struct Passed {
-    entered: Vec<Track>,
-    left: Vec<Track>,
-}
-
-// The tracks that a column makes of those before it.
-fn pass(
-    alloc: Global,
-    channel: &Channel,
-    column: u32,
-    done: &Column,
-    before: &[Track],
-) -> Result<Passed, AllocError>
-    requires made { (fresh : ℕ) × AreMadeFrom fresh (length before.now) done.now.made }
-    requires ascending { IsNonDecreasing done.now.ended }
-    ensures entered { IfOk result (λ passed. passed.entered.items ≡ entered channel.now column done.now before.now) }
-    ensures left { IfOk result (λ passed. passed.left.items ≡ after channel.now column done.now before.now) }
-{
-    let entered = entered(alloc, channel, column, done, before)?;
-    let left = left(alloc, done, &entered)?;
-    Ok(Passed { entered, left })
-}
-
-// The tracks with which a run begins.
-fn first_tracks(alloc: Global, run: &Run) -> Result<Vec<Track>, AllocError>
-    ensures { IfOk result (λ tracks. tracks.items ≡ free_tracks run.now.sweep.begun) }
-{
-    let first = ColumnState::new(alloc, run.begun)?;
-    first.order.items().to_vec(alloc)
 }
 
 // The segments and the vias of all columns of a run.
@@ -179,27 +136,16 @@ pub(crate) fn wire_columns(alloc: Global, run: &Run) -> Result<Wires, AllocError
         vias: Vec::new(alloc),
     };
     let mut by_id = ById::new(alloc, room)?;
-    let mut before = first_tracks(alloc, run)?;
     let mut column = 0u32;
     let mut rest = run.columns.as_slice();
     while let Some((done, later)) = rest.split_first() {
-        if is_idle(channel, column, done) {
-            column += 1;
-            rest = later;
-            continue;
-        }
-        let Passed { entered, left } = pass(alloc, channel, column, done, &before)?;
         let turn = Turn {
             channel,
             order: &order,
             column,
             done,
-            before: &before,
-            entered: &entered,
-            left: &left,
         };
         turn.wire(alloc, &mut wires, &mut by_id)?;
-        before = left;
         column += 1;
         rest = later;
     }
