@@ -1,7 +1,5 @@
-use Rattle.std.proofs.Common.{◌≡◌, ◌⊎◌, inl, inr, ◌<◌, ◌≤◌, ◌+◌, ◌++◌, ℕ, suc, List, All, [], ◌∷◌, true, false, length, refl, sym, subst, ap, ◌∙◌, arith, length-append}
+use Rattle.std.proofs.Common.{◌≡◌, ◌⊎◌, inl, inr, ◌<◌, ◌≤◌, ◌+◌, ◌++◌, ℕ, List, [], ◌∷◌, true, false, length, refl, sym, subst, ap, ◌∙◌, arith, length-append}
 use Rattle.std.proofs.lemmas.Bool.{cases_lt}
-use Rattle.std.proofs.lemmas.List.Elements.{All-nil, All-cons}
-use Rattle.std.specs.List.Sorted.{IsNonDecreasing}
 use Rattle.channel_model.specs.Pins.{Pins, IsChannel}
 use Rattle.choose_core.specs.declared.candidate.Candidate.{Candidate}
 use Rattle.choose_core.specs.declared.plan.Manner.{Manner}
@@ -20,7 +18,6 @@ use Rattle.greedy_router.specs.Running.{is_past, is_going}
 use Rattle.greedy_router.specs.declared.sweep.Sweep.{Sweep}
 use Rattle.greedy_router.proofs.CountLaws.{fresh_after}
 use Rattle.greedy_router.proofs.SweepLaws.{replay_from-push, AllFair-push, AllFollow-push, tracks_after-push, tracks_after-all, past-is, past-not, going-open, going-held, stopped-parts}
-use Rattle.std_laws.proofs.Increasing.{increasing-rises}
 
 -- the records of a sweep of a channel in a manner, which began with so many free tracks and was not past its limits before the last of them,
 -- and the tracks after it
@@ -38,14 +35,6 @@ pub record IsRun (manner : Manner) (begun : ℕ) (may : List Candidate → ℕ �
 -- past the limits at a moment, by its tracks
 abbrev PastBy : Pins → ℕ → ℕ → ℕ → List Track → Type 0
 PastBy pins most extra n tracks = (most < length tracks) ⊎ ((n ≡ length pins.top + extra) × IsHeld tracks)
-
--- the ends of records that follow the steps are sorted
-ascending-from : (manner : Manner) (may : List Candidate → ℕ → Type 0) (pins : Pins) (column fresh : ℕ) (before : List Track) (columns : List Column)
-    → AllFollow manner may pins column fresh before columns → All (λ (done : Column). IsNonDecreasing done.ended) columns
-ascending-from manner may pins column fresh before [] follows = All-nil (λ (done : Column). IsNonDecreasing done.ended)
-ascending-from manner may pins column fresh before (done ∷ columns) follows =
-    All-cons (λ (done : Column). IsNonDecreasing done.ended) done columns (increasing-rises done.ended follows.0.goes_on.ends_told.ascending)
-    (ascending-from manner may pins (suc column) (fresh + length done.made) (after pins column done before) columns follows.1)
 
 -- before the first column
 pub IsRun-first : (manner : Manner) (begun : ℕ) (may : List Candidate → ℕ → Type 0) (pins : Pins) (most extra : ℕ) → IsChannel pins → IsRun manner begun may pins most extra [] (begun + 1) (free_tracks begun)
@@ -147,10 +136,6 @@ module _ (manner : Manner) (begun : ℕ) (may : List Candidate → ℕ → Type 
           | inr few ↦ few
         ];
       }
-
-  -- each record's ends are sorted
-  pub run-ascending : All (λ (done : Column). IsNonDecreasing done.ended) columns
-  run-ascending = ascending-from manner may pins 0 (begun + 1) (free_tracks begun) columns run.follows
 
 -- no sweep is past its limits and has ended
 pub past-not_done : (pins : Pins) (most extra : ℕ) (sweep : Sweep) → IsPast pins most extra sweep → IsDone pins most extra sweep → ⊥

@@ -1,8 +1,6 @@
 -- the same as the program has it, beside its facts
-use Rattle.std.specs.Prelude.{◌≡◌, ◌<◌, ◌≤◌, ◌+◌, ◌*◌, ◌^◌, ℕ, Contains, All, length}
-use Rattle.std.specs.List.Sorted.{IsNonDecreasing}
+use Rattle.std.specs.Prelude.{◌≡◌, ◌<◌, ◌≤◌, ◌+◌, ◌*◌, ◌^◌, ℕ, Contains, length}
 use Rattle.limits.specs.declared.TheConstants.{MOST_COLUMNS}
-use Rattle.greedy_column.specs.declared.column.Column.{Column}
 use Rattle.greedy_column.specs.Fair.{AllFair}
 use Rattle.greedy_column.specs.Replay.{free_tracks, replay}
 use Rattle.greedy_column.specs.Tracks.{ids}
@@ -20,7 +18,6 @@ ran_in a = record {
 pub record IsRan (a : Inside) : Type 0 where
   pub low : a.begun ≤ 4 * MOST_COLUMNS
   pub fair : AllFair a.surveyed.now.channel.now 0 (a.begun + 1) (free_tracks a.begun) a.columns.items
-  pub ascending : All (λ (done : Column). IsNonDecreasing done.ended) a.columns.items
   pub order : a.state.order ≡ replay a.begun a.surveyed.now.channel.now a.columns.items
   pub below : (id : ℕ) → Contains (ids a.state.order) id → id < a.state.fresh
   pub few_tracks : length a.state.order + 1 < 2 ^ 32

@@ -1,11 +1,13 @@
 //! The tracks of a sweep after its last column, with the line of each id.
 
+ghost use Rattle.greedy_column.specs.Joining.{span_in};
 ghost use Rattle.greedy_column.specs.Tracks.{ids, line_of};
+ghost use Rattle.greedy_column.specs.Verticals.{verticals_of_pins};
 ghost use Rattle.greedy_router.specs.Tables.{Tells};
-ghost use Rattle.std.specs.Prelude.{◌≡◌, ◌<◌, ◌+◌, ◌^◌, ℕ, Contains, IfOk, length};
+ghost use Rattle.std.specs.Prelude.{◌≡◌, ◌<◌, ◌+◌, ◌^◌, ℕ, Contains, IfOk, length, map};
 
 use crate::tables::put;
-use greedy_column::Track;
+use greedy_column::{Column, Span, Track};
 use std::alloc::{AllocError, Global};
 use std::marker::Model;
 
@@ -66,6 +68,13 @@ impl<'a> FinalOrder<'a> {
         self.tracks
     }
 
+    // The line of the upper edge.
+    fn upper_edge(&self) -> u32
+        ensures { result ≡ length self.now + 1 }
+    {
+        self.tracks.len() as u32 + 1
+    }
+
     // The line of an id, one above all tracks where it has none.
     pub(crate) fn line(&self, id: u32) -> u32
         ensures { result ≡ line_of self.now id }
@@ -74,5 +83,42 @@ impl<'a> FinalOrder<'a> {
             Some(line) => *line,
             None => self.tracks.len() as u32 + 1,
         }
+    }
+
+    // The pieces of wire of a column's pins, from the nets of the top and the bottom pin and the tracks that they enter.
+    pub(crate) fn pin_spans(
+        &self,
+        alloc: Global,
+        nets: (u32, u32),
+        done: &Column,
+    ) -> Result<Vec<Span>, AllocError>
+        ensures { IfOk result (λ spans.
+            spans.items ≡ map (span_in self.now) (verticals_of_pins done.now.straight nets.0 nets.1 done.now.top done.now.bottom)) }
+    {
+        let (top, bottom) = nets;
+        let mut spans = Vec::new(alloc);
+        if done.straight {
+            spans.push(Span {
+                net: top,
+                low: 0,
+                high: self.upper_edge(),
+            })?;
+            return Ok(spans);
+        }
+        if bottom != 0 {
+            spans.push(Span {
+                net: bottom,
+                low: 0,
+                high: self.line(done.bottom),
+            })?;
+        }
+        if top != 0 {
+            spans.push(Span {
+                net: top,
+                low: self.line(done.top),
+                high: self.upper_edge(),
+            })?;
+        }
+        Ok(spans)
     }
 }

@@ -14,7 +14,7 @@ use crate::final_order::FinalOrder;
 use crate::pieces::Moment;
 use crate::run::Run;
 use channel_model::{Channel, Segment, Via};
-use greedy_column::{Column, Span, pin_in, pin_spans};
+use greedy_column::{Column, Span, pin_in};
 use std::alloc::{AllocError, Global};
 
 // The segments and the vias of some columns.
@@ -41,16 +41,9 @@ impl Turn<'_> {
             ≡ map (span_in self.now.order.now) (pin_verticals self.now.channel.now self.now.column self.now.done.now)) }
     {
         let channel = self.channel;
-        let done = self.done;
-        pin_spans(
-            alloc,
-            self.order.tracks(),
-            done.straight,
-            pin_in(channel.top.items(), self.column),
-            pin_in(channel.bottom.items(), self.column),
-            done.top,
-            done.bottom,
-        )
+        let top = pin_in(channel.top.items(), self.column);
+        let bottom = pin_in(channel.bottom.items(), self.column);
+        self.order.pin_spans(alloc, (top, bottom), self.done)
     }
 
     // Adds the segments and the vias, by tables of the nets and of since when the tracks are held.

@@ -8,7 +8,7 @@ use Rattle.greedy_router.specs.Runs.{routed_of}
 use Rattle.greedy_router.specs.Running.{is_going, is_past}
 use Rattle.greedy_router.proofs.SweepLaws.{fresh_after-push}
 use Rattle.greedy_router.proofs.EndedLaws.{run-columns, run-lessens, run-routed, run-tracks}
-use Rattle.greedy_router.proofs.GoingLaws.{IsRun-first, IsRun-push, run-ascending}
+use Rattle.greedy_router.proofs.GoingLaws.{IsRun-first, IsRun-push}
 use Rattle.greedy_router.proofs.FewLaws.{fresh-few, columns-few}
 use Rattle.greedy_router.proofs.FewerLaws.{sweep-lessens}
 use Rattle.greedy_router.proofs.running.run_columns.Goals as goal
@@ -65,7 +65,6 @@ invariant_of-result g c =
     record {
       low = low;
       fair = run.fair;
-      ascending = run-ascending _ c.begun-begun.result _ c.args.surveyed.now.channel.now c.args.limits.tracks c.args.limits.extra c.columns.columns.items _ c.columns.state.order run;
       order = run.order;
       below = run.numbered.below;
       few_tracks = omega (arith, few_tracks);
