@@ -15,7 +15,7 @@ use limits::MOST_PINS;
 pub(crate) struct Extremes {
     pub(crate) least: u64,
     pub(crate) greatest: u64,
-    pub(crate) start: usize,
+    pub(crate) start: u32,
     pub(crate) at_least: u32,
     pub(crate) at_greatest: u32,
     pub(crate) count: u32,
@@ -30,7 +30,7 @@ pub(crate) struct Ends {
 
 impl Extremes {
     /// The extremes of these numbers, the first of which lies at a place. Takes no memory, and steps as the number of numbers.
-    pub(crate) fn of(start: usize, numbers: &[u64]) -> Extremes
+    pub(crate) fn of(start: u32, numbers: &[u64]) -> Extremes
         requires { length numbers.now ≤ MOST_PINS }
         ensures start { result.start ≡ start }
         ensures is { AreExtremes numbers.now result }
@@ -48,7 +48,7 @@ impl Extremes {
     }
 
     // The extremes of one to four numbers.
-    fn of_few(start: usize, numbers: &[u64]) -> Extremes
+    fn of_few(start: u32, numbers: &[u64]) -> Extremes
         requires some { 0 < length numbers.now }
         requires few { length numbers.now ≤ 4 }
         ensures start { result.start ≡ start }
@@ -147,11 +147,12 @@ impl Extremes {
         ensures count { self.new.count ≡ self.old.count }
         ensures is { AreExtremes (part_of numbers.new self.old) self.new }
     {
-        let end = self.start + self.count as usize;
-        let at = self.start + place;
+        let start = self.start as usize;
+        let end = start + self.count as usize;
+        let at = start + place;
         let was = numbers[at];
         numbers[at] = number;
-        let part = &numbers[self.start..end];
+        let part = &numbers[start..end];
         // Of few numbers nearly each stands at an end, and which cannot be foretold: they are measured anew, by steps that branch on none of them.
         if part.len() <= FEW {
             *self = Extremes::of_few(self.start, part);

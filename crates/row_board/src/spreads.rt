@@ -49,7 +49,8 @@ impl Spreads {
         }
     }
 
-    /// These lists, and another behind them. The one error is want of memory, which gives them up.
+    /// These lists, and another behind them. The one error is want of memory, which gives them up, and is also answered where they have more than
+    /// 2^32 - 1 numbers.
     pub(crate) fn with_list(self, list: &[u64]) -> Result<Spreads, AllocError>
         requires few { length self.lists < MOST_PINS + 1 }
         requires short { length list.now ≤ MOST_PINS }
@@ -62,7 +63,11 @@ impl Spreads {
             mut lists,
             sum,
         } = self;
-        let extremes = Extremes::of(numbers.len(), list);
+        let start = numbers.len();
+        if start > u32::MAX as usize {
+            return Err(AllocError);
+        }
+        let extremes = Extremes::of(start as u32, list);
         numbers.extend_from_slice(list)?;
         lists.push(extremes)?;
         Ok(Spreads {

@@ -26,7 +26,7 @@ pub invariant_of-result : goal.invariant_of-result
 invariant_of-result c =
     let i = c.self.inside in
     spreads-more i _ c.args.list.now c.of-extremes.result c.self.invariant c.in_ok-extend_from_slice.ensures.items c.in_ok-push.ensures.items refl
-    (ap (λ (n : ℕ). i.sum + n) c.distance.ensures) (omega (arith, c.of-extremes.ensures.start, c.len.ensures)) c.of-extremes.ensures.is c.requires.short
+    (ap (λ (n : ℕ). i.sum + n) c.distance.ensures) (omega (arith, c.of-extremes.ensures.start, c.len-start.ensures)) c.of-extremes.ensures.is c.requires.short
     (subst (λ (v : NumberLists). AllByRecursion (λ (n : ℕ). n ≤ v.most) c.args.list.now) (sym c.self.view_is) c.requires.small)
     (omega (arith, c.requires.few, ap (λ (v : NumberLists). length v.lists) c.self.view_is, length-map i.lists.items (part_of i.numbers.items)))
 
@@ -35,5 +35,5 @@ returns c =
     let i = c.self.inside in
     ap₂ (λ (numbers : List ℕ) (extremes : List Extremes). record { most = i.most; lists = map (part_of numbers) extremes }) c.in_ok-extend_from_slice.ensures.items c.in_ok-push.ensures.items
     ∙ ap (λ (ls : List (List ℕ)). record { most = i.most; lists = ls })
-    (lists-more i.numbers.items c.args.list.now i.lists.items c.of-extremes.result c.self.invariant.each (omega (arith, c.of-extremes.ensures.start, c.len.ensures)) c.of-extremes.ensures.is)
+    (lists-more i.numbers.items c.args.list.now i.lists.items c.of-extremes.result c.self.invariant.each (omega (arith, c.of-extremes.ensures.start, c.len-start.ensures)) c.of-extremes.ensures.is)
     ∙ ap (λ (v : NumberLists). record { most = v.most; lists = v.lists ++ c.args.list.now ∷ [] }) c.self.view_is
