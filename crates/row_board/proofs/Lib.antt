@@ -19,6 +19,8 @@ pub mod OutsideLaws
 pub mod ReachLaws
 -- costs by tables
 pub mod CostLaws
+-- lists that lie one behind another
+pub mod FlatLaws
 -- the pins of instances by their places in nets, and where they stand once their instance is put elsewhere
 pub mod PinTableLaws
 pub mod PinPlaceLaws

@@ -12,6 +12,7 @@ pub mod SpotView
 pub mod Standings
 -- the pins of nets and the nets of instances
 pub mod NetPins
+pub mod FlatLists
 pub mod NetsView
 -- the least and the greatest of numbers, and how far they are apart
 pub mod Extreme

@@ -15,6 +15,7 @@ pub record AreTables (a : Inside) : Type 0 where
   pub by_net : ArePins a.design.now a.by_net
   pub by_instance : ArePinsByInstance a.design.now a.by_instance
   pub in_order : AreInOrder a.design.now a.by_instance
+  pub long : length a.by_instance ≡ length a.design.now.instances
   pub widths : a.widths.items ≡ map (columns_of a.design.now) (range_with_len 0 (length a.design.now.instances))
   pub most : (i : ℕ) → length (pins_of_instance a.design.now i) ≤ a.most_pins
   pub few : a.most_pins ≤ MOST_PINS

@@ -7,6 +7,7 @@ mod costing;
 mod extreme;
 mod extremes;
 mod few;
+mod flat_lists;
 mod moving;
 mod net_costs;
 mod net_pins;

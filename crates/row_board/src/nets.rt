@@ -1,18 +1,35 @@
 //! The nets of a design: the pins of each net, and of each instance its pins with their places in their nets, and its width.
 
 ghost use Rattle.list_facts.specs.Lists.{list_there};
-ghost use Rattle.std.specs.Prelude.{◌<◌, ◌≤◌, ℕ, length, slice_get};
+ghost use Rattle.row_board.specs.NetPins.{AreInOrder, ArePins, ArePinsByInstance};
+ghost use Rattle.std.specs.Prelude.{◌≡◌, ◌<◌, ◌≤◌, ℕ, length, slice_get, IfOk};
 
+use crate::flat_lists::FlatLists;
 use crate::net_pins::{InstancePin, NetPin, pin_tables};
 use crate::widths::widths_of;
 use design_model::Design;
 use limits::{MOST_KIND_COLUMNS, MOST_PINS};
-use list_facts::Lists;
 use std::alloc::{AllocError, Global};
 use std::marker::Model;
 
+// The pins of each net and those of each instance, each table in one piece of memory.
+fn flat_tables(
+    alloc: Global,
+    design: &Design,
+) -> Result<(FlatLists<NetPin>, FlatLists<InstancePin>), AllocError>
+    ensures by_net { IfOk result (λ tables. ArePins design.now tables.0) }
+    ensures by_instance { IfOk result (λ tables. ArePinsByInstance design.now tables.1) }
+    ensures in_order { IfOk result (λ tables. AreInOrder design.now tables.1) }
+    ensures long { IfOk result (λ tables. length tables.1 ≡ length design.now.instances) }
+{
+    let (by_net, by_instance) = pin_tables(alloc, design)?;
+    let nets = FlatLists::of(alloc, &by_net, design.nets.items().len() + 1)?;
+    let instances = FlatLists::of(alloc, &by_instance, design.instances.items().len())?;
+    Ok((nets, instances))
+}
+
 // The greatest number of pins that one of so many instances has.
-fn most_pins_of(pins: &Lists<InstancePin>, count: usize) -> usize
+fn most_pins_of(pins: &FlatLists<InstancePin>, count: usize) -> usize
     requires { (i : ℕ) → i < count → length (list_there (slice_get pins.now i)) ≤ MOST_PINS }
     ensures all { (i : ℕ) → i < count → length (list_there (slice_get pins.now i)) ≤ result }
     ensures few { result ≤ MOST_PINS }
@@ -28,8 +45,8 @@ fn most_pins_of(pins: &Lists<InstancePin>, count: usize) -> usize
 #[derive(Drop)]
 pub(crate) struct Nets<'d> {
     design: &'d Design,
-    by_net: Lists<NetPin>,
-    by_instance: Lists<InstancePin>,
+    by_net: FlatLists<NetPin>,
+    by_instance: FlatLists<InstancePin>,
     widths: Vec<u32>,
     most_pins: usize,
 }
@@ -58,7 +75,7 @@ impl<'d> Nets<'d> {
     {
         // The bounds of the design's type are known once a field is read.
         let _pins = &design.pins;
-        let (by_net, by_instance) = pin_tables(alloc, design)?;
+        let (by_net, by_instance) = flat_tables(alloc, design)?;
         let widths = widths_of(alloc, design)?;
         let most_pins = most_pins_of(&by_instance, design.instances.items().len());
         Ok(Nets {
@@ -91,12 +108,7 @@ impl<'d> Nets<'d> {
         ensures placed { AreInstancePins (net_pins self.now) (length self.now.nets) instance result.now }
         ensures in_order { map (own_pin instance) result.now ≡ map (pin_with_net self.now) (pins_of_instance self.now instance) }
     {
-        let design = self.design;
-        let n = instance as usize;
-        if n < design.instances.items().len() {
-            return self.by_instance.at(n);
-        }
-        &[]
+        self.by_instance.at(instance as usize)
     }
 
     /// A number of pins that no instance has more of.

@@ -20,6 +20,7 @@ invariant_of-result c =
       by_net = c.in_ok-by_net.ensures.by_net;
       by_instance = c.in_ok-by_net.ensures.by_instance;
       in_order = c.in_ok-by_net.ensures.in_order;
+      long = c.in_ok-by_net.ensures.long;
       widths = c.in_ok-widths.ensures;
       most = pins-most d c.in_ok-by_net.by_instance c.most_pins_of-most_pins.result good c.in_ok-by_net.ensures.in_order
           (λ i within. c.most_pins_of-most_pins.ensures.all i (omega (arith, within, ap length c.items.ensures, ap (λ (d : Netlist). length d.instances) c.design.view_is)));
