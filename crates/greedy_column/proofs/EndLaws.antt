@@ -34,13 +34,13 @@ ends_same may tracks ahead next own lines gives given_up group chain ending ahea
     (subst (λ l. EndsOf may tracks ahead own gives l ending) group_is ends)))
 
 -- a group of one line
-ends_single : (may : List Candidate → ℕ → Type 0) (tracks : ℕ) (next : Next) (own : List ℕ) (line : ℕ) (given_up : Bool)
+pub ends_single : (may : List Candidate → ℕ → Type 0) (tracks : ℕ) (next : Next) (own : List ℕ) (line : ℕ) (given_up : Bool)
     → EndsOf may tracks next own given_up (line ∷ []) (cond given_up (line ∷ []) [])
 ends_single may tracks next own line true = refl
 ends_single may tracks next own line false = refl
 
 -- the lines that end of some groups and then of others
-ends_append : (may : List Candidate → ℕ → Type 0) (next : ℕ → Next) (tracks : List Track) (spans : List Span) (groups others : List (List ℕ)) (xs ys : List ℕ)
+pub ends_append : (may : List Candidate → ℕ → Type 0) (next : ℕ → Next) (tracks : List Track) (spans : List Span) (groups others : List (List ℕ)) (xs ys : List ℕ)
     → EndsFollow may next tracks spans groups xs → EndsFollow may next tracks spans others ys → EndsFollow may next tracks spans (groups ++ others) (xs ++ ys)
 ends_append may next tracks spans [] others xs ys none follow = subst (λ (l : List ℕ). EndsFollow may next tracks spans others (l ++ ys)) (sym none) follow
 ends_append may next tracks spans (group ∷ groups) others xs ys (these, (rest, ends, later, is)) follow = (
@@ -53,7 +53,7 @@ ends_append may next tracks spans (group ∷ groups) others xs ys (these, (rest,
   ),
 )
 
-groups-append : (joined : List Span) (xs ys : List ℕ) → groups joined (xs ++ ys) ≡ groups joined xs ++ groups joined ys
+pub groups-append : (joined : List Span) (xs ys : List ℕ) → groups joined (xs ++ ys) ≡ groups joined xs ++ groups joined ys
 groups-append joined [] ys = refl
 groups-append joined (x ∷ xs) ys = step (not (is_joined_below joined x)) (groups-append joined xs ys) where
   step : (b : Bool) → groups joined (xs ++ ys) ≡ groups joined xs ++ groups joined ys

@@ -23,6 +23,7 @@ pub mod DeskLaws
 pub mod MarkLaws
 pub mod PairLaws
 pub mod EndLaws
+pub mod LoneLaws
 -- the moves of a column
 pub mod AloneLaws
 pub mod MoveLaws

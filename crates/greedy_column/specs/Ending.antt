@@ -1,11 +1,11 @@
 -- the groups that joined tracks make, and which lines of each group end
-use Rattle.std.specs.Prelude.{◌≡◌, ◌==◌, ◌&&◌, ◌++◌, not, if◌then◌else◌, ℕ, List, [], ◌∷◌, Bool, true, false, filter, map, length, slice_index}
+use Rattle.std.specs.Prelude.{◌≡◌, ◌==◌, ◌&&◌, ◌++◌, not, nat_le, if◌then◌else◌, ℕ, List, [], ◌∷◌, Bool, true, false, filter, map, length, slice_index}
 use Rattle.std.specs.List.{list_any}
 use Rattle.choose_core.specs.declared.candidate.Candidate.{Candidate}
 use Rattle.choose_core.specs.declared.candidate.Next.{Next}
 use Rattle.greedy_column.specs.declared.column.Track.{Track}
 use Rattle.greedy_column.specs.declared.span.Span.{Span}
-use Rattle.greedy_column.specs.Lines.{net_on, own_lines}
+use Rattle.greedy_column.specs.Lines.{is_held, net_on, own_lines}
 use Rattle.greedy_column.specs.Offers.{IsPicked, offer, keep_question}
 use Rattle.greedy_column.specs.Entering.{is_ending}
 use Rattle.greedy_column.specs.Joining.{is_joined, neighbours}
@@ -51,6 +51,11 @@ EndsButOne may tracks next own (line ∷ []) ending = ending ≡ []
 EndsButOne may tracks next own (line ∷ (above ∷ group)) ending =
     (kept : ℕ) × IsPicked may (offer (keep_question tracks next) (outside (line ∷ (above ∷ group)) own)) (line ∷ (above ∷ group)) kept
     × (ending ≡ others_of (line ∷ (above ∷ group)) kept)
+
+-- a held track of a net that gives up its one track, by the columns of the nets' last pins and the marks of nets of more than one group
+abbrev pub ends_alone : List ℕ → List ℕ → ℕ → Track → Bool
+ends_alone lasts marks column t =
+    is_held t && (nat_le (slice_index lasts t.net) column && slice_index marks t.net == 0)
 
 -- the lines of a group that end: all of them where its net is one group and has no later pin
 abbrev pub EndsOf : (List Candidate → ℕ → Type 0) → ℕ → Next → List ℕ → Bool → List ℕ → List ℕ → Type 0

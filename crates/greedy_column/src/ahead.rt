@@ -57,6 +57,13 @@ impl Ahead {
         next_in(own, net, column)
     }
 
+    // Lends the columns of the nets' last pins, by their numbers.
+    pub(crate) fn lasts(&self) -> &[u32]
+        ensures { AreLasts self.now.uses.items result.now }
+    {
+        self.lasts.as_slice()
+    }
+
     // Whether a net has no pins after a column.
     pub(crate) fn is_last(&self, net: u32, column: u32) -> bool
         ensures { result ≡ is_ending (next_after self.now.uses.items column net) }

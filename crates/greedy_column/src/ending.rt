@@ -1,15 +1,16 @@
 //! Which tracks end: all but one of each group that is joined, or all of them where their net has no more pins.
 
 ghost use Rattle.greedy_column.specs.Desk.{MarksSplit, is_marked};
-ghost use Rattle.greedy_column.specs.Ending.{AddsEnds, EndsButOne, EndsFollow, EndsOf, chain_from, groups, is_given_up, joined_pairs, others_of, outside};
+ghost use Rattle.greedy_column.specs.Ending.{AddsEnds, EndsButOne, EndsFollow, EndsOf, chain_from, ends_alone, groups, is_given_up, joined_pairs, others_of, outside};
 ghost use Rattle.greedy_column.specs.Joining.{neighbours};
-ghost use Rattle.greedy_column.specs.Lines.{held_lines, net_on, own_lines};
+ghost use Rattle.greedy_column.specs.Lines.{held_lines, lines_from, net_on, own_lines};
 ghost use Rattle.greedy_column.specs.Offers.{keep_question};
 ghost use Rattle.greedy_column.specs.Uses.{next_after};
 ghost use Rattle.greedy_column.specs.declared.span.Span.{Span};
 ghost use Rattle.std.specs.Prelude.{◌≡◌, ◌==◌, ◌<◌, ◌≤◌, ◌+◌, ◌++◌, ◌∷◌, ◌^◌, ◌&&◌, [], List, Contains, IfOk, OnOk, if◌then◌else◌, length, not};
 
 use crate::ahead::Ahead;
+use crate::column::Track;
 use crate::desk::Desk;
 use crate::entering::is_ending;
 use crate::grouping::chain;
@@ -19,6 +20,7 @@ use crate::moment::Moment;
 use crate::pairs::{Paired, Pairs};
 use crate::question::Question;
 use crate::span::Span;
+use crate::table::entry;
 use crate::tracks::Tracks;
 use choose_core::{Ask, Chooses, Next};
 use std::alloc::{AllocError, Global};
@@ -169,7 +171,32 @@ impl<C: Chooses> Moment<'_, C> {
         self.push_group(tracks, joined, marks, line, ending)
     }
 
-    // The lines that end, group by group, where the nets of more than one are marked.
+    // The lines that end, group by group, where some tracks are joined and the nets of more than one group are marked.
+    fn ends_of_groups(
+        &self,
+        paired: &Paired,
+        joined: &Pairs,
+        spans: &[Span],
+        marks: &[u32],
+    ) -> Result<Vec<u32>, AllocError>
+        requires joined { joined.now ≡ joined_pairs spans.now paired.now.pairs }
+        requires marks { MarksSplit spans.now paired.now.pairs marks.now }
+        ensures { IfOk result (λ ending.
+            EndsFollow (C.answers self.now.chooser.now) (next_after self.now.ahead.now.uses.items self.now.column) paired.now.tracks.now spans.now
+            (groups (joined_pairs spans.now (neighbours paired.now.tracks.now)) (held_lines paired.now.tracks.now)) ending.items) }
+    {
+        let mut ending = Vec::new(self.alloc);
+        let mut line = 1u32;
+        let mut rest = paired.tracks.list();
+        while let Some((track, above)) = rest.split_first() {
+            self.push_ends(paired.tracks, joined, marks, track.net, line, &mut ending)?;
+            line += 1;
+            rest = above;
+        }
+        Ok(ending)
+    }
+
+    // The lines that end, group by group, where the nets of more than one group are marked.
     fn ends_by(
         &self,
         paired: &Paired,
@@ -182,15 +209,16 @@ impl<C: Chooses> Moment<'_, C> {
             (groups (joined_pairs spans.now (neighbours paired.now.tracks.now)) (held_lines paired.now.tracks.now)) ending.items) }
     {
         let joined = paired.pairs.joined(self.alloc, spans)?;
-        let mut ending = Vec::new(self.alloc);
-        let mut line = 1u32;
-        let mut rest = paired.tracks.list();
-        while let Some((track, above)) = rest.split_first() {
-            self.push_ends(paired.tracks, &joined, marks, track.net, line, &mut ending)?;
-            line += 1;
-            rest = above;
+        if joined.list().is_empty() {
+            return lone_ends(
+                self.alloc,
+                paired.tracks,
+                self.ahead.lasts(),
+                marks,
+                self.column,
+            );
         }
-        Ok(ending)
+        self.ends_of_groups(paired, &joined, spans, marks)
     }
 
     // The lines that end, group by group.
@@ -209,6 +237,35 @@ impl<C: Chooses> Moment<'_, C> {
         desk.take_back(marks, &paired.pairs);
         Ok(ending)
     }
+}
+
+// Whether a track is held and its net gives it up, where no two tracks are joined.
+fn ends_alone(track: Track, lasts: &[u32], marks: &[u32], column: u32) -> bool
+    ensures { result ≡ ends_alone lasts.now marks.now column track }
+{
+    track.net != 0 && (entry(lasts, track.net) <= column && entry(marks, track.net) == 0)
+}
+
+// The lines that end where no two tracks are joined, in one pass that is apart from all else, so that what it reads stays at hand.
+#[inline(never)]
+fn lone_ends(
+    alloc: Global,
+    tracks: &Tracks,
+    lasts: &[u32],
+    marks: &[u32],
+    column: u32,
+) -> Result<Vec<u32>, AllocError>
+    ensures { IfOk result (λ ending. ending.items ≡ lines_from (ends_alone lasts.now marks.now column) 1 tracks.now) }
+{
+    let mut ending = Vec::new(alloc);
+    let mut line = 1u32;
+    let mut rest = tracks.list();
+    while let Some((track, above)) = rest.split_first() {
+        push_where(&mut ending, ends_alone(*track, lasts, marks, column), line)?;
+        line += 1;
+        rest = above;
+    }
+    Ok(ending)
 }
 
 // The lines of a group's net outside the group.

@@ -3,7 +3,7 @@ use Rattle.greedy_column.specs.Uses.{next_after}
 use Rattle.greedy_column.specs.Ending.{joined_pairs}
 use Rattle.greedy_column.specs.Lines.{is_held, lines_from}
 use Rattle.greedy_column.proofs.EndLaws.{EndsSoFar}
-use Rattle.greedy_column.proofs.moment.Moment.ends_by.Given as goal
+use Rattle.greedy_column.proofs.moment.Moment.ends_of_groups.Given as goal
 
 abbrev pub invariant-loop-track : goal.invariant-loop-track
 invariant-loop-track g l = record {
