@@ -166,8 +166,8 @@ impl<C: Chooses> Moment<'_, C> {
             }
             PinKind::EqualPins => self.enter_equal(before, fresh, top),
             PinKind::TwoPins => {
-                let uppers = before.open_lines(self.alloc, top.net)?;
-                let lowers = before.open_lines(self.alloc, bottom.net)?;
+                let uppers = before.lines_for(self.alloc, top.net)?;
+                let lowers = before.lines_for(self.alloc, bottom.net)?;
                 self.enter_pair(before, fresh, top, bottom, &uppers, &lowers)
             }
         }
@@ -187,13 +187,13 @@ impl<C: Chooses> Moment<'_, C> {
         ensures { IfOk result (λ entries. EntersAlone (C.answers self.now.chooser.now) edge question (own_lines pin.net before.now)
             (any_place self.now.manner pin placed before.now) before.now fresh (open_lines pin.net before.now) entries) }
     {
-        let lines = before.open_lines(self.alloc, pin.net)?;
-        if lines.list().is_empty() {
+        let lines = before.lines_for(self.alloc, pin.net)?;
+        if lines.all.list().is_empty() {
             let below = any_place(self.manner, pin, placed, before);
             let made = vec![in self.alloc; Made { id: fresh, below }]?;
             return Ok(entry_at(edge, made, fresh));
         }
-        let line = self.pick_own(question, before, pin.net, &lines)?;
+        let line = self.pick_own(question, &lines.own, &lines.all)?;
         Ok(entry_at(edge, Vec::new(self.alloc), before.id_on(line)))
     }
 

@@ -30,6 +30,20 @@ impl Model for Lines {
     ghost invariant = { λ lines. AreLines lines.list.items };
 }
 
+// The lines that are open to a net, which are those of free tracks and its own, and its own alone.
+#[derive(Drop)]
+pub(crate) struct OpenLines {
+    pub(crate) all: Lines,
+    pub(crate) own: Lines,
+}
+
+// The same as plain lists.
+#[derive(Drop)]
+pub(crate) struct OpenLists {
+    pub(crate) all: Vec<u32>,
+    pub(crate) own: Vec<u32>,
+}
+
 // Which tracks are sought: those that are free or a net's own, or its own alone.
 #[derive(Clone, Copy, Debug)]
 pub(crate) enum Sought {
@@ -50,12 +64,36 @@ impl Sought {
 }
 
 impl Tracks {
-    // The lines of the tracks that are free or a net's own; of those that are free, for net 0.
-    pub(crate) fn open_lines(&self, alloc: Global, net: u32) -> Result<Lines, AllocError>
-        ensures { IfOk result (λ lines. lines ≡ open_lines net self.now) }
+    // The lines that are open to a net, and its own.
+    pub(crate) fn lines_for(&self, alloc: Global, net: u32) -> Result<OpenLines, AllocError>
+        ensures all { IfOk result (λ lines. lines.all ≡ open_lines net self.now) }
+        ensures own { IfOk result (λ lines. lines.own ≡ own_lines net self.now) }
     {
-        let list = self.lines_where(alloc, Sought::Open(net))?;
-        Ok(Lines { list })
+        let OpenLists { all, own } = self.lists_for(alloc, net)?;
+        Ok(OpenLines {
+            all: Lines { list: all },
+            own: Lines { list: own },
+        })
+    }
+
+    // The same as plain lists, in one pass.
+    fn lists_for(&self, alloc: Global, net: u32) -> Result<OpenLists, AllocError>
+        ensures all { IfOk result (λ lists. lists.all.items ≡ open_lines net self.now) }
+        ensures own { IfOk result (λ lists. lists.own.items ≡ own_lines net self.now) }
+        ensures all_are { IfOk result (λ lists. AreLines lists.all.items) }
+        ensures own_are { IfOk result (λ lists. AreLines lists.own.items) }
+    {
+        let mut all = Vec::with_capacity(alloc, self.list().len())?;
+        let mut own = Vec::new(alloc);
+        let mut line = 1u32;
+        let mut rest = self.list();
+        while let Some((track, above)) = rest.split_first() {
+            put_where(&mut all, Sought::Open(net).takes(*track), line);
+            push_where(&mut own, Sought::Own(net).takes(*track), line)?;
+            line += 1;
+            rest = above;
+        }
+        Ok(OpenLists { all, own })
     }
 
     // The lines of the tracks that a net holds.

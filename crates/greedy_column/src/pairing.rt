@@ -1,12 +1,12 @@
 //! How two pins of different nets enter: both onto open tracks, one onto a new track, or both onto new ones.
 
 ghost use Rattle.greedy_column.specs.Entering.{EntersAbove, EntersBelow, EntersPair, EntersPartners, both_new, newcomer_by, newcomer_of};
-ghost use Rattle.greedy_column.specs.Lines.{above_lowest, below_line, holds_track};
+ghost use Rattle.greedy_column.specs.Lines.{above_lowest, below_line, holds_track, own_lines};
 ghost use Rattle.std.specs.Prelude.{◌≡◌, ◌<◌, ◌+◌, ◌^◌, ℕ, Contains, IfOk, length};
 
 use crate::column::Made;
 use crate::entering::{ChannelEdge, EnteringPin, Entries, Newcomer};
-use crate::lines::Lines;
+use crate::lines::{Lines, OpenLines};
 use crate::moment::Moment;
 use crate::places::{any_place, place_for, place_of_new};
 use crate::tracks::Tracks;
@@ -50,20 +50,28 @@ impl<C: Chooses> Moment<'_, C> {
         fresh: u32,
         top: EnteringPin,
         bottom: EnteringPin,
-        uppers: &Lines,
-        lowers: &Lines,
+        uppers: &OpenLines,
+        lowers: &OpenLines,
     ) -> Result<Entries, AllocError>
-        requires { fresh + 2 < 2 ^ 32 }
+        requires fresh { fresh + 2 < 2 ^ 32 }
+        requires top_own { uppers.now.own ≡ own_lines top.net before.now }
+        requires bottom_own { lowers.now.own ≡ own_lines bottom.net before.now }
         ensures { IfOk result (λ entries. EntersPair self.now.manner (C.answers self.now.chooser.now) top bottom before.now fresh
-            uppers.now lowers.now (above_lowest lowers.now uppers.now) entries) }
+            uppers.now.all lowers.now.all (above_lowest lowers.now.all uppers.now.all) entries) }
     {
-        let partnered = uppers.above_lowest(self.alloc, lowers)?;
+        let partnered = uppers.all.above_lowest(self.alloc, &lowers.all)?;
         if !partnered.list().is_empty() {
-            return self.enter_partners(before, top, bottom, lowers, &partnered);
+            return self.enter_partners(before, top, bottom, &uppers.own, lowers, &partnered);
         }
         let top_holds = before.holds(top.net);
         let bottom_holds = before.holds(bottom.net);
-        match newcomer_of(self.manner, top_holds, bottom_holds, uppers, lowers) {
+        match newcomer_of(
+            self.manner,
+            top_holds,
+            bottom_holds,
+            &uppers.all,
+            &lowers.all,
+        ) {
             Newcomer::TopPin => self.enter_above(before, fresh, top, bottom, lowers),
             Newcomer::BottomPin => self.enter_below(before, fresh, top, bottom, uppers),
             Newcomer::BothPins => enter_both_new(
@@ -83,18 +91,21 @@ impl<C: Chooses> Moment<'_, C> {
         before: &Tracks,
         top: EnteringPin,
         bottom: EnteringPin,
-        lowers: &Lines,
+        top_own: &Lines,
+        lowers: &OpenLines,
         partnered: &Lines,
     ) -> Result<Entries, AllocError>
         requires some { 0 < length partnered.now }
-        requires partners { (line : ℕ) → Contains partnered.now line → 0 < length (below_line line lowers.now) }
-        ensures { IfOk result (λ entries. EntersPartners (C.answers self.now.chooser.now) top bottom before.now lowers.now partnered.now entries) }
+        requires partners { (line : ℕ) → Contains partnered.now line → 0 < length (below_line line lowers.now.all) }
+        requires top_own { top_own.now ≡ own_lines top.net before.now }
+        requires bottom_own { lowers.now.own ≡ own_lines bottom.net before.now }
+        ensures { IfOk result (λ entries. EntersPartners (C.answers self.now.chooser.now) top bottom before.now lowers.now.all partnered.now entries) }
     {
         let question = top.top_question(before);
-        let line = self.pick_own(question, before, top.net, partnered)?;
-        let partners = lowers.below(self.alloc, line)?;
+        let line = self.pick_own(question, top_own, partnered)?;
+        let partners = lowers.all.below(self.alloc, line)?;
         let question = bottom.bottom_question();
-        let below = self.pick_own(question, before, bottom.net, &partners)?;
+        let below = self.pick_own(question, &lowers.own, &partners)?;
         Ok(Entries {
             made: Items::new(Vec::new(self.alloc)),
             top: before.id_on(line),
@@ -109,13 +120,14 @@ impl<C: Chooses> Moment<'_, C> {
         fresh: u32,
         top: EnteringPin,
         bottom: EnteringPin,
-        lowers: &Lines,
+        lowers: &OpenLines,
     ) -> Result<Entries, AllocError>
-        requires { 0 < length lowers.now }
-        ensures { IfOk result (λ entries. EntersAbove self.now.manner (C.answers self.now.chooser.now) top bottom before.now fresh lowers.now entries) }
+        requires some { 0 < length lowers.now.all }
+        requires own { lowers.now.own ≡ own_lines bottom.net before.now }
+        ensures { IfOk result (λ entries. EntersAbove self.now.manner (C.answers self.now.chooser.now) top bottom before.now fresh lowers.now.all entries) }
     {
         let question = bottom.bottom_question();
-        let line = self.pick_own(question, before, bottom.net, lowers)?;
+        let line = self.pick_own(question, &lowers.own, &lowers.all)?;
         let most = before.count();
         let below = place_for(self.manner, top, ChannelEdge::Upper, before, line, most);
         let made = vec![in self.alloc; Made { id: fresh, below }]?;
@@ -133,13 +145,14 @@ impl<C: Chooses> Moment<'_, C> {
         fresh: u32,
         top: EnteringPin,
         bottom: EnteringPin,
-        uppers: &Lines,
+        uppers: &OpenLines,
     ) -> Result<Entries, AllocError>
-        requires { 0 < length uppers.now }
-        ensures { IfOk result (λ entries. EntersBelow self.now.manner (C.answers self.now.chooser.now) top bottom before.now fresh uppers.now entries) }
+        requires some { 0 < length uppers.now.all }
+        requires own { uppers.now.own ≡ own_lines top.net before.now }
+        ensures { IfOk result (λ entries. EntersBelow self.now.manner (C.answers self.now.chooser.now) top bottom before.now fresh uppers.now.all entries) }
     {
         let question = top.top_question(before);
-        let line = self.pick_own(question, before, top.net, uppers)?;
+        let line = self.pick_own(question, &uppers.own, &uppers.all)?;
         let below = place_for(self.manner, bottom, ChannelEdge::Lower, before, 0, line - 1);
         let made = vec![in self.alloc; Made { id: fresh, below }]?;
         Ok(Entries {

@@ -1,12 +1,10 @@
 //! What is asked about tracks, how a track is offered as a candidate, and which line is picked.
 
-ghost use Rattle.greedy_column.specs.Lines.{own_lines};
 ghost use Rattle.greedy_column.specs.Offers.{IsPicked, distance, gap_to, least_distance, offer, pull_to};
 ghost use Rattle.std.specs.Prelude.{◌≡◌, ◌<◌, ◌≤◌, ◌+◌, ◌∷◌, ◌^◌, Contains, IfOk, length, map, slice_get};
 
 use crate::lines::Lines;
 use crate::moment::Moment;
-use crate::tracks::Tracks;
 use choose_core::{Ask, Candidate, Chooses, Next};
 use std::alloc::{AllocError, Global};
 
@@ -100,20 +98,18 @@ impl<C: Chooses> Moment<'_, C> {
         Ok(line_at(line, options, self.chooser.choose(&offers)))
     }
 
-    // One of these lines of a net, beside the tracks that it holds, picked by the chooser.
+    // One of these lines of a net that holds tracks on its own ones, picked by the chooser.
     pub(crate) fn pick_own(
         &self,
         question: Question,
-        tracks: &Tracks,
-        net: u32,
+        own: &Lines,
         lines: &Lines,
     ) -> Result<u32, AllocError>
         requires { 0 < length lines.now }
-        ensures picked { IfOk result (λ line. IsPicked (C.answers self.now.chooser.now) (offer question (own_lines net tracks.now)) lines.now line) }
+        ensures picked { IfOk result (λ line. IsPicked (C.answers self.now.chooser.now) (offer question own.now) lines.now line) }
         ensures above { IfOk result (λ line. 0 < line) }
     {
-        let own = tracks.own_lines(self.alloc, net)?;
-        self.pick_line(question, &own, lines.list())
+        self.pick_line(question, own, lines.list())
     }
 }
 

@@ -3,7 +3,7 @@ use Rattle.std.proofs.lemmas.Result.{IfOk-weaker}
 use Rattle.greedy_column.proofs.moment.Moment.pick_own.Goals as goal
 
 pub returns-clause-picked : goal.returns-clause-picked
-returns-clause-picked g c = rw (← c.in_ok-own.ensures, ← c.list.ensures.list) c.pick_line.ensures.picked
+returns-clause-picked g c = rw (← c.list.ensures.list) c.pick_line.ensures.picked
 
 pub returns-clause-above : goal.returns-clause-above
 returns-clause-above g c =
