@@ -4,6 +4,7 @@ use crate::marks::{mark_split, unmark};
 use crate::pairs::{Pairs, clear, neighbours_by};
 use crate::span::Span;
 use crate::tracks::Tracks;
+use choose_core::Candidate;
 use std::alloc::{AllocError, Global};
 use std::marker::Model;
 use std::mem;
@@ -12,6 +13,7 @@ use std::mem;
 #[derive(Debug, Drop)]
 pub struct Desk {
     above: Vec<u32>,
+    offers: Vec<Candidate>,
 }
 
 impl Model for Desk {
@@ -33,7 +35,18 @@ impl Desk {
     pub fn new(alloc: Global) -> Desk {
         Desk {
             above: Vec::new(alloc),
+            offers: Vec::new(alloc),
         }
+    }
+
+    // Hands out a list with room for offers, which is to be given back.
+    pub(crate) fn take_offers(&mut self, alloc: Global) -> Vec<Candidate> {
+        mem::replace(&mut self.offers, Vec::new(alloc))
+    }
+
+    // Takes such a list back.
+    pub(crate) fn give_offers(&mut self, offers: Vec<Candidate>) {
+        self.offers = offers;
     }
 
     // All two neighbouring tracks of a net, by ascending lower track.

@@ -84,7 +84,8 @@ impl<C: Chooses> Moment<'_, C> {
     {
         let others = other_groups(self.alloc, tracks, net, group)?;
         let question = keep_question(tracks, next);
-        let kept = self.pick_line(question, &others, group)?;
+        let mut offers = Vec::new(self.alloc);
+        let kept = self.pick_line(question, &others, group, &mut offers)?;
         others_of(self.alloc, group, kept)
     }
 

@@ -9,7 +9,7 @@ use crate::moment::Moment;
 use crate::places::any_place;
 use crate::question::Question;
 use crate::tracks::Tracks;
-use choose_core::{Ask, Chooses, Manner, Next};
+use choose_core::{Ask, Candidate, Chooses, Manner, Next};
 use geom_core::Items;
 use std::alloc::{AllocError, Global};
 
@@ -137,13 +137,14 @@ pub(crate) fn is_ending(next: Next) -> bool
 }
 
 impl<C: Chooses> Moment<'_, C> {
-    // The entries of a column's pins.
+    // The entries of a column's pins. Tracks are offered in a list that is lent for that, as in all that it calls.
     pub(crate) fn enter(
         &self,
         before: &Tracks,
         fresh: u32,
         top: EnteringPin,
         bottom: EnteringPin,
+        offers: &mut Vec<Candidate>,
     ) -> Result<Entries, AllocError>
         requires { fresh + 2 < 2 ^ 32 }
         ensures { IfOk result (λ entries. Enters self.now.manner (C.answers self.now.chooser.now) top bottom before.now fresh entries) }
@@ -157,18 +158,18 @@ impl<C: Chooses> Moment<'_, C> {
             PinKind::BottomAlone => {
                 let question = bottom.bottom_question();
                 let lower = ChannelEdge::Lower;
-                self.enter_alone(lower, lower, bottom, question, before, fresh)
+                self.enter_alone(lower, lower, bottom, question, before, fresh, offers)
             }
             PinKind::TopAlone => {
                 let question = top.top_question(before);
                 let upper = ChannelEdge::Upper;
-                self.enter_alone(upper, upper, top, question, before, fresh)
+                self.enter_alone(upper, upper, top, question, before, fresh, offers)
             }
-            PinKind::EqualPins => self.enter_equal(before, fresh, top),
+            PinKind::EqualPins => self.enter_equal(before, fresh, top, offers),
             PinKind::TwoPins => {
                 let uppers = before.lines_for(self.alloc, top.net)?;
                 let lowers = before.lines_for(self.alloc, bottom.net)?;
-                self.enter_pair(before, fresh, top, bottom, &uppers, &lowers)
+                self.enter_pair(before, fresh, top, bottom, &uppers, &lowers, offers)
             }
         }
     }
@@ -183,6 +184,7 @@ impl<C: Chooses> Moment<'_, C> {
         question: Question,
         before: &Tracks,
         fresh: u32,
+        offers: &mut Vec<Candidate>,
     ) -> Result<Entries, AllocError>
         ensures { IfOk result (λ entries. EntersAlone (C.answers self.now.chooser.now) edge question (own_lines pin.net before.now)
             (any_place self.now.manner pin placed before.now) before.now fresh (open_lines pin.net before.now) entries) }
@@ -193,7 +195,7 @@ impl<C: Chooses> Moment<'_, C> {
             let made = vec![in self.alloc; Made { id: fresh, below }]?;
             return Ok(entry_at(edge, made, fresh));
         }
-        let line = self.pick_own(question, &lines.own, &lines.all)?;
+        let line = self.pick_own(question, &lines.own, &lines.all, offers)?;
         Ok(entry_at(edge, Vec::new(self.alloc), before.id_on(line)))
     }
 
@@ -203,6 +205,7 @@ impl<C: Chooses> Moment<'_, C> {
         before: &Tracks,
         fresh: u32,
         pin: EnteringPin,
+        offers: &mut Vec<Candidate>,
     ) -> Result<Entries, AllocError>
         ensures { IfOk result (λ entries.
             EntersEqual self.now.manner (C.answers self.now.chooser.now) pin before.now fresh (holds_track before.now pin.net || is_ending pin.next) entries) }
@@ -222,6 +225,7 @@ impl<C: Chooses> Moment<'_, C> {
             question,
             before,
             fresh,
+            offers,
         )
     }
 }

@@ -10,7 +10,7 @@ use crate::lines::{Lines, OpenLines};
 use crate::moment::Moment;
 use crate::places::{any_place, place_for, place_of_new};
 use crate::tracks::Tracks;
-use choose_core::{Chooses, Manner};
+use choose_core::{Candidate, Chooses, Manner};
 use geom_core::Items;
 use std::alloc::{AllocError, Global};
 
@@ -52,6 +52,7 @@ impl<C: Chooses> Moment<'_, C> {
         bottom: EnteringPin,
         uppers: &OpenLines,
         lowers: &OpenLines,
+        offers: &mut Vec<Candidate>,
     ) -> Result<Entries, AllocError>
         requires fresh { fresh + 2 < 2 ^ 32 }
         requires top_own { uppers.now.own ≡ own_lines top.net before.now }
@@ -61,7 +62,15 @@ impl<C: Chooses> Moment<'_, C> {
     {
         let partnered = uppers.all.above_lowest(self.alloc, &lowers.all)?;
         if !partnered.list().is_empty() {
-            return self.enter_partners(before, top, bottom, &uppers.own, lowers, &partnered);
+            return self.enter_partners(
+                before,
+                top,
+                bottom,
+                &uppers.own,
+                lowers,
+                &partnered,
+                offers,
+            );
         }
         let top_holds = before.holds(top.net);
         let bottom_holds = before.holds(bottom.net);
@@ -72,8 +81,8 @@ impl<C: Chooses> Moment<'_, C> {
             &uppers.all,
             &lowers.all,
         ) {
-            Newcomer::TopPin => self.enter_above(before, fresh, top, bottom, lowers),
-            Newcomer::BottomPin => self.enter_below(before, fresh, top, bottom, uppers),
+            Newcomer::TopPin => self.enter_above(before, fresh, top, bottom, lowers, offers),
+            Newcomer::BottomPin => self.enter_below(before, fresh, top, bottom, uppers, offers),
             Newcomer::BothPins => enter_both_new(
                 self.alloc,
                 self.manner,
@@ -94,6 +103,7 @@ impl<C: Chooses> Moment<'_, C> {
         top_own: &Lines,
         lowers: &OpenLines,
         partnered: &Lines,
+        offers: &mut Vec<Candidate>,
     ) -> Result<Entries, AllocError>
         requires some { 0 < length partnered.now }
         requires partners { (line : ℕ) → Contains partnered.now line → 0 < length (below_line line lowers.now.all) }
@@ -102,10 +112,10 @@ impl<C: Chooses> Moment<'_, C> {
         ensures { IfOk result (λ entries. EntersPartners (C.answers self.now.chooser.now) top bottom before.now lowers.now.all partnered.now entries) }
     {
         let question = top.top_question(before);
-        let line = self.pick_own(question, top_own, partnered)?;
+        let line = self.pick_own(question, top_own, partnered, offers)?;
         let partners = lowers.all.below(self.alloc, line)?;
         let question = bottom.bottom_question();
-        let below = self.pick_own(question, &lowers.own, &partners)?;
+        let below = self.pick_own(question, &lowers.own, &partners, offers)?;
         Ok(Entries {
             made: Items::new(Vec::new(self.alloc)),
             top: before.id_on(line),
@@ -121,13 +131,14 @@ impl<C: Chooses> Moment<'_, C> {
         top: EnteringPin,
         bottom: EnteringPin,
         lowers: &OpenLines,
+        offers: &mut Vec<Candidate>,
     ) -> Result<Entries, AllocError>
         requires some { 0 < length lowers.now.all }
         requires own { lowers.now.own ≡ own_lines bottom.net before.now }
         ensures { IfOk result (λ entries. EntersAbove self.now.manner (C.answers self.now.chooser.now) top bottom before.now fresh lowers.now.all entries) }
     {
         let question = bottom.bottom_question();
-        let line = self.pick_own(question, &lowers.own, &lowers.all)?;
+        let line = self.pick_own(question, &lowers.own, &lowers.all, offers)?;
         let most = before.count();
         let below = place_for(self.manner, top, ChannelEdge::Upper, before, line, most);
         let made = vec![in self.alloc; Made { id: fresh, below }]?;
@@ -146,13 +157,14 @@ impl<C: Chooses> Moment<'_, C> {
         top: EnteringPin,
         bottom: EnteringPin,
         uppers: &OpenLines,
+        offers: &mut Vec<Candidate>,
     ) -> Result<Entries, AllocError>
         requires some { 0 < length uppers.now.all }
         requires own { uppers.now.own ≡ own_lines top.net before.now }
         ensures { IfOk result (λ entries. EntersBelow self.now.manner (C.answers self.now.chooser.now) top bottom before.now fresh uppers.now.all entries) }
     {
         let question = top.top_question(before);
-        let line = self.pick_own(question, &uppers.own, &uppers.all)?;
+        let line = self.pick_own(question, &uppers.own, &uppers.all, offers)?;
         let below = place_for(self.manner, bottom, ChannelEdge::Lower, before, 0, line - 1);
         let made = vec![in self.alloc; Made { id: fresh, below }]?;
         Ok(Entries {

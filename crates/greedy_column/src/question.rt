@@ -1,7 +1,7 @@
 //! What is asked about tracks, how a track is offered as a candidate, and which line is picked.
 
 ghost use Rattle.greedy_column.specs.Offers.{IsPicked, distance, gap_to, least_distance, offer, pull_to};
-ghost use Rattle.std.specs.Prelude.{◌≡◌, ◌<◌, ◌≤◌, ◌+◌, ◌∷◌, ◌^◌, Contains, IfOk, length, map, slice_get};
+ghost use Rattle.std.specs.Prelude.{◌≡◌, ◌<◌, ◌≤◌, ◌+◌, ◌∷◌, ◌^◌, Contains, IfOk, OnOk, length, map, slice_get};
 
 use crate::lines::Lines;
 use crate::moment::Moment;
@@ -67,20 +67,21 @@ fn least_distance(line: u32, first: u32, others: &[u32]) -> u32
 }
 
 impl<C: Chooses> Moment<'_, C> {
-    // One of these lines of a net that holds other tracks too, picked by the chooser.
+    // One of these lines of a net that holds other tracks too, picked by the chooser. They are offered in a list that is lent for that.
     pub(crate) fn pick_line(
         &self,
         question: Question,
         others: &Lines,
         lines: &[u32],
+        offers: &mut Vec<Candidate>,
     ) -> Result<u32, AllocError>
         requires some { 0 < length lines.now }
         requires few { length lines.now < 2 ^ 32 }
         ensures picked { IfOk result (λ line. IsPicked (C.answers self.now.chooser.now) (offer question others.now) lines.now line) }
         ensures member { IfOk result (λ line. Contains lines.now line) }
     {
-        let offers = offers(self.alloc, question, others, lines)?;
-        Ok(lines[self.chooser.choose(&offers)])
+        fill_offers(offers, question, others, lines)?;
+        Ok(lines[self.chooser.choose(offers)])
     }
 
     // A line of a net that holds other tracks too, or one of these options, picked by the chooser.
@@ -104,28 +105,33 @@ impl<C: Chooses> Moment<'_, C> {
         question: Question,
         own: &Lines,
         lines: &Lines,
+        offers: &mut Vec<Candidate>,
     ) -> Result<u32, AllocError>
         requires { 0 < length lines.now }
         ensures picked { IfOk result (λ line. IsPicked (C.answers self.now.chooser.now) (offer question own.now) lines.now line) }
         ensures above { IfOk result (λ line. 0 < line) }
     {
-        self.pick_line(question, own, lines.list())
+        self.pick_line(question, own, lines.list(), offers)
     }
 }
 
-// Some tracks as they are offered.
-fn offers(
-    alloc: Global,
+// Makes a list hold some tracks as they are offered, in room that it keeps.
+fn fill_offers(
+    offers: &mut Vec<Candidate>,
     question: Question,
     others: &Lines,
     lines: &[u32],
-) -> Result<Vec<Candidate>, AllocError>
-    ensures { IfOk result (λ offers. offers.items ≡ map (offer question others.now) lines.now) }
+) -> Result<(), AllocError>
+    ensures { OnOk result (offers.new.items ≡ map (offer question others.now) lines.now) }
 {
-    lines
-        .iter()
-        .map(|line| question.offer(others, *line))
-        .collect(alloc)
+    offers.clear();
+    offers.reserve(lines.len())?;
+    let mut rest = lines;
+    while let Some((line, later)) = rest.split_first() {
+        offers.push_reserved(question.offer(others, *line));
+        rest = later;
+    }
+    Ok(())
 }
 
 // A line and then some options, as they are offered.

@@ -120,7 +120,9 @@ impl<C: Chooses> Moment<'_, C> {
         let straight = has_equal_pins(top, bottom);
         let top_pin = pin_of(self.ahead, self.column, top);
         let bottom_pin = pin_of(self.ahead, self.column, bottom);
-        let entries = self.enter(&before, fresh, top_pin, bottom_pin)?;
+        let mut offers = desk.take_offers(self.alloc);
+        let entries = self.enter(&before, fresh, top_pin, bottom_pin, &mut offers)?;
+        desk.give_offers(offers);
         let outcome = self.outcome_of(desk, before, &entries, straight, top, bottom)?;
         Ok(taken_from(entries, straight, outcome))
     }
