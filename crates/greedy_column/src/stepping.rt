@@ -8,7 +8,7 @@ ghost use Rattle.greedy_column.specs.Held.{IsHeld, held_count};
 ghost use Rattle.greedy_column.specs.Joining.{span_in};
 ghost use Rattle.greedy_column.specs.Lawful.{AreMadeFrom};
 ghost use Rattle.greedy_column.specs.Replay.{after, freed, moved, with_made, with_nets};
-ghost use Rattle.greedy_column.specs.State.{IsState};
+ghost use Rattle.greedy_column.specs.State.{AreNumbered, IsState};
 ghost use Rattle.greedy_column.specs.Tracks.{ids};
 ghost use Rattle.greedy_column.specs.Uses.{next_after};
 ghost use Rattle.greedy_column.specs.Verticals.{verticals_of_pins};
@@ -105,6 +105,7 @@ impl<C: Chooses> Moment<'_, C> {
     ) -> Result<Taken, AllocError>
         requires few { length before + 4 < 2 ^ 32 }
         requires fresh { fresh + 2 < 2 ^ 32 }
+        requires numbered { AreNumbered fresh before }
         ensures made { IfOk result (λ taken. length taken.done.made ≤ 2) }
         ensures straight { IfOk result (λ taken. taken.done.straight ≡ (top == bottom && not (top == 0))) }
         ensures enters { IfOk result (λ taken. Enters self.now.manner (C.answers self.now.chooser.now) (pin_with (next_after self.now.ahead.now.uses.items self.now.column) top)
@@ -136,7 +137,7 @@ impl<C: Chooses> Moment<'_, C> {
         bottom: u32,
     ) -> Result<Outcome, AllocError>
         requires few { length before + 4 < 2 ^ 32 }
-        requires placed { (fresh : ℕ) × AreMadeFrom fresh (length before) entries.now.made }
+        requires placed { (fresh : ℕ) × (AreNumbered fresh before × AreMadeFrom fresh (length before) entries.now.made) }
         requires made { length entries.now.made ≤ 2 }
         ensures follows { IfOk result (λ outcome.
             let now = with_nets top entries.now.top bottom entries.now.bottom (with_made before entries.now.made) in
