@@ -1,19 +1,19 @@
-use Rattle.std.proofs.Common.{◌≡◌, ◌≢◌, ◌<◌, ◌≤◌, ◌+◌, ◌-◌, ◌++◌, ◌^◌, drop, eqb, take, ℕ, zero, suc, List, [], ◌∷◌, length, get_or, refl, sym, subst, ap, ◌∙◌, arith, Contains, eq-eqb}
+use Rattle.std.proofs.Common.{◌≡◌, ◌≢◌, ◌⊎◌, inl, inr, ◌<◌, ◌≤◌, ◌+◌, ◌-◌, ◌++◌, ◌^◌, drop, eqb, take, ℕ, zero, suc, List, [], ◌∷◌, length, get_or, refl, sym, subst, ap, ◌∙◌, arith, Contains, eq-eqb}
 use Rattle.std.proofs.Math.ListN.{set, get_or-eq_default, get_or-map}
-use Rattle.std.proofs.lemmas.Bool.{cond-true, cond-false, ne_eqb}
+use Rattle.std.proofs.lemmas.Bool.{cases_eq, cond-true, cond-false, ne_eqb}
 use Rattle.std.proofs.lemmas.List.{length-map, take-append-le, take_all}
 use Rattle.std.proofs.lemmas.List.Elements.{Contains-get_or}
 use Rattle.greedy_column.specs.declared.column.Track.{Track}
-use Rattle.greedy_column.specs.Tracks.{ids, held_by, given, hold}
+use Rattle.greedy_column.specs.Tracks.{ids, held_by, given, hold, line_of}
 use Rattle.greedy_column.specs.declared.column.Made.{Made}
-use Rattle.greedy_column.specs.Replay.{with_made, with_nets}
+use Rattle.greedy_column.specs.Replay.{with_made}
 use Rattle.greedy_column.specs.Lawful.{AreMadeFrom}
 use Rattle.greedy_column.specs.Moving.{carried}
 use Rattle.greedy_column.specs.Lines.{AreTracks, id_on}
 use Rattle.greedy_column.specs.State.{AreNumbered}
-use Rattle.greedy_column.proofs.IdLaws.{Apart, Apart-from, Apart-to, AreNumbered-ids, AreNumbered-with_made, ids-hold}
-use Rattle.greedy_column.proofs.TableLaws.{held_by-at, length-ids}
-use Rattle.std_laws.proofs.Members.{member-head, member-tail}
+use Rattle.greedy_column.proofs.IdLaws.{Apart, Apart-from, Apart-to, AreNumbered-with_made, ids-hold}
+use Rattle.greedy_column.proofs.TableLaws.{held_by-at, length-ids, place_in}
+use Rattle.std_laws.proofs.Members.{member-cases, member-head, member-none, member-same, member-tail}
 
 -- an id that no track has gives no track to a net
 pub hold-none : (tracks : List Track) (id net : ℕ) → (Contains (ids tracks) id → ⊥) → hold id net tracks ≡ tracks
@@ -99,6 +99,42 @@ module _ (tracks : List Track) (are : AreTracks tracks) where
   pub held-placed : (k : ℕ) → k < length tracks → (get_or tracks k (record { id = 0; net = 0 })).net ≡ held_by tracks (get_or (ids tracks) k 0)
   held-placed k within = sym (held_by-at tracks k apart within ∙ get_or-map (λ (t : Track). t.net) tracks k (record { id = 0; net = 0 }))
 
+-- the line of an id that no track has
+pub line_of-none : (order : List ℕ) (id : ℕ) → (Contains order id → ⊥) → line_of order id ≡ length order + 1
+line_of-none [] id none = refl
+line_of-none (i ∷ order) id none =
+    let other : i ≢ id = λ same. none (subst (λ j. Contains (i ∷ order) j) same (member-head i order)) in
+    cond-false (eqb i id) 1 (suc (line_of order id)) (ne_eqb i id other)
+    ∙ ap (λ n. suc n) (line_of-none order id (λ member. none (member-tail i order id member))) ∙ omega arith
+
+member-or_none : (order : List ℕ) (id : ℕ) → Contains order id ⊎ (Contains order id → ⊥)
+member-or_none [] id = inr (member-none id)
+member-or_none (i ∷ order) id = elim (cases_eq i id) [
+  | inl same ↦ inl (member-same i id order same)
+  | inr other ↦ elim (member-or_none order id) [
+    | inl later ↦ inl (member-tail i order id later)
+    | inr none ↦ inr (λ member. elim (member-cases i order id member) [ inl same ↦ other same | inr later ↦ none later ])
+  ]
+]
+
+-- an id gives its track by its line
+pub hold-found : (tracks : List Track) (id net : ℕ) → AreTracks tracks → hold (id_on tracks (line_of (ids tracks) id)) net tracks ≡ hold id net tracks
+hold-found tracks id net are =
+    let at : (n : ℕ) → line_of (ids tracks) id ≡ n + 1 → id_on tracks (line_of (ids tracks) id) ≡ get_or (ids tracks) n 0 =
+    λ n is. ap (λ k. get_or (ids tracks) k 0) (omega (arith, is)) in
+    elim (member-or_none (ids tracks) id) [
+      | inl member ↦
+          let place = place_in (ids tracks) id (apart tracks are) member in
+          ap (λ i. hold i net tracks) (at place.0 (place.3 ∙ omega arith) ∙ place.2)
+      | inr none ↦
+          ap (λ i. hold i net tracks) (at (length tracks) (line_of-none (ids tracks) id none ∙ omega (arith, length-ids tracks)))
+          ∙ sym (hold-past tracks are (length tracks) net (omega arith)) ∙ sym (hold-none tracks id net none)
+    ]
+
+-- no track has the id 0, whose line is the upper edge
+pub line_of-0 : (tracks : List Track) → AreTracks tracks → length tracks + 1 ≡ line_of (ids tracks) 0
+line_of-0 tracks are = omega (arith, length-ids tracks, line_of-none (ids tracks) 0 (none_has_0 tracks are))
+
 -- a net is carried from line to line by two tracks that are given
 pub carried-from_gives : (tracks freed after : List Track) (net from to : ℕ) → freed ≡ hold (id_on tracks from) 0 tracks → net ≡ held_by tracks (id_on tracks from)
     → after ≡ hold (id_on freed to) net freed → after ≡ carried tracks tracks from to
@@ -107,11 +143,9 @@ carried-from_gives tracks freed after net from to first told second =
     second ∙ (λ i. hold (id_on (first i) to) (told i) (first i))
     ∙ ap (λ (l : List ℕ). hold (get_or l (to - 1) 0) (held_by tracks id) (hold id 0 tracks)) (ids-hold id 0 tracks)
 
--- the tracks that pins have entered
-pub AreTracks-entered : (fresh : ℕ) (before : List Track) (made : List Made) (top top_id bottom bottom_id : ℕ) (now : List Track) → AreNumbered fresh before
-    → AreMadeFrom fresh (length before) made → length now + 2 < 2 ^ 32 → now ≡ with_nets top top_id bottom bottom_id (with_made before made) → AreTracks now
-AreTracks-entered fresh before made top top_id bottom bottom_id now numbered placed few is =
-    let same : ids now ≡ ids (with_made before made) =
-    ap ids is ∙ ids-hold top_id top (hold bottom_id bottom (with_made before made)) ∙ ids-hold bottom_id bottom (with_made before made) in
-    AreTracks-numbered (fresh + length made) now
-    (AreNumbered-ids (fresh + length made) (with_made before made) now same (AreNumbered-with_made fresh (length before) before made numbered placed)) few
+-- with the tracks that a column adds
+pub AreTracks-with_made : (fresh : ℕ) (before : List Track) (made : List Made) (all : List Track) → AreNumbered fresh before → AreMadeFrom fresh (length before) made
+    → all ≡ with_made before made → length all + 2 < 2 ^ 32 → AreTracks all
+AreTracks-with_made fresh before made all numbered placed is few =
+    AreTracks-numbered (fresh + length made) all
+    (subst (AreNumbered (fresh + length made)) (sym is) (AreNumbered-with_made fresh (length before) before made numbered placed)) few

@@ -3,13 +3,14 @@
 ghost use Rattle.greedy_column.specs.Lines.{AreTracks, holds_track, id_on, net_on, own_lines};
 ghost use Rattle.greedy_column.specs.Moving.{carried, without};
 ghost use Rattle.greedy_column.specs.Replay.{freed};
-ghost use Rattle.greedy_column.specs.Tracks.{held_by, hold};
+ghost use Rattle.greedy_column.specs.Tracks.{held_by, hold, ids, line_of};
 ghost use Rattle.std.specs.List.Sorted.{IsNonDecreasing};
 ghost use Rattle.std.specs.List.{count_by};
-ghost use Rattle.std.specs.Prelude.{◌≡◌, ◌==◌, ◌<◌, ◌≤◌, ◌+◌, ◌∷◌, [], true, ◌^◌, IfOk, if◌then◌else◌, length};
+ghost use Rattle.std.specs.Prelude.{◌≡◌, ◌==◌, ◌<◌, ◌≤◌, ◌+◌, [], true, ◌^◌, IfOk, if◌then◌else◌, length};
 
 use crate::column::Track;
 use crate::freeing::freed;
+use crate::lines::line_of;
 use std::alloc::{AllocError, Global};
 use std::marker::Model;
 
@@ -143,6 +144,16 @@ impl Tracks {
         Ok(Tracks { list })
     }
 
+    // Gives the track of an id to a net, and tells its line; where none has this id, it does nothing and tells the upper edge.
+    pub(crate) fn hold(&mut self, id: u32, net: u32) -> u32
+        ensures held { self.new ≡ hold id net self.old }
+        ensures line { result ≡ line_of (ids self.old) id }
+    {
+        let line = line_in(&self.list, id);
+        let _before = self.give(line, net);
+        line
+    }
+
     // Gives the track on a line to a net, and tells the net that held it; where there is no track, it does nothing and tells 0.
     fn give(&mut self, line: u32, net: u32) -> u32
         ensures given { self.new ≡ hold (id_on self.old line) net self.old }
@@ -160,7 +171,19 @@ impl Tracks {
     }
 }
 
-// The same over the tracks without their type.
+// The line of an id, the upper edge where no track has it.
+fn line_in(tracks: &[Track], id: u32) -> u32
+    requires { AreTracks tracks.now }
+    ensures { result ≡ line_of (ids tracks.now) id }
+{
+    // No track has the id 0, which is told where a pin enters none.
+    if id == 0 {
+        return tracks.len() as u32 + 1;
+    }
+    line_of(tracks, id)
+}
+
+// The same over the list of the tracks.
 fn give(tracks: &mut [Track], line: u32, net: u32) -> u32
     requires { AreTracks tracks.old }
     ensures given { tracks.new ≡ hold (id_on tracks.old line) net tracks.old }
