@@ -38,8 +38,10 @@ pub mod IdLaws
 pub mod NetLaws
 -- states, and records for the pins of a channel
 pub mod StateLaws
--- ids, lines and nets of tracks; neighbouring tracks; what the steps draw; a record is joined
+-- ids, lines and nets of tracks, tracks given at their lines, and the verticals of pins by lines; neighbouring tracks; what the steps draw; a record is joined
 pub mod TableLaws
+pub mod PlacedLaws
+pub mod PinSpanLaws
 pub mod NeighbourLaws
 pub mod DrawnLaws
 pub mod JoinedLaws

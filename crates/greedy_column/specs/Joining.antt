@@ -13,6 +13,13 @@ use Rattle.greedy_column.specs.Verticals.{Vertical, line_at}
 abbrev pub span_in : List ℕ → Vertical → Span
 span_in order v = record { net = v.net; low = line_at order v.low; high = line_at order v.high }
 
+-- the verticals of a column's pins, by the lines of the tracks that the top pin and the bottom pin enter and that of the upper edge
+abbrev pub spans_of_pins : Bool → ℕ → ℕ → ℕ → ℕ → ℕ → List Span
+spans_of_pins straight top_net bottom_net top bottom upper_edge =
+    if straight then record { net = top_net; low = 0; high = upper_edge } ∷ []
+    else ((if bottom_net == 0 then [] else record { net = bottom_net; low = 0; high = bottom } ∷ [])
+    ++ (if top_net == 0 then [] else record { net = top_net; low = top; high = upper_edge } ∷ []))
+
 -- the line of the lowest of these tracks that a net holds, the first of which stands on this line
 abbrev pub next_line : ℕ → ℕ → List Track → Option ℕ
 next_line net line [] = None

@@ -1,6 +1,6 @@
 -- a record is what the four steps make, each choice being an answer of the chooser
 use Rattle.std.specs.Prelude.{◌==◌, ◌<◌, ◌||◌, ◌+◌, ◌-◌, ◌^◌, ◌++◌, not, if◌then◌else◌, nat_lt, ℕ, suc, List, [], ◌∷◌, Bool, Contains, filter, map, slice_index, length}
-use Rattle.std.specs.List.{list_any}
+use Rattle.std.specs.List.{IsDistinct, list_any}
 use Rattle.std.specs.List.Sorted.{IsStrictlyIncreasing}
 use Rattle.greedy_column.specs.declared.column.Track.{Track}
 use Rattle.greedy_column.specs.declared.lines.Sought.{Sought}
@@ -32,6 +32,12 @@ net_on tracks line = slice_index (map (λ (t : Track). t.net) tracks) (line - 1)
 abbrev pub is_sought : Sought → Track → Bool
 is_sought (Open net) = is_open net
 is_sought (Own net) = λ t. t.net == net
+
+-- tracks so few that each line and the upper edge have a number, whose ids are above 0 and all different
+pub record AreTracks (tracks : List Track) : Type 0 where
+  pub few : length tracks + 2 < 2 ^ 32
+  pub positive : (id : ℕ) → Contains (ids tracks) id → 0 < id
+  pub distinct : IsDistinct (λ i j. i == j) (ids tracks)
 
 -- lines on which tracks stand, where these are fewer than 2^32 - 2, and not more lines than tracks
 pub record AreLines (lines : List ℕ) : Type 0 where

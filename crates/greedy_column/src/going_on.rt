@@ -3,6 +3,7 @@
 ghost use Rattle.greedy_column.specs.Follows.{AreEndsTold, AreJoinsTold, AreMovesTold, FollowsOn};
 ghost use Rattle.greedy_column.specs.Moving.{TellSplit};
 ghost use Rattle.greedy_column.specs.Replay.{freed, moved};
+ghost use Rattle.greedy_column.specs.Tracks.{ids};
 ghost use Rattle.greedy_column.specs.Uses.{next_after};
 ghost use Rattle.std.specs.List.Sorted.{IsNonDecreasing};
 ghost use Rattle.std.specs.Prelude.{◌≡◌, ◌<◌, ◌+◌, ◌^◌, IfOk, length};
@@ -160,7 +161,8 @@ impl<C: Chooses> Moment<'_, C> {
         spans: &mut Vec<Span>,
         kept: &mut Tracks,
     ) -> Result<Vec<(u32, u32)>, AllocError>
-        requires { TellSplit paired.now.pairs kept.old }
+        requires split { TellSplit paired.now.pairs kept.old }
+        requires ids { ids kept.old ≡ ids paired.now.tracks.now }
         ensures moves { IfOk result (λ moves. AreMovesTold self.now.manner (C.answers self.now.chooser.now) (next_after self.now.ahead.now.uses.items self.now.column) paired.now.tracks.now kept.old
             spans.old.items moves.items) }
         ensures tracks { IfOk result (λ moves. kept.new ≡ moved moves.items kept.old) }

@@ -3,7 +3,7 @@
 ghost use Rattle.greedy_column.specs.Uses.{next_after};
 ghost use Rattle.greedy_column.specs.Lines.{net_on, own_lines};
 ghost use Rattle.greedy_column.specs.Replay.{moved};
-ghost use Rattle.greedy_column.specs.Tracks.{given, held_by, hold};
+ghost use Rattle.greedy_column.specs.Tracks.{given, held_by, hold, ids};
 ghost use Rattle.greedy_column.specs.Moving.{GoesTo, MovesFollow, carried, move_ids, move_options, others_of_net, piece_between, without};
 ghost use Rattle.greedy_column.specs.Offers.{move_question};
 ghost use Rattle.std.specs.Prelude.{◌≡◌, ◌<◌, ◌+◌, ◌++◌, ◌∷◌, ◌^◌, [], IfOk, OnOk, length, map};
@@ -88,6 +88,7 @@ impl<C: Chooses> Moment<'_, C> {
         mut free: FreeLines,
         kept: &mut Tracks,
     ) -> Result<Vec<(u32, u32)>, AllocError>
+        requires { ids kept.old ≡ ids tracks.now }
         ensures moves { IfOk result (λ moves.
             MovesFollow (C.answers self.now.chooser.now) (next_after self.now.ahead.now.uses.items self.now.column) tracks.now kept.old lines.now spans.old.items free
             moves.items) }
@@ -129,13 +130,14 @@ fn go_to(
     free: &mut FreeLines,
     kept: &mut Tracks,
 ) -> Result<(), AllocError>
+    requires { ids kept.old ≡ ids tracks.now }
     ensures spans { OnOk result (spans.new.items ≡ spans.old.items ++ piece_between (net_on tracks.now line) line target ∷ []) }
     ensures free { OnOk result (free.new ≡ without target free.old) }
     ensures kept { OnOk result (kept.new ≡ carried tracks.now kept.old line target) }
 {
     spans.push(piece_between(tracks.net_on(line), line, target))?;
     free.take(target);
-    kept.carry(tracks.id_on(line), tracks.id_on(target));
+    kept.carry(line, target);
     Ok(())
 }
 

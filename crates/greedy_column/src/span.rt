@@ -1,6 +1,6 @@
 //! Vertical pieces of wire in a column: which join two lines, which stand clear of others, and those of the pins.
 
-ghost use Rattle.greedy_column.specs.Joining.{covers, is_clear, is_joined, passes, span_in};
+ghost use Rattle.greedy_column.specs.Joining.{covers, is_clear, is_joined, passes, span_in, spans_of_pins};
 ghost use Rattle.greedy_column.specs.Tracks.{ids};
 ghost use Rattle.greedy_column.specs.Verticals.{verticals_of_pins};
 ghost use Rattle.std.specs.Prelude.{◌≡◌, ◌<◌, ◌+◌, ◌^◌, IfOk, length, map};
@@ -67,6 +67,29 @@ pub fn pin_spans(
         spans.items ≡ map (span_in (ids tracks.now)) (verticals_of_pins straight top_net bottom_net top bottom)) }
 {
     let upper_edge = tracks.len() as u32 + 1;
+    spans_of_pins(
+        alloc,
+        straight,
+        top_net,
+        bottom_net,
+        line_of(tracks, top),
+        line_of(tracks, bottom),
+        upper_edge,
+    )
+}
+
+// The same by the lines of these tracks and that of the upper edge.
+pub(crate) fn spans_of_pins(
+    alloc: Global,
+    straight: bool,
+    top_net: u32,
+    bottom_net: u32,
+    top: u32,
+    bottom: u32,
+    upper_edge: u32,
+) -> Result<Vec<Span>, AllocError>
+    ensures { IfOk result (λ spans. spans.items ≡ spans_of_pins straight top_net bottom_net top bottom upper_edge) }
+{
     let mut spans = Vec::new(alloc);
     if straight {
         spans.push(Span {
@@ -80,13 +103,13 @@ pub fn pin_spans(
         spans.push(Span {
             net: bottom_net,
             low: 0,
-            high: line_of(tracks, bottom),
+            high: bottom,
         })?;
     }
     if top_net != 0 {
         spans.push(Span {
             net: top_net,
-            low: line_of(tracks, top),
+            low: top,
             high: upper_edge,
         })?;
     }

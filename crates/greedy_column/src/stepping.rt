@@ -8,7 +8,7 @@ ghost use Rattle.greedy_column.specs.Held.{IsHeld, held_count};
 ghost use Rattle.greedy_column.specs.Joining.{span_in};
 ghost use Rattle.greedy_column.specs.Lawful.{AreMadeFrom};
 ghost use Rattle.greedy_column.specs.Replay.{after, freed, moved, with_made, with_nets};
-ghost use Rattle.greedy_column.specs.State.{IsState};
+ghost use Rattle.greedy_column.specs.State.{AreNumbered, IsState};
 ghost use Rattle.greedy_column.specs.Tracks.{ids};
 ghost use Rattle.greedy_column.specs.Uses.{next_after};
 ghost use Rattle.greedy_column.specs.Verticals.{verticals_of_pins};
@@ -20,8 +20,7 @@ use crate::desk::Desk;
 use crate::entering::{EnteringPin, Entries};
 use crate::going_on::Outcome;
 use crate::moment::Moment;
-use crate::moving::hold_both;
-use crate::span::pin_spans;
+use crate::span::{Span, spans_of_pins};
 use crate::tracks::Tracks;
 use channel_model::Channel;
 use choose_core::{Chooser, Chooses, Manner};
@@ -62,21 +61,44 @@ pub(crate) fn with_made(mut tracks: Vec<Track>, made: &[Made]) -> Result<Vec<Tra
     Ok(tracks)
 }
 
-// The tracks that the pins of these nets have entered.
-fn entered(
+// The tracks that a column's pins have entered, and the verticals of these pins.
+#[derive(Drop)]
+struct Entered {
+    tracks: Tracks,
+    spans: Vec<Span>,
+}
+
+// The tracks that the pins of these nets have entered, and the verticals of the pins.
+fn enter_pins(
+    alloc: Global,
     before: Tracks,
     entries: &Entries,
+    straight: bool,
     top: u32,
     bottom: u32,
-) -> Result<Vec<Track>, AllocError>
-    requires { (fresh : ℕ) × AreMadeFrom fresh (length before) entries.now.made }
-    ensures tracks { IfOk result (λ tracks.
-        tracks.items ≡ with_nets top entries.now.top bottom entries.now.bottom (with_made before entries.now.made)) }
-    ensures long { IfOk result (λ tracks. length tracks.items ≡ length before + length entries.now.made) }
+) -> Result<Entered, AllocError>
+    requires few { length before + 4 < 2 ^ 32 }
+    requires placed { (fresh : ℕ) × (AreNumbered fresh before × AreMadeFrom fresh (length before) entries.now.made) }
+    requires made { length entries.now.made ≤ 2 }
+    ensures tracks { IfOk result (λ entered.
+        entered.tracks ≡ with_nets top entries.now.top bottom entries.now.bottom (with_made before entries.now.made)) }
+    ensures spans { IfOk result (λ entered.
+        entered.spans.items ≡ map (span_in (ids entered.tracks)) (verticals_of_pins straight top bottom entries.now.top entries.now.bottom)) }
 {
-    let mut tracks = with_made(before.into_list(), entries.made.items())?;
-    hold_both(&mut tracks, entries.bottom, bottom, entries.top, top);
-    Ok(tracks)
+    let list = with_made(before.into_list(), entries.made.items())?;
+    let mut tracks = Tracks::new(list);
+    let bottom_line = tracks.hold(entries.bottom, bottom);
+    let top_line = tracks.hold(entries.top, top);
+    let spans = spans_of_pins(
+        alloc,
+        straight,
+        top,
+        bottom,
+        top_line,
+        bottom_line,
+        tracks.upper_edge(),
+    )?;
+    Ok(Entered { tracks, spans })
 }
 
 // Whether a column has two equal pins.
@@ -105,6 +127,7 @@ impl<C: Chooses> Moment<'_, C> {
     ) -> Result<Taken, AllocError>
         requires few { length before + 4 < 2 ^ 32 }
         requires fresh { fresh + 2 < 2 ^ 32 }
+        requires numbered { AreNumbered fresh before }
         ensures made { IfOk result (λ taken. length taken.done.made ≤ 2) }
         ensures straight { IfOk result (λ taken. taken.done.straight ≡ (top == bottom && not (top == 0))) }
         ensures enters { IfOk result (λ taken. Enters self.now.manner (C.answers self.now.chooser.now) (pin_with (next_after self.now.ahead.now.uses.items self.now.column) top)
@@ -138,7 +161,7 @@ impl<C: Chooses> Moment<'_, C> {
         bottom: u32,
     ) -> Result<Outcome, AllocError>
         requires few { length before + 4 < 2 ^ 32 }
-        requires placed { (fresh : ℕ) × AreMadeFrom fresh (length before) entries.now.made }
+        requires placed { (fresh : ℕ) × (AreNumbered fresh before × AreMadeFrom fresh (length before) entries.now.made) }
         requires made { length entries.now.made ≤ 2 }
         ensures follows { IfOk result (λ outcome.
             let now = with_nets top entries.now.top bottom entries.now.bottom (with_made before entries.now.made) in
@@ -148,17 +171,9 @@ impl<C: Chooses> Moment<'_, C> {
         ensures tracks { IfOk result (λ outcome. outcome.tracks ≡ moved outcome.moves (freed outcome.ended
             (with_nets top entries.now.top bottom entries.now.bottom (with_made before entries.now.made)))) }
     {
-        let now = entered(before, entries, top, bottom)?;
-        let spans = pin_spans(
-            self.alloc,
-            &now,
-            straight,
-            top,
-            bottom,
-            entries.top,
-            entries.bottom,
-        )?;
-        self.go_on(desk, &Tracks::new(now), spans)
+        let now = enter_pins(self.alloc, before, entries, straight, top, bottom)?;
+        let Entered { tracks, spans } = now;
+        self.go_on(desk, &tracks, spans)
     }
 }
 

@@ -1,33 +1,36 @@
 //! The tracks of a column, from the bottom up: the id and the net on each line, and the tracks that a net holds.
 
-ghost use Rattle.greedy_column.specs.Lines.{holds_track, id_on, net_on, own_lines};
-ghost use Rattle.greedy_column.specs.Moving.{without};
-ghost use Rattle.greedy_column.specs.Replay.{freed, moved};
+ghost use Rattle.greedy_column.specs.Lines.{AreTracks, holds_track, id_on, net_on, own_lines};
+ghost use Rattle.greedy_column.specs.Moving.{carried, without};
+ghost use Rattle.greedy_column.specs.Replay.{freed};
+ghost use Rattle.greedy_column.specs.Tracks.{held_by, hold, ids, line_of};
 ghost use Rattle.std.specs.List.Sorted.{IsNonDecreasing};
 ghost use Rattle.std.specs.List.{count_by};
-ghost use Rattle.std.specs.Prelude.{◌≡◌, ◌==◌, ◌<◌, ◌≤◌, ◌+◌, ◌∷◌, [], true, ◌^◌, IfOk, if◌then◌else◌, length};
+ghost use Rattle.std.specs.Prelude.{◌≡◌, ◌==◌, ◌<◌, ◌≤◌, ◌+◌, [], true, ◌^◌, IfOk, if◌then◌else◌, length};
 
 use crate::column::Track;
 use crate::freeing::freed;
-use crate::moving::carry;
+use crate::lines::line_of;
 use std::alloc::{AllocError, Global};
 use std::marker::Model;
 
-// The tracks of a column from bottom to top, so few of them that each line and the upper edge have a number.
+// The tracks of a column from bottom to top, so few of them that each line and the upper edge have a number, with ids that are all
+// different.
 #[derive(Drop)]
 pub(crate) struct Tracks {
     list: Vec<Track>,
 }
 
 impl Model for Tracks {
+    ghost use Rattle.greedy_column.specs.Lines.{AreTracks};
     ghost use Rattle.greedy_column.specs.declared.column.Track.{Track};
-    ghost use Rattle.std.specs.Prelude.{◌<◌, ◌+◌, ◌^◌, List, length};
+    ghost use Rattle.std.specs.Prelude.{List};
 
     ghost Value = { List Track };
 
     ghost view = { λ tracks. tracks.list.items };
 
-    ghost invariant = { λ tracks. length tracks.list.items + 2 < 2 ^ 32 };
+    ghost invariant = { λ tracks. AreTracks tracks.list.items };
 }
 
 // 1 where something is so, else 0.
@@ -40,7 +43,7 @@ fn one_where(is: bool) -> usize
 impl Tracks {
     // These tracks.
     pub(crate) fn new(list: Vec<Track>) -> Tracks
-        requires { length list.items + 2 < 2 ^ 32 }
+        requires { AreTracks list.items }
         ensures { result ≡ list.items }
     {
         Tracks { list }
@@ -141,10 +144,56 @@ impl Tracks {
         Ok(Tracks { list })
     }
 
-    // Carries the net of one track to another.
-    pub(crate) fn carry(&mut self, from: u32, to: u32)
-        ensures { self.new ≡ moved ((from, to) ∷ []) self.old }
+    // Gives the track of an id to a net, and tells its line; where none has this id, it does nothing and tells the upper edge.
+    pub(crate) fn hold(&mut self, id: u32, net: u32) -> u32
+        ensures held { self.new ≡ hold id net self.old }
+        ensures line { result ≡ line_of (ids self.old) id }
     {
-        carry(&mut self.list, &[(from, to)]);
+        let line = line_in(&self.list, id);
+        let _before = self.give(line, net);
+        line
     }
+
+    // Gives the track on a line to a net, and tells the net that held it; where there is no track, it does nothing and tells 0.
+    fn give(&mut self, line: u32, net: u32) -> u32
+        ensures given { self.new ≡ hold (id_on self.old line) net self.old }
+        ensures held { result ≡ held_by self.old (id_on self.old line) }
+    {
+        give(&mut self.list, line, net)
+    }
+
+    // Carries the net of the track on one line to that on another.
+    pub(crate) fn carry(&mut self, from: u32, to: u32)
+        ensures { self.new ≡ carried self.old self.old from to }
+    {
+        let net = self.give(from, 0);
+        let _free = self.give(to, net);
+    }
+}
+
+// The line of an id, the upper edge where no track has it.
+fn line_in(tracks: &[Track], id: u32) -> u32
+    requires { AreTracks tracks.now }
+    ensures { result ≡ line_of (ids tracks.now) id }
+{
+    // No track has the id 0, which is told where a pin enters none.
+    if id == 0 {
+        return tracks.len() as u32 + 1;
+    }
+    line_of(tracks, id)
+}
+
+// The same over the list of the tracks.
+fn give(tracks: &mut [Track], line: u32, net: u32) -> u32
+    requires { AreTracks tracks.old }
+    ensures given { tracks.new ≡ hold (id_on tracks.old line) net tracks.old }
+    ensures held { result ≡ held_by tracks.old (id_on tracks.old line) }
+{
+    let place = (line as usize).saturating_sub(1);
+    if place >= tracks.len() {
+        return 0;
+    }
+    let held = tracks[place].net;
+    tracks[place].net = net;
+    held
 }

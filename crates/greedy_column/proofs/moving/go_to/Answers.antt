@@ -1,5 +1,6 @@
-use Rattle.std.proofs.Common.{◌≡◌, ◌++◌, ◌∷◌, [], ◌∙◌, ap, rules}
+use Rattle.std.proofs.Common.{◌≡◌, ◌++◌, ◌∷◌, [], ◌∙◌, ◌-◌, ap, get_or, rules, List, ℕ}
 use Rattle.greedy_column.specs.declared.span.Span.{Span}
+use Rattle.greedy_column.specs.Lines.{id_on}
 use Rattle.greedy_column.specs.Replay.{moved}
 use Rattle.greedy_column.specs.Moving.{piece_between}
 use Rattle.greedy_column.proofs.moving.go_to.Goals as goal
@@ -11,4 +12,7 @@ returns-clause-spans c =
     pushed ∙ ap (λ (s : Span). spans ++ s ∷ []) (c.piece_between.ensures ∙ ap (λ n. piece_between n c.args.line c.args.target) c.net_on.ensures)
 
 pub returns-clause-kept : goal.returns-clause-kept
-returns-clause-kept c = c.carry.ensures ∙ (λ i. moved ((c.id_on.ensures i, c.id_on-2.ensures i) ∷ []) c.args.kept.now)
+returns-clause-kept c =
+    let kept = c.args.kept.now in
+    let same : (line : ℕ) → id_on kept line ≡ id_on c.args.tracks.now line = λ line. ap (λ (l : List ℕ). get_or l (line - 1) 0) c.requires in
+    c.carry.ensures ∙ (λ i. moved ((same c.args.line i, same c.args.target i) ∷ []) kept)

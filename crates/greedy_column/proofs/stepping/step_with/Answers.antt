@@ -1,10 +1,13 @@
-use Rattle.std.proofs.Common.{rules, ◌≡◌, ◌<◌, ◌∙◌, ◌+◌, subst, sym, ap, arith, get_or, ℕ, List, length}
+use Rattle.std.proofs.Common.{rules, ◌≡◌, ◌<◌, ◌∙◌, ◌+◌, ◌^◌, subst, sym, ap, arith, get_or, ℕ, List, length}
 use Rattle.channel_model.specs.Pins.{IsChannel, Pins}
 use Rattle.greedy_column.specs.declared.column.Made.{Made}
 use Rattle.greedy_column.specs.declared.column.Track.{Track}
 use Rattle.greedy_column.specs.Uses.{next_after}
 use Rattle.greedy_column.specs.Held.{held_count}
 use Rattle.greedy_column.specs.Replay.{after}
+use Rattle.greedy_column.specs.Lines.{AreTracks}
+use Rattle.greedy_column.specs.State.{AreNumbered}
+use Rattle.greedy_column.proofs.PlacedLaws.{AreTracks-numbered}
 use Rattle.greedy_column.proofs.EndsLaws.{column-lessens}
 use Rattle.greedy_column.proofs.FairLaws.{Fair-from}
 use Rattle.greedy_column.proofs.StateLaws.{AreNumbered-few, Follows-from_copy, IsState-from_copy}
@@ -12,13 +15,15 @@ use Rattle.greedy_column.proofs.stepping.step_with.Goals as goal
 
 pub new-before-requires : goal.new-before-requires
 new-before-requires g c =
-    let same : length c.in_ok-from_slice.field-0.items ≡ length c.items-3.result.now = search rules in
-    omega (
-      arith,
-      ap (λ (l : List Track). length l) c.items-3.ensures,
-      AreNumbered-few c.args.state.now.fresh c.args.state.now.order c.requires.state.numbered,
-      c.requires.few,
-    )
+    let tracks = c.args.state.now.order in
+    let copied : c.in_ok-from_slice.field-0.items ≡ tracks = search rules in
+    let few : length tracks + 2 < 2 ^ 32 = omega (arith, AreNumbered-few c.args.state.now.fresh tracks c.requires.state.numbered, c.requires.few) in
+    subst AreTracks (sym copied) (AreTracks-numbered c.args.state.now.fresh tracks c.requires.state.numbered few)
+
+pub column_of-requires-clause-numbered : goal.column_of-requires-clause-numbered
+column_of-requires-clause-numbered g c =
+    let copied : c.new-before.result ≡ c.args.state.now.order = search rules in
+    subst (AreNumbered c.args.state.now.fresh) (sym copied) c.requires.state.numbered
 
 pub column_of-requires-clause-few : goal.column_of-requires-clause-few
 column_of-requires-clause-few g c =

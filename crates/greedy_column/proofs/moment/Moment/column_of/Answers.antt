@@ -6,8 +6,11 @@ use Rattle.greedy_column.proofs.moment.Moment.column_of.Goals as goal
 pub outcome_of-requires-clause-placed : goal.outcome_of-requires-clause-placed
 outcome_of-requires-clause-placed g c = (
   c.args.fresh,
-  (AreMadeForPins-from c.args.self.now.manner (g.C.Chooses.answers c.args.self.now.chooser.now) c.args.before c.args.fresh c.pin_of-top_pin.result c.pin_of-bottom_pin.result
-      c.in_ok-entries.entries c.in_ok-entries.ensures).placed,
+  (
+    c.requires.numbered,
+    (AreMadeForPins-from c.args.self.now.manner (g.C.Chooses.answers c.args.self.now.chooser.now) c.args.before c.args.fresh c.pin_of-top_pin.result c.pin_of-bottom_pin.result
+        c.in_ok-entries.entries c.in_ok-entries.ensures).placed,
+  ),
 )
 
 pub outcome_of-requires-clause-made : goal.outcome_of-requires-clause-made

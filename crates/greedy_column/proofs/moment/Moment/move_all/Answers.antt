@@ -1,9 +1,11 @@
-use Rattle.std.proofs.Common.{◌≡◌, ◌++◌, ◌∷◌, [], subst, rules, List}
+use Rattle.std.proofs.Common.{◌≡◌, ◌++◌, ◌∷◌, [], ◌∙◌, ap, subst, rules, List, map}
 use Rattle.greedy_column.specs.declared.column.Track.{Track}
 use Rattle.greedy_column.specs.declared.span.Span.{Span}
 use Rattle.greedy_column.specs.Uses.{next_after}
 use Rattle.greedy_column.specs.Lines.{net_on}
-use Rattle.greedy_column.specs.Moving.{GoesTo, move_options, others_of_net}
+use Rattle.greedy_column.specs.Moving.{GoesTo, move_ids, move_options, others_of_net}
+use Rattle.greedy_column.specs.Tracks.{ids}
+use Rattle.greedy_column.proofs.IdLaws.{ids-moved}
 use Rattle.greedy_column.proofs.MoveLaws.{carried_on, moves_done, moves_go}
 use Rattle.greedy_column.proofs.moment.Moment.move_all.Goals as goal
 
@@ -30,6 +32,9 @@ loop-line-preserved g c =
       so_far = moves_go may next tracks c.args.kept.now kept c.args.lines.now later c.args.spans.now.items spans c.args.free free c.loop-line.moves.items
           line target goes c.if-target-line.false so_far;
     })
+
+pub go_to-requires : goal.go_to-requires
+go_to-requires g c = ap ids c.loop-line.invariant.carried ∙ ids-moved (map (move_ids c.args.tracks.now) c.loop-line.moves.items) c.args.kept.now ∙ c.requires
 
 pub returns-clause-moves : goal.returns-clause-moves
 returns-clause-moves g c =
