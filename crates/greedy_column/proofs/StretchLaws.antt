@@ -1,11 +1,12 @@
-use Rattle.std.proofs.Common.{◌≡◌, ◌&&◌, ◌||◌, ◌++◌, not, eqb, leb, ltb, ℕ, List, [], ◌∷◌, Bool, true, false, cond, length, filter, find, Some, refl, sym, ap, subst, ◌∙◌, append_assoc, arith, eq-eqb}
-use Rattle.std.proofs.lemmas.Bool.{and_parts, ne_eqb}
+use Rattle.std.proofs.Common.{◌≡◌, ◌&&◌, ◌||◌, ◌<◌, ◌+◌, ◌++◌, not, eqb, leb, ltb, ℕ, zero, suc, List, [], ◌∷◌, Bool, true, false, cond, length, filter, find, get_or, replicate, Some, refl, sym, ap, subst, ◌∙◌, append_assoc, arith}
+use Rattle.std.proofs.lemmas.Bool.{and_parts}
 use Rattle.std.proofs.lemmas.Bool.Decides.{nat_tests}
-use Rattle.std.proofs.lemmas.List.{append-nil}
-use Rattle.std.proofs.lemmas.List.Elements.{filter-append}
+use Rattle.greedy_column.specs.declared.column.Track.{Track}
 use Rattle.greedy_column.specs.declared.span.Span.{Span}
 use Rattle.greedy_column.specs.Joining.{is_clear}
-use Rattle.greedy_column.specs.Moving.{has_option, is_foreign, is_within, lines_of, piece_between}
+use Rattle.greedy_column.specs.Lines.{is_held, lines_from, net_on}
+use Rattle.greedy_column.specs.Moving.{has_option, is_foreign, is_within, lines_of, movable_lines, piece_between}
+use Rattle.greedy_column.proofs.TableLaws.{nets}
 use Rattle.greedy_column.proofs.WindowLaws.{clear}
 use Rattle.std_laws.proofs.Counts.{filter-same}
 
@@ -42,22 +43,42 @@ options_alike spans free net line other_net other_line mine yours apart =
     (filter-same (λ other. is_clear spans (piece_between net line other)) (λ other. is_clear spans (piece_between other_net other_line other)) free
     (λ other member. sym (clear_alike spans net line other_net other_line other mine yours apart)))
 
--- a loop that adds the lines of tracks that are movable goes on with one more track
-pub movable_more : (p : ℕ → Bool) (here later done pushed all : List ℕ) → pushed ≡ done ++ filter p here → done ++ filter p (here ++ later) ≡ all
-    → pushed ++ filter p later ≡ all
-movable_more p here later done pushed all added so_far =
-    ap (λ (l : List ℕ). l ++ filter p later) added ∙ append_assoc done (filter p here) (filter p later)
-    ∙ ap (λ (l : List ℕ). done ++ l) (sym (filter-append p here later)) ∙ so_far
+-- the lines of the held ones of these tracks that have a free line to go to, the first of which stands on this line
+abbrev pub movable_from : List Span → List ℕ → ℕ → List Track → List ℕ
+movable_from spans free line [] = []
+movable_from spans free line (t ∷ tracks) =
+    cond (not (eqb t.net 0) && has_option spans free t.net line) (line ∷ []) [] ++ movable_from spans free (suc line) tracks
 
--- no line of a free track is added, and that of a held one where it is movable
-pub movable_none : (p : ℕ → Bool) (lines : List ℕ) (net line : ℕ) → net ≡ 0 → lines ≡ lines ++ filter p (cond (not (eqb net 0)) (line ∷ []) [])
-movable_none p lines net line none =
-    sym (append-nil lines) ∙ ap (λ b. lines ++ filter p (cond (not b) (line ∷ []) [])) (sym (eq-eqb net 0 none))
+filter_one : (p : ℕ → Bool) (line : ℕ) (lines : List ℕ) (b : Bool) → cond (b && p line) (line ∷ []) [] ++ filter p lines ≡ filter p (cond b (line ∷ []) [] ++ lines)
+filter_one p line lines true = step (p line) where
+  step : (c : Bool) → cond c (line ∷ []) [] ++ filter p lines ≡ cond c (line ∷ filter p lines) (filter p lines)
+  step true = refl
+  step false = refl
+filter_one p line lines false = refl
 
-pub movable_one : (p : ℕ → Bool) (lines added : List ℕ) (net line : ℕ) (b : Bool) → (net ≡ 0 → ⊥) → b ≡ p line → added ≡ lines ++ cond b (line ∷ []) []
-    → added ≡ lines ++ filter p (cond (not (eqb net 0)) (line ∷ []) [])
-movable_one p lines added net line b some is told =
-    told ∙ ap (λ c. lines ++ cond c (line ∷ []) []) is ∙ ap (λ c. lines ++ filter p (cond (not c) (line ∷ []) [])) (sym (ne_eqb net 0 some))
+-- they are those that are movable, as their nets are told by their lines
+told_from : (spans : List Span) (free : List ℕ) (net_at : ℕ → ℕ) (line : ℕ) (tracks : List Track)
+    → ((j : ℕ) → j < length tracks → net_at (line + j) ≡ get_or (nets tracks) j 0)
+    → movable_from spans free line tracks ≡ filter (λ l. has_option spans free (net_at l) l) (lines_from is_held line tracks)
+told_from spans free net_at line [] told = refl
+told_from spans free net_at line (t ∷ tracks) told =
+    let here : t.net ≡ net_at line = sym (ap net_at (omega arith) ∙ told 0 (omega arith)) in
+    let later = told_from spans free net_at (suc line) tracks (λ j within. ap net_at (omega arith) ∙ told (suc j) (omega (arith, within))) in
+    (λ i. cond (not (eqb t.net 0) && has_option spans free (here i) line) (line ∷ []) [] ++ later i)
+    ∙ filter_one (λ l. has_option spans free (net_at l) l) line (lines_from is_held (suc line) tracks) (not (eqb t.net 0))
+
+pub movable_from-all : (spans : List Span) (free : List ℕ) (kept : List Track) → movable_from spans free 1 kept ≡ movable_lines spans free kept
+movable_from-all spans free kept = told_from spans free (net_on kept) 1 kept (λ j within. ap (λ n. get_or (nets kept) n 0) (omega arith))
+
+-- a loop that adds some of these lines goes on with the others
+pub movable_more : (done here pushed later all : List ℕ) → pushed ≡ done ++ here → done ++ (here ++ later) ≡ all → pushed ++ later ≡ all
+movable_more done here pushed later all added so_far = ap (λ l. l ++ later) added ∙ append_assoc done here later ∙ so_far
+
+-- where all kinds of nets are noted, nothing is told of any
+pub noted_all : (n net : ℕ) → get_or (replicate n true) net true ≡ true
+noted_all zero net = refl
+noted_all (suc n) zero = refl
+noted_all (suc n) (suc net) = noted_all n net
 
 and_none : (b : Bool) → (b && false) ≡ false
 and_none true = refl

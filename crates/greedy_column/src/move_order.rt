@@ -7,11 +7,12 @@ ghost use Rattle.std.specs.Ordering.{nat_cmp};
 ghost use Rattle.std.specs.Prelude.{◌≡◌, ◌<◌, ◌+◌, ◌^◌, IfOk, OnOk, filter, length, map, not};
 
 use crate::ahead::Ahead;
+use crate::column::Track;
 use crate::free_lines::FreeLines;
 use crate::lines::put_where;
 use crate::pairs::Pairs;
 use crate::span::Span;
-use crate::stretch::Stretch;
+use crate::stretch::{Stretch, kinds_of};
 use crate::tracks::Tracks;
 use choose_core::{Manner, Next};
 use std::alloc::{AllocError, Global};
@@ -42,7 +43,7 @@ pub(crate) fn movable_lines(
     if free.list().is_empty() {
         return Ok(Vec::new(alloc));
     }
-    movable_of(alloc, spans, free, kept)
+    movable_of(alloc, spans, free, kept.list())
 }
 
 // The same, track by track.
@@ -50,16 +51,18 @@ fn movable_of(
     alloc: Global,
     spans: &[Span],
     free: &FreeLines,
-    kept: &Tracks,
+    kept: &[Track],
 ) -> Result<Vec<u32>, AllocError>
+    requires { length kept.now + 2 < 2 ^ 32 }
     ensures { IfOk result (λ lines. lines.items ≡ movable_lines spans.now free.now kept.now) }
 {
-    let mut lines = Vec::with_capacity(alloc, kept.list().len())?;
-    let mut stretch = Stretch::alone(false);
+    let kinds = kinds_of(spans);
+    let mut lines = Vec::with_capacity(alloc, kept.len())?;
+    let mut stretch = Stretch::empty();
     let mut line = 1u32;
-    let mut rest = kept.list();
+    let mut rest = kept;
     while let Some((track, above)) = rest.split_first() {
-        stretch = free.push_movable(spans, kept, stretch, track.net, line, &mut lines);
+        stretch = free.push_movable(spans, &kinds, stretch, track.net, line, &mut lines);
         line += 1;
         rest = above;
     }

@@ -1,15 +1,17 @@
 //! Stretches between and on the verticals of a column: the tracks on the lines of one stretch whose nets have none of these verticals have the same
 //! free lines to go to, so that one answer serves for all of them.
 
-ghost use Rattle.greedy_column.specs.Moving.{IsStretch, has_option, is_apart_from, is_foreign, is_movable, is_within, lines_of};
+ghost use Rattle.greedy_column.specs.Moving.{IsStretch, TellForeign, has_option, is_foreign, is_within, lines_of, may_have};
 ghost use Rattle.greedy_column.specs.declared.span.Span.{Span as Vertical};
-ghost use Rattle.std.specs.Prelude.{◌≡◌, ◌==◌, ◌<◌, ◌≤◌, ◌+◌, ◌++◌, ◌∷◌, [], ℕ, List, filter, find, if◌then◌else◌, not, true, vec_capacity, vec_len};
+ghost use Rattle.std.specs.Prelude.{◌≡◌, ◌==◌, ◌&&◌, ◌<◌, ◌≤◌, ◌+◌, ◌++◌, ◌∷◌, [], ℕ, List, find, if◌then◌else◌, not, true, vec_capacity, vec_len};
 
 use crate::free_lines::{FreeLines, has_line_within};
 use crate::lines::put_where;
 use crate::span::Span;
-use crate::tracks::Tracks;
 use crate::window::{Window, lines_past};
+
+// Nets are told apart by their remainders at this number.
+const KINDS: usize = 64;
 
 // The lines of a stretch, and whether a free one is among them.
 #[derive(Clone, Copy, Debug)]
@@ -19,26 +21,19 @@ pub(crate) struct Stretch {
 }
 
 impl Stretch {
-    // An answer for one track alone, in a stretch of no lines.
-    pub(crate) fn alone(has_free: bool) -> Stretch
-        ensures stretch { (spans : List Vertical) (free : List ℕ) → IsStretch spans free result }
-        ensures answer { result.has_free ≡ has_free }
+    // A stretch of no lines.
+    pub(crate) fn empty() -> Stretch
+        ensures { (spans : List Vertical) (free : List ℕ) → IsStretch spans free result }
     {
+        let window = Window { low: 1, high: 0 };
         Stretch {
-            window: Window { low: 1, high: 0 },
-            has_free,
+            window,
+            has_free: false,
         }
     }
 }
 
 impl Span {
-    // Whether this vertical is of another net, and lies from a lower line to one that is no lower.
-    fn is_apart_from(self, net: u32) -> bool
-        ensures { result ≡ is_apart_from self net }
-    {
-        self.net != net && self.low <= self.high
-    }
-
     // The lines that this vertical covers.
     fn lines(self) -> Window
         ensures { result ≡ lines_of self }
@@ -64,23 +59,37 @@ fn covering(verticals: &[Span], line: u32) -> Option<Span>
     None
 }
 
-// Whether all verticals are so.
-fn is_foreign(verticals: &[Span], net: u32) -> bool
-    ensures { result ≡ is_foreign verticals.now net }
+// For each remainder whether nets of it may have one of these verticals; all may where one does not lie upwards.
+pub(crate) fn kinds_of(spans: &[Span]) -> [bool; KINDS]
+    ensures { TellForeign spans.now result }
 {
-    verticals.iter().all(|vertical| vertical.is_apart_from(net))
+    let mut kinds = [false; KINDS];
+    let mut rest = spans;
+    while let Some((vertical, others)) = rest.split_first() {
+        rest = others;
+        if vertical.low > vertical.high {
+            return [true; KINDS];
+        }
+        kinds[vertical.net as usize % KINDS] = true;
+    }
+    kinds
+}
+
+// Whether a net may have one of the verticals of these kinds.
+fn may_have(kinds: &[bool; KINDS], net: u32) -> bool
+    ensures { result ≡ may_have kinds.now net }
+{
+    kinds[net as usize % KINDS]
 }
 
 impl FreeLines {
-    // A stretch that tells whether a track of a net on a line has a free line to go to: the one before, where the line lies in it.
-    fn stretch_for(&self, before: Stretch, spans: &[Span], net: u32, line: u32) -> Stretch
-        requires { IsStretch spans.now self.now before }
+    // The stretch of a line whose net has none of these verticals: the one before, where the line lies in it.
+    fn stretch_on(&self, before: Stretch, spans: &[Span], net: u32, line: u32) -> Stretch
+        requires before { IsStretch spans.now self.now before }
+        requires foreign { is_foreign spans.now net ≡ true }
         ensures stretch { IsStretch spans.now self.now result }
         ensures here { result.has_free ≡ has_option spans.now self.now net line }
     {
-        if !is_foreign(spans, net) {
-            return Stretch::alone(self.has_option(spans, net, line));
-        }
         if before.window.has(line) {
             return before;
         }
@@ -103,28 +112,33 @@ impl FreeLines {
         }
     }
 
-    // Adds a line of this net where its kept track has a free line to go to, and none where it is free; and the stretch that tells it.
+    // Adds the line of a track of this net where it has a free line to go to, and none where the track is free; and the stretch so far.
+    #[inline(always)]
     pub(crate) fn push_movable(
         &self,
         spans: &[Span],
-        kept: &Tracks,
+        kinds: &[bool; KINDS],
         before: Stretch,
         net: u32,
         line: u32,
         lines: &mut Vec<u32>,
     ) -> Stretch
+        requires kinds { TellForeign spans.now kinds.now }
         requires stretch { IsStretch spans.now self.now before }
         requires room { vec_len lines.old < vec_capacity lines.old }
         ensures stretch { IsStretch spans.now self.now result }
-        ensures lines { lines.new.items
-            ≡ lines.old.items ++ filter (is_movable spans.now self.now kept.now) (if not (net == 0) then line ∷ [] else []) }
+        ensures lines { lines.new.items ≡ lines.old.items ++ (if not (net == 0) && has_option spans.now self.now net line then line ∷ [] else []) }
         ensures long { vec_len lines.new ≤ vec_len lines.old + 1 }
         ensures room { vec_capacity lines.new ≡ vec_capacity lines.old }
     {
         if net == 0 {
             return before;
         }
-        let stretch = self.stretch_for(before, spans, kept.net_on(line), line);
+        if may_have(kinds, net) {
+            put_where(lines, self.has_option(spans, net, line), line);
+            return before;
+        }
+        let stretch = self.stretch_on(before, spans, net, line);
         put_where(lines, stretch.has_free, line);
         stretch
     }
