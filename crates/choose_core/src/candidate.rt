@@ -29,15 +29,16 @@ pub enum Next {
 /// One of the things that a chooser may choose.
 #[derive(Clone, Copy, Debug, PartialEq, Eq)]
 pub struct Candidate {
-    pub ask: Ask,
+    // The numbers stand first, so that no room is lost between the fields.
     /// The track's place from the bottom, from 1 on; on `Join` that of the lower track.
     pub track: u32,
     /// How far the track lies from what it is wanted for, in tracks.
     pub gap: u32,
-    /// Where the net has its next pins.
-    pub next: Next,
     /// How near the net's other tracks are: 0 where there is none, else 1 more than the least distance from `track` to one of them. These
     /// are on `Enter` all tracks that the net holds, on `Join` the upper track of the two, on `Keep` the net's tracks that are not joined
     /// with this one, and on `Move` its other tracks that are kept, as the moves before have left them.
     pub pull: u32,
+    pub ask: Ask,
+    /// Where the net has its next pins.
+    pub next: Next,
 }

@@ -1,12 +1,13 @@
 //! What is asked about tracks, how a track is offered as a candidate, and which line is picked.
 
 ghost use Rattle.greedy_column.specs.Offers.{IsPicked, distance, gap_to, least_distance, offer, pull_to};
-ghost use Rattle.std.specs.Prelude.{◌≡◌, ◌<◌, ◌≤◌, ◌+◌, ◌∷◌, ◌^◌, Contains, IfOk, OnOk, length, map, slice_get};
+ghost use Rattle.std.specs.Prelude.{◌≡◌, ◌<◌, ◌≤◌, ◌+◌, ◌∷◌, ◌^◌, Contains, IfOk, length, map, slice_get};
 
 use crate::lines::Lines;
 use crate::moment::Moment;
 use choose_core::{Ask, Candidate, Chooses, Next};
 use std::alloc::{AllocError, Global};
+use std::mem;
 
 // What is asked about some tracks: the ask, the line near which a track is wanted, where there is one, and where the net has
 // its next pins.
@@ -80,7 +81,8 @@ impl<C: Chooses> Moment<'_, C> {
         ensures picked { IfOk result (λ line. IsPicked (C.answers self.now.chooser.now) (offer question others.now) lines.now line) }
         ensures member { IfOk result (λ line. Contains lines.now line) }
     {
-        fill_offers(offers, question, others, lines)?;
+        let list = mem::replace(offers, Vec::new(self.alloc));
+        *offers = filled_offers(list, question, others, lines)?;
         Ok(lines[self.chooser.choose(offers)])
     }
 
@@ -115,14 +117,14 @@ impl<C: Chooses> Moment<'_, C> {
     }
 }
 
-// Makes a list hold some tracks as they are offered, in room that it keeps.
-fn fill_offers(
-    offers: &mut Vec<Candidate>,
+// Some tracks as they are offered, in the room of a list.
+fn filled_offers(
+    mut offers: Vec<Candidate>,
     question: Question,
     others: &Lines,
     lines: &[u32],
-) -> Result<(), AllocError>
-    ensures { OnOk result (offers.new.items ≡ map (offer question others.now) lines.now) }
+) -> Result<Vec<Candidate>, AllocError>
+    ensures { IfOk result (λ filled. filled.items ≡ map (offer question others.now) lines.now) }
 {
     offers.clear();
     offers.reserve(lines.len())?;
@@ -131,7 +133,7 @@ fn fill_offers(
         offers.push_reserved(question.offer(others, *line));
         rest = later;
     }
-    Ok(())
+    Ok(offers)
 }
 
 // A line and then some options, as they are offered.

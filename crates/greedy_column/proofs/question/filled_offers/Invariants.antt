@@ -1,6 +1,6 @@
 use Rattle.std.proofs.Common.{◌≡◌, ◌≤◌, ◌+◌, ◌++◌, length, map, vec_capacity, vec_len}
 use Rattle.greedy_column.specs.Offers.{offer}
-use Rattle.greedy_column.proofs.question.fill_offers.Given as goal
+use Rattle.greedy_column.proofs.question.filled_offers.Given as goal
 
 abbrev pub invariant-loop-line : goal.invariant-loop-line
 invariant-loop-line l = record {
