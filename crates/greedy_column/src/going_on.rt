@@ -1,11 +1,10 @@
 //! What a column does once its pins have entered: joins, ends and moves, and the tracks after them.
 
-ghost use Rattle.greedy_column.specs.Follows.{AreEndsTold, AreJoinsTold, AreMovesTold, FollowsOn};
+ghost use Rattle.greedy_column.specs.Follows.{AreEnded, AreEndsTold, AreJoinsTold, AreMovesTold, FollowsOn};
 ghost use Rattle.greedy_column.specs.Moving.{TellSplit};
 ghost use Rattle.greedy_column.specs.Replay.{freed, moved};
 ghost use Rattle.greedy_column.specs.Tracks.{ids};
 ghost use Rattle.greedy_column.specs.Uses.{next_after};
-ghost use Rattle.std.specs.List.Sorted.{IsNonDecreasing};
 ghost use Rattle.std.specs.Prelude.{◌≡◌, ◌<◌, ◌+◌, ◌^◌, IfOk, length};
 
 use crate::ahead::Ahead;
@@ -32,11 +31,18 @@ pub(crate) struct Outcome {
     pub(crate) tracks: Items<Track>,
 }
 
+// The tracks that end: their lines, and their ids in ascending order.
+#[derive(Drop)]
+struct Ends {
+    lines: Vec<u32>,
+    ids: Vec<u32>,
+}
+
 // What steps 2 and 3 do, and the verticals after them.
 #[derive(Drop)]
 struct JoinsAndEnds {
     joins: Vec<(u32, u32)>,
-    ended: Vec<u32>,
+    ends: Ends,
     spans: Vec<Span>,
 }
 
@@ -45,6 +51,16 @@ struct JoinsAndEnds {
 struct MovedOn {
     moves: Vec<(u32, u32)>,
     tracks: Tracks,
+}
+
+impl Ends {
+    // The tracks, of which those that end are freed.
+    fn kept_of(&self, alloc: Global, tracks: &Tracks) -> Result<Tracks, AllocError>
+        requires { AreEnded tracks.now self.now.lines.items self.now.ids.items }
+        ensures { IfOk result (λ kept. kept ≡ freed self.now.ids.items tracks.now) }
+    {
+        tracks.freed(alloc, &self.lines)
+    }
 }
 
 impl<C: Chooses> Moment<'_, C> {
@@ -75,16 +91,12 @@ impl<C: Chooses> Moment<'_, C> {
         ensures tracks { IfOk result (λ outcome. outcome.tracks ≡ moved outcome.moves (freed outcome.ended paired.now.tracks.now)) }
     {
         let drawn = self.join_and_end(desk, paired, spans)?;
-        let JoinsAndEnds {
-            joins,
-            ended,
-            spans,
-        } = drawn;
-        let carried = self.move_on(paired, &ended, spans)?;
+        let JoinsAndEnds { joins, ends, spans } = drawn;
+        let carried = self.move_on(paired, &ends, spans)?;
         let MovedOn { moves, tracks } = carried;
         Ok(Outcome {
             joins: Items::new(joins),
-            ended: Items::new(ended),
+            ended: Items::new(ends.ids),
             moves: Items::new(moves),
             tracks: Items::new(tracks.into_list()),
         })
@@ -100,15 +112,12 @@ impl<C: Chooses> Moment<'_, C> {
         ensures joins { IfOk result (λ drawn. AreJoinsTold (C.answers self.now.chooser.now) (next_after self.now.ahead.now.uses.items self.now.column) paired.now.tracks.now spans.items
             drawn.spans.items drawn.joins.items) }
         ensures ends { IfOk result (λ drawn. AreEndsTold (C.answers self.now.chooser.now) (next_after self.now.ahead.now.uses.items self.now.column) paired.now.tracks.now drawn.spans.items
-            drawn.ended.items) }
+            drawn.ends.ids.items) }
+        ensures lines { IfOk result (λ drawn. AreEnded paired.now.tracks.now drawn.ends.lines.items drawn.ends.ids.items) }
     {
         let joins = self.joins_of(paired, &mut spans)?;
-        let ended = self.ends_of_lines(desk, paired, &spans)?;
-        Ok(JoinsAndEnds {
-            joins,
-            ended,
-            spans,
-        })
+        let ends = self.ends_of_lines(desk, paired, &spans)?;
+        Ok(JoinsAndEnds { joins, ends, spans })
     }
 
     // Step 2: the joins, which become verticals.
@@ -130,26 +139,28 @@ impl<C: Chooses> Moment<'_, C> {
         desk: &mut Desk,
         paired: &Paired,
         spans: &[Span],
-    ) -> Result<Vec<u32>, AllocError>
-        ensures { IfOk result (λ ended. AreEndsTold (C.answers self.now.chooser.now) (next_after self.now.ahead.now.uses.items self.now.column) paired.now.tracks.now spans.now ended.items) }
+    ) -> Result<Ends, AllocError>
+        ensures told { IfOk result (λ ends. AreEndsTold (C.answers self.now.chooser.now) (next_after self.now.ahead.now.uses.items self.now.column) paired.now.tracks.now spans.now ends.ids.items) }
+        ensures lines { IfOk result (λ ends. AreEnded paired.now.tracks.now ends.lines.items ends.ids.items) }
     {
-        let ending = self.ending_lines(desk, paired, spans)?;
-        ended_ids(self.alloc, paired.tracks, &ending)
+        let lines = self.ending_lines(desk, paired, spans)?;
+        let ids = ended_ids(self.alloc, paired.tracks, &lines)?;
+        Ok(Ends { lines, ids })
     }
 
-    // Step 4, over the tracks of which those of these ids are freed.
+    // Step 4, over the tracks of which those that end are freed.
     fn move_on(
         &self,
         paired: &Paired,
-        ended: &[u32],
+        ends: &Ends,
         mut spans: Vec<Span>,
     ) -> Result<MovedOn, AllocError>
-        requires { IsNonDecreasing ended.now }
+        requires { AreEnded paired.now.tracks.now ends.now.lines.items ends.now.ids.items }
         ensures moves { IfOk result (λ carried. AreMovesTold self.now.manner (C.answers self.now.chooser.now) (next_after self.now.ahead.now.uses.items self.now.column) paired.now.tracks.now
-            (freed ended.now paired.now.tracks.now) spans.items carried.moves.items) }
-        ensures tracks { IfOk result (λ carried. carried.tracks ≡ moved carried.moves.items (freed ended.now paired.now.tracks.now)) }
+            (freed ends.now.ids.items paired.now.tracks.now) spans.items carried.moves.items) }
+        ensures tracks { IfOk result (λ carried. carried.tracks ≡ moved carried.moves.items (freed ends.now.ids.items paired.now.tracks.now)) }
     {
-        let mut tracks = paired.tracks.freed(self.alloc, ended)?;
+        let mut tracks = ends.kept_of(self.alloc, paired.tracks)?;
         let moves = self.moves_of(paired, &mut spans, &mut tracks)?;
         Ok(MovedOn { moves, tracks })
     }

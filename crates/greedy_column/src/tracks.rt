@@ -4,12 +4,10 @@ ghost use Rattle.greedy_column.specs.Lines.{AreTracks, holds_track, id_on, net_o
 ghost use Rattle.greedy_column.specs.Moving.{carried, without};
 ghost use Rattle.greedy_column.specs.Replay.{freed};
 ghost use Rattle.greedy_column.specs.Tracks.{held_by, hold, ids, line_of};
-ghost use Rattle.std.specs.List.Sorted.{IsNonDecreasing};
 ghost use Rattle.std.specs.List.{count_by};
-ghost use Rattle.std.specs.Prelude.{◌≡◌, ◌==◌, ◌<◌, ◌≤◌, ◌+◌, [], true, ◌^◌, IfOk, if◌then◌else◌, length};
+ghost use Rattle.std.specs.Prelude.{◌≡◌, ◌==◌, ◌<◌, ◌≤◌, ◌+◌, [], true, ◌^◌, IfOk, if◌then◌else◌, length, map};
 
 use crate::column::Track;
-use crate::freeing::freed;
 use crate::lines::line_of;
 use std::alloc::{AllocError, Global};
 use std::marker::Model;
@@ -135,13 +133,25 @@ impl Tracks {
         }
     }
 
-    // The tracks, of which those of these ids are freed.
-    pub(crate) fn freed(&self, alloc: Global, ended: &[u32]) -> Result<Tracks, AllocError>
-        requires { IsNonDecreasing ended.now }
-        ensures { IfOk result (λ kept. kept ≡ freed ended.now self.now) }
+    // The tracks, of which those on these lines are freed.
+    pub(crate) fn freed(&self, alloc: Global, lines: &[u32]) -> Result<Tracks, AllocError>
+        ensures { IfOk result (λ kept. kept ≡ freed (map (id_on self.now) lines.now) self.now) }
     {
-        let list = freed(alloc, &self.list, ended)?;
-        Ok(Tracks { list })
+        let list = Vec::from_slice(alloc, &self.list)?;
+        let mut kept = Tracks { list };
+        kept.free(lines);
+        Ok(kept)
+    }
+
+    // Frees the tracks on these lines.
+    fn free(&mut self, lines: &[u32])
+        ensures { self.new ≡ freed (map (id_on self.old) lines.now) self.old }
+    {
+        let mut rest = lines;
+        while let Some((line, later)) = rest.split_first() {
+            let _net = self.give(*line, 0);
+            rest = later;
+        }
     }
 
     // Gives the track of an id to a net, and tells its line; where none has this id, it does nothing and tells the upper edge.
