@@ -18,7 +18,7 @@ use crate::moving::move_ids;
 use crate::pairs::Paired;
 use crate::span::Span;
 use crate::tracks::Tracks;
-use choose_core::{Chooses, Manner};
+use choose_core::{Candidate, Chooses, Manner};
 use geom_core::Items;
 use std::alloc::{AllocError, Global};
 
@@ -92,7 +92,7 @@ impl<C: Chooses> Moment<'_, C> {
     {
         let drawn = self.join_and_end(desk, paired, spans)?;
         let JoinsAndEnds { joins, ends, spans } = drawn;
-        let carried = self.move_on(paired, &ends, spans)?;
+        let carried = self.move_on(desk, paired, &ends, spans)?;
         let MovedOn { moves, tracks } = carried;
         Ok(Outcome {
             joins: Items::new(joins),
@@ -151,6 +151,7 @@ impl<C: Chooses> Moment<'_, C> {
     // Step 4, over the tracks of which those that end are freed.
     fn move_on(
         &self,
+        desk: &mut Desk,
         paired: &Paired,
         ends: &Ends,
         mut spans: Vec<Span>,
@@ -161,7 +162,9 @@ impl<C: Chooses> Moment<'_, C> {
         ensures tracks { IfOk result (λ carried. carried.tracks ≡ moved carried.moves.items (freed ends.now.ids.items paired.now.tracks.now)) }
     {
         let mut tracks = ends.kept_of(self.alloc, paired.tracks)?;
-        let moves = self.moves_of(paired, &mut spans, &mut tracks)?;
+        let mut offers = desk.take_offers(self.alloc);
+        let moves = self.moves_of(paired, &mut spans, &mut tracks, &mut offers)?;
+        desk.give_offers(offers);
         Ok(MovedOn { moves, tracks })
     }
 
@@ -171,6 +174,7 @@ impl<C: Chooses> Moment<'_, C> {
         paired: &Paired,
         spans: &mut Vec<Span>,
         kept: &mut Tracks,
+        offers: &mut Vec<Candidate>,
     ) -> Result<Vec<(u32, u32)>, AllocError>
         requires split { TellSplit paired.now.pairs kept.old }
         requires ids { ids kept.old ≡ ids paired.now.tracks.now }
@@ -190,7 +194,7 @@ impl<C: Chooses> Moment<'_, C> {
             kept,
             lines,
         )?;
-        let moving = self.move_all(now, &order, spans, free, kept)?;
+        let moving = self.move_all(now, &order, spans, free, kept, offers)?;
         move_ids(self.alloc, now, &moving)
     }
 }

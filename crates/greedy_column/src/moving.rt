@@ -16,7 +16,7 @@ use crate::moment::Moment;
 use crate::question::Question;
 use crate::span::Span;
 use crate::tracks::Tracks;
-use choose_core::{Ask, Chooses, Next};
+use choose_core::{Ask, Candidate, Chooses, Next};
 use std::alloc::{AllocError, Global};
 
 // The piece between two lines.
@@ -49,6 +49,7 @@ impl<C: Chooses> Moment<'_, C> {
         kept: &Tracks,
         line: u32,
         options: &[u32],
+        offers: &mut Vec<Candidate>,
     ) -> Result<u32, AllocError>
         requires { length options.now + 1 < 2 ^ 32 }
         ensures { IfOk result (λ target. GoesTo (C.answers self.now.chooser.now) (next_after self.now.ahead.now.uses.items self.now.column net)
@@ -59,7 +60,7 @@ impl<C: Chooses> Moment<'_, C> {
         }
         let next = self.ahead.next(net, self.column);
         let others = other_lines(self.alloc, kept, net, line)?;
-        self.pick_from(move_question(line, next), &others, line, options)
+        self.pick_from(move_question(line, next), &others, line, options, offers)
     }
 
     // The line on which the kept track of a line goes on.
@@ -70,16 +71,17 @@ impl<C: Chooses> Moment<'_, C> {
         spans: &[Span],
         free: &FreeLines,
         line: u32,
+        offers: &mut Vec<Candidate>,
     ) -> Result<u32, AllocError>
         ensures { IfOk result (λ target. GoesTo (C.answers self.now.chooser.now) (next_after self.now.ahead.now.uses.items self.now.column (net_on tracks.now line))
             (others_of_net tracks.now kept.now line) line (move_options spans.now (net_on tracks.now line) line free.now) target) }
     {
         let net = tracks.net_on(line);
         let options = free.move_options(spans, net, line);
-        self.target_of(net, kept, line, options)
+        self.target_of(net, kept, line, options, offers)
     }
 
-    // The moves of a column, as lines, in their order, by which the kept tracks are carried along.
+    // The moves of a column, as lines, in their order, by which the kept tracks are carried along. Lines are offered in a list that is lent for that.
     pub(crate) fn move_all(
         &self,
         tracks: &Tracks,
@@ -87,6 +89,7 @@ impl<C: Chooses> Moment<'_, C> {
         spans: &mut Vec<Span>,
         mut free: FreeLines,
         kept: &mut Tracks,
+        offers: &mut Vec<Candidate>,
     ) -> Result<Vec<(u32, u32)>, AllocError>
         requires { ids kept.old ≡ ids tracks.now }
         ensures moves { IfOk result (λ moves.
@@ -98,7 +101,7 @@ impl<C: Chooses> Moment<'_, C> {
         let mut rest = lines;
         while let Some((line, later)) = rest.split_first() {
             rest = later;
-            let target = self.line_after(tracks, kept, spans, &free, *line)?;
+            let target = self.line_after(tracks, kept, spans, &free, *line, offers)?;
             if target == *line {
                 continue;
             }

@@ -93,12 +93,14 @@ impl<C: Chooses> Moment<'_, C> {
         others: &Lines,
         line: u32,
         options: &[u32],
+        offers: &mut Vec<Candidate>,
     ) -> Result<u32, AllocError>
         requires { length options.now + 1 < 2 ^ 32 }
         ensures { IfOk result (λ target. IsPicked (C.answers self.now.chooser.now) (offer question others.now) (line ∷ options.now) target) }
     {
-        let offers = offers_from(self.alloc, question, others, line, options)?;
-        Ok(line_at(line, options, self.chooser.choose(&offers)))
+        let list = mem::replace(offers, Vec::new(self.alloc));
+        *offers = filled_from(list, question, others, line, options)?;
+        Ok(line_at(line, options, self.chooser.choose(offers)))
     }
 
     // One of these lines of a net that holds tracks on its own ones, picked by the chooser.
@@ -136,17 +138,18 @@ fn filled_offers(
     Ok(offers)
 }
 
-// A line and then some options, as they are offered.
-fn offers_from(
-    alloc: Global,
+// A line and then some options as they are offered, in the room of a list.
+fn filled_from(
+    mut offers: Vec<Candidate>,
     question: Question,
     others: &Lines,
     line: u32,
     options: &[u32],
 ) -> Result<Vec<Candidate>, AllocError>
-    ensures { IfOk result (λ offers. offers.items ≡ map (offer question others.now) (line ∷ options.now)) }
+    ensures { IfOk result (λ filled. filled.items ≡ map (offer question others.now) (line ∷ options.now)) }
 {
-    let mut offers = Vec::with_capacity(alloc, options.len() + 1)?;
+    offers.clear();
+    offers.reserve(options.len() + 1)?;
     offers.push_reserved(question.offer(others, line));
     let mut rest = options;
     while let Some((option, later)) = rest.split_first() {

@@ -1,6 +1,6 @@
 use Rattle.std.proofs.Common.{◌≡◌, ◌≤◌, ◌+◌, ◌++◌, ◌∷◌, length, map, vec_capacity, vec_len}
 use Rattle.greedy_column.specs.Offers.{offer}
-use Rattle.greedy_column.proofs.question.offers_from.Given as goal
+use Rattle.greedy_column.proofs.question.filled_from.Given as goal
 
 abbrev pub invariant-loop-option : goal.invariant-loop-option
 invariant-loop-option l = record {
