@@ -1,21 +1,20 @@
 -- tables by the nets of tracks: of lines, and of marks
-use Rattle.std.specs.Prelude.{◌≡◌, ◌==◌, not, if◌then◌else◌, ℕ, List, Bool, Option, Some, None, false, slice_index}
+use Rattle.std.specs.Prelude.{◌≡◌, ◌==◌, ◌≤◌, ◌-◌, nat_le, not, if◌then◌else◌, ℕ, List, Bool, Option, Some, None, false, slice_index}
 use Rattle.std.specs.List.{list_any}
-use Rattle.greedy_column.specs.declared.column.Track.{Track}
 use Rattle.greedy_column.specs.declared.span.Span.{Span}
 use Rattle.greedy_column.specs.Ending.{is_split}
-use Rattle.greedy_column.specs.Lines.{holds_track}
 
--- the line that an entry tells, none where it is 0
-abbrev pub noted : ℕ → Option ℕ
-noted entry = if entry == 0 then None else Some entry
+-- the line that an entry tells above a base: none where it does not lie above it
+abbrev pub noted : ℕ → ℕ → Option ℕ
+noted base entry = if nat_le entry base then None else Some (entry - base)
 
--- no entry of a table tells a line, and none but those of the nets of these tracks
+-- no entry of a table lies above a base, so that none tells a line above it
+abbrev pub IsBelow : ℕ → List ℕ → Type 0
+IsBelow base table = (net : ℕ) → slice_index table net ≤ base
+
+-- no entry of a table is a mark
 abbrev pub IsBlank : List ℕ → Type 0
 IsBlank table = (net : ℕ) → slice_index table net ≡ 0
-
-abbrev pub IsBlankBut : List Track → List ℕ → Type 0
-IsBlankBut tracks table = (net : ℕ) → holds_track tracks net ≡ false → slice_index table net ≡ 0
 
 -- a net is marked; the nets that are marked are those of more than one group; none are marked but those of some pairs
 abbrev pub is_marked : List ℕ → ℕ → Bool

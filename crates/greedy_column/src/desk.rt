@@ -1,7 +1,7 @@
 //! What the columns of a sweep use one after another, so that it is made once.
 
 use crate::marks::{mark_split, unmark};
-use crate::pairs::{Pairs, clear, neighbours_by};
+use crate::pairs::{Pairs, neighbours_by};
 use crate::span::Span;
 use crate::tracks::Tracks;
 use choose_core::Candidate;
@@ -9,21 +9,25 @@ use std::alloc::{AllocError, Global};
 use std::marker::Model;
 use std::mem;
 
-/// What the columns of a sweep use one after another. It tells nothing: each column leaves it as it was.
+/// What the columns of a sweep use one after another. It tells nothing: a table of lines by net, in which each column counts from where the
+/// one before it ended, so that no entry need be set back; a table of marks by net, which each column leaves without marks; and a list with
+/// room for offers.
 #[derive(Debug, Drop)]
 pub struct Desk {
     above: Vec<u32>,
+    base: u32,
+    marks: Vec<u32>,
     offers: Vec<Candidate>,
 }
 
 impl Model for Desk {
-    ghost use Rattle.greedy_column.specs.Desk.{IsBlank};
+    ghost use Rattle.greedy_column.specs.Desk.{IsBelow, IsBlank};
 
     ghost Value = { Unit {0} };
 
     ghost view = { λ desk. tt };
 
-    ghost invariant = { λ desk. IsBlank desk.above.items };
+    ghost invariant = { λ desk. IsBelow desk.base desk.above.items × IsBlank desk.marks.items };
 }
 
 impl Desk {
@@ -35,6 +39,8 @@ impl Desk {
     pub fn new(alloc: Global) -> Desk {
         Desk {
             above: Vec::new(alloc),
+            base: 0,
+            marks: Vec::new(alloc),
             offers: Vec::new(alloc),
         }
     }
@@ -53,8 +59,13 @@ impl Desk {
     pub(crate) fn neighbours(&mut self, alloc: Global, tracks: &Tracks) -> Result<Pairs, AllocError>
         ensures { IfOk result (λ pairs. pairs ≡ neighbours tracks.now) }
     {
-        let found = neighbours_by(alloc, tracks, &mut self.above);
-        clear(&mut self.above, tracks.list());
+        // Where the numbers run out, they begin anew with an empty table.
+        if self.base > u32::MAX - tracks.count() {
+            self.above = Vec::new(alloc);
+            self.base = 0;
+        }
+        let found = neighbours_by(alloc, tracks, &mut self.above, self.base);
+        self.base += tracks.count();
         found
     }
 
@@ -67,7 +78,7 @@ impl Desk {
     ) -> Result<Vec<u32>, AllocError>
         ensures { IfOk result (λ marks. MarksSplit spans.now pairs.now marks.items) }
     {
-        let mut marks = mem::replace(&mut self.above, Vec::new(alloc));
+        let mut marks = mem::replace(&mut self.marks, Vec::new(alloc));
         mark_split(&mut marks, pairs.list(), spans)?;
         Ok(marks)
     }
@@ -77,6 +88,6 @@ impl Desk {
         requires { MarksWithin pairs.now marks.items }
     {
         unmark(&mut marks, pairs.list());
-        self.above = marks;
+        self.marks = marks;
     }
 }

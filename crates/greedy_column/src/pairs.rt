@@ -1,11 +1,10 @@
 //! Two neighbouring tracks of a net as a pair: which pairs verticals join, and which may still be joined.
 
-ghost use Rattle.greedy_column.specs.Desk.{IsBlank, IsBlankBut, noted};
+ghost use Rattle.greedy_column.specs.Desk.{IsBelow, noted};
 ghost use Rattle.greedy_column.specs.Ending.{joined_pairs};
 ghost use Rattle.greedy_column.specs.Joining.{ArePairs, neighbours, pair_of, possible_joins};
-ghost use Rattle.std.specs.Prelude.{◌≡◌, ◌++◌, IfOk, OnOk};
+ghost use Rattle.std.specs.Prelude.{◌≡◌, ◌<◌, ◌+◌, ◌^◌, ◌++◌, IfOk, OnOk, length};
 
-use crate::column::Track;
 use crate::desk::Desk;
 use crate::span::Span;
 use crate::table::{entry, put, reach};
@@ -82,16 +81,18 @@ impl Pairs {
     }
 }
 
-// All two neighbouring tracks of a net, by ascending lower track, from the top down: a blank table comes to tell by net the lowest
-// line so far.
+// All two neighbouring tracks of a net, by ascending lower track, from the top down: a table without entries above a base comes to tell by
+// net, above it, the lowest line so far.
 pub(crate) fn neighbours_by(
     alloc: Global,
     tracks: &Tracks,
     above: &mut Vec<u32>,
+    base: u32,
 ) -> Result<Pairs, AllocError>
-    requires { IsBlank above.old.items }
+    requires below { IsBelow base above.old.items }
+    requires few { base + length tracks.now < 2 ^ 32 }
     ensures pairs { IfOk result (λ pairs. pairs ≡ neighbours tracks.now) }
-    ensures others { IsBlankBut tracks.now above.new.items }
+    ensures below { IsBelow (base + length tracks.now) above.new.items }
 {
     let all = tracks.list();
     let mut list = Vec::with_capacity(alloc, all.len().min(32))?;
@@ -101,30 +102,22 @@ pub(crate) fn neighbours_by(
         place -= 1;
         let net = all[place].net;
         reach(above, net, 0)?;
-        push_pair(&mut list, net, line, noted(entry(above, net)))?;
-        put(above, net, line);
+        push_pair(&mut list, net, line, noted(base, entry(above, net)))?;
+        put(above, net, base + line);
     }
     list.reverse();
     Ok(Pairs { list })
 }
 
-// Makes a table blank that is blank but for the nets of these tracks.
-pub(crate) fn clear(above: &mut Vec<u32>, tracks: &[Track])
-    requires { IsBlankBut tracks.now above.old.items }
-    ensures { IsBlank above.new.items }
+// The line that an entry tells above a base, none where it does not lie above it.
+fn noted(base: u32, entry: u32) -> Option<u32>
+    ensures { result ≡ noted base entry }
 {
-    let mut rest = tracks;
-    while let Some((track, others)) = rest.split_first() {
-        put(above, track.net, 0);
-        rest = others;
+    if entry <= base {
+        None
+    } else {
+        Some(entry - base)
     }
-}
-
-// The line that an entry tells, none where it is 0.
-fn noted(entry: u32) -> Option<u32>
-    ensures { result ≡ noted entry }
-{
-    if entry == 0 { None } else { Some(entry) }
 }
 
 // Adds a track of a net and the next one above it, where there is one.
