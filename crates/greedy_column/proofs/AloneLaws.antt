@@ -21,7 +21,7 @@ own_count net first (t ∷ tracks) = step (eqb t.net net) (own_count net (suc fi
   step false later = omega (arith, later)
 
 -- the place of a track is listed for its net
-own_at : (net first k : ℕ) (tracks : List Track) → 0 < net → get_or (nets tracks) k 0 ≡ net → Contains (own_from net first tracks) (first + k)
+pub own_at : (net first k : ℕ) (tracks : List Track) → 0 < net → get_or (nets tracks) k 0 ≡ net → Contains (own_from net first tracks) (first + k)
 own_at net first k [] some held = absurd (omega (arith, some, held))
 own_at net first zero (t ∷ tracks) some held =
     let e : first ≡ first + zero = omega arith in

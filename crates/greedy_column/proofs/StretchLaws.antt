@@ -49,7 +49,7 @@ movable_from spans free line [] = []
 movable_from spans free line (t ∷ tracks) =
     cond (not (eqb t.net 0) && has_option spans free t.net line) (line ∷ []) [] ++ movable_from spans free (suc line) tracks
 
-filter_one : (p : ℕ → Bool) (line : ℕ) (lines : List ℕ) (b : Bool) → cond (b && p line) (line ∷ []) [] ++ filter p lines ≡ filter p (cond b (line ∷ []) [] ++ lines)
+pub filter_one : (p : ℕ → Bool) (line : ℕ) (lines : List ℕ) (b : Bool) → cond (b && p line) (line ∷ []) [] ++ filter p lines ≡ filter p (cond b (line ∷ []) [] ++ lines)
 filter_one p line lines true = step (p line) where
   step : (c : Bool) → cond c (line ∷ []) [] ++ filter p lines ≡ cond c (line ∷ filter p lines) (filter p lines)
   step true = refl

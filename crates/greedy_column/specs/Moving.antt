@@ -1,5 +1,5 @@
 -- the free lines that each kept track may go to, the order in which those move that have one, and the moves that are made
-use Rattle.std.specs.Prelude.{◌≡◌, ◌≢◌, ◌⊎◌, ◌<◌, ◌==◌, ◌^◌, ◌+◌, ◌-◌, ◌%◌, ◌++◌, ◌&&◌, ◌||◌, not, nat_le, nat_lt, Bool, false, true, ℕ, List, [], ◌∷◌, filter, length, min, max, slice_index_or}
+use Rattle.std.specs.Prelude.{◌≡◌, ◌≢◌, ◌⊎◌, ◌<◌, ◌==◌, ◌^◌, ◌+◌, ◌-◌, ◌%◌, ◌++◌, ◌&&◌, ◌||◌, not, if◌then◌else◌, nat_le, nat_lt, Bool, false, true, ℕ, List, [], ◌∷◌, Contains, filter, length, min, max, slice_index_or}
 use Rattle.std.specs.List.{list_all, list_any}
 use Rattle.std.specs.List.Sorted.{IsNonDecreasingBy, IsStableByKey}
 use Rattle.std.specs.Ordering.{nat_cmp}
@@ -9,6 +9,7 @@ use Rattle.choose_core.specs.declared.candidate.Next.TheVariants.{Ends, Top, Bot
 use Rattle.choose_core.specs.declared.plan.Manner.{Manner}
 use Rattle.choose_core.specs.declared.plan.Manner.TheVariants.{Published, LookingAhead}
 use Rattle.greedy_column.specs.declared.column.Track.{Track}
+use Rattle.greedy_column.specs.declared.move_order.Waiting.{Waiting}
 use Rattle.greedy_column.specs.declared.span.Span.{Span}
 use Rattle.greedy_column.specs.declared.stretch.Stretch.{Stretch}
 use Rattle.greedy_column.specs.declared.window.Window.{Window}
@@ -68,13 +69,25 @@ movable_lines spans free kept = filter (is_movable spans free kept) (held_lines 
 abbrev pub is_split : List Track → ℕ → Bool
 is_split kept line = nat_lt 1 (length (own_lines (net_on kept line) kept))
 
--- a net is of one of some pairs, or is none
-abbrev pub is_paired : List Span → ℕ → Bool
-is_paired pairs net = net == 0 || list_any (λ (pair : Span). pair.net == net) pairs
+-- a pair of a net has an end whose line passes a test
+abbrev pub is_end_of : ℕ → (ℕ → Bool) → Span → Bool
+is_end_of net passes pair = pair.net == net && (passes pair.low || passes pair.high)
 
--- no net that holds several tracks is missing in some pairs
+-- a net holds a line, which is another one than this
+abbrev pub is_held_beside : List Track → ℕ → ℕ → ℕ → Bool
+is_held_beside kept net line other = not (other == line) && net_on kept other == net
+
+-- a net that holds a line holds another end of some pairs of it too
+abbrev pub has_other_end : List Span → List Track → ℕ → ℕ → Bool
+has_other_end pairs kept net line = list_any (is_end_of net (is_held_beside kept net line)) pairs
+
+-- some pairs tell which kept tracks have nets that hold others too
 abbrev pub TellSplit : List Span → List Track → Type 0
-TellSplit pairs kept = (line : ℕ) → is_paired pairs (net_on kept line) ≡ false → is_split kept line ≡ false
+TellSplit pairs kept = (line : ℕ) → Contains (held_lines kept) line → has_other_end pairs kept (net_on kept line) line ≡ is_split kept line
+
+-- all of some lines are held
+abbrev pub AreHeld : List Track → List ℕ → Type 0
+AreHeld kept lines = (line : ℕ) → Contains lines line → Contains (held_lines kept) line
 
 -- how much of a channel of so many tracks lies behind a line on the way to the next pins, and all of it where these lie at no one edge
 abbrev pub behind : ℕ → Next → ℕ → ℕ
@@ -85,6 +98,14 @@ behind tracks Ends line = tracks + 1
 
 abbrev pub behind_on : (ℕ → Next) → List Track → ℕ → ℕ
 behind_on next kept line = behind (length kept) (next (net_on kept line)) line
+
+-- the rank of a line in the order of moves: the lowest one where its net is split, and else by how much of the channel lies behind it
+abbrev pub rank_on : (ℕ → Next) → List Track → ℕ → ℕ
+rank_on next kept line = if is_split kept line then 0 else 1 + behind_on next kept line
+
+-- a line that waits for its move, by its rank
+abbrev pub waiting : (ℕ → ℕ) → ℕ → Waiting
+waiting rank line = record { line = line; rank = rank line }
 
 -- lines by ascending key, those of one key as they stood
 pub record AreOrdered (key : ℕ → ℕ) (lines ordered : List ℕ) : Type 0 where

@@ -1,8 +1,6 @@
-//! Groups of joined tracks: which lines are joined to others, which nets are paired, and the lines of a group from its lowest one up.
+//! Groups of joined tracks: which lines are joined to others, and the lines of a group from its lowest one up.
 
 ghost use Rattle.greedy_column.specs.Ending.{chain_from, is_joined_above, is_joined_below};
-ghost use Rattle.greedy_column.specs.Moving.{is_paired};
-ghost use Rattle.std.specs.List.{list_any};
 ghost use Rattle.std.specs.Prelude.{◌≡◌, ◌==◌, ◌<◌, ◌^◌, IfOk, length};
 
 use crate::pairs::Pairs;
@@ -21,20 +19,6 @@ impl Pairs {
         ensures { result ≡ is_joined_above self.now line }
     {
         self.list().iter().any(|pair| pair.low == line)
-    }
-
-    // Whether a net is of one of these pairs, or is none.
-    pub(crate) fn is_paired(&self, net: u32) -> bool
-        ensures { result ≡ is_paired self.now net }
-    {
-        net == 0 || self.has_net(net)
-    }
-
-    // Whether a net is of one of these pairs.
-    fn has_net(&self, net: u32) -> bool
-        ensures { result ≡ list_any (λ pair. pair.net == net) self.now }
-    {
-        self.list().iter().any(|pair| pair.net == net)
     }
 }
 

@@ -1,15 +1,15 @@
 //! Which kept tracks may move, and in what order: from bottom to top, or split nets first and then the farthest to go.
 
-ghost use Rattle.greedy_column.specs.Moving.{AreOrdered, IsOrderAhead, IsOrderOfMoves, TellSplit, behind, behind_on, is_movable, is_split, movable_lines};
+ghost use Rattle.greedy_column.specs.Lines.{held_lines};
+ghost use Rattle.greedy_column.specs.Moving.{AreHeld, IsOrderAhead, IsOrderOfMoves, TellSplit, behind, has_other_end, is_end_of, is_held_beside, movable_lines, rank_on, waiting};
 ghost use Rattle.greedy_column.specs.Uses.{next_after};
 ghost use Rattle.std.specs.List.Sorted.{IsNonDecreasingBy, IsPermutation, IsStableByKey};
 ghost use Rattle.std.specs.Ordering.{nat_cmp};
-ghost use Rattle.std.specs.Prelude.{◌≡◌, ◌<◌, ◌+◌, ◌^◌, IfOk, OnOk, filter, length, map, not};
+ghost use Rattle.std.specs.Prelude.{◌≡◌, ◌<◌, ◌≤◌, ◌+◌, ◌^◌, Contains, IfOk, OnOk, length, map, vec_capacity, vec_len};
 
 use crate::ahead::Ahead;
 use crate::column::Track;
 use crate::free_lines::FreeLines;
-use crate::lines::put_where;
 use crate::pairs::Pairs;
 use crate::span::Span;
 use crate::stretch::{Stretch, kinds_of};
@@ -17,18 +17,11 @@ use crate::tracks::Tracks;
 use choose_core::{Manner, Next};
 use std::alloc::{AllocError, Global};
 
-// A line whose track is to move, and how much of the channel lies behind it on the way to the next pins.
+// A line whose track is to move, and its rank: those of lowest rank move first.
 #[derive(Clone, Copy, Debug)]
 pub(crate) struct Waiting {
     pub(crate) line: u32,
-    pub(crate) behind: u32,
-}
-
-// Lines of split nets, and others.
-#[derive(Debug, Drop)]
-struct Parted {
-    split: Vec<u32>,
-    others: Vec<u32>,
+    pub(crate) rank: u32,
 }
 
 // The lines of the kept tracks that have one of these free lines to go to past these verticals.
@@ -69,7 +62,7 @@ fn movable_of(
     Ok(lines)
 }
 
-// The order in which the kept tracks of these lines may move, by pairs that tell which nets may hold several tracks.
+// The order in which the kept tracks of these lines may move, by pairs that tell which nets hold several tracks.
 pub(crate) fn order_of_moves(
     alloc: Global,
     manner: Manner,
@@ -79,12 +72,13 @@ pub(crate) fn order_of_moves(
     kept: &Tracks,
     lines: Vec<u32>,
 ) -> Result<Vec<u32>, AllocError>
-    requires { TellSplit pairs.now kept.now }
+    requires tell { TellSplit pairs.now kept.now }
+    requires held { AreHeld kept.now lines.items }
     ensures { IfOk result (λ order. IsOrderOfMoves manner (next_after ahead.now.uses.items column) kept.now lines.items order.items) }
 {
     match manner {
         Manner::Published => Ok(lines),
-        Manner::LookingAhead => order_ahead(alloc, ahead, column, pairs, kept, lines),
+        Manner::LookingAhead => order_ahead(alloc, ahead, column, pairs.list(), kept, lines),
     }
 }
 
@@ -93,109 +87,89 @@ fn order_ahead(
     alloc: Global,
     ahead: &Ahead,
     column: u32,
-    pairs: &Pairs,
+    pairs: &[Span],
     kept: &Tracks,
-    lines: Vec<u32>,
+    mut lines: Vec<u32>,
 ) -> Result<Vec<u32>, AllocError>
-    requires { TellSplit pairs.now kept.now }
+    requires tell { TellSplit pairs.now kept.now }
+    requires held { AreHeld kept.now lines.items }
     ensures { IfOk result (λ order. IsOrderAhead (next_after ahead.now.uses.items column) kept.now lines.items order.items) }
 {
     if lines.len() < 2 {
         return Ok(lines);
     }
-    let parted = parted_lines(alloc, pairs, kept, &lines)?;
-    let Parted { split, others } = parted;
-    let farthest = farthest_first(alloc, ahead, column, kept, others)?;
-    let mut order = split;
-    order.extend_from_slice(&farthest)?;
-    Ok(order)
+    let mut waiting = waiting_on(alloc, ahead, column, pairs, kept, &lines)?;
+    sort_by_rank(&mut waiting)?;
+    put_lines(&mut lines, &waiting);
+    Ok(lines)
 }
 
-// Some lines, parted by whether their nets are split.
-fn parted_lines(
-    alloc: Global,
-    pairs: &Pairs,
-    kept: &Tracks,
-    lines: &[u32],
-) -> Result<Parted, AllocError>
-    requires { TellSplit pairs.now kept.now }
-    ensures split { IfOk result (λ parted. parted.split.items ≡ filter (is_split kept.now) lines.now) }
-    ensures others { IfOk result (λ parted. parted.others.items ≡ filter (λ line. not (is_split kept.now line)) lines.now) }
-{
-    let mut split = Vec::with_capacity(alloc, lines.len())?;
-    let mut others = Vec::with_capacity(alloc, lines.len())?;
-    let mut rest = lines;
-    while let Some((line, later)) = rest.split_first() {
-        rest = later;
-        let among = is_split(pairs, kept, *line);
-        put_where(&mut split, among, *line);
-        put_where(&mut others, !among, *line);
-    }
-    Ok(Parted { split, others })
-}
-
-// Whether the net of a line holds other tracks too: its tracks are counted only where the net is paired.
-fn is_split(pairs: &Pairs, kept: &Tracks, line: u32) -> bool
-    requires { TellSplit pairs.now kept.now }
-    ensures { result ≡ is_split kept.now line }
-{
-    let net = kept.net_on(line);
-    if !pairs.is_paired(net) {
-        return false;
-    }
-    kept.held(net) > 1
-}
-
-// Some lines, those first that have the farthest to go.
-fn farthest_first(
-    alloc: Global,
-    ahead: &Ahead,
-    column: u32,
-    kept: &Tracks,
-    lines: Vec<u32>,
-) -> Result<Vec<u32>, AllocError>
-    ensures { IfOk result (λ ordered. AreOrdered (behind_on (next_after ahead.now.uses.items column) kept.now) lines.items ordered.items) }
-{
-    if lines.len() < 2 {
-        return Ok(lines);
-    }
-    let mut waiting = waiting_on(alloc, ahead, column, kept, &lines)?;
-    sort_by_behind(&mut waiting)?;
-    lines_of(alloc, &waiting)
-}
-
-// The lines on which some are waiting.
-fn lines_of(alloc: Global, waiting: &[Waiting]) -> Result<Vec<u32>, AllocError>
-    ensures { IfOk result (λ lines. lines.items ≡ map (λ w. w.line) waiting.now) }
-{
-    waiting.iter().map(|one| one.line).collect(alloc)
-}
-
-// Some lines, each with how much of the channel lies behind it.
+// Some lines, each with its rank.
 fn waiting_on(
     alloc: Global,
     ahead: &Ahead,
     column: u32,
+    pairs: &[Span],
     kept: &Tracks,
     lines: &[u32],
 ) -> Result<Vec<Waiting>, AllocError>
-    ensures { IfOk result (λ waiting. waiting.items
-        ≡ map (λ line. record { line = line; behind = behind_on (next_after ahead.now.uses.items column) kept.now line }) lines.now) }
+    requires tell { TellSplit pairs.now kept.now }
+    requires held { AreHeld kept.now lines.now }
+    ensures { IfOk result (λ found. found.items ≡ map (waiting (rank_on (next_after ahead.now.uses.items column) kept.now)) lines.now) }
 {
-    lines
+    let mut waiting = Vec::with_capacity(alloc, lines.len())?;
+    let mut rest = lines;
+    while let Some((line, later)) = rest.split_first() {
+        let rank = rank(ahead, column, pairs, kept, *line);
+        waiting.push_reserved(Waiting { line: *line, rank });
+        rest = later;
+    }
+    Ok(waiting)
+}
+
+// The rank of a line: the lowest one where its net is split, and else by how much of the channel lies behind it.
+fn rank(ahead: &Ahead, column: u32, pairs: &[Span], kept: &Tracks, line: u32) -> u32
+    requires tell { TellSplit pairs.now kept.now }
+    requires held { Contains (held_lines kept.now) line }
+    ensures { result ≡ rank_on (next_after ahead.now.uses.items column) kept.now line }
+{
+    let net = kept.net_on(line);
+    if has_other_end(pairs, kept, net, line) {
+        return 0;
+    }
+    1 + behind(kept, ahead.next(net, column), line)
+}
+
+// Whether a net that holds a line holds another end of these pairs of it too.
+fn has_other_end(pairs: &[Span], kept: &Tracks, net: u32, line: u32) -> bool
+    ensures { result ≡ has_other_end pairs.now kept.now net line }
+{
+    pairs
         .iter()
-        .map(|line| Waiting {
-            line: *line,
-            behind: behind(kept, ahead.next(kept.net_on(*line), column), *line),
-        })
-        .collect(alloc)
+        .any(|pair| has_end_beside(*pair, kept, net, line))
+}
+
+// Whether a pair is of a net that holds one of its ends, which is on another line than this.
+fn has_end_beside(pair: Span, kept: &Tracks, net: u32, line: u32) -> bool
+    ensures { result ≡ is_end_of net (is_held_beside kept.now net line) pair }
+{
+    pair.net == net
+        && (is_held_beside(kept, net, line, pair.low) || is_held_beside(kept, net, line, pair.high))
+}
+
+// Whether a net holds a line, and this is another one than its own.
+fn is_held_beside(kept: &Tracks, net: u32, line: u32, other: u32) -> bool
+    ensures { result ≡ is_held_beside kept.now net line other }
+{
+    other != line && kept.net_on(other) == net
 }
 
 // How much of a channel of so many tracks lies behind a line on the way to the next pins, and all of it where these lie at no one edge.
 fn behind(tracks: &Tracks, next: Next, line: u32) -> u32
-    ensures { result ≡ behind (length tracks.now) next line }
+    ensures behind { result ≡ behind (length tracks.now) next line }
+    ensures few { line ≤ length tracks.now → result + 1 < 2 ^ 32 }
 {
-    let upper_edge = tracks.upper_edge();
+    let upper_edge = tracks.count() + 1;
     match next {
         Next::Top => line,
         Next::Bottom => upper_edge.saturating_sub(line),
@@ -203,12 +177,26 @@ fn behind(tracks: &Tracks, next: Next, line: u32) -> u32
     }
 }
 
-// Sorts waiting lines by how much lies behind them, those of one value as they stood.
-fn sort_by_behind(waiting: &mut Vec<Waiting>) -> Result<(), AllocError>
-    ensures sorted { OnOk result (IsNonDecreasingBy (λ w. w.behind) waiting.new.items) }
-    ensures stable { OnOk result (IsStableByKey (λ w. w.behind) nat_cmp waiting.old.items waiting.new.items) }
+// Sorts waiting lines by rank, those of one rank as they stood.
+fn sort_by_rank(waiting: &mut Vec<Waiting>) -> Result<(), AllocError>
+    ensures sorted { OnOk result (IsNonDecreasingBy (λ w. w.rank) waiting.new.items) }
+    ensures stable { OnOk result (IsStableByKey (λ w. w.rank) nat_cmp waiting.old.items waiting.new.items) }
     ensures same { OnOk result (IsPermutation waiting.old.items waiting.new.items) }
+    ensures long { vec_len waiting.new ≡ vec_len waiting.old }
 {
-    waiting.sort_by_key(|one| one.behind)?;
+    waiting.sort_by_key(|one| one.rank)?;
     Ok(())
+}
+
+// Puts the lines on which some wait in place of others, which are as many.
+fn put_lines(lines: &mut Vec<u32>, waiting: &[Waiting])
+    requires { length waiting.now ≤ vec_capacity lines.old }
+    ensures { lines.new.items ≡ map (λ w. w.line) waiting.now }
+{
+    lines.clear();
+    let mut rest = waiting;
+    while let Some((one, later)) = rest.split_first() {
+        lines.push_reserved(one.line);
+        rest = later;
+    }
 }

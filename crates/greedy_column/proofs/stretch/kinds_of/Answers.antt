@@ -1,4 +1,4 @@
-use Rattle.std.proofs.Common.{◌%◌, sym, ◌∙◌}
+use Rattle.std.proofs.Common.{◌%◌}
 use Rattle.greedy_column.proofs.StretchLaws.{noted_all}
 use Rattle.greedy_column.proofs.stretch.kinds_of.Goals as goal
 

@@ -1,10 +1,16 @@
-use Rattle.std.proofs.Common.{◌≡◌, ◌∙◌, ap, map, subst, List, ℕ}
+use Rattle.std.proofs.Common.{◌≡◌, ◌∙◌, ap, map, subst, List, ℕ, Contains}
 use Rattle.std.proofs.lemmas.Result.{IfOk-weaker}
 use Rattle.greedy_column.specs.declared.span.Span.{Span}
 use Rattle.greedy_column.specs.Uses.{next_after}
-use Rattle.greedy_column.specs.Lines.{free_lines}
-use Rattle.greedy_column.specs.Moving.{IsOrderOfMoves, MovesFollow, movable_lines, move_ids}
+use Rattle.greedy_column.specs.Lines.{free_lines, held_lines}
+use Rattle.greedy_column.specs.Moving.{IsOrderOfMoves, MovesFollow, is_movable, movable_lines, move_ids}
+use Rattle.std_laws.proofs.Members.{filter-from}
 use Rattle.greedy_column.proofs.moment.Moment.moves_of.Goals as goal
+
+pub order_of_moves-requires-clause-held : goal.order_of_moves-requires-clause-held
+order_of_moves-requires-clause-held g c = λ line member.
+    (filter-from (is_movable c.deref.result.now c.in_ok-free.free c.args.kept.now) (held_lines c.args.kept.now) line
+    (subst (λ (l : List ℕ). Contains l line) c.in_ok-lines.ensures member)).0
 
 pub returns-clause-moves : goal.returns-clause-moves
 returns-clause-moves g c =
