@@ -9,7 +9,7 @@ use Rattle.greedy_column.specs.Joining.{neighbours_from, next_line, pair_of}
 
 -- a table tells by net, above a base, the lowest line of these tracks, the first of which stands on this line
 abbrev pub Notes : ℕ → List ℕ → ℕ → List Track → Type 0
-Notes base above line tracks = (net : ℕ) → noted base (get_or above net 0) ≡ next_line net line tracks
+Notes base above line tracks = (net : ℕ) → 0 < net → noted base (get_or above net 0) ≡ next_line net line tracks
 
 noted-some : (base line : ℕ) → 0 < line → noted base (base + line) ≡ Some line
 noted-some base line some =
@@ -22,7 +22,7 @@ noted-none base entry below = cond-true (leb entry base) None (Some (entry - bas
 
 -- no line is noted yet
 pub Notes-none : (base : ℕ) (above : List ℕ) (line : ℕ) → IsBelow base above → Notes base above line []
-Notes-none base above line below = λ net. noted-none base (get_or above net 0) (below net)
+Notes-none base above line below = λ net some. noted-none base (get_or above net 0) (below net)
 
 -- no entry lies above a bound once one is written that does not
 pub IsBelow-set : (bound : ℕ) (table : List ℕ) (n entry : ℕ) → n < length table → entry ≤ bound → IsBelow bound table → IsBelow bound (set table n entry)
@@ -38,12 +38,12 @@ IsBelow-set bound table n entry inside low below = λ net. elim (cases_eq n net)
 -- a lower track is noted for its net
 Notes-more : (base : ℕ) (above : List ℕ) (line : ℕ) (t : Track) (tracks : List Track) → 0 < line → t.net < length above → Notes base above (suc line) tracks
     → Notes base (set above t.net (base + line)) line (t ∷ tracks)
-Notes-more base above line t tracks some inside notes = λ net. elim (cases_eq t.net net) [
+Notes-more base above line t tracks some inside notes = λ net held. elim (cases_eq t.net net) [
   | inl same ↦
       ap (λ n. noted base (get_or (set above t.net (base + line)) n 0)) (sym same) ∙ ap (noted base) (get_or-set_same above t.net (base + line) 0 inside)
       ∙ noted-some base line some ∙ sym (cond-true (eqb t.net net) (Some line) (next_line net (suc line) tracks) (eq-eqb t.net net same))
   | inr other ↦
-      ap (noted base) (get_or-set_other above t.net net (base + line) 0 (λ same. other (sym same))) ∙ notes net
+      ap (noted base) (get_or-set_other above t.net net (base + line) 0 (λ same. other (sym same))) ∙ notes net held
       ∙ sym (cond-false (eqb t.net net) (Some line) (next_line net (suc line) tracks) (ne_eqb t.net net other))
 ]
 
@@ -53,9 +53,9 @@ pub Notes-down : (base : ℕ) (all : List Track) (k line : ℕ) (t : Track) (abo
     → Notes base (set reached t.net (base + line)) (k + 1) (drop k all)
 Notes-down base all k line t above reached here cut alike inside notes =
     let next : line + 1 ≡ suc line = omega arith in
-    let told : Notes base reached (suc line) (drop line all) = λ net. ap (noted base) (alike net) ∙ notes net ∙ ap (λ l. next_line net l (drop line all)) next in
-    λ net.
-    Notes-more base reached line t (drop line all) (omega (arith, here)) inside told net
+    let told : Notes base reached (suc line) (drop line all) = λ net held. ap (noted base) (alike net) ∙ notes net held ∙ ap (λ l. next_line net l (drop line all)) next in
+    λ net held.
+    Notes-more base reached line t (drop line all) (omega (arith, here)) inside told net held
     ∙ ap (next_line net line) (sym cut) ∙ ap (λ l. next_line net l (drop k all)) here
 
 -- its pair with the next one above it is found

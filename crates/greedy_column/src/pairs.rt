@@ -101,6 +101,9 @@ pub(crate) fn neighbours_by(
         let line = place as u32;
         place -= 1;
         let net = all[place].net;
+        if net == 0 {
+            continue;
+        }
         reach(above, net, 0)?;
         push_pair(&mut list, net, line, noted(base, entry(above, net)))?;
         put(above, net, base + line);

@@ -1,4 +1,4 @@
-use Rattle.std.proofs.Common.{◌≡◌, ◌<◌, ◌+◌, ◌-◌, ◌++◌, ◌∷◌, ◌∙◌, List, ℕ, [], length, drop, reverse, set, replicate, get_or, refl, sym, subst, ap, rules, arith, length-append}
+use Rattle.std.proofs.Common.{◌≡◌, ◌≢◌, ◌<◌, ◌+◌, ◌-◌, ◌++◌, ◌∷◌, ◌∙◌, List, ℕ, [], length, drop, reverse, set, replicate, get_or, refl, sym, subst, ap, rules, arith, length-append}
 use Rattle.std.proofs.lemmas.List.{drop_all, drop_more, length-replicate}
 use Rattle.greedy_column.specs.declared.column.Track.{Track}
 use Rattle.greedy_column.specs.Desk.{IsBelow, noted}
@@ -37,9 +37,10 @@ loop-place-preserved c =
     let long : reached ≡ was ++ replicate (t.net + 1 - length was) 0 = search rules in
     let inside : t.net < length reached =
     omega (arith, ap (λ (l : List ℕ). length l) long, length-append was (replicate (t.net + 1 - length was) 0), length-replicate {A = ℕ} (t.net + 1 - length was) 0) in
+    let held : t.net ≢ 0 = search rules in
     let read : c.entry.result ≡ get_or reached t.net 0 = search rules in
     let told : c.noted.result ≡ next_line t.net (line + 1) (drop line tracks) =
-    c.noted.ensures ∙ ap (noted c.args.base) (read ∙ c.reach.ensures.alike refl t.net) ∙ c.loop-place.invariant.lowest t.net in
+    c.noted.ensures ∙ ap (noted c.args.base) (read ∙ c.reach.ensures.alike refl t.net) ∙ c.loop-place.invariant.lowest t.net (omega (arith, held)) in
     let pushed : c.push_pair.new.pairs.items ≡ c.loop-place.list.items ++ pair_of t.net line c.noted.result = search rules in
     let written : c.put.new.table.items ≡ set reached t.net (c.args.base + line) = search rules in
     let still : IsBelow (c.args.base + length tracks) reached = λ net. rw (c.reach.ensures.alike refl net) (c.loop-place.invariant.below net) in
