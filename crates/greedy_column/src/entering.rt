@@ -167,8 +167,8 @@ impl<C: Chooses> Moment<'_, C> {
             }
             PinKind::EqualPins => self.enter_equal(before, fresh, top, offers),
             PinKind::TwoPins => {
-                let uppers = before.lines_for(self.alloc, top.net)?;
-                let lowers = before.lines_for(self.alloc, bottom.net)?;
+                let lines = before.lines_for_both(self.alloc, top.net, bottom.net)?;
+                let (uppers, lowers) = lines;
                 self.enter_pair(before, fresh, top, bottom, &uppers, &lowers, offers)
             }
         }

@@ -76,7 +76,75 @@ impl Tracks {
         })
     }
 
-    // The same as plain lists, in one pass.
+    // The same for each of two nets.
+    pub(crate) fn lines_for_both(
+        &self,
+        alloc: Global,
+        one: u32,
+        other: u32,
+    ) -> Result<(OpenLines, OpenLines), AllocError>
+        ensures one_all { IfOk result (λ lines. lines.0.all ≡ open_lines one self.now) }
+        ensures one_own { IfOk result (λ lines. lines.0.own ≡ own_lines one self.now) }
+        ensures other_all { IfOk result (λ lines. lines.1.all ≡ open_lines other self.now) }
+        ensures other_own { IfOk result (λ lines. lines.1.own ≡ own_lines other self.now) }
+    {
+        let lists = self.lists_for_both(alloc, one, other)?;
+        let (first, second) = lists;
+        let OpenLists { all, own } = first;
+        let first = OpenLines {
+            all: Lines { list: all },
+            own: Lines { list: own },
+        };
+        let OpenLists { all, own } = second;
+        let second = OpenLines {
+            all: Lines { list: all },
+            own: Lines { list: own },
+        };
+        Ok((first, second))
+    }
+
+    // The same for each of two nets as plain lists, in one pass.
+    fn lists_for_both(
+        &self,
+        alloc: Global,
+        one: u32,
+        other: u32,
+    ) -> Result<(OpenLists, OpenLists), AllocError>
+        ensures one_all { IfOk result (λ lists. lists.0.all.items ≡ open_lines one self.now) }
+        ensures one_own { IfOk result (λ lists. lists.0.own.items ≡ own_lines one self.now) }
+        ensures other_all { IfOk result (λ lists. lists.1.all.items ≡ open_lines other self.now) }
+        ensures other_own { IfOk result (λ lists. lists.1.own.items ≡ own_lines other self.now) }
+        ensures one_all_are { IfOk result (λ lists. AreLines lists.0.all.items) }
+        ensures one_own_are { IfOk result (λ lists. AreLines lists.0.own.items) }
+        ensures other_all_are { IfOk result (λ lists. AreLines lists.1.all.items) }
+        ensures other_own_are { IfOk result (λ lists. AreLines lists.1.own.items) }
+    {
+        let mut one_all = Vec::with_capacity(alloc, self.list().len())?;
+        let mut one_own = Vec::new(alloc);
+        let mut other_all = Vec::with_capacity(alloc, self.list().len())?;
+        let mut other_own = Vec::new(alloc);
+        let mut line = 1u32;
+        let mut rest = self.list();
+        while let Some((track, above)) = rest.split_first() {
+            put_where(&mut one_all, Sought::Open(one).takes(*track), line);
+            push_where(&mut one_own, Sought::Own(one).takes(*track), line)?;
+            put_where(&mut other_all, Sought::Open(other).takes(*track), line);
+            push_where(&mut other_own, Sought::Own(other).takes(*track), line)?;
+            line += 1;
+            rest = above;
+        }
+        let first = OpenLists {
+            all: one_all,
+            own: one_own,
+        };
+        let second = OpenLists {
+            all: other_all,
+            own: other_own,
+        };
+        Ok((first, second))
+    }
+
+    // The lines that are open to a net and its own as plain lists, in one pass.
     fn lists_for(&self, alloc: Global, net: u32) -> Result<OpenLists, AllocError>
         ensures all { IfOk result (λ lists. lists.all.items ≡ open_lines net self.now) }
         ensures own { IfOk result (λ lists. lists.own.items ≡ own_lines net self.now) }
