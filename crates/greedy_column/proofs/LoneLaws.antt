@@ -6,7 +6,7 @@ use Rattle.greedy_column.specs.declared.column.Track.{Track}
 use Rattle.greedy_column.specs.declared.span.Span.{Span}
 use Rattle.greedy_column.specs.Lines.{is_held, lines_from, net_on, own_lines}
 use Rattle.greedy_column.specs.Joining.{neighbours}
-use Rattle.greedy_column.specs.Desk.{MarksSplit, is_marked}
+use Rattle.greedy_column.specs.Desk.{is_marked}
 use Rattle.greedy_column.specs.Entering.{is_ending}
 use Rattle.greedy_column.specs.Ending.{EndsFollow, ends_alone, groups, is_given_up, is_split}
 use Rattle.greedy_column.proofs.EndLaws.{ends_append, ends_single, groups-append}

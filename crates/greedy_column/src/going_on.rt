@@ -10,7 +10,7 @@ ghost use Rattle.std.specs.Prelude.{◌≡◌, ◌<◌, ◌+◌, ◌^◌, IfOk, 
 use crate::ahead::Ahead;
 use crate::column::Track;
 use crate::desk::Desk;
-use crate::freeing::ended_ids;
+use crate::ended::ended_ids;
 use crate::joining::join_ids;
 use crate::moment::Moment;
 use crate::move_order::{movable_lines, order_of_moves};

@@ -297,8 +297,8 @@ pub(crate) fn put_where(lines: &mut Vec<u32>, wanted: bool, line: u32)
     }
 }
 
-/// The line of an id, one above all tracks where it has none. Takes no memory.
-pub fn line_of(tracks: &[Track], id: u32) -> u32
+// The line of an id, one above all tracks where it has none.
+pub(crate) fn line_of(tracks: &[Track], id: u32) -> u32
     requires { length tracks.now + 1 < 2 ^ 32 }
     ensures line { result ≡ line_of (ids tracks.now) id }
     ensures within { result ≤ length tracks.now + 1 }

@@ -3,13 +3,12 @@
 ghost use Rattle.greedy_column.specs.Uses.{next_after};
 ghost use Rattle.greedy_column.specs.Lines.{net_on, own_lines};
 ghost use Rattle.greedy_column.specs.Replay.{moved};
-ghost use Rattle.greedy_column.specs.Tracks.{given, held_by, hold, ids};
+ghost use Rattle.greedy_column.specs.Tracks.{ids};
 ghost use Rattle.greedy_column.specs.Moving.{GoesTo, MovesFollow, carried, move_ids, move_options, others_of_net, piece_between, without};
 ghost use Rattle.greedy_column.specs.Offers.{move_question};
 ghost use Rattle.std.specs.Prelude.{◌≡◌, ◌<◌, ◌+◌, ◌++◌, ◌∷◌, ◌^◌, [], IfOk, OnOk, length, map};
 
 use crate::ahead::Ahead;
-use crate::column::Track;
 use crate::free_lines::FreeLines;
 use crate::lines::Lines;
 use crate::moment::Moment;
@@ -156,57 +155,4 @@ pub(crate) fn move_ids(
         .iter()
         .map(|step| (tracks.id_on(step.0), tracks.id_on(step.1)))
         .collect(alloc)
-}
-
-// Carries the net of each move from one track to another.
-pub(crate) fn carry(tracks: &mut [Track], moves: &[(u32, u32)])
-    ensures { tracks.new ≡ moved moves.now tracks.old }
-{
-    let mut rest = moves;
-    while let Some((step, later)) = rest.split_first() {
-        let net = held_by(tracks, step.0);
-        hold_both(tracks, step.0, 0, step.1, net);
-        rest = later;
-    }
-}
-
-// Gives the track of an id to a net, and then that of another id to another net, in one pass.
-pub(crate) fn hold_both(tracks: &mut [Track], id: u32, net: u32, other: u32, other_net: u32)
-    ensures { tracks.new ≡ hold other other_net (hold id net tracks.old) }
-{
-    for track in tracks.iter_mut() {
-        *track = given_both(id, net, other, other_net, *track);
-    }
-}
-
-// The same for one track.
-fn given_both(id: u32, net: u32, other: u32, other_net: u32, track: Track) -> Track
-    ensures { result ≡ given other other_net (given id net track) }
-{
-    given(other, other_net, given(id, net, track))
-}
-
-/// The net that holds the track of an id, 0 where there is none. Takes no memory.
-pub fn held_by(tracks: &[Track], id: u32) -> u32
-    ensures { result ≡ held_by tracks.now id }
-{
-    let mut rest = tracks;
-    while let Some((track, above)) = rest.split_first() {
-        if track.id == id {
-            return track.net;
-        }
-        rest = above;
-    }
-    0
-}
-
-// One track, given to a net where it has this id.
-pub(crate) fn given(id: u32, net: u32, track: Track) -> Track
-    ensures { result ≡ given id net track }
-{
-    if track.id == id {
-        Track { id, net }
-    } else {
-        track
-    }
 }

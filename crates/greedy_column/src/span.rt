@@ -5,8 +5,6 @@ ghost use Rattle.greedy_column.specs.Tracks.{ids};
 ghost use Rattle.greedy_column.specs.Verticals.{verticals_of_pins};
 ghost use Rattle.std.specs.Prelude.{◌≡◌, ◌<◌, ◌+◌, ◌^◌, IfOk, length, map};
 
-use crate::column::Track;
-use crate::lines::line_of;
 use std::alloc::{AllocError, Global};
 
 /// A piece of wire in a column, from a lower line to a higher one.
@@ -51,34 +49,8 @@ impl Span {
     }
 }
 
-/// The verticals of a column's pins on their lines: that of two equal pins, or that of the bottom pin and that of the top pin, from
-/// the nets of the pins and the ids of the tracks that they enter. The one error is want of memory.
-pub fn pin_spans(
-    alloc: Global,
-    tracks: &[Track],
-    straight: bool,
-    top_net: u32,
-    bottom_net: u32,
-    top: u32,
-    bottom: u32,
-) -> Result<Vec<Span>, AllocError>
-    requires { length tracks.now + 1 < 2 ^ 32 }
-    ensures { IfOk result (λ spans.
-        spans.items ≡ map (span_in (ids tracks.now)) (verticals_of_pins straight top_net bottom_net top bottom)) }
-{
-    let upper_edge = tracks.len() as u32 + 1;
-    spans_of_pins(
-        alloc,
-        straight,
-        top_net,
-        bottom_net,
-        line_of(tracks, top),
-        line_of(tracks, bottom),
-        upper_edge,
-    )
-}
-
-// The same by the lines of these tracks and that of the upper edge.
+// The verticals of a column's pins: that of two equal pins, or that of the bottom pin and that of the top pin, from the nets of the pins, the
+// lines of the tracks that they enter and that of the upper edge.
 pub(crate) fn spans_of_pins(
     alloc: Global,
     straight: bool,

@@ -1,5 +1,5 @@
 use Rattle.std.proofs.Common.{◌≡◌, ◌≤◌, ◌+◌, ◌++◌, length, vec_capacity, vec_len}
-use Rattle.greedy_column.specs.Lines.{lines_from, open_lines, own_lines, is_open, is_sought}
+use Rattle.greedy_column.specs.Lines.{lines_from, is_sought}
 use Rattle.greedy_column.specs.declared.lines.Sought.TheVariants.{Open, Own}
 use Rattle.greedy_column.proofs.tracks.Tracks.lists_for.Given as goal
 

@@ -1,6 +1,6 @@
 use Rattle.std.proofs.Common.{rules}
 use Rattle.greedy_column.proofs.SortedLaws.{AreEnded-from_sort}
-use Rattle.greedy_column.proofs.freeing.ended_ids.Goals as goal
+use Rattle.greedy_column.proofs.ended.ended_ids.Goals as goal
 
 pub returns : goal.returns
 returns c =
