@@ -1,5 +1,5 @@
-use Rattle.std.proofs.Common.{◌≡◌, inl, inr, ◌<◌, ◌≤◌, ◌+◌, ◌++◌, ◌||◌, ◌&&◌, not, eqb, ltb, ℕ, suc, List, [], ◌∷◌, Bool, true, false, cond, Option, Some, None, length, filter, get_or, refl, sym, ap, subst, ◌∙◌, arith, eqb-true, eq-eqb, Contains}
-use Rattle.std.proofs.lemmas.Bool.{cases_eq, ne_eqb}
+use Rattle.std.proofs.Common.{◌≡◌, inl, inr, ◌<◌, ◌≤◌, ◌+◌, ◌++◌, ◌||◌, ◌&&◌, not, eqb, leb, ltb, ℕ, suc, List, [], ◌∷◌, Bool, true, false, cond, Option, Some, None, length, filter, get_or, refl, sym, ap, subst, ◌∙◌, arith, eqb-true, eq-eqb, Contains}
+use Rattle.std.proofs.lemmas.Bool.{and_parts, cases_eq, ne_eqb}
 use Rattle.std.proofs.lemmas.Bool.Decides.{nat_tests}
 use Rattle.std.proofs.lemmas.List.Folds.{list_any-append}
 use Rattle.std.specs.List.{list_any}
@@ -8,7 +8,7 @@ use Rattle.greedy_column.specs.declared.column.Track.{Track}
 use Rattle.greedy_column.specs.declared.span.Span.{Span}
 use Rattle.greedy_column.specs.Lines.{held_lines, lines_from, net_on, own_lines}
 use Rattle.greedy_column.specs.Joining.{next_line, pair_of, neighbours_from, neighbours}
-use Rattle.greedy_column.specs.Moving.{TellSplit, behind_on, has_other_end, is_end_of, rank_on}
+use Rattle.greedy_column.specs.Moving.{TellSplit, behind_on, has_other_end, is_end_of, is_foreign, is_held_beside, rank_on}
 use Rattle.greedy_column.specs.Replay.{freed, freed_among}
 use Rattle.greedy_column.proofs.AloneLaws.{own_at}
 use Rattle.greedy_column.proofs.HeldLineLaws.{held_at}
@@ -24,6 +24,7 @@ use Rattle.std_laws.proofs.Searches.{any-filter}
 abbrev own_from : ℕ → ℕ → List Track → List ℕ
 own_from net line tracks = lines_from (λ (t : Track). eqb t.net net) line tracks
 
+-- the first of some lines, where there is one
 abbrev first_of : List ℕ → Option ℕ
 first_of [] = None
 first_of (line ∷ lines) = Some line
@@ -36,6 +37,9 @@ next_first net line (t ∷ tracks) = step (eqb t.net net) (next_first net (suc l
       → cond b (Some line) (next_line net (suc line) tracks) ≡ first_of (cond b (line ∷ []) [] ++ own_from net (suc line) tracks)
   step true later = refl
   step false later = later
+
+several : (n : ℕ) → true ≡ ltb 1 (suc (suc n))
+several n = grind (arith, nat_tests)
 
 module _ (q : ℕ → Bool) (net : ℕ) (some : 0 < net) where
   -- one of a line and the next one passes a test, where there is a next one
@@ -63,9 +67,6 @@ module _ (q : ℕ → Bool) (net : ℕ) (some : 0 < net) where
       either : (c : Bool) → list_any (is_end_of net q) (cond c [] (record { net = other; low = line; high = above } ∷ [])) ≡ false
       either true = refl
       either false = ap (λ d. (d && (q line || q above)) || false) is
-
-  several : (n : ℕ) → true ≡ ltb 1 (suc (suc n))
-  several n = grind (arith, nat_tests)
 
   joined : (a b c e f : Bool) → true ≡ e → true ≡ f → ((a || b) || (e && (b || c))) ≡ (f && (a || (b || c)))
   joined a b c e f first second =
@@ -135,12 +136,10 @@ any_other (one ∷ (two ∷ lines)) line apart member = elim (cases_eq one line)
   | inl same ↦
       any-member (λ l. not (eqb l line)) (one ∷ (two ∷ lines)) two (member-tail one (two ∷ lines) two (member-head two lines))
       (ap not (ne_eqb two line (λ e. apart.0 (subst (λ l. Contains (two ∷ lines) l) (e ∙ sym same) (member-head two lines)))))
-      ∙ many (length lines)
+      ∙ several (length lines)
   | inr other ↦
-      any-member (λ l. not (eqb l line)) (one ∷ (two ∷ lines)) one (member-head one (two ∷ lines)) (ap not (ne_eqb one line other)) ∙ many (length lines)
-] where
-  many : (n : ℕ) → true ≡ ltb 1 (suc (suc n))
-  many n = grind (arith, nat_tests)
+      any-member (λ l. not (eqb l line)) (one ∷ (two ∷ lines)) one (member-head one (two ∷ lines)) (ap not (ne_eqb one line other)) ∙ several (length lines)
+]
 
 fewer : (a b : ℕ) → b ≤ a → (ltb 1 a && ltb 1 b) ≡ ltb 1 b
 fewer a b less = grind (arith, nat_tests)
@@ -164,7 +163,20 @@ TellSplit-freed now kept ended pairs pairs_are kept_are line member =
     ∙ any_ends (λ l. not (eqb l line) && eqb (net_on kept l) net) net some 1 now ∙ ap (λ b. ltb 1 (length own) && b) others
     ∙ fewer (length own) (length (own_lines net kept)) (omega (arith, filter-short (λ l. eqb (net_on kept l) net) own, ap (λ (l : List ℕ). length l) left))
 
--- and so the rank of a line is found by them
+-- a net that has none of some pairs holds no end of them
+pub none_other : (pairs : List Span) (kept : List Track) (net line : ℕ) → is_foreign pairs net ≡ true → false ≡ has_other_end pairs kept net line
+none_other [] kept net line foreign = refl
+none_other (pair ∷ pairs) kept net line foreign =
+    let parts = and_parts (not (eqb pair.net net) && leb pair.low pair.high) (is_foreign pairs net) foreign in
+    let q = is_held_beside kept net line in
+    none_other pairs kept net line parts.1
+    ∙ ap (λ b. (b && (q pair.low || q pair.high)) || has_other_end pairs kept net line)
+    (sym (other (eqb pair.net net) (and_parts (not (eqb pair.net net)) (leb pair.low pair.high) parts.0).0)) where
+      other : (b : Bool) → not b ≡ true → b ≡ false
+      other true is = absurd (cc is)
+      other false is = refl
+
+-- the rank of a line is found by the pairs
 pub rank_told : (next : ℕ → Next) (kept : List Track) (pairs : List Span) (net line : ℕ) (b : Bool) → TellSplit pairs kept → Contains (held_lines kept) line
     → net ≡ net_on kept line → b ≡ has_other_end pairs kept net line → cond b 0 (1 + behind_on next kept line) ≡ rank_on next kept line
 rank_told next kept pairs net line b tell member of_net found =

@@ -1,4 +1,4 @@
-use Rattle.std.proofs.Common.{◌≡◌, ◌&&◌, ◌||◌, ◌<◌, ◌+◌, ◌++◌, not, eqb, leb, ltb, ℕ, zero, suc, List, [], ◌∷◌, Bool, true, false, cond, length, filter, find, get_or, replicate, Some, refl, sym, ap, subst, ◌∙◌, append_assoc, arith}
+use Rattle.std.proofs.Common.{◌≡◌, ◌&&◌, ◌||◌, ◌<◌, ◌+◌, ◌++◌, not, eqb, leb, ltb, ℕ, zero, suc, List, [], ◌∷◌, Bool, true, false, cond, length, filter, find, get_or, replicate, Some, refl, sym, ap, subst, ◌∙◌, arith}
 use Rattle.std.proofs.lemmas.Bool.{and_parts}
 use Rattle.std.proofs.lemmas.Bool.Decides.{nat_tests}
 use Rattle.greedy_column.specs.declared.column.Track.{Track}
@@ -49,6 +49,7 @@ movable_from spans free line [] = []
 movable_from spans free line (t ∷ tracks) =
     cond (not (eqb t.net 0) && has_option spans free t.net line) (line ∷ []) [] ++ movable_from spans free (suc line) tracks
 
+-- a line that is listed where it is wanted passes a test with the others
 pub filter_one : (p : ℕ → Bool) (line : ℕ) (lines : List ℕ) (b : Bool) → cond (b && p line) (line ∷ []) [] ++ filter p lines ≡ filter p (cond b (line ∷ []) [] ++ lines)
 filter_one p line lines true = step (p line) where
   step : (c : Bool) → cond c (line ∷ []) [] ++ filter p lines ≡ cond c (line ∷ filter p lines) (filter p lines)
@@ -70,9 +71,11 @@ told_from spans free net_at line (t ∷ tracks) told =
 pub movable_from-all : (spans : List Span) (free : List ℕ) (kept : List Track) → movable_from spans free 1 kept ≡ movable_lines spans free kept
 movable_from-all spans free kept = told_from spans free (net_on kept) 1 kept (λ j within. ap (λ n. get_or (nets kept) n 0) (omega arith))
 
--- a loop that adds some of these lines goes on with the others
-pub movable_more : (done here pushed later all : List ℕ) → pushed ≡ done ++ here → done ++ (here ++ later) ≡ all → pushed ++ later ≡ all
-movable_more done here pushed later all added so_far = ap (λ l. l ++ later) added ∙ append_assoc done here later ∙ so_far
+-- no line lies in a window of none
+pub in_none : (line : ℕ) → (leb 1 line && leb line 0) ≡ true → ⊥
+in_none line within = let parts = and_parts (leb 1 line) (leb line 0) within in both line parts.0 parts.1 where
+  both : (n : ℕ) → leb 1 n ≡ true → leb n 0 ≡ true → ⊥
+  both n low high = grind (arith, nat_tests)
 
 -- where all kinds of nets are noted, nothing is told of any
 pub noted_all : (n net : ℕ) → get_or (replicate n true) net true ≡ true

@@ -1,7 +1,7 @@
 //! Which kept tracks may move, and in what order: from bottom to top, or split nets first and then the farthest to go.
 
 ghost use Rattle.greedy_column.specs.Lines.{held_lines};
-ghost use Rattle.greedy_column.specs.Moving.{AreHeld, IsOrderAhead, IsOrderOfMoves, TellSplit, behind, has_other_end, is_end_of, is_held_beside, movable_lines, rank_on, waiting};
+ghost use Rattle.greedy_column.specs.Moving.{AreHeld, IsOrderAhead, IsOrderOfMoves, TellForeign, TellSplit, behind, has_other_end, is_end_of, is_held_beside, movable_lines, rank_on, waiting};
 ghost use Rattle.greedy_column.specs.Uses.{next_after};
 ghost use Rattle.std.specs.List.Sorted.{IsNonDecreasingBy, IsPermutation, IsStableByKey};
 ghost use Rattle.std.specs.Ordering.{nat_cmp};
@@ -10,9 +10,10 @@ ghost use Rattle.std.specs.Prelude.{◌≡◌, ◌<◌, ◌≤◌, ◌+◌, ◌^
 use crate::ahead::Ahead;
 use crate::column::Track;
 use crate::free_lines::FreeLines;
+use crate::lines::put_where;
 use crate::pairs::Pairs;
 use crate::span::Span;
-use crate::stretch::{Stretch, kinds_of};
+use crate::stretch::{KINDS, kinds_of, may_have};
 use crate::tracks::Tracks;
 use choose_core::{Manner, Next};
 use std::alloc::{AllocError, Global};
@@ -39,7 +40,9 @@ pub(crate) fn movable_lines(
     movable_of(alloc, spans, free, kept.list())
 }
 
-// The same, track by track.
+// The same, track by track. Most tracks lie in the stretch of the one before and have none of the verticals, so whether they are free is
+// asked only where that stretch has a free line.
+#[inline(never)]
 fn movable_of(
     alloc: Global,
     spans: &[Span],
@@ -51,13 +54,26 @@ fn movable_of(
 {
     let kinds = kinds_of(spans);
     let mut lines = Vec::with_capacity(alloc, kept.len())?;
-    let mut stretch = Stretch::empty();
-    let mut line = 1u32;
+    // The stretch before, at first one of no lines. As one value it would go through memory for each track.
+    let (mut low, mut high, mut has_free) = (1u32, 0u32, false);
+    let mut line = 0u32;
     let mut rest = kept;
     while let Some((track, above)) = rest.split_first() {
-        stretch = free.push_movable(spans, &kinds, stretch, track.net, line, &mut lines);
-        line += 1;
         rest = above;
+        line += 1;
+        if may_have(&kinds, track.net) {
+            put_where(&mut lines, free.may_move(spans, track.net, line), line);
+            continue;
+        }
+        if low <= line && line <= high {
+            put_where(&mut lines, has_free && track.net != 0, line);
+            continue;
+        }
+        let stretch = free.stretch_of(spans, track.net, line);
+        low = stretch.window.low;
+        high = stretch.window.high;
+        has_free = stretch.has_free;
+        put_where(&mut lines, has_free && track.net != 0, line);
     }
     Ok(lines)
 }
@@ -117,10 +133,11 @@ fn waiting_on(
     requires held { AreHeld kept.now lines.now }
     ensures { IfOk result (λ found. found.items ≡ map (waiting (rank_on (next_after ahead.now.uses.items column) kept.now)) lines.now) }
 {
+    let kinds = kinds_of(pairs);
     let mut waiting = Vec::with_capacity(alloc, lines.len())?;
     let mut rest = lines;
     while let Some((line, later)) = rest.split_first() {
-        let rank = rank(ahead, column, pairs, kept, *line);
+        let rank = rank(ahead, column, pairs, &kinds, kept, *line);
         waiting.push_reserved(Waiting { line: *line, rank });
         rest = later;
     }
@@ -128,22 +145,35 @@ fn waiting_on(
 }
 
 // The rank of a line: the lowest one where its net is split, and else by how much of the channel lies behind it.
-fn rank(ahead: &Ahead, column: u32, pairs: &[Span], kept: &Tracks, line: u32) -> u32
+fn rank(
+    ahead: &Ahead,
+    column: u32,
+    pairs: &[Span],
+    kinds: &[bool; KINDS],
+    kept: &Tracks,
+    line: u32,
+) -> u32
+    requires kinds { TellForeign pairs.now kinds.now }
     requires tell { TellSplit pairs.now kept.now }
     requires held { Contains (held_lines kept.now) line }
     ensures { result ≡ rank_on (next_after ahead.now.uses.items column) kept.now line }
 {
     let net = kept.net_on(line);
-    if has_other_end(pairs, kept, net, line) {
+    if has_other_end(pairs, kinds, kept, net, line) {
         return 0;
     }
     1 + behind(kept, ahead.next(net, column), line)
 }
 
-// Whether a net that holds a line holds another end of these pairs of it too.
-fn has_other_end(pairs: &[Span], kept: &Tracks, net: u32, line: u32) -> bool
+// Whether a net that holds a line holds another end of these pairs of it too. Most nets have no pair, and are told by the kinds of those
+// that have.
+fn has_other_end(pairs: &[Span], kinds: &[bool; KINDS], kept: &Tracks, net: u32, line: u32) -> bool
+    requires { TellForeign pairs.now kinds.now }
     ensures { result ≡ has_other_end pairs.now kept.now net line }
 {
+    if !may_have(kinds, net) {
+        return false;
+    }
     pairs
         .iter()
         .any(|pair| has_end_beside(*pair, kept, net, line))
