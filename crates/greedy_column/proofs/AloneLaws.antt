@@ -12,7 +12,7 @@ abbrev own_from : ℕ → ℕ → List Track → List ℕ
 own_from net first tracks = lines_from (λ (t : Track). eqb t.net net) first tracks
 
 -- a net has as many lines as it holds tracks
-pub own_count : (net first : ℕ) (tracks : List Track) → length (own_from net first tracks) ≡ count_by (λ (t : Track). eqb t.net net) tracks
+own_count : (net first : ℕ) (tracks : List Track) → length (own_from net first tracks) ≡ count_by (λ (t : Track). eqb t.net net) tracks
 own_count net first [] = refl
 own_count net first (t ∷ tracks) = step (eqb t.net net) (own_count net (suc first) tracks) ∙ sym (sum_by-cons (λ (u : Track). cond (eqb u.net net) 1 0) t tracks) where
   step : (b : Bool) → length (own_from net (suc first) tracks) ≡ count_by (λ (u : Track). eqb u.net net) tracks
