@@ -1,5 +1,5 @@
 -- how the cells that a swap shifts lie in their nets, by a table in which the two that exchange their places did so already and no other is shifted
-use Rattle.std.specs.Prelude.{ℕ, ◌+◌, ◌-◌, ◌*◌, ◌==◌, List, Bool, map, sum, take, drop, false, slice_get, if◌then◌else◌, nat_lt}
+use Rattle.std.specs.Prelude.{ℕ, ◌+◌, ◌-◌, ◌*◌, ◌==◌, List, Bool, length, map, sum, take, drop, false, slice_get, if◌then◌else◌, nat_lt}
 use Rattle.design_model.specs.Netlist.{Netlist}
 use Rattle.row_board.specs.Cost.{difference}
 use Rattle.row_board.specs.Extreme.{across, alone_at_end, at_end, extreme_of}
@@ -22,6 +22,10 @@ ends_net d standings side p = at_end (extreme_of side (net_columns d standings p
 
 abbrev pub ends_net_alone : Netlist → List Spot → Side → ℕ × NetPin → ℕ
 ends_net_alone d standings side p = alone_at_end (extreme_of side (net_columns d standings p.0)) (pin_column standings p.1)
+
+-- 1 where a pin's net has other pins. One that is alone in its net never makes it shorter
+abbrev pub joined : Netlist → ℕ × NetPin → ℕ
+joined d p = if nat_lt 1 (length (net_pins d p.0)) then 1 else 0
 
 -- how many pins of an instance are marked, and how many of several instances
 abbrev pub marked_pins : Netlist → (ℕ × NetPin → ℕ) → ℕ → ℕ
