@@ -10,7 +10,7 @@ ghost use Rattle.row_model.specs.Changes.{swapped};
 ghost use Rattle.row_model.specs.Rows.{ArePlaced};
 ghost use Rattle.row_model.specs.Widths.{columns_of};
 ghost use Rattle.std.specs.Bool.{OnTrue};
-ghost use Rattle.std.specs.Prelude.{◌≡◌, ◌≢◌, ◌<◌, ◌≤◌, ◌+◌, ◌-◌, ◌*◌, ◌^◌, length, nat_lt, sum};
+ghost use Rattle.std.specs.Prelude.{◌≡◌, ◌≢◌, ◌==◌, ◌<◌, ◌≤◌, ◌+◌, ◌-◌, ◌*◌, ◌^◌, length, nat_lt, sum, if◌then◌else◌};
 
 use crate::extreme::Side;
 use crate::moving::moved_seats;
@@ -40,15 +40,21 @@ fn between(seats: &[Seat], from: usize, to: usize) -> &[Seat]
     &seats[from.min(end)..end]
 }
 
-// Which instance stands where this one did once two have exchanged their places.
+// The other of two instances.
+#[cold]
+#[inline(never)]
+fn other_of(a: u32, b: u32, instance: u32) -> u32
+    ensures { result ≡ (if instance == a then b else a) }
+{
+    if instance == a { b } else { a }
+}
+
+// Which instance stands where this one did once two have exchanged their places. Hardly ever it is one of the two.
 fn instead(a: u32, b: u32, instance: u32) -> u32
     ensures { result ≡ instead a b instance }
 {
-    if instance == a {
-        return b;
-    }
-    if instance == b {
-        return a;
+    if instance == a || instance == b {
+        return other_of(a, b, instance);
     }
     instance
 }
