@@ -118,3 +118,15 @@ above-told d rows trial a b one other cost limit spare shift is above few outdon
     by : (s l : ℕ) → shift * s ≤ shift * (spare + l) → shift * s ≡ difference (columns_of d a) (columns_of d b) * s → shift * l ≡ difference (columns_of d a) (columns_of d b) * l
         → limit < (cost + difference (columns_of d a) (columns_of d b) * l) - difference (columns_of d a) (columns_of d b) * s
     by s l more same same' = omega (arith, above, few, more, same, same')
+
+-- whichever of two instances is named first
+pub least-either : (d : Netlist) (rows : List (List Seat)) (trial : List Spot) (a b : ℕ) (one other : Spot) (cost : ℕ)
+    → least_cost d rows trial b a other one cost ≡ least_cost d rows trial a b one other cost
+least-either d rows trial a b one other cost =
+    let same : difference (columns_of d b) (columns_of d a) ≡ difference (columns_of d a) (columns_of d b) = omega arith in
+    ap (λ (n : ℕ). (cost + n * (longer_pins d rows trial b a other one + longer_pins d rows trial a b one other)) - n * (shorter_pins d rows trial b a other one + shorter_pins d rows trial a b one other)) same
+    ∙ by (difference (columns_of d a) (columns_of d b)) (longer_pins d rows trial b a other one) (longer_pins d rows trial a b one other) (shorter_pins d rows trial b a other one)
+    (shorter_pins d rows trial a b one other)
+  where
+    by : (n l m r s : ℕ) → (cost + n * (l + m)) - n * (r + s) ≡ (cost + n * (m + l)) - n * (s + r)
+    by n l m r s = omega arith

@@ -199,6 +199,28 @@ fn is_above(
     are_spared(costs, seats, others, a, b, spare)
 }
 
+// The same, where the seats that are shifted to the right are read first: more of their pins alone end their nets on that side.
+fn is_above_first(
+    costs: &NetCosts,
+    rows: &[Items<Seat>],
+    a: u32,
+    b: u32,
+    one: Standing,
+    other: Standing,
+    cost: u64,
+    limit: u64,
+) -> bool
+    requires placed { ArePlaced costs.now.design rows.now }
+    requires small { cost < 2 ^ 61 }
+    requires above { limit < cost }
+    ensures { OnTrue result (limit < least_cost costs.now.design rows.now costs.now.standings a b one other cost) }
+{
+    if costs.columns_of(a) < costs.columns_of(b) {
+        return is_above(costs, rows, a, b, one, other, cost, limit);
+    }
+    is_above(costs, rows, b, a, other, one, cost, limit)
+}
+
 /// Whether rows surely cost more than a limit after two instances of different widths exchange their places. All is as before after that.
 pub(crate) fn is_dear(
     costs: &mut NetCosts,
@@ -228,7 +250,7 @@ pub(crate) fn is_dear(
     let length_cost = costs.weights().length_cost;
     costs.trade(a, b);
     let cost = costs.sum() + length_cost * uneven;
-    let dear = cost > limit && is_above(costs, rows, a, b, one, other, cost, limit);
+    let dear = cost > limit && is_above_first(costs, rows, a, b, one, other, cost, limit);
     costs.put(a, one);
     costs.put(b, other);
     dear

@@ -41,7 +41,7 @@ returns-clause-dear c = elim c.if-cost-limit.branch [
       (λ test. dear-told t.design c.args.rows.now t.weights t.standings c.args.lengths.now c.args.a c.args.b c.unevenness_after-uneven.result c.design-design.ensures.good c.requires.board
       c.requires.apart c.requires.a c.requires.b few
       cost (least_cost new.design c.args.rows.now new.standings c.args.a c.args.b c.standing-one.result c.standing-other.result cost) c.args.limit is_cost is_least
-      (OnTrue_at (sym w.dear-is ∙ test) w.is_above-dear.ensures))
+      (OnTrue_at (sym w.dear-is ∙ test) w.is_above_first-dear.ensures))
   | else-cost-limit w ↦
       OnTrue_from c.if-cost-limit.dear (c.args.limit < cost_of c.args.costs.now.design (swapped c.args.a c.args.b c.args.rows.now) c.args.costs.now.weights)
       (λ test. absurd (omega (arith, nat_lt-above c.args.limit (c.sum.result + c.length_cost.inside.length_cost * c.unevenness_after-uneven.result) (sym w.dear-is ∙ test), w.if-cost-limit.false)))
