@@ -1,17 +1,20 @@
-use Rattle.std.proofs.Common.{◌≡◌, ◌<◌, ◌≤◌, ℕ, ◌+◌, ◌-◌, ◌*◌, List, [], ◌∷◌, length, map, sum, Bool, true, false, cond, Option, Some, refl, ap, ap₂, sym, ◌∙◌, subst, arith}
+use Rattle.std.proofs.Common.{◌≡◌, ◌<◌, ◌≤◌, ℕ, ◌+◌, ◌-◌, ◌*◌, List, [], ◌∷◌, ◌++◌, length, length-append, map, sum, drop, take, Bool, true, false, cond, Option, None, Some, refl, ap, ap₂, sym, ◌∙◌, subst, arith}
 use Rattle.std.proofs.lemmas.Bool.Decides.{nat_tests}
-use Rattle.std.proofs.lemmas.List.{length-map}
+use Rattle.std.proofs.lemmas.List.{length-map, length-take, map-append}
+use Rattle.std.proofs.lemmas.Option.{none-some, slice_get_within}
 use Rattle.std.proofs.Math.Nat.{mul-le-mul_left}
 use Rattle.std.specs.List.{slice_get, AllByRecursion, Contains}
-use Rattle.std.specs.Prelude.{nat_eq, nat_lt}
+use Rattle.std.specs.Prelude.{max, nat_eq, nat_lt}
 use Rattle.design_model.specs.Netlist.{IsNetlist, Netlist}
 use Rattle.design_model.specs.declared.design.Pin.{Pin}
 use Rattle.list_facts.specs.Lists.{list_there}
 use Rattle.row_board.specs.Cost.{difference, pins_of_net}
 use Rattle.row_board.specs.Extreme.{across, alone_at_end, at_end, extreme_of}
 use Rattle.row_board.specs.NetPins.{joined_by, net_pin, net_pins, own_pin, pin_column, pin_with_net, pins_of_instance, ArePins}
+use Rattle.row_board.specs.Moving.{moved_end, row_length, row_there}
 use Rattle.row_board.specs.Spot.{Spot}
-use Rattle.row_board.specs.Trial.{ends_net, ends_net_alone, joined, least_cost, longer_pins, marked_in, marked_pins, shorter_pins}
+use Rattle.row_board.specs.Standings.{standing_at, standing_in, standing_of, AreEntered}
+use Rattle.row_board.specs.Trial.{ends_net, ends_net_alone, instances_instead, instead, joined, least_cost, longer_pins, marked_in, marked_pins, shift_end, shifted_seats, shorter_pins, AreOthers}
 use Rattle.row_model.specs.Widths.{columns_of}
 use Rattle.row_model.specs.declared.rows.Seat.{Seat}
 use Rattle.row_board.specs.declared.extreme.Side.{Side}
@@ -19,11 +22,14 @@ use Rattle.row_board.specs.declared.extreme.Side.TheVariants.{Low, High}
 use Rattle.row_board.specs.declared.net_pins.InstancePin.{InstancePin}
 use Rattle.row_board.specs.declared.net_pins.NetPin.{NetPin}
 use Rattle.row_board.proofs.EndLaws.{ends-one, marked-short, own-of-nets, IsOfNet}
+use Rattle.row_board.proofs.HitLaws.{instead-other, taken-within}
 use Rattle.std_laws.proofs.Counts.{filter-short}
 use Rattle.std_laws.proofs.Every.{every-filtered, every-from-get, every-map}
+use Rattle.std_laws.proofs.Images.{map-same}
 use Rattle.std_laws.proofs.Members.{filter-member, get-contains, member-none, member-only}
-use Rattle.std_laws.proofs.Sums.{sum-both, sum-cons, sum-under}
-use Rattle.std_laws.proofs.Tests.{nat_eq-itself}
+use Rattle.std_laws.proofs.Places.{get-before, get-dropped}
+use Rattle.std_laws.proofs.Sums.{sum-both, sum-cons, sum-push, sum-under}
+use Rattle.std_laws.proofs.Tests.{nat_eq-itself, nat_eq-true}
 
 -- the one number of a list stands alone at both of its extremes
 only-number : (n : ℕ) (side : Side) → at_end (extreme_of side (n ∷ [])) n ≤ alone_at_end (extreme_of (across side) (n ∷ [])) n
@@ -130,3 +136,45 @@ least-either d rows trial a b one other cost =
   where
     by : (n l m r s : ℕ) → (cost + n * (l + m)) - n * (r + s) ≡ (cost + n * (m + l)) - n * (s + r)
     by n l m r s = omega arith
+
+-- what seats have of which only the last may be that of one of two
+pub marked-front : (d : Netlist) (mark : ℕ × NetPin → ℕ) (a b : ℕ) (seats front : List Seat) (last : Seat) → AreOthers a b seats → seats ≡ front ++ last ∷ []
+    → marked_in d mark (instances_instead a b seats) ≡ marked_in d mark (map (λ (s : Seat). s.instance) front) + marked_pins d mark (instead a b last.instance)
+marked-front d mark a b seats front last others is =
+    let f = λ (s : Seat). instead a b s.instance in
+    let long = ap length is ∙ length-append front (last ∷ []) in
+    let same = map-same (λ (s : Seat). f s ≡ s.instance) f (λ (s : Seat). s.instance) (λ s one. one) front
+    (every-from-get (λ (s : Seat). f s ≡ s.instance) front
+    (λ k s at. others.each k s (omega (arith, long, slice_get_within front k s at)) (ap (λ (l : List Seat). slice_get l k) is ∙ get-before front (last ∷ []) k s at))) in
+    let whole : map f seats ≡ map (λ (s : Seat). s.instance) front ++ f last ∷ [] = ap (map f) is ∙ map-append f front (last ∷ []) ∙ ap (λ (l : List ℕ). l ++ f last ∷ []) same in
+    ap (marked_in d mark) whole ∙ ap sum (map-append (marked_pins d mark) (map (λ (s : Seat). s.instance) front) (f last ∷ []))
+    ∙ sum-push (map (marked_pins d mark) (map (λ (s : Seat). s.instance) front)) (marked_pins d mark (f last))
+
+-- behind an instance that gives its place to another, only the last may be this
+pub others-behind : (d : Netlist) (rows : List (List Seat)) (standings : List Spot) (a b : ℕ) → AreEntered d rows standings
+    → AreOthers a b (shifted_seats rows (standing_of standings a) (standing_of standings b))
+others-behind d rows standings a b entered = record { each = each }
+  where
+    told : (row place : ℕ) (s : Seat) (o : Option (List Seat)) → slice_get rows row ≡ o → slice_get (row_there o) place ≡ Some s
+        → (seats : List Seat) × (standing_of standings s.instance ≡ standing_at d row place seats s)
+    told row place s None none at = absurd (none-some s at)
+    told row place s (Some seats) here at = (seats, ap standing_in (entered.each row place seats s here at))
+
+    each : (k : ℕ) (s : Seat) → k + 1 < length (shifted_seats rows (standing_of standings a) (standing_of standings b))
+        → slice_get (shifted_seats rows (standing_of standings a) (standing_of standings b)) k ≡ Some s → instead a b s.instance ≡ s.instance
+    each k s within at =
+        let one = standing_of standings a in
+        let other = standing_of standings b in
+        let from = one.place + 1 in
+        let to = shift_end rows one other in
+        let seats = row_there (slice_get rows one.row) in
+        let is_in = taken-within (to - from) k (drop from seats) s at in
+        let there : slice_get seats (from + k) ≡ Some s = sym (get-dropped seats from k) ∙ is_in.1 in
+        let stand = told one.row (from + k) s (slice_get rows one.row) refl there in
+        instead-other a b s.instance
+        (λ is. let here : one.place ≡ from + k = ap (λ (x : Spot). x.place) (ap (λ (n : ℕ). standing_of standings n) (sym is) ∙ stand.1) in omega (arith, here))
+        (λ is.
+        let here : other ≡ standing_at d one.row (from + k) stand.0 s = ap (λ (n : ℕ). standing_of standings n) (sym is) ∙ stand.1 in
+        let same : nat_eq one.row other.row ≡ true = nat_eq-true one.row other.row (sym (ap (λ (x : Spot). x.row) here)) in
+        let end : to ≡ max one.place other.place + 1 = ap (λ (x : Bool). moved_end false x one.place other.place (row_length (slice_get rows one.row))) same in
+        omega (arith, end, ap (λ (x : Spot). x.place) here, within, length-take (to - from) (drop from seats)))

@@ -5,12 +5,12 @@ ghost use Rattle.row_board.specs.Cost.{cost_of, difference};
 ghost use Rattle.row_board.specs.Extreme.{across};
 ghost use Rattle.row_board.specs.NetCosts.{table_costs};
 ghost use Rattle.row_board.specs.RowLengthsView.{misses_of};
-ghost use Rattle.row_board.specs.Trial.{ends_net, ends_net_alone, instances_instead, instead, joined, least_cost, marked_in, seats_between, shifted_from, shifted_seats};
+ghost use Rattle.row_board.specs.Trial.{AreOthers, ends_net, ends_net_alone, instances_instead, instead, joined, least_cost, marked_in, marked_pins, seats_between, shifted_from, shifted_seats};
 ghost use Rattle.row_model.specs.Changes.{swapped};
 ghost use Rattle.row_model.specs.Rows.{ArePlaced};
 ghost use Rattle.row_model.specs.Widths.{columns_of};
 ghost use Rattle.std.specs.Bool.{OnTrue};
-ghost use Rattle.std.specs.Prelude.{◌≡◌, ◌≢◌, ◌==◌, ◌<◌, ◌≤◌, ◌+◌, ◌-◌, ◌*◌, ◌^◌, length, nat_lt, sum, if◌then◌else◌};
+ghost use Rattle.std.specs.Prelude.{◌≡◌, ◌≢◌, ◌<◌, ◌≤◌, ◌+◌, ◌-◌, ◌*◌, ◌^◌, length, nat_lt, sum};
 
 use crate::extreme::Side;
 use crate::moving::moved_seats;
@@ -40,21 +40,15 @@ fn between(seats: &[Seat], from: usize, to: usize) -> &[Seat]
     &seats[from.min(end)..end]
 }
 
-// The other of two instances.
-#[cold]
-#[inline(never)]
-fn other_of(a: u32, b: u32, instance: u32) -> u32
-    ensures { result ≡ (if instance == a then b else a) }
-{
-    if instance == a { b } else { a }
-}
-
-// Which instance stands where this one did once two have exchanged their places. Hardly ever it is one of the two.
+// Which instance stands where this one did once two have exchanged their places.
 fn instead(a: u32, b: u32, instance: u32) -> u32
     ensures { result ≡ instead a b instance }
 {
-    if instance == a || instance == b {
-        return other_of(a, b, instance);
+    if instance == a {
+        return b;
+    }
+    if instance == b {
+        return a;
     }
     instance
 }
@@ -62,36 +56,53 @@ fn instead(a: u32, b: u32, instance: u32) -> u32
 // How many pins of the instances of seats, once two have exchanged their places, are joined with others by their nets.
 #[inline(never)]
 fn all_joined(costs: &NetCosts, seats: &[Seat], a: u32, b: u32) -> u64
-    requires { length seats.now ≤ MOST_INSTANCES }
+    requires short { length seats.now ≤ MOST_INSTANCES }
+    requires others { AreOthers a b seats.now }
     ensures is { result ≡ marked_in costs.now.design (joined costs.now.design) (instances_instead a b seats.now) }
     ensures few { result ≤ MOST_PINS * length seats.now }
 {
-    let mut found = 0;
-    let mut rest = seats;
+    let Some((last, front)) = seats.split_last() else {
+        return 0;
+    };
+    let mut found = costs.joined(instead(a, b, last.instance));
+    let mut rest = front;
     while let Some((seat, after)) = rest.split_first() {
-        found += costs.joined(instead(a, b, seat.instance));
+        found += costs.joined(seat.instance);
         rest = after;
     }
     found
 }
 
-// What is left of an excess of pins that may make their nets shorter over those that surely make them longer, once the pins of the instances of seats are read, of which each that is
-// joined with others was taken to end its net on a side, and none to end it alone across. They are read until nothing is left.
+// What is left of an excess of pins that may make their nets shorter over those that surely make them longer, once the pins of an instance are read, of which each that is joined with
+// others was taken to end its net on a side, and none to end it alone across.
+#[inline(always)]
+fn left_after(costs: &NetCosts, instance: u32, side: Side, excess: u64) -> u64
+    requires { excess < 2 ^ 62 }
+    ensures is { excess + marked_pins costs.now.design (ends_net costs.now.design costs.now.standings side) instance ≤ result + (marked_pins costs.now.design (joined costs.now.design) instance + marked_pins costs.now.design (ends_net_alone costs.now.design costs.now.standings (across side)) instance) }
+    ensures few { result ≤ excess }
+{
+    let found = costs.ends(side, instance);
+    (excess + found.ends).saturating_sub(costs.joined(instance) + found.alone)
+}
+
+// What is left once the pins of the instances of seats are read, which once two have exchanged their places stand there. They are read until nothing is left.
 #[inline(always)]
 fn left_on(costs: &NetCosts, seats: &[Seat], a: u32, b: u32, side: Side, excess: u64) -> u64
-    requires { excess < 2 ^ 62 }
+    requires small { excess < 2 ^ 62 }
+    requires others { AreOthers a b seats.now }
     ensures is { excess + marked_in costs.now.design (ends_net costs.now.design costs.now.standings side) (instances_instead a b seats.now) ≤ result + (marked_in costs.now.design (joined costs.now.design) (instances_instead a b seats.now) + marked_in costs.now.design (ends_net_alone costs.now.design costs.now.standings (across side)) (instances_instead a b seats.now)) }
     ensures few { result ≤ excess }
 {
-    let mut left = excess;
-    let mut rest = seats;
+    let Some((last, front)) = seats.split_last() else {
+        return excess;
+    };
+    let mut left = left_after(costs, instead(a, b, last.instance), side, excess);
+    let mut rest = front;
     while let Some((seat, after)) = rest.split_first() {
         if left == 0 {
             return 0;
         }
-        let instance = instead(a, b, seat.instance);
-        let found = costs.ends(side, instance);
-        left = (left + found.ends).saturating_sub(costs.joined(instance) + found.alone);
+        left = left_after(costs, seat.instance, side, left);
         rest = after;
     }
     left
@@ -100,7 +111,8 @@ fn left_on(costs: &NetCosts, seats: &[Seat], a: u32, b: u32, side: Side, excess:
 // The same, by steps of their own for each side.
 #[inline(never)]
 fn left_over(costs: &NetCosts, seats: &[Seat], a: u32, b: u32, side: Side, excess: u64) -> u64
-    requires { excess < 2 ^ 62 }
+    requires small { excess < 2 ^ 62 }
+    requires others { AreOthers a b seats.now }
     ensures is { excess + marked_in costs.now.design (ends_net costs.now.design costs.now.standings side) (instances_instead a b seats.now) ≤ result + (marked_in costs.now.design (joined costs.now.design) (instances_instead a b seats.now) + marked_in costs.now.design (ends_net_alone costs.now.design costs.now.standings (across side)) (instances_instead a b seats.now)) }
     ensures few { result ≤ excess }
 {
@@ -164,6 +176,8 @@ fn spare_pins(cost: u64, limit: u64, shift: u64) -> u64
 fn are_spared(costs: &NetCosts, seats: &[Seat], others: &[Seat], a: u32, b: u32, spare: u64) -> bool
     requires short { length seats.now ≤ MOST_INSTANCES }
     requires short_others { length others.now ≤ MOST_INSTANCES }
+    requires front { AreOthers a b seats.now }
+    requires front_others { AreOthers b a others.now }
     ensures { OnTrue result (marked_in costs.now.design (ends_net costs.now.design costs.now.standings (shifted_from (nat_lt (columns_of costs.now.design a) (columns_of costs.now.design b)))) (instances_instead a b seats.now) + marked_in costs.now.design (ends_net costs.now.design costs.now.standings (shifted_from (nat_lt (columns_of costs.now.design b) (columns_of costs.now.design a)))) (instances_instead b a others.now) ≤ spare + (marked_in costs.now.design (ends_net_alone costs.now.design costs.now.standings (across (shifted_from (nat_lt (columns_of costs.now.design a) (columns_of costs.now.design b))))) (instances_instead a b seats.now) + marked_in costs.now.design (ends_net_alone costs.now.design costs.now.standings (across (shifted_from (nat_lt (columns_of costs.now.design b) (columns_of costs.now.design a))))) (instances_instead b a others.now))) }
 {
     // Most often no seat has to be read.
@@ -191,6 +205,8 @@ fn is_above(
     requires placed { ArePlaced costs.now.design rows.now }
     requires small { cost < 2 ^ 61 }
     requires above { limit < cost }
+    requires front { AreOthers a b (shifted_seats rows.now one other) }
+    requires front_others { AreOthers b a (shifted_seats rows.now other one) }
     ensures { OnTrue result (limit < least_cost costs.now.design rows.now costs.now.standings a b one other cost) }
 {
     let spare = spare_pins(cost, limit, shift_of(costs, a, b));
@@ -213,6 +229,8 @@ fn is_above_first(
     requires placed { ArePlaced costs.now.design rows.now }
     requires small { cost < 2 ^ 61 }
     requires above { limit < cost }
+    requires front { AreOthers a b (shifted_seats rows.now one other) }
+    requires front_others { AreOthers b a (shifted_seats rows.now other one) }
     ensures { OnTrue result (limit < least_cost costs.now.design rows.now costs.now.standings a b one other cost) }
 {
     if costs.columns_of(a) < costs.columns_of(b) {
