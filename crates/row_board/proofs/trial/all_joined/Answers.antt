@@ -1,4 +1,4 @@
-use Rattle.std.proofs.Common.{◌≡◌, ◌≤◌, ◌+◌, ◌*◌, ℕ, List, ap, sym, ◌∙◌, arith, length, map}
+use Rattle.std.proofs.Common.{◌+◌, ℕ, ap, sym, ◌∙◌, arith, map}
 use Rattle.row_board.specs.Trial.{joined, marked_in, marked_pins}
 use Rattle.row_model.specs.declared.rows.Seat.{Seat}
 use Rattle.row_board.proofs.JoinLaws.{marked-front}

@@ -1,4 +1,4 @@
-use Rattle.std.proofs.Common.{◌≤◌, ◌+◌, List, ap, subst}
+use Rattle.std.proofs.Common.{◌≤◌, ◌+◌, List, subst}
 use Rattle.std.proofs.lemmas.Bool.{OnTrue_at, OnTrue_from}
 use Rattle.std.specs.Prelude.{◌<◌, nat_lt}
 use Rattle.row_model.specs.Widths.{columns_of}

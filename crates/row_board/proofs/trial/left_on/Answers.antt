@@ -1,4 +1,4 @@
-use Rattle.std.proofs.Common.{◌≡◌, ◌≤◌, ◌+◌, ℕ, List, ap, sym, ◌∙◌, arith, map}
+use Rattle.std.proofs.Common.{◌+◌, ℕ, List, ap, sym, ◌∙◌, arith, map}
 use Rattle.row_board.specs.Extreme.{across}
 use Rattle.row_board.specs.Trial.{ends_net, ends_net_alone, joined, marked_in, marked_pins}
 use Rattle.row_model.specs.declared.rows.Seat.{Seat}

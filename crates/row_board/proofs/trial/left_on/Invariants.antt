@@ -1,4 +1,4 @@
-use Rattle.std.proofs.Common.{◌≡◌, ◌≤◌, ◌+◌, length, map}
+use Rattle.std.proofs.Common.{◌≤◌, ◌+◌, length, map}
 use Rattle.row_model.specs.declared.rows.Seat.{Seat}
 use Rattle.row_board.specs.Extreme.{across}
 use Rattle.row_board.specs.Trial.{ends_net, ends_net_alone, instances_instead, joined, marked_in}

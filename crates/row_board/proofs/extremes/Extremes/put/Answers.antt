@@ -2,7 +2,6 @@ use Rattle.std.proofs.Common.{◌≡◌, ◌+◌, ◌-◌, ℕ, ap, sym, ◌∙�
 use Rattle.std.proofs.lemmas.List.{length-set}
 use Rattle.row_board.specs.Extreme.{IsExtreme}
 use Rattle.row_board.specs.Extremes.{high_extreme, low_extreme, part_of}
-use Rattle.row_board.specs.declared.extreme.Extreme.{Extreme}
 use Rattle.row_board.specs.declared.extreme.Side.TheVariants.{Low, High}
 use Rattle.row_board.specs.declared.extremes.Extremes.{Extremes}
 use Rattle.row_board.proofs.ExtremesLaws.{extremes-get, extremes-length, slice-here}

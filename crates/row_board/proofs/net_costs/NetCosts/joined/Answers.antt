@@ -1,6 +1,4 @@
-use Rattle.std.proofs.Common.{arith, ap}
-use Rattle.row_board.specs.NetCosts.{Tabled}
-use Rattle.row_board.specs.Trial.{joined, marked_pins}
+use Rattle.std.proofs.Common.{arith}
 use Rattle.row_board.proofs.JoinLaws.{joined-few}
 use Rattle.row_board.proofs.net_costs.NetCosts.joined.Goals as goal
 
