@@ -61,15 +61,20 @@ pub record AreOthers (a b : ℕ) (seats : List Seat) : Type 0 where
 abbrev pub shifted_from : Bool → Side
 shifted_from wider = if wider then Low else High
 
--- how many shifted pins may make their nets shorter, since they are shifted away from the side on which they end their nets; and how many surely make them longer, since they
--- alone end their nets on the other side
+-- of the pins of the instances of seats behind one that gives its place to another, how many may make their nets shorter, since they are shifted away from the side on which they
+-- end their nets; and how many surely make them longer, since they alone end their nets on the other side
+abbrev pub shorter_in : Netlist → List Spot → ℕ → ℕ → List Seat → ℕ
+shorter_in d trial a b seats = marked_in d (ends_net d trial (shifted_from (nat_lt (columns_of d a) (columns_of d b)))) (instances_instead a b seats)
+
+abbrev pub longer_in : Netlist → List Spot → ℕ → ℕ → List Seat → ℕ
+longer_in d trial a b seats = marked_in d (ends_net_alone d trial (across (shifted_from (nat_lt (columns_of d a) (columns_of d b))))) (instances_instead a b seats)
+
+-- and so of the pins that a swap shifts
 abbrev pub shorter_pins : Netlist → List (List Seat) → List Spot → ℕ → ℕ → Spot → Spot → ℕ
-shorter_pins d rows trial a b one other =
-    marked_in d (ends_net d trial (shifted_from (nat_lt (columns_of d a) (columns_of d b)))) (instances_instead a b (shifted_seats rows one other))
+shorter_pins d rows trial a b one other = shorter_in d trial a b (shifted_seats rows one other)
 
 abbrev pub longer_pins : Netlist → List (List Seat) → List Spot → ℕ → ℕ → Spot → Spot → ℕ
-longer_pins d rows trial a b one other =
-    marked_in d (ends_net_alone d trial (across (shifted_from (nat_lt (columns_of d a) (columns_of d b))))) (instances_instead a b (shifted_seats rows one other))
+longer_pins d rows trial a b one other = longer_in d trial a b (shifted_seats rows one other)
 
 -- what rows cost at least after the swap, where they cost so much with their widths after it and the nets by that table
 abbrev pub least_cost : Netlist → List (List Seat) → List Spot → ℕ → ℕ → Spot → Spot → ℕ → ℕ

@@ -5,7 +5,7 @@ ghost use Rattle.row_board.specs.Cost.{cost_of, difference};
 ghost use Rattle.row_board.specs.Extreme.{across};
 ghost use Rattle.row_board.specs.NetCosts.{table_costs};
 ghost use Rattle.row_board.specs.RowLengthsView.{misses_of};
-ghost use Rattle.row_board.specs.Trial.{AreOthers, ends_net, ends_net_alone, instances_instead, instead, joined, least_cost, marked_in, marked_pins, seats_between, shifted_from, shifted_seats};
+ghost use Rattle.row_board.specs.Trial.{AreOthers, ends_net, ends_net_alone, instances_instead, instead, joined, least_cost, longer_in, marked_in, marked_pins, seats_between, shifted_from, shifted_seats, shorter_in};
 ghost use Rattle.row_model.specs.Changes.{swapped};
 ghost use Rattle.row_model.specs.Rows.{ArePlaced};
 ghost use Rattle.row_model.specs.Widths.{columns_of};
@@ -178,9 +178,9 @@ fn are_spared(costs: &NetCosts, seats: &[Seat], others: &[Seat], a: u32, b: u32,
     requires short_others { length others.now ≤ MOST_INSTANCES }
     requires front { AreOthers a b seats.now }
     requires front_others { AreOthers b a others.now }
-    ensures { OnTrue result (marked_in costs.now.design (ends_net costs.now.design costs.now.standings (shifted_from (nat_lt (columns_of costs.now.design a) (columns_of costs.now.design b)))) (instances_instead a b seats.now) + marked_in costs.now.design (ends_net costs.now.design costs.now.standings (shifted_from (nat_lt (columns_of costs.now.design b) (columns_of costs.now.design a)))) (instances_instead b a others.now) ≤ spare + (marked_in costs.now.design (ends_net_alone costs.now.design costs.now.standings (across (shifted_from (nat_lt (columns_of costs.now.design a) (columns_of costs.now.design b))))) (instances_instead a b seats.now) + marked_in costs.now.design (ends_net_alone costs.now.design costs.now.standings (across (shifted_from (nat_lt (columns_of costs.now.design b) (columns_of costs.now.design a))))) (instances_instead b a others.now))) }
+    ensures { OnTrue result (shorter_in costs.now.design costs.now.standings a b seats.now + shorter_in costs.now.design costs.now.standings b a others.now ≤ spare + (longer_in costs.now.design costs.now.standings a b seats.now + longer_in costs.now.design costs.now.standings b a others.now)) }
 {
-    // Most often no seat has to be read.
+    // Often that is so even if each pin that any instance may have were to save.
     if costs.most_pins() * (seats.len() + others.len()) as u64 <= spare {
         return true;
     }
