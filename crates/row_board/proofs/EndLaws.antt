@@ -88,7 +88,7 @@ own-few d i own good are =
     )
 
 -- marked pins are no more than all pins
-marked-short : (mark : ℕ × NetPin → ℕ) → ((p : ℕ × NetPin) → mark p ≤ 1) → (ps : List (ℕ × NetPin)) → sum (map mark ps) ≤ length ps
+pub marked-short : (mark : ℕ × NetPin → ℕ) → ((p : ℕ × NetPin) → mark p ≤ 1) → (ps : List (ℕ × NetPin)) → sum (map mark ps) ≤ length ps
 marked-short mark one [] = omega arith
 marked-short mark one (p ∷ ps) = omega (arith, marked-short mark one ps, one p, sum-cons (mark p) (map mark ps))
 

@@ -37,7 +37,7 @@ hits-one (n ∷ ns) i (suc k) at only =
     omega (arith, off, hits-one ns i k at (λ j is. let next = only (suc j) is in omega (arith, next)), hits-cons n ns i)
 
 -- what stands in a front
-taken-within : {X : Type 0} (m j : ℕ) (xs : List X) (x : X) → slice_get (take m xs) j ≡ Some x → (j < m) × (slice_get xs j ≡ Some x)
+pub taken-within : {X : Type 0} (m j : ℕ) (xs : List X) (x : X) → slice_get (take m xs) j ≡ Some x → (j < m) × (slice_get xs j ≡ Some x)
 taken-within zero j xs x at = absurd (none-some x at)
 taken-within (suc m) j [] x at = absurd (none-some x at)
 taken-within (suc m) zero (y ∷ xs) x at = (omega arith, at)

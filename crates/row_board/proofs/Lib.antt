@@ -35,6 +35,7 @@ pub mod TotalLaws
 pub mod BoundLaws
 -- what a swap shifts, and how much rows then cost at least
 pub mod EndLaws
+pub mod JoinLaws
 pub mod EdgeLaws
 pub mod HitLaws
 pub mod ShareLaws

@@ -1,5 +1,5 @@
 -- the pins of nets and the nets of instances
-use Rattle.std.specs.Prelude.{◌≡◌, ℕ, ◌+◌, ◌*◌, ◌<◌, ◌≤◌, ◌==◌, List, length, map, filter, Bool, true, false, if◌then◌else◌, Option, None, Some, slice_get}
+use Rattle.std.specs.Prelude.{◌≡◌, ℕ, ◌+◌, ◌*◌, ◌<◌, ◌≤◌, ◌==◌, List, length, map, filter, Bool, true, false, if◌then◌else◌, Option, None, Some, nat_lt, slice_get}
 use Rattle.std.specs.List.{Contains}
 use Rattle.design_model.specs.Netlist.{Netlist}
 use Rattle.list_facts.specs.Lists.{list_there}
@@ -81,3 +81,7 @@ measured row_cost standings pins = spread (map (pin_column standings) pins) + ro
 -- what a net of a design costs by a table
 abbrev pub cost_by : Netlist → Weighing → List Spot → ℕ → ℕ
 cost_by d w standings net = measured w.row_cost standings (net_pins d net)
+
+-- 1 where the net of an instance's pin has other pins by a table of nets
+abbrev pub joined_by : List (List NetPin) → InstancePin → ℕ
+joined_by nets p = if nat_lt 1 (length (list_there (slice_get nets p.net))) then 1 else 0

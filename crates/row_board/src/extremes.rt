@@ -84,6 +84,7 @@ impl Extremes {
     }
 
     /// 1 where a number stands at the extreme on a side, else 0, and 1 where it stands alone at that across.
+    #[inline(always)]
     pub(crate) fn ends(&self, side: Side, number: u64) -> Ends
         ensures ends { result.ends ≡ at_end (extreme_at side self.now) number }
         ensures alone { result.alone ≡ alone_at_end (extreme_at (across side) self.now) number }
@@ -136,7 +137,22 @@ impl Extremes {
         self.at_greatest = high.count;
     }
 
+    // Keeps the extremes of the numbers, one of which is now this.
+    #[inline(never)]
+    fn keep(&mut self, was: u64, now: u64, numbers: &[u64])
+        requires least { self.old.at_least ≤ MOST_PINS }
+        requires greatest { self.old.at_greatest ≤ MOST_PINS }
+        requires few { length numbers.now ≤ MOST_PINS }
+        ensures rest { self.new ≡ record self.old { least = self.new.least; at_least = self.new.at_least; greatest = self.new.greatest; at_greatest = self.new.at_greatest } }
+        ensures low { (old : List ℕ) (k : ℕ) → IsExtreme Low old (low_extreme self.old) → slice_get old k ≡ Some was → numbers.now ≡ slice_set old k now → IsExtreme Low numbers.now (low_extreme self.new) }
+        ensures high { (old : List ℕ) (k : ℕ) → IsExtreme High old (high_extreme self.old) → slice_get old k ≡ Some was → numbers.now ≡ slice_set old k now → IsExtreme High numbers.now (high_extreme self.new) }
+    {
+        self.keep_least(was, now, numbers);
+        self.keep_greatest(was, now, numbers);
+    }
+
     /// Puts a number at a place of the list, and keeps the extremes. Takes no memory.
+    #[inline(always)]
     pub(crate) fn put(&mut self, numbers: &mut [u64], place: usize, number: u64)
         requires is { AreExtremes (part_of numbers.old self.old) self.old }
         requires within { self.old.start + self.old.count ≤ length numbers.old }
@@ -158,7 +174,6 @@ impl Extremes {
             *self = Extremes::of_few(self.start, part);
             return;
         }
-        self.keep_least(was, number, part);
-        self.keep_greatest(was, number, part);
+        self.keep(was, number, part);
     }
 }

@@ -65,7 +65,7 @@ impl<'d> NetCosts<'d> {
     ghost use Rattle.row_board.specs.Extreme.{across};
     ghost use Rattle.row_board.specs.NetPins.{pins_of_instance};
     ghost use Rattle.row_board.specs.Standings.{standing_of, traded};
-    ghost use Rattle.row_board.specs.Trial.{ends_net, ends_net_alone, marked_pins};
+    ghost use Rattle.row_board.specs.Trial.{ends_net, ends_net_alone, joined, marked_pins};
     ghost use Rattle.row_board.specs.Weights.{AreFew};
     ghost use Rattle.row_model.specs.Widths.{columns_of};
     ghost use Rattle.std.specs.Prelude.{◌≡◌, ◌<◌, ◌≤◌, ◌+◌, ◌*◌, ℕ, length, slice_set, sum, IfOk};
@@ -156,7 +156,16 @@ impl<'d> NetCosts<'d> {
         self.nets.most_pins()
     }
 
+    /// How many pins of an instance are joined with others by their nets. Takes no memory.
+    pub(crate) fn joined(&self, instance: u32) -> u64
+        ensures is { result ≡ marked_pins self.now.design (joined self.now.design) instance }
+        ensures few { result ≤ MOST_PINS }
+    {
+        self.nets.joined(instance)
+    }
+
     /// How many pins of an instance end their nets on a side, and how many alone end theirs across. Takes no memory, and steps as the number of its pins.
+    #[inline(always)]
     pub(crate) fn ends(&self, side: Side, instance: u32) -> Ends
         ensures ends { result.ends ≡ marked_pins self.now.design (ends_net self.now.design self.now.standings side) instance }
         ensures alone { result.alone ≡ marked_pins self.now.design (ends_net_alone self.now.design self.now.standings (across side)) instance }

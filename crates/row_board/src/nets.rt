@@ -1,8 +1,9 @@
 //! The nets of a design: the pins of each net, and of each instance its pins with their places in their nets, and its width.
 
 ghost use Rattle.list_facts.specs.Lists.{list_there};
-ghost use Rattle.row_board.specs.NetPins.{AreInOrder, ArePins, ArePinsByInstance};
-ghost use Rattle.std.specs.Prelude.{◌≡◌, ◌<◌, ◌≤◌, ℕ, length, slice_get, IfOk};
+ghost use Rattle.row_board.specs.NetPins.{AreInOrder, ArePins, ArePinsByInstance, joined_by};
+ghost use Rattle.std.specs.List.{range_with_len};
+ghost use Rattle.std.specs.Prelude.{◌≡◌, ◌<◌, ◌≤◌, ℕ, length, map, slice_get, sum, IfOk};
 
 use crate::flat_lists::FlatLists;
 use crate::net_pins::{InstancePin, NetPin, pin_tables};
@@ -41,13 +42,48 @@ fn most_pins_of(pins: &FlatLists<InstancePin>, count: usize) -> usize
     most
 }
 
-/// The nets of a design: the pins of each net, and of each instance its pins and its width in columns, with the greatest number of pins that one has. Contracts see the design.
+// How many pins of an instance are joined with others by their nets.
+fn joined_among(nets: &FlatLists<NetPin>, pins: &[InstancePin]) -> u32
+    requires { length pins.now ≤ MOST_PINS }
+    ensures { result ≡ sum (map (joined_by nets.now) pins.now) }
+{
+    let mut found = 0;
+    let mut rest = pins;
+    while let Some((pin, after)) = rest.split_first() {
+        if nets.at(pin.net as usize).len() > 1 {
+            found += 1;
+        }
+        rest = after;
+    }
+    found
+}
+
+// How many pins of each of so many instances are joined with others. The one error is want of memory.
+fn joined_of(
+    alloc: Global,
+    nets: &FlatLists<NetPin>,
+    pins: &FlatLists<InstancePin>,
+    count: usize,
+) -> Result<Vec<u32>, AllocError>
+    requires { (i : ℕ) → i < count → length (list_there (slice_get pins.now i)) ≤ MOST_PINS }
+    ensures { IfOk result (λ joined. joined.items ≡ map (λ (i : ℕ). sum (map (joined_by nets.now) (list_there (slice_get pins.now i)))) (range_with_len 0 count)) }
+{
+    let mut joined = Vec::new(alloc);
+    for instance in 0..count {
+        joined.push(joined_among(nets, pins.at(instance)))?;
+    }
+    Ok(joined)
+}
+
+/// The nets of a design: the pins of each net, and of each instance its pins and its width in columns. Of the pins of each instance it also tells how many are joined with others,
+/// and the greatest number that one has. Contracts see the design.
 #[derive(Drop)]
 pub(crate) struct Nets<'d> {
     design: &'d Design,
     by_net: FlatLists<NetPin>,
     by_instance: FlatLists<InstancePin>,
     widths: Vec<u32>,
+    joined: Vec<u32>,
     most_pins: usize,
 }
 
@@ -66,6 +102,7 @@ impl<'d> Model for Nets<'d> {
 impl<'d> Nets<'d> {
     ghost use Rattle.design_model.specs.Netlist.{IsNetlist};
     ghost use Rattle.row_board.specs.NetPins.{AreInstancePins, net_pins, own_pin, pin_with_net, pins_of_instance};
+    ghost use Rattle.row_board.specs.Trial.{joined, marked_pins};
     ghost use Rattle.row_model.specs.Widths.{columns_of};
     ghost use Rattle.std.specs.Prelude.{◌≡◌, ◌<◌, ◌≤◌, ℕ, length, map, IfOk};
 
@@ -77,12 +114,15 @@ impl<'d> Nets<'d> {
         let _pins = &design.pins;
         let (by_net, by_instance) = flat_tables(alloc, design)?;
         let widths = widths_of(alloc, design)?;
-        let most_pins = most_pins_of(&by_instance, design.instances.items().len());
+        let count = design.instances.items().len();
+        let joined = joined_of(alloc, &by_net, &by_instance, count)?;
+        let most_pins = most_pins_of(&by_instance, count);
         Ok(Nets {
             design,
             by_net,
             by_instance,
             widths,
+            joined,
             most_pins,
         })
     }
@@ -117,6 +157,16 @@ impl<'d> Nets<'d> {
         ensures few { result ≤ MOST_PINS }
     {
         self.most_pins as u64
+    }
+
+    /// How many pins of an instance are joined with others by their nets.
+    pub(crate) fn joined(&self, instance: u32) -> u64
+        ensures { result ≡ marked_pins self.now (joined self.now) instance }
+    {
+        match self.joined.get(instance as usize) {
+            Some(count) => u64::from(*count),
+            None => 0,
+        }
     }
 
     /// The width of an instance of the design in columns, 0 of any other.

@@ -79,6 +79,7 @@ impl Spreads {
     }
 
     /// Puts a number at a place of a list, where there is this place. Takes no memory.
+    #[inline(always)]
     pub(crate) fn set(&mut self, list: usize, place: usize, number: u64)
         requires { number ≤ self.old.most }
         ensures most { self.new.most ≡ self.old.most }
@@ -99,6 +100,7 @@ impl Spreads {
     }
 
     /// 1 where a number stands at the extreme on a side of a list that has any, else 0, and 1 where it stands alone at that across. Takes no memory.
+    #[inline(always)]
     pub(crate) fn ends(&self, side: Side, list: usize, number: u64) -> Ends
         requires { list < length self.now.lists }
         ensures ends { (n : ℕ) (ns : List ℕ) → slice_get self.now.lists list ≡ Some (n ∷ ns) → result.ends ≡ at_end (extreme_of side (n ∷ ns)) number }

@@ -5,15 +5,14 @@ ghost use Rattle.row_board.specs.Cost.{cost_of, difference};
 ghost use Rattle.row_board.specs.Extreme.{across};
 ghost use Rattle.row_board.specs.NetCosts.{table_costs};
 ghost use Rattle.row_board.specs.RowLengthsView.{misses_of};
-ghost use Rattle.row_board.specs.Trial.{ends_net, ends_net_alone, instances_instead, instead, least_cost, marked_in, seats_between, shifted_from, shifted_seats};
+ghost use Rattle.row_board.specs.Trial.{AreOthers, ends_net, ends_net_alone, instances_instead, instead, joined, least_cost, longer_in, marked_in, marked_pins, seats_between, shifted_from, shifted_seats, shorter_in};
 ghost use Rattle.row_model.specs.Changes.{swapped};
 ghost use Rattle.row_model.specs.Rows.{ArePlaced};
 ghost use Rattle.row_model.specs.Widths.{columns_of};
 ghost use Rattle.std.specs.Bool.{OnTrue};
-ghost use Rattle.std.specs.Prelude.{◌≡◌, ◌≢◌, ◌<◌, ◌≤◌, ◌+◌, ◌*◌, ◌^◌, length, nat_lt, sum};
+ghost use Rattle.std.specs.Prelude.{◌≡◌, ◌≢◌, ◌<◌, ◌≤◌, ◌+◌, ◌-◌, ◌*◌, ◌^◌, length, nat_lt, sum};
 
 use crate::extreme::Side;
-use crate::extremes::Ends;
 use crate::moving::moved_seats;
 use crate::net_costs::NetCosts;
 use crate::row_lengths::{RowLengths, difference};
@@ -54,74 +53,73 @@ fn instead(a: u32, b: u32, instance: u32) -> u32
     instance
 }
 
-// How many pins of the instances of seats, once two have exchanged their places, end their nets on a side, and how many alone end theirs across.
-fn all_ends(costs: &NetCosts, seats: &[Seat], a: u32, b: u32, side: Side) -> Ends
-    requires { length seats.now ≤ MOST_INSTANCES }
-    ensures ends { result.ends ≡ marked_in costs.now.design (ends_net costs.now.design costs.now.standings side) (instances_instead a b seats.now) }
-    ensures alone { result.alone ≡ marked_in costs.now.design (ends_net_alone costs.now.design costs.now.standings (across side)) (instances_instead a b seats.now) }
-    ensures few { result.ends ≤ MOST_PINS * length seats.now }
-    ensures few_alone { result.alone ≤ MOST_PINS * length seats.now }
-{
-    let mut found = Ends { ends: 0, alone: 0 };
-    let mut rest = seats;
-    while let Some((seat, after)) = rest.split_first() {
-        let more = costs.ends(side, instead(a, b, seat.instance));
-        found.ends += more.ends;
-        found.alone += more.alone;
-        rest = after;
-    }
-    found
-}
-
-// How many of these seats are read at once, where their instances have at most so many pins each and what is read is to bring an excess down to nothing: no pin brings it down by more
-// than two, one as it doesn't end its net and one as it alone ends it across.
-fn seats_at_once(seats: &[Seat], most: u64, excess: u64) -> usize
-    requires some { 0 < length seats.now }
-    requires few { most ≤ MOST_PINS }
-    requires small { excess < 2 ^ 62 }
-    ensures some { 0 < result }
-    ensures within { result ≤ length seats.now }
-{
-    let count = excess / (2 * most).max(1) + 1;
-    count.min(seats.len() as u64) as usize
-}
-
-// At most how many pins of the instances of seats, once two have exchanged their places, end their nets on a side, and at least how many alone end theirs across. The
-// seats are read until the first, with `others`, are surely no more than the second, with `enough`.
-fn ends_in(
-    costs: &NetCosts,
-    seats: &[Seat],
-    a: u32,
-    b: u32,
-    side: Side,
-    enough: u64,
-    others: u64,
-) -> Ends
+// How many pins of the instances of seats, once two have exchanged their places, are joined with others by their nets.
+#[inline(never)]
+fn all_joined(costs: &NetCosts, seats: &[Seat], a: u32, b: u32) -> u64
     requires short { length seats.now ≤ MOST_INSTANCES }
-    requires small { enough < 2 ^ 62 }
-    requires few_others { others < 2 ^ 32 }
-    ensures ends { marked_in costs.now.design (ends_net costs.now.design costs.now.standings side) (instances_instead a b seats.now) ≤ result.ends }
-    ensures alone { result.alone ≤ marked_in costs.now.design (ends_net_alone costs.now.design costs.now.standings (across side)) (instances_instead a b seats.now) }
-    ensures few { result.ends < 2 ^ 32 }
-    ensures few_alone { result.alone < 2 ^ 32 }
+    requires others { AreOthers a b seats.now }
+    ensures is { result ≡ marked_in costs.now.design (joined costs.now.design) (instances_instead a b seats.now) }
+    ensures few { result ≤ MOST_PINS * length seats.now }
 {
-    let most = costs.most_pins();
-    let mut found = Ends { ends: 0, alone: 0 };
-    let mut rest = seats;
-    while !rest.is_empty() {
-        let ends = found.ends + most * rest.len() as u64;
-        let enough = enough + found.alone;
-        if ends + others <= enough {
-            return Ends { ends, ..found };
-        }
-        let excess = ends + others - enough;
-        let (now, after) = rest.split_at(seats_at_once(rest, most, excess));
-        let more = all_ends(costs, now, a, b, side);
-        found.ends += more.ends;
-        found.alone += more.alone;
+    let Some((last, front)) = seats.split_last() else {
+        return 0;
+    };
+    let mut found = costs.joined(instead(a, b, last.instance));
+    let mut rest = front;
+    while let Some((seat, after)) = rest.split_first() {
+        found += costs.joined(seat.instance);
         rest = after;
     }
     found
+}
+
+// What is left of an excess of pins that may make their nets shorter over those that surely make them longer, once the pins of an instance are read, of which each that is joined with
+// others was taken to end its net on a side, and none to end it alone across.
+#[inline(always)]
+fn left_after(costs: &NetCosts, instance: u32, side: Side, excess: u64) -> u64
+    requires { excess < 2 ^ 62 }
+    ensures is { excess + marked_pins costs.now.design (ends_net costs.now.design costs.now.standings side) instance ≤ result + (marked_pins costs.now.design (joined costs.now.design) instance + marked_pins costs.now.design (ends_net_alone costs.now.design costs.now.standings (across side)) instance) }
+    ensures few { result ≤ excess }
+{
+    let found = costs.ends(side, instance);
+    (excess + found.ends).saturating_sub(costs.joined(instance) + found.alone)
+}
+
+// What is left once the pins of the instances of seats are read, which once two have exchanged their places stand there. They are read until nothing is left.
+#[inline(always)]
+fn left_on(costs: &NetCosts, seats: &[Seat], a: u32, b: u32, side: Side, excess: u64) -> u64
+    requires small { excess < 2 ^ 62 }
+    requires others { AreOthers a b seats.now }
+    ensures is { excess + marked_in costs.now.design (ends_net costs.now.design costs.now.standings side) (instances_instead a b seats.now) ≤ result + (marked_in costs.now.design (joined costs.now.design) (instances_instead a b seats.now) + marked_in costs.now.design (ends_net_alone costs.now.design costs.now.standings (across side)) (instances_instead a b seats.now)) }
+    ensures few { result ≤ excess }
+{
+    let Some((last, front)) = seats.split_last() else {
+        return excess;
+    };
+    let mut left = left_after(costs, instead(a, b, last.instance), side, excess);
+    let mut rest = front;
+    while let Some((seat, after)) = rest.split_first() {
+        if left == 0 {
+            return 0;
+        }
+        left = left_after(costs, seat.instance, side, left);
+        rest = after;
+    }
+    left
+}
+
+// The same, by steps of their own for each side.
+#[inline(never)]
+fn left_over(costs: &NetCosts, seats: &[Seat], a: u32, b: u32, side: Side, excess: u64) -> u64
+    requires small { excess < 2 ^ 62 }
+    requires others { AreOthers a b seats.now }
+    ensures is { excess + marked_in costs.now.design (ends_net costs.now.design costs.now.standings side) (instances_instead a b seats.now) ≤ result + (marked_in costs.now.design (joined costs.now.design) (instances_instead a b seats.now) + marked_in costs.now.design (ends_net_alone costs.now.design costs.now.standings (across side)) (instances_instead a b seats.now)) }
+    ensures few { result ≤ excess }
+{
+    match side {
+        Side::Low => left_on(costs, seats, a, b, Side::Low, excess),
+        Side::High => left_on(costs, seats, a, b, Side::High, excess),
+    }
 }
 
 // The side that the cells behind an instance are shifted away from where another takes its place.
@@ -167,14 +165,34 @@ fn shifted_seats<'r>(
 // more than a limit.
 fn spare_pins(cost: u64, limit: u64, shift: u64) -> u64
     requires { cost < 2 ^ 61 }
-    ensures { result < 2 ^ 61 }
+    ensures few { result < 2 ^ 61 }
+    ensures spare { shift * result ≤ (cost - limit) - 1 }
 {
     cost.saturating_sub(limit).saturating_sub(1) / shift.max(1)
 }
 
-// At most what rows cost at least after a swap, where they cost so much with their widths after it and by a table in which both instances are at each other's place and no
-// other is shifted. It is that number, or more than the limit.
-fn least_cost(
+// Whether the pins that may make their nets shorter surely outnumber those that surely make them longer by at most so many, of the instances of the seats behind two that exchange
+// their places.
+fn are_spared(costs: &NetCosts, seats: &[Seat], others: &[Seat], a: u32, b: u32, spare: u64) -> bool
+    requires short { length seats.now ≤ MOST_INSTANCES }
+    requires short_others { length others.now ≤ MOST_INSTANCES }
+    requires front { AreOthers a b seats.now }
+    requires front_others { AreOthers b a others.now }
+    ensures { OnTrue result (shorter_in costs.now.design costs.now.standings a b seats.now + shorter_in costs.now.design costs.now.standings b a others.now ≤ spare + (longer_in costs.now.design costs.now.standings a b seats.now + longer_in costs.now.design costs.now.standings b a others.now)) }
+{
+    // Often that is so even if each pin that any instance may have were to save.
+    if costs.most_pins() * (seats.len() + others.len()) as u64 <= spare {
+        return true;
+    }
+    let all = all_joined(costs, seats, a, b) + all_joined(costs, others, b, a);
+    let excess = all.saturating_sub(spare);
+    let left = left_over(costs, seats, a, b, shifted_from(costs, a, b), excess);
+    left_over(costs, others, b, a, shifted_from(costs, b, a), left) == 0
+}
+
+// Whether rows surely cost more than a limit after a swap, where they cost so much with their widths after it and by a table in which both instances are at each other's place and no
+// other is shifted.
+fn is_above(
     costs: &NetCosts,
     rows: &[Items<Seat>],
     a: u32,
@@ -183,24 +201,42 @@ fn least_cost(
     other: Standing,
     cost: u64,
     limit: u64,
-) -> u64
+) -> bool
     requires placed { ArePlaced costs.now.design rows.now }
     requires small { cost < 2 ^ 61 }
-    ensures { result ≤ least_cost costs.now.design rows.now costs.now.standings a b one other cost }
+    requires above { limit < cost }
+    requires front { AreOthers a b (shifted_seats rows.now one other) }
+    requires front_others { AreOthers b a (shifted_seats rows.now other one) }
+    ensures { OnTrue result (limit < least_cost costs.now.design rows.now costs.now.standings a b one other cost) }
 {
-    let shift = shift_of(costs, a, b);
-    let spare = spare_pins(cost, limit, shift);
+    let spare = spare_pins(cost, limit, shift_of(costs, a, b));
     let seats = shifted_seats(costs, rows, one, other);
     let others = shifted_seats(costs, rows, other, one);
-    let unread = costs.most_pins() * others.len() as u64;
-    let side = shifted_from(costs, a, b);
-    let first = ends_in(costs, seats, a, b, side, spare, unread);
-    let side = shifted_from(costs, b, a);
-    let enough = spare + first.alone;
-    let second = ends_in(costs, others, b, a, side, enough, first.ends);
-    let longer = shift * (first.alone + second.alone);
-    let shorter = shift * (first.ends + second.ends);
-    (cost + longer).saturating_sub(shorter)
+    are_spared(costs, seats, others, a, b, spare)
+}
+
+// The same, where the seats that are shifted to the right are read first: more of their pins alone end their nets on that side.
+fn is_above_first(
+    costs: &NetCosts,
+    rows: &[Items<Seat>],
+    a: u32,
+    b: u32,
+    one: Standing,
+    other: Standing,
+    cost: u64,
+    limit: u64,
+) -> bool
+    requires placed { ArePlaced costs.now.design rows.now }
+    requires small { cost < 2 ^ 61 }
+    requires above { limit < cost }
+    requires front { AreOthers a b (shifted_seats rows.now one other) }
+    requires front_others { AreOthers b a (shifted_seats rows.now other one) }
+    ensures { OnTrue result (limit < least_cost costs.now.design rows.now costs.now.standings a b one other cost) }
+{
+    if costs.columns_of(a) < costs.columns_of(b) {
+        return is_above(costs, rows, a, b, one, other, cost, limit);
+    }
+    is_above(costs, rows, b, a, other, one, cost, limit)
 }
 
 /// Whether rows surely cost more than a limit after two instances of different widths exchange their places. All is as before after that.
@@ -232,7 +268,7 @@ pub(crate) fn is_dear(
     let length_cost = costs.weights().length_cost;
     costs.trade(a, b);
     let cost = costs.sum() + length_cost * uneven;
-    let dear = cost > limit && least_cost(costs, rows, a, b, one, other, cost, limit) > limit;
+    let dear = cost > limit && is_above_first(costs, rows, a, b, one, other, cost, limit);
     costs.put(a, one);
     costs.put(b, other);
     dear

@@ -1,14 +1,17 @@
-use Rattle.std.proofs.Common.{◌<◌, ◌+◌, ◌*◌, ap, ap₂, sym, ◌∙◌, arith, ℕ, sum}
-use Rattle.std.proofs.lemmas.Bool.{OnTrue_from}
+use Rattle.std.proofs.Common.{◌≡◌, ◌<◌, ◌+◌, ◌*◌, ap, ap₂, sym, ◌∙◌, arith, subst, ℕ, List, sum}
+use Rattle.std.proofs.lemmas.Bool.{OnTrue_at, OnTrue_from}
 use Rattle.row_board.specs.Cost.{cost_of}
 use Rattle.row_board.specs.NetCosts.{table_costs, Tabled}
 use Rattle.row_board.specs.RowLengths.{Lengths}
-use Rattle.row_board.specs.Standings.{traded}
+use Rattle.row_board.specs.Standings.{standing_of, traded, AreEntered}
 use Rattle.row_board.specs.Spot.{Spot}
-use Rattle.row_board.specs.Trial.{least_cost}
+use Rattle.row_board.specs.Trial.{least_cost, shifted_seats, AreOthers}
 use Rattle.row_board.specs.Weights.{Weighing}
 use Rattle.row_model.specs.Changes.{swapped}
 use Rattle.row_board.proofs.BoardLaws.{lengths-few}
+use Rattle.design_model.specs.Netlist.{Netlist}
+use Rattle.row_model.specs.declared.rows.Seat.{Seat}
+use Rattle.row_board.proofs.JoinLaws.{others-behind}
 use Rattle.row_board.proofs.TradeLaws.{dear-told, put-back, uneven-known}
 use Rattle.std_laws.proofs.Tests.{nat_lt-above}
 use Rattle.row_board.proofs.trial.is_dear.Goals as goal
@@ -20,6 +23,23 @@ unevenness_after-uneven-requires-clause-small c = λ r width at.
     let few = lengths-few t.design c.args.rows.now c.args.lengths.now.widths c.design-design.ensures.good c.requires.board.seated.placed
     (ap (λ (l : Lengths). l.widths) c.requires.board.are_lengths) r width at in
     omega (arith, few)
+
+-- the seats behind either instance by where both stood
+behind-told : (d : Netlist) (rows : List (List Seat)) (standings : List Spot) (a b : ℕ) (one other : Spot) → one ≡ standing_of standings a → other ≡ standing_of standings b
+    → AreEntered d rows standings → AreOthers a b (shifted_seats rows one other)
+behind-told d rows standings a b one other is_one is_other entered =
+    subst (λ (s : Spot). AreOthers a b (shifted_seats rows s other)) (sym is_one)
+    (subst (λ (s : Spot). AreOthers a b (shifted_seats rows (standing_of standings a) s)) (sym is_other) (others-behind d rows standings a b entered))
+
+pub is_above_first-dear-requires-clause-front : goal.is_above_first-dear-requires-clause-front
+is_above_first-dear-requires-clause-front c =
+    let t = c.args.costs.now in
+    behind-told t.design c.args.rows.now t.standings c.args.a c.args.b c.standing-one.result c.standing-other.result c.standing-one.ensures c.standing-other.ensures c.requires.board.seated.entered
+
+pub is_above_first-dear-requires-clause-front_others : goal.is_above_first-dear-requires-clause-front_others
+is_above_first-dear-requires-clause-front_others c =
+    let t = c.args.costs.now in
+    behind-told t.design c.args.rows.now t.standings c.args.b c.args.a c.standing-other.result c.standing-one.result c.standing-other.ensures c.standing-one.ensures c.requires.board.seated.entered
 
 pub returns-clause-dear : goal.returns-clause-dear
 returns-clause-dear c = elim c.if-cost-limit.branch [
@@ -41,7 +61,7 @@ returns-clause-dear c = elim c.if-cost-limit.branch [
       (λ test. dear-told t.design c.args.rows.now t.weights t.standings c.args.lengths.now c.args.a c.args.b c.unevenness_after-uneven.result c.design-design.ensures.good c.requires.board
       c.requires.apart c.requires.a c.requires.b few
       cost (least_cost new.design c.args.rows.now new.standings c.args.a c.args.b c.standing-one.result c.standing-other.result cost) c.args.limit is_cost is_least
-      (omega (arith, nat_lt-above c.args.limit w.least_cost.result (sym w.dear-is ∙ test), w.least_cost.ensures)))
+      (OnTrue_at (sym w.dear-is ∙ test) w.is_above_first-dear.ensures))
   | else-cost-limit w ↦
       OnTrue_from c.if-cost-limit.dear (c.args.limit < cost_of c.args.costs.now.design (swapped c.args.a c.args.b c.args.rows.now) c.args.costs.now.weights)
       (λ test. absurd (omega (arith, nat_lt-above c.args.limit (c.sum.result + c.length_cost.inside.length_cost * c.unevenness_after-uneven.result) (sym w.dear-is ∙ test), w.if-cost-limit.false)))

@@ -2,7 +2,6 @@ use Rattle.std.proofs.Common.{◌≡◌, ◌+◌, ◌-◌, ℕ, ap, sym, ◌∙�
 use Rattle.std.proofs.lemmas.List.{length-set}
 use Rattle.row_board.specs.Extreme.{IsExtreme}
 use Rattle.row_board.specs.Extremes.{high_extreme, low_extreme, part_of}
-use Rattle.row_board.specs.declared.extreme.Extreme.{Extreme}
 use Rattle.row_board.specs.declared.extreme.Side.TheVariants.{Low, High}
 use Rattle.row_board.specs.declared.extremes.Extremes.{Extremes}
 use Rattle.row_board.proofs.ExtremesLaws.{extremes-get, extremes-length, slice-here}
@@ -16,16 +15,14 @@ returns-clause-is c =
     let end : p.start + p.count - p.start ≡ p.count = omega arith in
     let there = extremes-get numbers p c.args.place 0 c.requires.within c.requires.place in
     let made = slice-here numbers p (p.start + p.count) c.args.place c.args.number (omega arith) c.requires.place in
-    let first = c.keep_least.ensures.rest in
-    let last = c.keep_greatest.ensures.rest in
-    let count = ap (λ (x : Extremes). x.count) (last ∙ ap (λ (x : Extremes). record x { greatest = c.keep_greatest.new.self.greatest; at_greatest = c.keep_greatest.new.self.at_greatest }) first) in
+    let rest = c.keep.ensures.rest in
+    let count = ap (λ (x : Extremes). x.count) rest in
     let long = extremes-length new p (omega (arith, c.requires.within, length-set numbers (p.start + c.args.place) c.args.number)) in
     record {
-      low = subst (λ (e : Extreme). IsExtreme Low (part_of new p) e) (sym (ap low_extreme last))
-          (subst (λ (n : ℕ). IsExtreme Low (take n (drop p.start new)) (low_extreme c.keep_least.new.self)) end
-          (c.keep_least.ensures.is (part_of numbers p) c.args.place c.requires.is.low there made));
-      high = subst (λ (n : ℕ). IsExtreme High (take n (drop p.start new)) (high_extreme c.keep_greatest.new.self)) end
-          (c.keep_greatest.ensures.is (part_of numbers p) c.args.place (subst (λ (e : Extreme). IsExtreme High (part_of numbers p) e) (sym (ap high_extreme first)) c.requires.is.high) there made);
+      low = subst (λ (n : ℕ). IsExtreme Low (take n (drop p.start new)) (low_extreme c.keep.new.self)) end
+          (c.keep.ensures.low (part_of numbers p) c.args.place c.requires.is.low there made);
+      high = subst (λ (n : ℕ). IsExtreme High (take n (drop p.start new)) (high_extreme c.keep.new.self)) end
+          (c.keep.ensures.high (part_of numbers p) c.args.place c.requires.is.high there made);
       none = λ none. absurd (omega (arith, none, long, c.requires.place));
       count = count ∙ sym long;
     }
