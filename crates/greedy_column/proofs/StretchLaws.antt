@@ -77,7 +77,7 @@ in_none line within = let parts = and_parts (leb 1 line) (leb line 0) within in 
   both : (n : ℕ) → leb 1 n ≡ true → leb n 0 ≡ true → ⊥
   both n low high = grind (arith, nat_tests)
 
--- where all kinds of nets are noted, nothing is told of any
+-- where all remainders of nets are noted, nothing is told of any
 pub noted_all : (n net : ℕ) → get_or (replicate n true) net true ≡ true
 noted_all zero net = refl
 noted_all (suc n) zero = refl

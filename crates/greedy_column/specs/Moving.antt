@@ -45,13 +45,13 @@ is_apart_from s net = not (s.net == net) && nat_le s.low s.high
 abbrev pub is_foreign : List Span → ℕ → Bool
 is_foreign spans net = list_all (λ s. is_apart_from s net) spans
 
--- a net may have one of some verticals, as its remainder is one of a kind that is noted
+-- a net may have one of some verticals, as its remainder at 64 is noted
 abbrev pub may_have : List Bool → ℕ → Bool
-may_have kinds net = slice_index_or kinds (net % 64) true
+may_have remainders net = slice_index_or remainders (net % 64) true
 
--- no net has one of some verticals but those of the kinds that are noted
+-- no net has one of some verticals but those of the remainders that are noted
 abbrev pub TellForeign : List Span → List Bool → Type 0
-TellForeign spans kinds = (net : ℕ) → may_have kinds net ≡ false → is_foreign spans net ≡ true
+TellForeign spans remainders = (net : ℕ) → may_have remainders net ≡ false → is_foreign spans net ≡ true
 
 -- within a stretch the tracks of all nets that have none of these verticals have a free line to go to, or none of them has one
 abbrev pub IsStretch : List Span → List ℕ → Stretch → Type 0

@@ -13,7 +13,7 @@ use crate::free_lines::FreeLines;
 use crate::lines::put_where;
 use crate::pairs::Pairs;
 use crate::span::Span;
-use crate::stretch::{KINDS, kinds_of, may_have};
+use crate::stretch::{REMAINDERS, may_have, remainders_of};
 use crate::tracks::Tracks;
 use choose_core::{Manner, Next};
 use std::alloc::{AllocError, Global};
@@ -52,7 +52,7 @@ fn movable_of(
     requires { length kept.now + 2 < 2 ^ 32 }
     ensures { IfOk result (λ lines. lines.items ≡ movable_lines spans.now free.now kept.now) }
 {
-    let kinds = kinds_of(spans);
+    let remainders = remainders_of(spans);
     let mut lines = Vec::with_capacity(alloc, kept.len())?;
     // The stretch before, at first one of no lines. As one value it would go through memory for each track.
     let (mut low, mut high, mut has_free) = (1u32, 0u32, false);
@@ -61,7 +61,7 @@ fn movable_of(
     while let Some((track, above)) = rest.split_first() {
         rest = above;
         line += 1;
-        if may_have(&kinds, track.net) {
+        if may_have(&remainders, track.net) {
             put_where(&mut lines, free.may_move(spans, track.net, line), line);
             continue;
         }
@@ -133,11 +133,11 @@ fn waiting_on(
     requires held { AreHeld kept.now lines.now }
     ensures { IfOk result (λ found. found.items ≡ map (waiting (rank_on (next_after ahead.now.uses.items column) kept.now)) lines.now) }
 {
-    let kinds = kinds_of(pairs);
+    let remainders = remainders_of(pairs);
     let mut waiting = Vec::with_capacity(alloc, lines.len())?;
     let mut rest = lines;
     while let Some((line, later)) = rest.split_first() {
-        let rank = rank(ahead, column, pairs, &kinds, kept, *line);
+        let rank = rank(ahead, column, pairs, &remainders, kept, *line);
         waiting.push_reserved(Waiting { line: *line, rank });
         rest = later;
     }
@@ -149,29 +149,35 @@ fn rank(
     ahead: &Ahead,
     column: u32,
     pairs: &[Span],
-    kinds: &[bool; KINDS],
+    remainders: &[bool; REMAINDERS],
     kept: &Tracks,
     line: u32,
 ) -> u32
-    requires kinds { TellForeign pairs.now kinds.now }
+    requires remainders { TellForeign pairs.now remainders.now }
     requires tell { TellSplit pairs.now kept.now }
     requires held { Contains (held_lines kept.now) line }
     ensures { result ≡ rank_on (next_after ahead.now.uses.items column) kept.now line }
 {
     let net = kept.net_on(line);
-    if has_other_end(pairs, kinds, kept, net, line) {
+    if has_other_end(pairs, remainders, kept, net, line) {
         return 0;
     }
     1 + behind(kept, ahead.next(net, column), line)
 }
 
-// Whether a net that holds a line holds another end of these pairs of it too. Most nets have no pair, and are told by the kinds of those
+// Whether a net that holds a line holds another end of these pairs of it too. Most nets have no pair, and are told by the remainders of those
 // that have.
-fn has_other_end(pairs: &[Span], kinds: &[bool; KINDS], kept: &Tracks, net: u32, line: u32) -> bool
-    requires { TellForeign pairs.now kinds.now }
+fn has_other_end(
+    pairs: &[Span],
+    remainders: &[bool; REMAINDERS],
+    kept: &Tracks,
+    net: u32,
+    line: u32,
+) -> bool
+    requires { TellForeign pairs.now remainders.now }
     ensures { result ≡ has_other_end pairs.now kept.now net line }
 {
-    if !may_have(kinds, net) {
+    if !may_have(remainders, net) {
         return false;
     }
     pairs

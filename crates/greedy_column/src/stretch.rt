@@ -1,5 +1,5 @@
 //! Stretches between and on the verticals of a column: the tracks on the lines of one stretch whose nets have none of these verticals have the same
-//! free lines to go to, so that one answer serves for all of them. That a net has none is mostly told by a table of 64 kinds of nets.
+//! free lines to go to, so that one answer serves for all of them. That a net has none is mostly told by a table of 64 remainders of nets.
 
 ghost use Rattle.greedy_column.specs.Moving.{IsStretch, TellForeign, has_option, is_foreign, is_within, lines_of, may_have};
 ghost use Rattle.std.specs.Prelude.{◌≡◌, ◌==◌, ◌&&◌, find, not, true};
@@ -9,7 +9,7 @@ use crate::span::Span;
 use crate::window::{Window, lines_past};
 
 // Nets are told apart by their remainders at this number.
-pub(crate) const KINDS: usize = 64;
+pub(crate) const REMAINDERS: usize = 64;
 
 // The lines of a stretch, and whether a free one is among them.
 #[derive(Clone, Copy, Debug)]
@@ -45,26 +45,26 @@ fn covering(verticals: &[Span], line: u32) -> Option<Span>
 }
 
 // For each remainder whether nets of it may have one of these verticals; all may where one does not lie upwards.
-pub(crate) fn kinds_of(spans: &[Span]) -> [bool; KINDS]
+pub(crate) fn remainders_of(spans: &[Span]) -> [bool; REMAINDERS]
     ensures { TellForeign spans.now result }
 {
-    let mut kinds = [false; KINDS];
+    let mut remainders = [false; REMAINDERS];
     let mut rest = spans;
     while let Some((vertical, others)) = rest.split_first() {
         rest = others;
         if vertical.low > vertical.high {
-            return [true; KINDS];
+            return [true; REMAINDERS];
         }
-        kinds[vertical.net as usize % KINDS] = true;
+        remainders[vertical.net as usize % REMAINDERS] = true;
     }
-    kinds
+    remainders
 }
 
-// Whether a net may have one of the verticals of these kinds.
-pub(crate) fn may_have(kinds: &[bool; KINDS], net: u32) -> bool
-    ensures { result ≡ may_have kinds.now net }
+// Whether a net may have one of the verticals of these remainders.
+pub(crate) fn may_have(remainders: &[bool; REMAINDERS], net: u32) -> bool
+    ensures { result ≡ may_have remainders.now net }
 {
-    kinds[net as usize % KINDS]
+    remainders[net as usize % REMAINDERS]
 }
 
 impl FreeLines {
