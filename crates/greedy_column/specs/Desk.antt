@@ -1,6 +1,7 @@
 -- tables by the nets of tracks: of lines, and of marks
-use Rattle.std.specs.Prelude.{◌≡◌, ◌==◌, ◌≤◌, ◌-◌, nat_le, not, if◌then◌else◌, ℕ, List, Bool, Option, Some, None, false, slice_index}
+use Rattle.std.specs.Prelude.{◌≡◌, ◌==◌, ◌<◌, ◌≤◌, ◌-◌, nat_le, not, if◌then◌else◌, ℕ, List, Bool, Option, Some, None, false, length, slice_index, slice_index_or}
 use Rattle.std.specs.List.{list_any}
+use Rattle.greedy_column.specs.declared.column.Track.{Track}
 use Rattle.greedy_column.specs.declared.span.Span.{Span}
 use Rattle.greedy_column.specs.Ending.{is_split}
 
@@ -11,6 +12,10 @@ noted base entry = if nat_le entry base then None else Some (entry - base)
 -- no entry of a table lies above a base, so that none tells a line above it
 abbrev pub IsBelow : ℕ → List ℕ → Type 0
 IsBelow base table = (net : ℕ) → slice_index table net ≤ base
+
+-- no track is held by a net of a greater number
+abbrev pub HaveNetsTo : List Track → ℕ → Type 0
+HaveNetsTo tracks most = (k : ℕ) (none : Track) → k < length tracks → (slice_index_or tracks k none).net ≤ most
 
 -- no entry of a table is a mark
 abbrev pub IsBlank : List ℕ → Type 0

@@ -1,13 +1,14 @@
 //! Two neighbouring tracks of a net as a pair: which pairs verticals join, and which may still be joined.
 
-ghost use Rattle.greedy_column.specs.Desk.{IsBelow, noted};
+ghost use Rattle.greedy_column.specs.Desk.{HaveNetsTo, IsBelow, noted};
 ghost use Rattle.greedy_column.specs.Ending.{joined_pairs};
 ghost use Rattle.greedy_column.specs.Joining.{ArePairs, neighbours, pair_of, possible_joins};
-ghost use Rattle.std.specs.Prelude.{◌≡◌, ◌<◌, ◌+◌, ◌^◌, ◌++◌, IfOk, OnOk, length};
+ghost use Rattle.std.specs.Prelude.{◌≡◌, ◌<◌, ◌+◌, ◌^◌, ◌++◌, ℕ, IfOk, OnOk, length};
 
+use crate::column::Track;
 use crate::desk::Desk;
 use crate::span::Span;
-use crate::table::{entry, put, reach};
+use crate::table::reach;
 use crate::tracks::Tracks;
 use std::alloc::{AllocError, Global};
 use std::marker::Model;
@@ -81,8 +82,8 @@ impl Pairs {
     }
 }
 
-// All two neighbouring tracks of a net, by ascending lower track, from the top down: a table without entries above a base comes to tell by
-// net, above it, the lowest line so far.
+// All two neighbouring tracks of a net, by ascending lower track: a table without entries above a base is made long enough for their nets, and
+// comes to tell by net, above it, the lowest line.
 pub(crate) fn neighbours_by(
     alloc: Global,
     tracks: &Tracks,
@@ -95,6 +96,36 @@ pub(crate) fn neighbours_by(
     ensures below { IsBelow (base + length tracks.now) above.new.items }
 {
     let all = tracks.list();
+    reach(above, greatest_net(all), 0)?;
+    let list = neighbours_in(alloc, all, above, base)?;
+    Ok(Pairs { list })
+}
+
+// The greatest net of some tracks, 0 where none is held.
+fn greatest_net(tracks: &[Track]) -> u32
+    ensures { HaveNetsTo tracks.now result }
+{
+    let mut most = 0u32;
+    for track in tracks {
+        most = most.max(track.net);
+    }
+    most
+}
+
+// The same pairs, from the top down, by a table that has an entry for each of the nets.
+#[inline(never)]
+fn neighbours_in(
+    alloc: Global,
+    all: &[Track],
+    above: &mut [u32],
+    base: u32,
+) -> Result<Vec<Span>, AllocError>
+    requires below { IsBelow base above.old }
+    requires few { base + length all.now < 2 ^ 32 }
+    requires long { (most : ℕ) × (HaveNetsTo all.now most × (most < length above.old)) }
+    ensures pairs { IfOk result (λ list. list.items ≡ neighbours all.now) }
+    ensures below { IsBelow (base + length all.now) above.new }
+{
     let mut list = Vec::with_capacity(alloc, all.len().min(32))?;
     let mut place = all.len();
     while place > 0 {
@@ -104,12 +135,11 @@ pub(crate) fn neighbours_by(
         if net == 0 {
             continue;
         }
-        reach(above, net, 0)?;
-        push_pair(&mut list, net, line, noted(base, entry(above, net)))?;
-        put(above, net, base + line);
+        push_pair(&mut list, net, line, noted(base, above[net as usize]))?;
+        above[net as usize] = base + line;
     }
     list.reverse();
-    Ok(Pairs { list })
+    Ok(list)
 }
 
 // The line that an entry tells above a base, none where it does not lie above it.
