@@ -38,6 +38,8 @@ pub mod GrowLaws
 -- the wiring, column by column
 pub mod WiringLaws
 pub mod WayLaws
+-- columns without pins in which nothing happens
+pub mod IdleLaws
 -- a sweep, record by record
 pub mod SweepLaws
 pub mod GoingLaws

@@ -16,6 +16,8 @@ pub mod Tables
 pub mod Turns
 -- the final order of the tracks, with a table of their lines
 pub mod FinalOrder
+-- columns without pins in which nothing happens
+pub mod Idle
 -- whether a sweep goes on
 pub mod Running
 -- a sweep that was made, and how the channel is routed by it

@@ -9,6 +9,7 @@ mod columns;
 mod edges;
 mod final_order;
 mod has_wiring;
+mod idle;
 mod marks;
 mod packed;
 mod pieces;

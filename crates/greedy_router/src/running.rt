@@ -8,11 +8,12 @@ ghost use Rattle.greedy_router.specs.Runs.{routed_of};
 ghost use Rattle.greedy_router.specs.Sweeps.{Lessens};
 ghost use Rattle.std.specs.Prelude.{◌≡◌, IfOk};
 
+use crate::idle::{is_idle, next_column};
 use crate::run::Run;
 use crate::run_limits::{Limits, Start};
 use crate::surveyed::Surveyed;
 use choose_core::Chooses;
-use greedy_column::{ColumnState, Desk, Track, step_with};
+use greedy_column::{ColumnState, Desk, Track};
 use std::alloc::{AllocError, Global};
 
 // How many tracks nets hold.
@@ -71,18 +72,13 @@ pub(crate) fn run_columns<'s, C: Chooses>(
     let mut columns = Vec::new(alloc);
     let width = channel.top.items().len();
     let last = width + extra as usize;
+    let mut idle = false;
     'columns: while is_going(state.order.items(), columns.len(), width, last, tracks) {
         let column = columns.len() as u32;
-        let done = step_with(
-            alloc,
-            &mut desk,
-            &mut state,
-            channel,
-            &surveyed.ahead,
-            column,
-            manner,
-            chooser,
+        let done = next_column(
+            alloc, &mut desk, &mut state, surveyed, column, manner, chooser, idle,
         )?;
+        idle = is_idle(channel, column, &done);
         columns.push(done)?;
     }
     let over = is_past(state.order.items(), columns.len(), last, tracks);

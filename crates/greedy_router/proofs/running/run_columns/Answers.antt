@@ -1,4 +1,4 @@
-use Rattle.std.proofs.Common.{◌≡◌, ◌+◌, ◌++◌, ◌∷◌, List, [], true, false, length, ap, arith, rules, refl, sym, subst, ◌∙◌}
+use Rattle.std.proofs.Common.{◌≡◌, ◌+◌, ◌++◌, ◌∷◌, List, [], true, false, length, length-append, ap, arith, rules, refl, sym, subst, ◌∙◌}
 use Rattle.channel_model.specs.Pins.{IsChannel}
 use Rattle.greedy_column.specs.declared.column.Column.{Column}
 use Rattle.greedy_column.specs.declared.column.Track.{Track}
@@ -9,6 +9,7 @@ use Rattle.greedy_router.specs.Running.{is_going, is_past}
 use Rattle.greedy_router.proofs.SweepLaws.{fresh_after-push}
 use Rattle.greedy_router.proofs.EndedLaws.{run-columns, run-lessens, run-routed, run-tracks}
 use Rattle.greedy_router.proofs.GoingLaws.{IsRun-first, IsRun-push}
+use Rattle.greedy_router.proofs.IdleLaws.{idle-next}
 use Rattle.greedy_router.proofs.FewLaws.{fresh-few, columns-few}
 use Rattle.greedy_router.proofs.FewerLaws.{sweep-lessens}
 use Rattle.greedy_router.proofs.running.run_columns.Goals as goal
@@ -20,6 +21,7 @@ columns-init g c =
       run = IsRun-first _ c.begun-begun.result _ c.args.surveyed.now.channel.now c.args.limits.tracks c.args.limits.extra (search rules);
       state = rw c.in_ok-state.ensures.first at (c.in_ok-state.ensures.state c.args.surveyed.now.channel.now);
       fresh = refl;
+      idle = λ yes. absurd (cc yes);
     })
 
 pub overflow_cast-column : goal.overflow_cast-column
@@ -30,8 +32,8 @@ overflow_cast-column g c =
     let few = columns-few c.begun-begun.result pins c.columns.columns.items (sweep-lessens pins (record { begun = c.begun-begun.result; columns = c.columns.columns.items; order = [] }) is fair) c.columns.invariant.run.needed is c.begun-begun.ensures.few fair in
     omega (arith, few, c.len-column.ensures)
 
-pub step_with-requires-clause-few : goal.step_with-requires-clause-few
-step_with-requires-clause-few g c =
+pub next_column-requires-clause-few : goal.next_column-requires-clause-few
+next_column-requires-clause-few g c =
     let is : IsChannel c.args.surveyed.now.channel.now = search rules in
     let few = fresh-few c.begun-begun.result c.args.surveyed.now.channel.now c.columns.columns.items is c.begun-begun.ensures.few c.columns.invariant.run.fair in
     omega (arith, few, c.columns.invariant.fresh)
@@ -51,8 +53,14 @@ columns-preserved g c =
     rw more
     (record {
       run = IsRun-push _ begun _ pins most extra columns c.columns.state.fresh c.columns.state.order c.columns.invariant.run done
-          c.step_with.new.state.order c.step_with.new.state.fresh going c.columns.invariant.fresh made.follows made.fair made.replay made.state.numbered;
+          c.next_column.new.state.order c.next_column.new.state.fresh going c.columns.invariant.fresh made.follows made.fair made.replay made.state.numbered;
       state = made.state;
+      idle = λ yes. record {
+        before = length columns;
+        next = sym (length-append columns (done ∷ []));
+        idle = idle-next c.args.start.manner _ pins (length columns) c.columns.state c.next_column.new.state done c.columns.invariant.state.numbered
+            (rw place at (c.is_idle-idle.ensures.bare yes)) (c.is_idle-idle.ensures.nothing yes) made.follows made.replay made.fresh;
+      };
       fresh = made.fresh ∙ ap (λ n. n + length done.made) c.columns.invariant.fresh ∙ sym (fresh_after-push (begun + 1) columns done);
     })
 
