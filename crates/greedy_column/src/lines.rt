@@ -6,7 +6,7 @@ ghost use Rattle.greedy_column.specs.Moving.{without};
 ghost use Rattle.greedy_column.specs.Tracks.{ids, line_of};
 ghost use Rattle.std.specs.List.Sorted.{IsStrictlyIncreasing};
 ghost use Rattle.std.specs.List.{list_any};
-ghost use Rattle.std.specs.Prelude.{◌≡◌, ◌==◌, ◌<◌, ◌≤◌, ◌+◌, ◌++◌, ◌∷◌, [], ◌^◌, if◌then◌else◌, IfOk, OnOk, filter, length, nat_lt, not, vec_capacity, vec_len};
+ghost use Rattle.std.specs.Prelude.{◌≡◌, ◌==◌, ◌<◌, ◌≤◌, ◌+◌, ◌++◌, ◌∷◌, [], ◌^◌, if◌then◌else◌, IfOk, OnOk, filter, length, nat_lt, not};
 
 use crate::column::Track;
 use crate::gathering::Gathering;

@@ -1,8 +1,7 @@
-use Rattle.std.proofs.Common.{◌≡◌, ◌≢◌, ◌<◌, ◌+◌, eqb, ℕ, zero, suc, List, [], ◌∷◌, cond, drop, get_or, length, map, refl, sym, subst, ap, ◌∙◌, arith, Contains, inl, inr}
+use Rattle.std.proofs.Common.{◌≡◌, ◌<◌, ◌+◌, eqb, ℕ, zero, suc, List, [], ◌∷◌, cond, drop, get_or, length, map, refl, sym, subst, ap, ◌∙◌, arith, Contains, inl, inr}
 use Rattle.std.proofs.lemmas.Bool.{cond-true, cond-false, ne_eqb, eq-eqb, cases_eq}
 use Rattle.channel_model.specs.Pins.{Pins}
 use Rattle.choose_core.specs.declared.candidate.Candidate.{Candidate}
-use Rattle.choose_core.specs.declared.candidate.Next.{Next}
 use Rattle.choose_core.specs.declared.candidate.Next.TheVariants.{Ends, Top, Bottom, Both}
 use Rattle.choose_core.specs.declared.plan.Manner.{Manner}
 use Rattle.greedy_column.specs.declared.column.Column.{Column}
@@ -12,13 +11,13 @@ use Rattle.greedy_column.specs.Ahead.{first_in, next_of}
 use Rattle.greedy_column.specs.Entering.{Enters}
 use Rattle.greedy_column.specs.Follows.{Follows, FollowsOn, entries_of, pin_with}
 use Rattle.greedy_column.specs.Joining.{span_in}
-use Rattle.greedy_column.specs.Replay.{after, entered, freed, freed_among, top_pin, bottom_pin, with_nets}
+use Rattle.greedy_column.specs.Replay.{after, entered, freed, top_pin, bottom_pin, with_nets}
 use Rattle.greedy_column.specs.State.{AreNumbered}
 use Rattle.greedy_column.specs.Tracks.{ids}
 use Rattle.greedy_column.specs.Verticals.{verticals_of_pins}
 use Rattle.greedy_column.proofs.PlacedLaws.{hold-none}
 use Rattle.greedy_column.proofs.StateLaws.{Follows-from_parts}
-use Rattle.greedy_router.specs.Idle.{IsBare, IsIdle, IsIdleBefore, nothing}
+use Rattle.greedy_router.specs.Idle.{IsBare, IsIdle, nothing}
 
 -- where no edge goes on, a net has no more pins
 first-none : (top : List ℕ) (net : ℕ) → first_in top [] net ≡ Ends

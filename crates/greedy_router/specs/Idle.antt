@@ -1,5 +1,5 @@
 -- columns without pins in which nothing happens
-use Rattle.std.specs.Prelude.{◌≡◌, ◌+◌, Bool, true, false, ℕ, List, []}
+use Rattle.std.specs.Prelude.{◌≡◌, ◌+◌, false, ℕ, List, []}
 use Rattle.channel_model.specs.Pins.{Pins}
 use Rattle.choose_core.specs.declared.candidate.Candidate.{Candidate}
 use Rattle.choose_core.specs.declared.plan.Manner.{Manner}

@@ -1,12 +1,11 @@
 //! Columns without pins in which nothing happens, as nothing happened in the one before.
 
-ghost use Rattle.greedy_column.specs.Ahead.{IsAhead};
 ghost use Rattle.greedy_column.specs.Fair.{Fair};
 ghost use Rattle.greedy_column.specs.Follows.{Follows};
 ghost use Rattle.greedy_column.specs.Replay.{after};
 ghost use Rattle.greedy_column.specs.State.{IsState};
-ghost use Rattle.greedy_router.specs.Idle.{IsBare, IsIdle, IsIdleBefore, nothing};
-ghost use Rattle.std.specs.Prelude.{◌≡◌, ◌≤◌, ◌+◌, ◌^◌, true, IfOk, length};
+ghost use Rattle.greedy_router.specs.Idle.{IsBare, IsIdleBefore, nothing};
+ghost use Rattle.std.specs.Prelude.{◌≡◌, ◌≤◌, ◌+◌, true, IfOk, length};
 
 use crate::surveyed::Surveyed;
 use channel_model::Channel;

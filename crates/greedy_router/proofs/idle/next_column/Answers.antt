@@ -1,7 +1,6 @@
-use Rattle.std.proofs.Common.{rules, ◌≡◌, ◌+◌, true, sym, subst, ◌∙◌, ap}
+use Rattle.std.proofs.Common.{rules, sym, subst, ◌∙◌, ap}
 use Rattle.channel_model.specs.Pins.{IsChannel}
 use Rattle.greedy_column.specs.declared.column.Column.{Column}
-use Rattle.greedy_column.specs.Fair.{Fair}
 use Rattle.greedy_column.specs.Follows.{Follows}
 use Rattle.greedy_column.specs.Replay.{after}
 use Rattle.greedy_column.proofs.FairLaws.{Fair-from}
