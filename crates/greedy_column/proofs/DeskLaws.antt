@@ -35,27 +35,27 @@ IsBelow-set bound table n entry inside low below = λ net. elim (cases_eq n net)
       omega (arith, is, below net)
 ]
 
--- a lower track is noted for its net, where it is held
-Notes-more : (base : ℕ) (above : List ℕ) (line entry : ℕ) (t : Track) (tracks : List Track) → 0 < line → (0 < t.net → entry ≡ base + line) → t.net < length above
-    → Notes base above (suc line) tracks → Notes base (set above t.net entry) line (t ∷ tracks)
-Notes-more base above line entry t tracks some is inside notes = λ net held. elim (cases_eq t.net net) [
+-- a lower track is noted for its net
+Notes-more : (base : ℕ) (above : List ℕ) (line : ℕ) (t : Track) (tracks : List Track) → 0 < line → t.net < length above → Notes base above (suc line) tracks
+    → Notes base (set above t.net (base + line)) line (t ∷ tracks)
+Notes-more base above line t tracks some inside notes = λ net held. elim (cases_eq t.net net) [
   | inl same ↦
-      ap (λ n. noted base (get_or (set above t.net entry) n 0)) (sym same) ∙ ap (noted base) (get_or-set_same above t.net entry 0 inside)
-      ∙ ap (noted base) (is (omega (arith, held, same))) ∙ noted-some base line some ∙ sym (cond-true (eqb t.net net) (Some line) (next_line net (suc line) tracks) (eq-eqb t.net net same))
+      ap (λ n. noted base (get_or (set above t.net (base + line)) n 0)) (sym same) ∙ ap (noted base) (get_or-set_same above t.net (base + line) 0 inside)
+      ∙ noted-some base line some ∙ sym (cond-true (eqb t.net net) (Some line) (next_line net (suc line) tracks) (eq-eqb t.net net same))
   | inr other ↦
-      ap (noted base) (get_or-set_other above t.net net entry 0 (λ same. other (sym same))) ∙ notes net held
+      ap (noted base) (get_or-set_other above t.net net (base + line) 0 (λ same. other (sym same))) ∙ notes net held
       ∙ sym (cond-false (eqb t.net net) (Some line) (next_line net (suc line) tracks) (ne_eqb t.net net other))
 ]
 
 -- one step down: the track below those from this line on
-pub Notes-down : (base : ℕ) (all : List Track) (k line entry : ℕ) (t : Track) (above : List ℕ) → line ≡ k + 1 → drop k all ≡ t ∷ drop line all
-    → (0 < t.net → entry ≡ base + line) → t.net < length above → Notes base above (line + 1) (drop line all)
-    → Notes base (set above t.net entry) (k + 1) (drop k all)
-Notes-down base all k line entry t above here cut is inside notes =
+pub Notes-down : (base : ℕ) (all : List Track) (k line : ℕ) (t : Track) (above reached : List ℕ) → line ≡ k + 1 → drop k all ≡ t ∷ drop line all
+    → ((net : ℕ) → get_or reached net 0 ≡ get_or above net 0) → t.net < length reached → Notes base above (line + 1) (drop line all)
+    → Notes base (set reached t.net (base + line)) (k + 1) (drop k all)
+Notes-down base all k line t above reached here cut alike inside notes =
     let next : line + 1 ≡ suc line = omega arith in
-    let told : Notes base above (suc line) (drop line all) = λ net held. notes net held ∙ ap (λ l. next_line net l (drop line all)) next in
+    let told : Notes base reached (suc line) (drop line all) = λ net held. ap (noted base) (alike net) ∙ notes net held ∙ ap (λ l. next_line net l (drop line all)) next in
     λ net held.
-    Notes-more base above line entry t (drop line all) (omega (arith, here)) is inside told net held
+    Notes-more base reached line t (drop line all) (omega (arith, here)) inside told net held
     ∙ ap (next_line net line) (sym cut) ∙ ap (λ l. next_line net l (drop k all)) here
 
 -- its pair with the next one above it is found
@@ -67,23 +67,13 @@ reverse-pair list net line (Some above) = step (eqb net 0) where
   step true = ap (λ (l : List Span). reverse l) (append-nil list)
   step false = reverse-append list (record { net = net; low = line; high = above } ∷ [])
 
--- a free track has no pair, whatever is noted
-pair-told : (net line : ℕ) (o next : Option ℕ) → (0 < net → o ≡ next) → pair_of net line o ≡ pair_of net line next
-pair-told net line o next told = elim (cases_eq net 0) [
-  | inl free ↦ ap (λ n. pair_of n line o) free ∙ pair-free line o ∙ sym (ap (λ n. pair_of n line next) free ∙ pair-free line next)
-  | inr held ↦ ap (pair_of net line) (told (omega (arith, held)))
-] where
-  pair-free : (line : ℕ) (o : Option ℕ) → pair_of 0 line o ≡ []
-  pair-free line None = refl
-  pair-free line (Some above) = refl
-
 pub neighbours-down : (all : List Track) (k line : ℕ) (t : Track) (list grown : List Span) (o : Option ℕ) → line ≡ k + 1 → drop k all ≡ t ∷ drop line all
-    → (0 < t.net → o ≡ next_line t.net (line + 1) (drop line all)) → grown ≡ list ++ pair_of t.net line o
+    → o ≡ next_line t.net (line + 1) (drop line all) → grown ≡ list ++ pair_of t.net line o
     → reverse list ≡ neighbours_from (line + 1) (drop line all) → reverse grown ≡ neighbours_from (k + 1) (drop k all)
 neighbours-down all k line t list grown o here cut found is so_far =
     let next : line + 1 ≡ suc line = omega arith in
     ap (λ (l : List Span). reverse l) is ∙ reverse-pair list t.net line o
-    ∙ (λ i. pair-told t.net line o (next_line t.net (line + 1) (drop line all)) found i ++ so_far i)
+    ∙ (λ i. pair_of t.net line (found i) ++ so_far i)
     ∙ ap (λ l. pair_of t.net line (next_line t.net l (drop line all)) ++ neighbours_from l (drop line all)) next
     ∙ ap (neighbours_from line) (sym cut) ∙ ap (λ l. neighbours_from l (drop k all)) here
 

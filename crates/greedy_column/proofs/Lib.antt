@@ -4,7 +4,6 @@ pub mod ReachLaws
 pub mod PickLaws
 -- lines of tracks, what ascends, and windows of lines
 pub mod LineLaws
-pub mod GatheringLaws
 pub mod AscentLaws
 pub mod WindowLaws
 -- places of new tracks

@@ -14,7 +14,6 @@ pub mod Keeping
 pub mod Fair
 -- a record is what the four steps make, each choice being an answer of the chooser
 pub mod Lines
-pub mod Gathering
 pub mod Places
 pub mod Offers
 pub mod Entering

@@ -244,10 +244,7 @@ impl<C: Chooses> Moment<'_, C> {
 fn ends_alone(track: Track, lasts: &[u32], marks: &[u32], column: u32) -> bool
     ensures { result ≡ ends_alone lasts.now marks.now column track }
 {
-    // All is read before any of it is judged, since whether a track is free can hardly be foretold.
-    let is_last = entry(lasts, track.net) <= column;
-    let is_whole = entry(marks, track.net) == 0;
-    track.net != 0 && (is_last && is_whole)
+    track.net != 0 && (entry(lasts, track.net) <= column && entry(marks, track.net) == 0)
 }
 
 // The lines that end where no two tracks are joined, in one pass that is apart from all else, so that what it reads stays at hand.

@@ -8,7 +8,6 @@ mod ended;
 mod ending;
 mod entering;
 mod free_lines;
-mod gathering;
 mod going_on;
 mod grouping;
 mod joining;

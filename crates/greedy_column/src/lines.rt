@@ -6,10 +6,9 @@ ghost use Rattle.greedy_column.specs.Moving.{without};
 ghost use Rattle.greedy_column.specs.Tracks.{ids, line_of};
 ghost use Rattle.std.specs.List.Sorted.{IsStrictlyIncreasing};
 ghost use Rattle.std.specs.List.{list_any};
-ghost use Rattle.std.specs.Prelude.{◌≡◌, ◌==◌, ◌<◌, ◌≤◌, ◌+◌, ◌++◌, ◌∷◌, [], ◌^◌, if◌then◌else◌, IfOk, OnOk, filter, length, nat_lt, not};
+ghost use Rattle.std.specs.Prelude.{◌≡◌, ◌==◌, ◌<◌, ◌≤◌, ◌+◌, ◌++◌, ◌∷◌, [], ◌^◌, if◌then◌else◌, IfOk, OnOk, filter, length, nat_lt, not, vec_capacity, vec_len};
 
 use crate::column::Track;
-use crate::gathering::Gathering;
 use crate::tracks::Tracks;
 use std::alloc::{AllocError, Global};
 use std::marker::Model;
@@ -120,26 +119,26 @@ impl Tracks {
         ensures other_all_are { IfOk result (λ lists. AreLines lists.1.all.items) }
         ensures other_own_are { IfOk result (λ lists. AreLines lists.1.own.items) }
     {
-        let mut one_all = Gathering::new(alloc, self.list().len())?;
+        let mut one_all = Vec::with_capacity(alloc, self.list().len())?;
         let mut one_own = Vec::new(alloc);
-        let mut other_all = Gathering::new(alloc, self.list().len())?;
+        let mut other_all = Vec::with_capacity(alloc, self.list().len())?;
         let mut other_own = Vec::new(alloc);
         let mut line = 1u32;
         let mut rest = self.list();
         while let Some((track, above)) = rest.split_first() {
-            one_all.put(Sought::Open(one).takes(*track), line);
+            put_where(&mut one_all, Sought::Open(one).takes(*track), line);
             push_where(&mut one_own, Sought::Own(one).takes(*track), line)?;
-            other_all.put(Sought::Open(other).takes(*track), line);
+            put_where(&mut other_all, Sought::Open(other).takes(*track), line);
             push_where(&mut other_own, Sought::Own(other).takes(*track), line)?;
             line += 1;
             rest = above;
         }
         let first = OpenLists {
-            all: one_all.into_lines(),
+            all: one_all,
             own: one_own,
         };
         let second = OpenLists {
-            all: other_all.into_lines(),
+            all: other_all,
             own: other_own,
         };
         Ok((first, second))
@@ -152,20 +151,17 @@ impl Tracks {
         ensures all_are { IfOk result (λ lists. AreLines lists.all.items) }
         ensures own_are { IfOk result (λ lists. AreLines lists.own.items) }
     {
-        let mut all = Gathering::new(alloc, self.list().len())?;
+        let mut all = Vec::with_capacity(alloc, self.list().len())?;
         let mut own = Vec::new(alloc);
         let mut line = 1u32;
         let mut rest = self.list();
         while let Some((track, above)) = rest.split_first() {
-            all.put(Sought::Open(net).takes(*track), line);
+            put_where(&mut all, Sought::Open(net).takes(*track), line);
             push_where(&mut own, Sought::Own(net).takes(*track), line)?;
             line += 1;
             rest = above;
         }
-        Ok(OpenLists {
-            all: all.into_lines(),
-            own,
-        })
+        Ok(OpenLists { all, own })
     }
 
     // The lines of the tracks that a net holds.
@@ -182,15 +178,15 @@ impl Tracks {
         ensures are { IfOk result (λ lines. AreLines lines.items) }
         ensures ascending { IfOk result (λ lines. IsStrictlyIncreasing lines.items) }
     {
-        let mut lines = Gathering::new(alloc, self.list().len())?;
+        let mut lines = Vec::with_capacity(alloc, self.list().len())?;
         let mut line = 1u32;
         let mut rest = self.list();
         while let Some((track, above)) = rest.split_first() {
-            lines.put(sought.takes(*track), line);
+            put_where(&mut lines, sought.takes(*track), line);
             line += 1;
             rest = above;
         }
-        Ok(lines.into_lines())
+        Ok(lines)
     }
 }
 
@@ -287,6 +283,18 @@ pub(crate) fn push_where(lines: &mut Vec<u32>, wanted: bool, line: u32) -> Resul
         lines.push(line)?;
     }
     Ok(())
+}
+
+// The same, to a list that has room for one more.
+pub(crate) fn put_where(lines: &mut Vec<u32>, wanted: bool, line: u32)
+    requires { vec_len lines.old < vec_capacity lines.old }
+    ensures lines { lines.new.items ≡ lines.old.items ++ (if wanted then line ∷ [] else []) }
+    ensures long { vec_len lines.new ≤ vec_len lines.old + 1 }
+    ensures room { vec_capacity lines.new ≡ vec_capacity lines.old }
+{
+    if wanted {
+        lines.push_reserved(line);
+    }
 }
 
 // The line of an id, one above all tracks where it has none.

@@ -10,7 +10,7 @@ ghost use Rattle.std.specs.Prelude.{◌≡◌, ◌<◌, ◌≤◌, ◌+◌, ◌^
 use crate::ahead::Ahead;
 use crate::column::Track;
 use crate::free_lines::FreeLines;
-use crate::gathering::Gathering;
+use crate::lines::put_where;
 use crate::pairs::Pairs;
 use crate::span::Span;
 use crate::stretch::{REMAINDERS, may_have, remainders_of};
@@ -53,7 +53,7 @@ fn movable_of(
     ensures { IfOk result (λ lines. lines.items ≡ movable_lines spans.now free.now kept.now) }
 {
     let remainders = remainders_of(spans);
-    let mut lines = Gathering::new(alloc, kept.len())?;
+    let mut lines = Vec::with_capacity(alloc, kept.len())?;
     // The stretch before, at first one of no lines. As one value it would go through memory for each track.
     let (mut low, mut high, mut has_free) = (1u32, 0u32, false);
     let mut line = 0u32;
@@ -62,20 +62,20 @@ fn movable_of(
         rest = above;
         line += 1;
         if may_have(&remainders, track.net) {
-            lines.put(free.may_move(spans, track.net, line), line);
+            put_where(&mut lines, free.may_move(spans, track.net, line), line);
             continue;
         }
         if low <= line && line <= high {
-            lines.put(has_free && track.net != 0, line);
+            put_where(&mut lines, has_free && track.net != 0, line);
             continue;
         }
         let stretch = free.stretch_of(spans, track.net, line);
         low = stretch.window.low;
         high = stretch.window.high;
         has_free = stretch.has_free;
-        lines.put(has_free && track.net != 0, line);
+        put_where(&mut lines, has_free && track.net != 0, line);
     }
-    Ok(lines.into_lines())
+    Ok(lines)
 }
 
 // The order in which the kept tracks of these lines may move, by pairs that tell which nets hold several tracks.

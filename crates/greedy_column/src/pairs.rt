@@ -3,7 +3,7 @@
 ghost use Rattle.greedy_column.specs.Desk.{HaveNetsTo, IsBelow, noted};
 ghost use Rattle.greedy_column.specs.Ending.{joined_pairs};
 ghost use Rattle.greedy_column.specs.Joining.{ArePairs, neighbours, pair_of, possible_joins};
-ghost use Rattle.std.specs.Prelude.{◌≡◌, ◌==◌, ◌<◌, ◌≤◌, ◌+◌, ◌^◌, ◌++◌, ℕ, if◌then◌else◌, IfOk, OnOk, length};
+ghost use Rattle.std.specs.Prelude.{◌≡◌, ◌<◌, ◌+◌, ◌^◌, ◌++◌, ℕ, IfOk, OnOk, length};
 
 use crate::column::Track;
 use crate::desk::Desk;
@@ -132,20 +132,14 @@ fn neighbours_in(
         let line = place as u32;
         place -= 1;
         let net = all[place].net;
-        // Which tracks are free can hardly be foretold, so they go the same way: nothing is noted for them.
+        if net == 0 {
+            continue;
+        }
         push_pair(&mut list, net, line, noted(base, above[net as usize]))?;
-        above[net as usize] = note_of(net, base + line);
+        above[net as usize] = base + line;
     }
     list.reverse();
     Ok(list)
-}
-
-// The entry that a track of a net is noted by, 0 where it is free.
-fn note_of(net: u32, entry: u32) -> u32
-    ensures is { result ≡ (if net == 0 then 0 else entry) }
-    ensures low { result ≤ entry }
-{
-    if net == 0 { 0 } else { entry }
 }
 
 // The line that an entry tells above a base, none where it does not lie above it.

@@ -32,7 +32,7 @@ impl Model for Tracks {
 }
 
 // 1 where something is so, else 0.
-pub(crate) fn one_where(is: bool) -> usize
+fn one_where(is: bool) -> usize
     ensures { result ≡ (if is then 1 else 0) }
 {
     if is { 1 } else { 0 }

@@ -1,5 +1,4 @@
-use Rattle.std.proofs.Common.{◌≡◌, ◌<◌, ◌+◌, ◌-◌, ◌++◌, ◌∷◌, ◌∙◌, eqb, List, ℕ, [], length, drop, reverse, get_or, sym, subst, ap, rules, arith}
-use Rattle.std.proofs.lemmas.Bool.{cond-false, ne_eqb}
+use Rattle.std.proofs.Common.{◌≡◌, ◌≢◌, ◌<◌, ◌+◌, ◌-◌, ◌++◌, ◌∷◌, ◌∙◌, List, ℕ, [], length, drop, reverse, get_or, refl, sym, subst, ap, rules, arith}
 use Rattle.std.proofs.lemmas.List.{drop_all, drop_more}
 use Rattle.greedy_column.specs.declared.column.Track.{Track}
 use Rattle.greedy_column.specs.declared.span.Span.{Span}
@@ -31,13 +30,12 @@ loop-place-preserved c =
     let within : k < length tracks = omega (arith, c.loop-place.invariant.within) in
     let cut : drop k tracks ≡ t ∷ drop line tracks = drop_more tracks k one within ∙ ap (λ n. t ∷ drop n tracks) (sym here) in
     let inside : t.net < length was = omega (arith, c.requires.long.1.0 k one within, c.requires.long.1.1) in
-    let told : 0 < t.net → c.noted.result ≡ next_line t.net (line + 1) (drop line tracks) = λ held. c.noted.ensures ∙ c.loop-place.invariant.lowest t.net held in
-    let is : 0 < t.net → c.note_of.result ≡ c.args.base + line = λ held.
-    c.note_of.ensures.is ∙ cond-false (eqb t.net 0) 0 (c.args.base + line) (ne_eqb t.net 0 (λ free. omega (arith, held, free))) in
+    let held : t.net ≢ 0 = search rules in
+    let told : c.noted.result ≡ next_line t.net (line + 1) (drop line tracks) = c.noted.ensures ∙ c.loop-place.invariant.lowest t.net (omega (arith, held)) in
     let pushed : c.push_pair.new.pairs.items ≡ c.loop-place.list.items ++ pair_of t.net line c.noted.result = search rules in
     record {
       within = omega (arith, within);
       found = neighbours-down tracks k line t c.loop-place.list.items c.push_pair.new.pairs.items c.noted.result here cut told pushed c.loop-place.invariant.found;
-      lowest = Notes-down c.args.base tracks k line c.note_of.result t was here cut is inside c.loop-place.invariant.lowest;
-      below = IsBelow-set (c.args.base + length tracks) was t.net c.note_of.result inside (omega (arith, c.note_of.ensures.low, within, here)) c.loop-place.invariant.below;
+      lowest = Notes-down c.args.base tracks k line t was was here cut (λ net. refl) inside c.loop-place.invariant.lowest;
+      below = IsBelow-set (c.args.base + length tracks) was t.net (c.args.base + line) inside (omega (arith, within, here)) c.loop-place.invariant.below;
     }

@@ -6,13 +6,11 @@ use Rattle.greedy_column.proofs.tracks.Tracks.lines_where.Goals as goal
 
 pub returns-clause-are : goal.returns-clause-are
 returns-clause-are c =
-    rw c.into_lines.ensures
-    (AreLines-within (length c.args.self.now) c.loop-track.lines.lines (omega (arith, c.list-rest.ensures.few))
-    (LieWithin-found (is_sought c.args.sought) c.loop-track.line c.args.self.now c.loop-track.rest.now c.loop-track.lines.lines (search rules)
-    c.loop-track.invariant.so_far))
+    AreLines-within (length c.args.self.now) c.loop-track.lines.items (omega (arith, c.list-rest.ensures.few))
+    (LieWithin-found (is_sought c.args.sought) c.loop-track.line c.args.self.now c.loop-track.rest.now c.loop-track.lines.items (search rules)
+    c.loop-track.invariant.so_far)
 
 pub returns-clause-ascending : goal.returns-clause-ascending
 returns-clause-ascending c =
-    rw c.into_lines.ensures
-    (Ascending-found (is_sought c.args.sought) c.loop-track.line c.args.self.now c.loop-track.rest.now c.loop-track.lines.lines (search rules)
-    c.loop-track.invariant.so_far)
+    Ascending-found (is_sought c.args.sought) c.loop-track.line c.args.self.now c.loop-track.rest.now c.loop-track.lines.items (search rules)
+    c.loop-track.invariant.so_far

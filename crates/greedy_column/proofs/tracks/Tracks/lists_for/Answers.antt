@@ -6,10 +6,9 @@ use Rattle.greedy_column.proofs.tracks.Tracks.lists_for.Goals as goal
 
 pub returns-clause-all_are : goal.returns-clause-all_are
 returns-clause-all_are c =
-    rw c.into_lines.ensures
-    (AreLines-within (length c.args.self.now) c.loop-track.all.lines (omega (arith, c.list-rest.ensures.few))
-    (LieWithin-found (is_sought (Open c.args.net)) c.loop-track.line c.args.self.now c.loop-track.rest.now c.loop-track.all.lines (search rules)
-    c.loop-track.invariant.all_so_far))
+    AreLines-within (length c.args.self.now) c.loop-track.all.items (omega (arith, c.list-rest.ensures.few))
+    (LieWithin-found (is_sought (Open c.args.net)) c.loop-track.line c.args.self.now c.loop-track.rest.now c.loop-track.all.items (search rules)
+    c.loop-track.invariant.all_so_far)
 
 pub returns-clause-own_are : goal.returns-clause-own_are
 returns-clause-own_are c =

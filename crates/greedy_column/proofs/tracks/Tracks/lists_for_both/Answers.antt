@@ -6,10 +6,9 @@ use Rattle.greedy_column.proofs.tracks.Tracks.lists_for_both.Goals as goal
 
 pub returns-clause-one_all_are : goal.returns-clause-one_all_are
 returns-clause-one_all_are c =
-    rw c.into_lines.ensures
-    (AreLines-within (length c.args.self.now) c.loop-track.one_all.lines (omega (arith, c.list-rest.ensures.few))
-    (LieWithin-found (is_sought (Open c.args.one)) c.loop-track.line c.args.self.now c.loop-track.rest.now c.loop-track.one_all.lines (search rules)
-    c.loop-track.invariant.one_all_so_far))
+    AreLines-within (length c.args.self.now) c.loop-track.one_all.items (omega (arith, c.list-rest.ensures.few))
+    (LieWithin-found (is_sought (Open c.args.one)) c.loop-track.line c.args.self.now c.loop-track.rest.now c.loop-track.one_all.items (search rules)
+    c.loop-track.invariant.one_all_so_far)
 
 pub returns-clause-one_own_are : goal.returns-clause-one_own_are
 returns-clause-one_own_are c =
@@ -19,10 +18,9 @@ returns-clause-one_own_are c =
 
 pub returns-clause-other_all_are : goal.returns-clause-other_all_are
 returns-clause-other_all_are c =
-    rw c.into_lines-2.ensures
-    (AreLines-within (length c.args.self.now) c.loop-track.other_all.lines (omega (arith, c.list-rest.ensures.few))
-    (LieWithin-found (is_sought (Open c.args.other)) c.loop-track.line c.args.self.now c.loop-track.rest.now c.loop-track.other_all.lines (search rules)
-    c.loop-track.invariant.other_all_so_far))
+    AreLines-within (length c.args.self.now) c.loop-track.other_all.items (omega (arith, c.list-rest.ensures.few))
+    (LieWithin-found (is_sought (Open c.args.other)) c.loop-track.line c.args.self.now c.loop-track.rest.now c.loop-track.other_all.items (search rules)
+    c.loop-track.invariant.other_all_so_far)
 
 pub returns-clause-other_own_are : goal.returns-clause-other_own_are
 returns-clause-other_own_are c =
