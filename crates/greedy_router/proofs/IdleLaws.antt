@@ -17,7 +17,7 @@ use Rattle.greedy_column.specs.Tracks.{ids}
 use Rattle.greedy_column.specs.Verticals.{verticals_of_pins}
 use Rattle.greedy_column.proofs.PlacedLaws.{hold-none}
 use Rattle.greedy_column.proofs.StateLaws.{Follows-from_parts}
-use Rattle.greedy_router.specs.Idle.{IsBare, IsIdle, nothing}
+use Rattle.greedy_router.specs.Idle.{HasNoPins, IsIdle, nothing}
 
 -- where no edge goes on, a net has no more pins
 first-none : (top : List ℕ) (net : ℕ) → first_in top [] net ≡ Ends
@@ -41,8 +41,8 @@ first-past (a ∷ top) (b ∷ bottom) zero net some none too = passed a b net to
 first-past (a ∷ top) (b ∷ bottom) (suc column) net some none too = first-past top bottom column net some none too
 
 -- a column without pins changes nothing of where nets have their next pins
-pub next-bare : (pins : Pins) (column : ℕ) → IsBare pins (column + 1) → (net : ℕ) → next_of pins column net ≡ next_of pins (column + 1) net
-next-bare pins column bare net = elim (cases_eq net 0) [
+pub next-again : (pins : Pins) (column : ℕ) → HasNoPins pins (column + 1) → (net : ℕ) → next_of pins column net ≡ next_of pins (column + 1) net
+next-again pins column no_pins net = elim (cases_eq net 0) [
   | inl none ↦
       cond-true (eqb net 0) Ends (first_in (drop (column + 1) pins.top) (drop (column + 1) pins.bottom) net) (eq-eqb net 0 none)
       ∙ sym (cond-true (eqb net 0) Ends (first_in (drop (column + 1 + 1) pins.top) (drop (column + 1 + 1) pins.bottom) net) (eq-eqb net 0 none))
@@ -51,22 +51,22 @@ next-bare pins column bare net = elim (cases_eq net 0) [
       let apart = ne_eqb net 0 other in
       let one-more : suc (column + 1) ≡ column + 1 + 1 = omega arith in
       cond-false (eqb net 0) Ends (first_in (drop (column + 1) pins.top) (drop (column + 1) pins.bottom) net) apart
-      ∙ first-past pins.top pins.bottom (column + 1) net some bare.top bare.bottom
+      ∙ first-past pins.top pins.bottom (column + 1) net some no_pins.top no_pins.bottom
       ∙ ap (λ n. first_in (drop n pins.top) (drop n pins.bottom) net) one-more
       ∙ sym (cond-false (eqb net 0) Ends (first_in (drop (column + 1 + 1) pins.top) (drop (column + 1 + 1) pins.bottom) net) apart)
 ]
 
 -- where nothing happens in a column without pins, nothing happens in the next one without pins
-pub follows-next : (manner : Manner) (may : List Candidate → ℕ → Type 0) (pins : Pins) (column fresh : ℕ) (tracks : List Track) → IsBare pins column → IsBare pins (column + 1)
+pub follows-next : (manner : Manner) (may : List Candidate → ℕ → Type 0) (pins : Pins) (column fresh : ℕ) (tracks : List Track) → HasNoPins pins column → HasNoPins pins (column + 1)
     → Follows manner may pins column fresh tracks nothing → Follows manner may pins (column + 1) fresh tracks nothing
-follows-next manner may pins column fresh tracks bare next follows =
-    Follows-from_parts manner may (next_of pins column) pins (column + 1) fresh tracks nothing 0 0 (sym next.top) (sym next.bottom) (next-bare pins column next) refl
-    (subst (λ y. Enters manner may (pin_with (next_of pins column) 0) (pin_with (next_of pins column) y) tracks fresh (entries_of nothing)) bare.bottom
-    (subst (λ x. Enters manner may (pin_with (next_of pins column) x) (pin_with (next_of pins column) (bottom_pin pins column)) tracks fresh (entries_of nothing)) bare.top follows.enters))
+follows-next manner may pins column fresh tracks no_pins next follows =
+    Follows-from_parts manner may (next_of pins column) pins (column + 1) fresh tracks nothing 0 0 (sym next.top) (sym next.bottom) (next-again pins column next) refl
+    (subst (λ y. Enters manner may (pin_with (next_of pins column) 0) (pin_with (next_of pins column) y) tracks fresh (entries_of nothing)) no_pins.bottom
+    (subst (λ x. Enters manner may (pin_with (next_of pins column) x) (pin_with (next_of pins column) (bottom_pin pins column)) tracks fresh (entries_of nothing)) no_pins.top follows.enters))
     (subst (λ y. FollowsOn manner may (next_of pins column) (with_nets 0 0 y 0 tracks)
-    (map (span_in (ids (with_nets 0 0 y 0 tracks))) (verticals_of_pins nothing.straight 0 y 0 0)) [] [] []) bare.bottom
+    (map (span_in (ids (with_nets 0 0 y 0 tracks))) (verticals_of_pins nothing.straight 0 y 0 0)) [] [] []) no_pins.bottom
     (subst (λ x. FollowsOn manner may (next_of pins column) (with_nets x 0 (bottom_pin pins column) 0 tracks)
-    (map (span_in (ids (with_nets x 0 (bottom_pin pins column) 0 tracks))) (verticals_of_pins nothing.straight x (bottom_pin pins column) 0 0)) [] [] []) bare.top follows.goes_on))
+    (map (span_in (ids (with_nets x 0 (bottom_pin pins column) 0 tracks))) (verticals_of_pins nothing.straight x (bottom_pin pins column) 0 0)) [] [] []) no_pins.top follows.goes_on))
 
 -- tracks of which none ends are as they were
 freed-none : (tracks : List Track) → freed [] tracks ≡ tracks
@@ -83,14 +83,14 @@ after-nothing pins column fresh tracks numbered =
 
 -- so the next column begins behind an idle one
 pub idle-next : (manner : Manner) (may : List Candidate → ℕ → Type 0) (pins : Pins) (column : ℕ) (state later : ColumnState) (done : Column)
-    → AreNumbered state.fresh state.order → IsBare pins column → done ≡ nothing → Follows manner may pins column state.fresh state.order done
+    → AreNumbered state.fresh state.order → HasNoPins pins column → done ≡ nothing → Follows manner may pins column state.fresh state.order done
     → later.order ≡ after pins column done state.order → later.fresh ≡ state.fresh + length done.made → IsIdle manner may pins column later
-idle-next manner may pins column state later done numbered bare is follows left counted =
+idle-next manner may pins column state later done numbered no_pins is follows left counted =
     let order : later.order ≡ state.order = left ∙ ap (λ (d : Column). after pins column d state.order) is ∙ after-nothing pins column state.fresh state.order numbered in
     let more : length done.made ≡ 0 = ap (λ (d : Column). length d.made) is in
     let fresh : later.fresh ≡ state.fresh = omega (arith, counted, more) in
     record {
-      bare = bare;
+      no_pins = no_pins;
       follows = subst (λ f. Follows manner may pins column f later.order nothing) (sym fresh)
           (subst (λ (l : List Track). Follows manner may pins column state.fresh l nothing) (sym order)
           (subst (λ (d : Column). Follows manner may pins column state.fresh state.order d) is follows));

@@ -13,13 +13,13 @@ abbrev pub nothing : Column
 nothing = record { made = []; top = 0; bottom = 0; straight = false; joins = []; ended = []; moves = [] }
 
 -- no pin stands in a column
-pub record IsBare (pins : Pins) (column : ℕ) : Type 0 where
+pub record HasNoPins (pins : Pins) (column : ℕ) : Type 0 where
   pub top : top_pin pins column ≡ 0
   pub bottom : bottom_pin pins column ≡ 0
 
 -- in a column without pins the steps make nothing of a state
 pub record IsIdle (manner : Manner) (may : List Candidate → ℕ → Type 0) (pins : Pins) (column : ℕ) (state : ColumnState) : Type 0 where
-  pub bare : IsBare pins column
+  pub no_pins : HasNoPins pins column
   pub follows : Follows manner may pins column state.fresh state.order nothing
 
 -- the same of the column before this one

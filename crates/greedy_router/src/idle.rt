@@ -4,7 +4,7 @@ ghost use Rattle.greedy_column.specs.Fair.{Fair};
 ghost use Rattle.greedy_column.specs.Follows.{Follows};
 ghost use Rattle.greedy_column.specs.Replay.{after};
 ghost use Rattle.greedy_column.specs.State.{IsState};
-ghost use Rattle.greedy_router.specs.Idle.{IsBare, IsIdleBefore, nothing};
+ghost use Rattle.greedy_router.specs.Idle.{HasNoPins, IsIdleBefore, nothing};
 ghost use Rattle.std.specs.Prelude.{◌≡◌, ◌≤◌, ◌+◌, true, IfOk, length};
 
 use crate::surveyed::Surveyed;
@@ -30,8 +30,8 @@ fn nothing(alloc: Global) -> Column
 }
 
 // Whether no pin stands in a column.
-fn is_bare(channel: &Channel, column: u32) -> bool
-    ensures { result ≡ true → IsBare channel.now column }
+fn has_no_pins(channel: &Channel, column: u32) -> bool
+    ensures { result ≡ true → HasNoPins channel.now column }
 {
     pin_in(channel.top.items(), column) == 0 && pin_in(channel.bottom.items(), column) == 0
 }
@@ -57,10 +57,10 @@ fn is_nothing(done: &Column) -> bool
 
 // Whether a column has no pins, and nothing happens in it.
 pub(crate) fn is_idle(channel: &Channel, column: u32, done: &Column) -> bool
-    ensures bare { result ≡ true → IsBare channel.now column }
+    ensures no_pins { result ≡ true → HasNoPins channel.now column }
     ensures nothing { result ≡ true → done.now ≡ nothing }
 {
-    is_bare(channel, column) && is_nothing(done)
+    has_no_pins(channel, column) && is_nothing(done)
 }
 
 // The next column of a sweep. After one without pins in which nothing happened nothing happens in another, which is not taken again.
@@ -86,7 +86,7 @@ pub(crate) fn next_column<C: Chooses>(
     let channel = surveyed.channel;
     // What every channel keeps is known once a field is read.
     let _top = &channel.top;
-    if idle && is_bare(channel, column) {
+    if idle && has_no_pins(channel, column) {
         return Ok(nothing(alloc));
     }
     step_with(

@@ -59,7 +59,7 @@ columns-preserved g c =
         before = length columns;
         next = sym (length-append columns (done ∷ []));
         idle = idle-next c.args.start.manner _ pins (length columns) c.columns.state c.next_column.new.state done c.columns.invariant.state.numbered
-            (rw place at (c.is_idle-idle.ensures.bare yes)) (c.is_idle-idle.ensures.nothing yes) made.follows made.replay made.fresh;
+            (rw place at (c.is_idle-idle.ensures.no_pins yes)) (c.is_idle-idle.ensures.nothing yes) made.follows made.replay made.fresh;
       };
       fresh = made.fresh ∙ ap (λ n. n + length done.made) c.columns.invariant.fresh ∙ sym (fresh_after-push (begun + 1) columns done);
     })
