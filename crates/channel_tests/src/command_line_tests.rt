@@ -34,9 +34,9 @@ fn call(n: u64, flip: bool, quarters: u8, dx: i64, dy: i64) -> CifCommand
 fn is_printed(command: &CifCommand, wanted: &[u8]) -> bool
     requires { HasLine command.now }
 {
-    let mut line = [0; 160];
-    let end = print_command(command, &mut line);
-    &line[..end] == wanted
+    let mut line = [0; 192];
+    let start = print_command(command, &mut line, 192);
+    &line[start..] == wanted
 }
 
 fn is_layer(name: &[u8], wanted: &[u8]) -> bool {

@@ -2,11 +2,11 @@ use Rattle.std.proofs.Common.{◌≡◌, refl, ap, sym, ◌∙◌, ◌++◌, ◌
 use Rattle.std.specs.Prelude.{codes}
 use Rattle.cif_text.specs.Printing.{blanked, flip_parts, quarter_parts}
 
--- a box's line, written piece by piece
-pub box-joined : (a b c d e f g n m x y u : List ℕ)
-    → a ≡ 66 ∷ [] → b ≡ a ++ 32 ∷ n → c ≡ b ++ 32 ∷ m → d ≡ c ++ 32 ∷ x → e ≡ d ++ 32 ∷ y → f ≡ e ++ u → g ≡ f ++ (59 ∷ 10 ∷ [])
-    → g ≡ 66 ∷ (32 ∷ n ++ (32 ∷ m ++ (32 ∷ x ++ (32 ∷ y ++ u)))) ++ (59 ∷ 10 ∷ [])
-box-joined a b c d e f g n m x y u first second third fourth fifth sixth last =
+-- a box's line, written piece by piece from its end
+pub box-joined : (a b c d e f g n m x y u behind : List ℕ)
+    → a ≡ (59 ∷ 10 ∷ []) ++ behind → b ≡ u ++ a → c ≡ 32 ∷ y ++ b → d ≡ 32 ∷ x ++ c → e ≡ 32 ∷ m ++ d → f ≡ 32 ∷ n ++ e → g ≡ (66 ∷ []) ++ f
+    → g ≡ (66 ∷ (32 ∷ n ++ (32 ∷ m ++ (32 ∷ x ++ (32 ∷ y ++ u)))) ++ (59 ∷ 10 ∷ [])) ++ behind
+box-joined a b c d e f g n m x y u behind first second third fourth fifth sixth last =
     rw (last, sixth, fifth, fourth, third, second, first) (simp append_assoc)
 
 -- the parts of a turn, before the others
@@ -25,17 +25,17 @@ turn-first : (flip : Bool) (quarters : ℕ) (parts : List (List ℕ))
 turn-first flip quarters parts =
     flip-first flip (quarter_parts quarters parts) ∙ ap (λ (text : List ℕ). blanked (flip_parts flip []) ++ text) (quarter-first quarters parts)
 
--- a call's line, written piece by piece
-regrouped : (n f q x y : List ℕ)
-    → (((((((67 ∷ []) ++ (32 ∷ n)) ++ f) ++ q) ++ (32 ∷ 84 ∷ [])) ++ (32 ∷ x)) ++ (32 ∷ y)) ++ (59 ∷ 10 ∷ [])
-    ≡ 67 ∷ (32 ∷ n ++ (f ++ (q ++ blanked (codes "T" ∷ x ∷ y ∷ [])))) ++ (59 ∷ 10 ∷ [])
-regrouped n f q x y = simp append_assoc
+-- a call's line, written piece by piece from its end
+regrouped : (n f q x y behind : List ℕ)
+    → (67 ∷ []) ++ (32 ∷ n ++ (f ++ (q ++ ((32 ∷ 84 ∷ []) ++ (32 ∷ x ++ (32 ∷ y ++ ((59 ∷ 10 ∷ []) ++ behind)))))))
+    ≡ (67 ∷ (32 ∷ n ++ (f ++ (q ++ blanked (codes "T" ∷ x ∷ y ∷ [])))) ++ (59 ∷ 10 ∷ [])) ++ behind
+regrouped n f q x y behind = simp append_assoc
 
-pub call-joined : (a b c d e f g h n x y : List ℕ) (flip : Bool) (quarters : ℕ)
-    → a ≡ 67 ∷ [] → b ≡ a ++ 32 ∷ n → c ≡ b ++ blanked (flip_parts flip []) → d ≡ c ++ blanked (quarter_parts quarters [])
-    → e ≡ d ++ (32 ∷ 84 ∷ []) → f ≡ e ++ 32 ∷ x → g ≡ f ++ 32 ∷ y → h ≡ g ++ (59 ∷ 10 ∷ [])
-    → h ≡ 67 ∷ blanked (n ∷ flip_parts flip (quarter_parts quarters (codes "T" ∷ x ∷ y ∷ []))) ++ (59 ∷ 10 ∷ [])
-call-joined a b c d e f g h n x y flip quarters first second third fourth fifth sixth seventh last =
+pub call-joined : (a b c d e f g h n x y behind : List ℕ) (flip : Bool) (quarters : ℕ)
+    → a ≡ (59 ∷ 10 ∷ []) ++ behind → b ≡ 32 ∷ y ++ a → c ≡ 32 ∷ x ++ b → d ≡ (32 ∷ 84 ∷ []) ++ c
+    → e ≡ blanked (quarter_parts quarters []) ++ d → f ≡ blanked (flip_parts flip []) ++ e → g ≡ 32 ∷ n ++ f → h ≡ (67 ∷ []) ++ g
+    → h ≡ (67 ∷ blanked (n ∷ flip_parts flip (quarter_parts quarters (codes "T" ∷ x ∷ y ∷ []))) ++ (59 ∷ 10 ∷ [])) ++ behind
+call-joined a b c d e f g h n x y behind flip quarters first second third fourth fifth sixth seventh last =
     rw (last, seventh, sixth, fifth, fourth, third, second, first)
-    (regrouped n (blanked (flip_parts flip [])) (blanked (quarter_parts quarters [])) x y
-    ∙ ap (λ (text : List ℕ). 67 ∷ (32 ∷ n ++ text) ++ (59 ∷ 10 ∷ [])) (sym (turn-first flip quarters (codes "T" ∷ x ∷ y ∷ []))))
+    (regrouped n (blanked (flip_parts flip [])) (blanked (quarter_parts quarters [])) x y behind
+    ∙ ap (λ (text : List ℕ). (67 ∷ (32 ∷ n ++ text) ++ (59 ∷ 10 ∷ [])) ++ behind) (sym (turn-first flip quarters (codes "T" ∷ x ∷ y ∷ []))))

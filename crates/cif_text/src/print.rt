@@ -1,21 +1,25 @@
-//! The line of a command, and the end of a label's, printed to the front of a buffer of 160 bytes.
+//! The line of a command, and the end of a label's, printed into a buffer of 192 bytes from its end to its first byte, as digits come.
 
 ghost use Rattle.cif_text.specs.Printing.{blanked, line, flip_parts, quarter_parts, upright_parts, HasLine};
 ghost use Rattle.cif_text.specs.declared.command.CifCommand.TheVariants as commands;
 ghost use Rattle.std.specs.Fmt.{signed_decimal};
-ghost use Rattle.std.specs.Prelude.{◌≡◌, ◌+◌, ◌≤◌, ◌++◌, ◌∷◌, [], length, take, decimal};
+ghost use Rattle.std.specs.Prelude.{◌≡◌, ◌+◌, ◌≤◌, ◌++◌, ◌∷◌, [], length, drop, decimal};
 
 use crate::command::CifCommand;
 use geom_core::LayerName;
-use itoa::Buffer;
+use itoa::write_digits;
 
-/// Writes the command's line to the front of `into`, and gives the length of the line. Takes no memory.
+/// Writes the command's line so that it ends at `end`, from 91 to 192, and gives where the line starts, at most 91 bytes before. What stands from `end` on
+/// stays. Takes no memory.
 ///
 /// It needs a command that is no wire, no polygon and no user command, and a call with at most three quarters.
-pub fn print_command(command: &CifCommand, into: &mut [u8; 160]) -> usize
-    requires { HasLine command.now }
-    ensures line { take result into.new ≡ line command.now }
-    ensures fits { result ≤ 160 }
+pub fn print_command(command: &CifCommand, into: &mut [u8; 192], end: usize) -> usize
+    requires line { HasLine command.now }
+    requires room { 91 ≤ end }
+    requires inside { end ≤ 192 }
+    ensures line { drop result into.new ≡ line command.now ++ drop end into.old }
+    ensures short { end ≤ result + 91 }
+    ensures start { result ≤ end }
 {
     match command {
         CifCommand::Box {
@@ -24,22 +28,22 @@ pub fn print_command(command: &CifCommand, into: &mut [u8; 160]) -> usize
             cx,
             cy,
             upright,
-        } => print_box(*length, *width, *cx, *cy, *upright, into),
-        CifCommand::Layer(layer) => print_layer(layer, into),
-        CifCommand::Start { n, a, b } => print_start(*n, *a, *b, into),
-        CifCommand::Finish => put(into, 0, b"DF;\n"),
+        } => print_box(*length, *width, *cx, *cy, *upright, into, end),
+        CifCommand::Layer(layer) => print_layer(layer, into, end),
+        CifCommand::Start { n, a, b } => print_start(*n, *a, *b, into, end),
+        CifCommand::Finish => put(into, end, b"DF;\n"),
         CifCommand::Call {
             n,
             flip,
             quarters,
             dx,
             dy,
-        } => print_call(*n, *flip, *quarters, *dx, *dy, into),
-        CifCommand::Comment => put(into, 0, b"(cellroute 1);\n"),
+        } => print_call(*n, *flip, *quarters, *dx, *dy, into, end),
+        CifCommand::Comment => put(into, end, b"(cellroute 1);\n"),
         CifCommand::Wire { .. } | CifCommand::Polygon { .. } | CifCommand::User { .. } => {
             unreachable!()
         }
-        CifCommand::End => put(into, 0, b"E\n"),
+        CifCommand::End => put(into, end, b"E\n"),
     }
 }
 
@@ -49,63 +53,84 @@ fn print_box(
     cx: i64,
     cy: i64,
     upright: bool,
-    into: &mut [u8; 160],
+    into: &mut [u8; 192],
+    end: usize,
 ) -> usize
-    ensures line { take result into.new ≡ line (commands.Box length width cx cy upright) }
-    ensures fits { result ≤ 160 }
+    requires room { 91 ≤ end }
+    requires inside { end ≤ 192 }
+    ensures line { drop result into.new ≡ line (commands.Box length width cx cy upright) ++ drop end into.old }
+    ensures short { end ≤ result + 91 }
+    ensures start { result ≤ end }
 {
-    let end = put(into, 0, b"B");
-    let end = put_number(into, end, length);
-    let end = put_number(into, end, width);
-    let end = put_number(into, end, cx);
-    let end = put_number(into, end, cy);
-    let end = put(into, end, upright_text(upright));
-    put(into, end, b";\n")
+    let start = put(into, end, b";\n");
+    let start = put(into, start, upright_text(upright));
+    let start = put_number(into, start, cy);
+    let start = put_number(into, start, cx);
+    let start = put_number(into, start, width);
+    let start = put_number(into, start, length);
+    put(into, start, b"B")
 }
 
-fn print_layer(layer: &LayerName, into: &mut [u8; 160]) -> usize
-    ensures line { take result into.new ≡ line (commands.Layer layer.now) }
-    ensures fits { result ≤ 160 }
+fn print_layer(layer: &LayerName, into: &mut [u8; 192], end: usize) -> usize
+    requires room { 91 ≤ end }
+    requires inside { end ≤ 192 }
+    ensures line { drop result into.new ≡ line (commands.Layer layer.now) ++ drop end into.old }
+    ensures short { end ≤ result + 91 }
+    ensures start { result ≤ end }
 {
-    let end = put(into, 0, b"L ");
-    let end = put(into, end, layer.text());
-    put(into, end, b";\n")
+    let start = put(into, end, b";\n");
+    let start = put(into, start, layer.text());
+    put(into, start, b"L ")
 }
 
-fn print_start(n: u64, a: u64, b: u64, into: &mut [u8; 160]) -> usize
-    ensures line { take result into.new ≡ line (commands.Start n a b) }
-    ensures fits { result ≤ 160 }
+fn print_start(n: u64, a: u64, b: u64, into: &mut [u8; 192], end: usize) -> usize
+    requires room { 91 ≤ end }
+    requires inside { end ≤ 192 }
+    ensures line { drop result into.new ≡ line (commands.Start n a b) ++ drop end into.old }
+    ensures short { end ≤ result + 91 }
+    ensures start { result ≤ end }
 {
-    let end = put(into, 0, b"DS");
-    let end = put_natural(into, end, n);
-    let end = put_natural(into, end, a);
-    let end = put_natural(into, end, b);
-    put(into, end, b";\n")
+    let start = put(into, end, b";\n");
+    let start = put_natural(into, start, b);
+    let start = put_natural(into, start, a);
+    let start = put_natural(into, start, n);
+    put(into, start, b"DS")
 }
 
-fn print_call(n: u64, flip: bool, quarters: u8, dx: i64, dy: i64, into: &mut [u8; 160]) -> usize
-    ensures line { take result into.new ≡ line (commands.Call n flip quarters dx dy) }
-    ensures fits { result ≤ 160 }
+fn print_call(
+    n: u64,
+    flip: bool,
+    quarters: u8,
+    dx: i64,
+    dy: i64,
+    into: &mut [u8; 192],
+    end: usize,
+) -> usize
+    requires room { 91 ≤ end }
+    requires inside { end ≤ 192 }
+    ensures line { drop result into.new ≡ line (commands.Call n flip quarters dx dy) ++ drop end into.old }
+    ensures short { end ≤ result + 91 }
+    ensures start { result ≤ end }
 {
-    let end = put(into, 0, b"C");
-    let end = put_natural(into, end, n);
-    let end = put(into, end, flip_text(flip));
-    let end = put(into, end, quarters_text(quarters));
-    let end = put(into, end, b" T");
-    let end = put_number(into, end, dx);
-    let end = put_number(into, end, dy);
-    put(into, end, b";\n")
+    let start = put(into, end, b";\n");
+    let start = put_number(into, start, dy);
+    let start = put_number(into, start, dx);
+    let start = put(into, start, b" T");
+    let start = put(into, start, quarters_text(quarters));
+    let start = put(into, start, flip_text(flip));
+    let start = put_natural(into, start, n);
+    put(into, start, b"C")
 }
 
-/// Writes what stands behind a label's name to the front of `into`: its place in centimicrons, the semicolon and a line feed. Gives the length of this, at most 160.
+/// Writes what stands behind a label's name to the end of `into`: its place in centimicrons, the semicolon and a line feed. Gives where this starts.
 /// Takes no memory.
-pub fn print_label_end(x: i64, y: i64, into: &mut [u8; 160]) -> usize
-    ensures text { take result into.new ≡ blanked (signed_decimal x ∷ signed_decimal y ∷ []) ++ (59 ∷ 10 ∷ []) }
-    ensures fits { result ≤ 160 }
+pub fn print_label_end(x: i64, y: i64, into: &mut [u8; 192]) -> usize
+    ensures text { drop result into.new ≡ blanked (signed_decimal x ∷ signed_decimal y ∷ []) ++ (59 ∷ 10 ∷ []) }
+    ensures start { result ≤ 192 }
 {
-    let end = put_number(into, 0, x);
-    let end = put_number(into, end, y);
-    put(into, end, b";\n")
+    let start = put(into, 192, b";\n");
+    let start = put_number(into, start, y);
+    put_number(into, start, x)
 }
 
 // The direction of a box whose length lies along y.
@@ -137,34 +162,41 @@ fn quarters_text(quarters: u8) -> &'static [u8]
     }
 }
 
-// A blank and the number.
-fn put_natural(into: &mut [u8; 160], at: usize, n: u64) -> usize
-    requires { at + 21 ≤ 160 }
-    ensures text { take result into.new ≡ take at into.old ++ 32 ∷ decimal n }
-    ensures short { result ≤ at + 21 }
+// A blank and the number, which end at `end`.
+fn put_natural(into: &mut [u8; 192], end: usize, n: u64) -> usize
+    requires room { 21 ≤ end }
+    requires inside { end ≤ 192 }
+    ensures text { drop result into.new ≡ 32 ∷ decimal n ++ drop end into.old }
+    ensures short { end ≤ result + 21 }
+    ensures start { result ≤ end }
 {
-    let end = put(into, at, b" ");
-    let mut buffer = Buffer::new();
-    put(into, end, buffer.format(n).as_bytes())
+    let start = write_digits(n, into, end);
+    put(into, start, b" ")
 }
 
-// A blank and the number.
-fn put_number(into: &mut [u8; 160], at: usize, n: i64) -> usize
-    requires { at + 21 ≤ 160 }
-    ensures text { take result into.new ≡ take at into.old ++ 32 ∷ signed_decimal n }
-    ensures short { result ≤ at + 21 }
+// A blank and the number, which end at `end`.
+fn put_number(into: &mut [u8; 192], end: usize, n: i64) -> usize
+    requires room { 21 ≤ end }
+    requires inside { end ≤ 192 }
+    ensures text { drop result into.new ≡ 32 ∷ signed_decimal n ++ drop end into.old }
+    ensures short { end ≤ result + 21 }
+    ensures start { result ≤ end }
 {
-    let end = put(into, at, b" ");
-    let mut buffer = Buffer::new();
-    put(into, end, buffer.format(n).as_bytes())
+    let start = write_digits(n.unsigned_abs(), into, end);
+    if n < 0 {
+        return put(into, start, b" -");
+    }
+    put(into, start, b" ")
 }
 
-fn put(into: &mut [u8; 160], at: usize, piece: &[u8]) -> usize
-    requires { at + length piece.now ≤ 160 }
-    ensures text { take result into.new ≡ take at into.old ++ piece.now }
-    ensures end { result ≡ at + length piece.now }
+// A piece that ends at `end`.
+fn put(into: &mut [u8; 192], end: usize, piece: &[u8]) -> usize
+    requires room { length piece.now ≤ end }
+    requires inside { end ≤ 192 }
+    ensures text { drop result into.new ≡ piece.now ++ drop end into.old }
+    ensures start { result + length piece.now ≡ end }
 {
-    let end = at + piece.len();
-    into[at..end].copy_from_slice(piece);
-    end
+    let start = end - piece.len();
+    into[start..end].copy_from_slice(piece);
+    start
 }

@@ -1,12 +1,11 @@
 use Rattle.cif_text.specs.declared.command.CifCommand.TheVariants as commands
 use Rattle.wire_geom.specs.declared.drawn.Drawn as wires
-use Rattle.std.proofs.Common.{◌≡◌, ℕ, suc, ◌+◌, List, [], ◌∷◌, ◌++◌, drop, length, map, Bool, append_assoc, refl, arith, add-one, ap, ap₂, sym, ◌∙◌, Option, Some, None}
+use Rattle.std.proofs.Common.{◌≡◌, ℕ, suc, ◌+◌, List, [], ◌∷◌, ◌++◌, drop, length, map, Bool, refl, arith, add-one, ap, ap₂, sym, ◌∙◌, Option, Some, None}
 use Rattle.std.proofs.lemmas.List.{append-nil, map-append}
 use Rattle.std.specs.List.{slice_get}
 use Rattle.cif_text.proofs.TextLemmas.{text_of-append, items-append}
 use Rattle.cif_text.specs.Printing.{line, text_of}
 use Rattle.cif_text.specs.Written.{MainItem, WrittenSymbol, alone, copy, label, label_commands, copy_commands, items_commands, layer_after, layout_commands, shape_commands, symbol_commands, symbols_commands}
-use Rattle.cif_text.specs.declared.command.CifCommand.{CifCommand}
 use Rattle.cif_writer.specs.LayoutText.{text_behind}
 use Rattle.cif_writer.proofs.Lines.{text-last}
 use Rattle.cif_writer.specs.Labels.{Mark, item_marks, label_of, terminal_mark, terminal_marks}

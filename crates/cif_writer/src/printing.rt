@@ -7,7 +7,7 @@ ghost use Rattle.cif_writer.specs.LabelParts.{IsExtentInTwiceReach, IsInTwiceRea
 ghost use Rattle.geom_core.specs.Reach.{IsShapeInReach};
 ghost use Rattle.shelf_io.specs.Wrote.{Writes};
 ghost use Rattle.std.specs.List.{AllByRecursion};
-ghost use Rattle.std.specs.Prelude.{◌≡◌, ◌∷◌, ◌++◌, [], ◌-ℤ◌, int_div, pos, List, ℕ, None, option_map};
+ghost use Rattle.std.specs.Prelude.{◌≡◌, ◌≤◌, ◌∷◌, ◌++◌, [], ◌-ℤ◌, int_div, pos, List, ℕ, None, option_map, drop};
 
 use cif_text::{CifCommand, UserKind, print_command, print_label_end};
 use geom_core::{LayerName, Name, Place, Shape};
@@ -22,9 +22,9 @@ pub(crate) fn put_command<K: Sink>(
     requires { HasLine command.now }
     ensures { Writes result (line command.now) buffer.old buffer.new (K.written out.old) (K.written out.new) (K.faults out.old) (K.faults out.new) (K.same_place out.old out.new) (K.else_same out.old out.new) }
 {
-    let mut text = [0; 160];
-    let end = print_command(command, &mut text);
-    buffer.append(out, &text[..end])
+    let mut text = [0; 192];
+    let start = print_command(command, &mut text, 192);
+    buffer.append(out, &text[start..])
 }
 
 // What the line of a user command begins with.
@@ -104,6 +104,26 @@ fn call_of(number: u64, place: &Place) -> CifCommand
     }
 }
 
+// Writes a layer's line, where it is not the layer written last, so that it ends at `end`, and gives where it starts.
+fn print_change(
+    last: Option<LayerName>,
+    layer: LayerName,
+    into: &mut [u8; 192],
+    end: usize,
+) -> usize
+    requires room { 91 ≤ end }
+    requires inside { end ≤ 192 }
+    ensures text { drop result into.new ≡ text_of (change last layer) ++ drop end into.old }
+    ensures start { result ≤ end }
+{
+    if let Some(last) = last {
+        if last == layer {
+            return end;
+        }
+    }
+    print_command(&CifCommand::Layer(layer), into, end)
+}
+
 // Puts a layer's line where it is not the layer written last.
 fn put_layer<K: Sink>(
     buffer: &mut Buffer,
@@ -113,15 +133,9 @@ fn put_layer<K: Sink>(
 ) -> Result<(), Failed>
     ensures { Writes result (text_of (change last layer)) buffer.old buffer.new (K.written out.old) (K.written out.new) (K.faults out.old) (K.faults out.new) (K.same_place out.old out.new) (K.else_same out.old out.new) }
 {
-    match last {
-        None => put_command(buffer, out, &CifCommand::Layer(layer)),
-        Some(last) => {
-            if last == layer {
-                return Ok(());
-            }
-            put_command(buffer, out, &CifCommand::Layer(layer))
-        }
-    }
+    let mut text = [0; 192];
+    let start = print_change(last, layer, &mut text, 192);
+    buffer.append(out, &text[start..])
 }
 
 /// Puts a shape as a box, with the line of its layer where it is not the layer written last.
@@ -134,8 +148,10 @@ pub(crate) fn put_shape<K: Sink>(
     requires { IsShapeInReach shape.now }
     ensures { Writes result (text_of (shape_commands last shape.now)) buffer.old buffer.new (K.written out.old) (K.written out.new) (K.faults out.old) (K.faults out.new) (K.same_place out.old out.new) (K.else_same out.old out.new) }
 {
-    put_layer(buffer, out, last, shape.layer)?;
-    put_command(buffer, out, &box_of(shape))
+    let mut text = [0; 192];
+    let start = print_command(&box_of(shape), &mut text, 192);
+    let start = print_change(last, shape.layer, &mut text, start);
+    buffer.append(out, &text[start..])
 }
 
 // Puts shapes, where no layer was written before.
@@ -200,15 +216,15 @@ fn put_label_line<K: Sink>(
     ensures { Writes result (line (label_command name.now shape.now)) buffer.old buffer.new (K.written out.old) (K.written out.new) (K.faults out.old) (K.faults out.new) (K.same_place out.old out.new) (K.else_same out.old out.new) }
 {
     let rect = shape.rect;
-    let mut text = [0; 160];
-    let end = print_label_end(
+    let mut text = [0; 192];
+    let start = print_label_end(
         middle_of(rect.x0, rect.x1),
         middle_of(rect.y0, rect.y1),
         &mut text,
     );
     buffer.append(out, digits_of(UserKind::Label))?;
     buffer.append(out, name.items())?;
-    buffer.append(out, &text[..end])
+    buffer.append(out, &text[start..])
 }
 
 /// Puts a label with this name in the middle of a shape, with the line of its layer where it is not the layer written last.

@@ -36,10 +36,10 @@ impl Text {
     pub(crate) fn begin() -> Text
         ensures { result ≡ record { buffered = line commands.Comment; last = None } }
     {
-        let mut text = [0; 160];
-        let end = print_command(&CifCommand::Comment, &mut text);
+        let mut text = [0; 192];
+        let start = print_command(&CifCommand::Comment, &mut text, 192);
         Text {
-            buffer: Buffer::with(&text[..end]),
+            buffer: Buffer::with(&text[start..]),
             last: None,
         }
     }

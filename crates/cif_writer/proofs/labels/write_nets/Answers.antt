@@ -1,4 +1,4 @@
-use Rattle.std.proofs.Common.{rules, ◌≡◌, ◌∙◌, ◌+◌, ap, arith, length, refl, sym, true}
+use Rattle.std.proofs.Common.{rules, ◌≡◌, ◌∙◌, ap, arith, length, refl, sym, true}
 use Rattle.shelf_io.proofs.SoFar.{so_far-begun, so_far-failed, so_far-more}
 use Rattle.cif_writer.proofs.LayoutLines.{nets-layer, nets-parts}
 use Rattle.cif_writer.proofs.labels.write_nets.Goals as goal

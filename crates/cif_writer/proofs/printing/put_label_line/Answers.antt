@@ -1,4 +1,5 @@
-use Rattle.std.proofs.Common.{rules, ◌≡◌, ◌∙◌, ◌++◌, ◌∷◌, [], ap₂, take, w64, SFits, to_z-of_z, ℤ}
+use Rattle.std.proofs.Common.{rules, ◌≡◌, ◌∙◌, ◌++◌, ◌∷◌, [], ap₂, take, drop, ◌-◌, length, arith, w64, SFits, to_z-of_z, ℤ}
+use Rattle.std.proofs.lemmas.List.{length-drop, take_all}
 use Rattle.std.specs.Fmt.{signed_decimal}
 use Rattle.cif_text.specs.Printing.{blanked}
 use Rattle.cif_text.specs.Written.{middle}
@@ -24,11 +25,15 @@ returns g c =
     let up : c.middle_of-2.result ≡ middle c.args.shape.now.rect.y0 c.args.shape.now.rect.y1 = search rules in
     let fits_across : SFits w64 c.middle_of.result = search rules in
     let fits_up : SFits w64 c.middle_of-2.result = search rules in
-    let text = rw (to_z-of_z fits_across, to_z-of_z fits_up) at c.print_label_end-end.ensures.text in
-    let last : take c.print_label_end-end.result c.print_label_end-end.new.into ≡ label_end c.args.shape.now =
+    let text = rw (to_z-of_z fits_across, to_z-of_z fits_up) at c.print_label_end-start.ensures.text in
+    let last : drop c.print_label_end-start.result c.print_label_end-start.new.into ≡ label_end c.args.shape.now =
     text
     ∙ ap₂ (λ (x y : ℤ). blanked (signed_decimal x ∷ signed_decimal y ∷ []) ++ 59 ∷ 10 ∷ []) across up in
+    let start = c.print_label_end-start.result in
+    let into = c.print_label_end-start.new.into in
+    let long : length into ≡ 192 = search rules in
+    let all : take (192 - start) (drop start into) ≡ drop start into = take_all (192 - start) (drop start into) (omega (arith, length-drop start into, long)) in
     rw (label-text c.digits_of.result.now c.args.name.now c.args.shape.now c.digits_of.ensures)
     (writes-both c.append-3.result (g.met.K.Sink.place_then _ _ _) (g.met.K.Sink.same_then _ _ _) c.in_ok-append.ensures
     (writes-both c.append-3.result (g.met.K.Sink.place_then _ _ _) (g.met.K.Sink.same_then _ _ _) (rw c.items.ensures at c.in_ok-append-2.ensures)
-    (rw last at c.append-3.ensures)))
+    (rw (all, last) at c.append-3.ensures)))
