@@ -14,7 +14,7 @@ use Rattle.row_board.specs.NetPins.{joined_by, net_pin, net_pins, own_pin, pin_c
 use Rattle.row_board.specs.Moving.{moved_end, row_length, row_there}
 use Rattle.row_board.specs.Spot.{Spot}
 use Rattle.row_board.specs.Standings.{standing_at, standing_in, standing_of, AreEntered}
-use Rattle.row_board.specs.Trial.{ends_net, ends_net_alone, instances_instead, instead, joined, least_cost, longer_pins, marked_in, marked_pins, shift_end, shifted_seats, shorter_pins, AreOthers}
+use Rattle.row_board.specs.Trial.{ends_net, ends_net_alone, instances_instead, instead, joined, least_cost, longer_pins, marked_in, marked_pins, shift_end, shifted_seats, shorter_pins, AreInstances, AreOthers}
 use Rattle.row_model.specs.Widths.{columns_of}
 use Rattle.row_model.specs.declared.rows.Seat.{Seat}
 use Rattle.row_board.specs.declared.extreme.Side.{Side}
@@ -23,11 +23,13 @@ use Rattle.row_board.specs.declared.net_pins.InstancePin.{InstancePin}
 use Rattle.row_board.specs.declared.net_pins.NetPin.{NetPin}
 use Rattle.row_board.proofs.EndLaws.{ends-one, marked-short, own-of-nets, IsOfNet}
 use Rattle.row_board.proofs.HitLaws.{instead-other, taken-within}
+use Rattle.row_board.proofs.PlaceLaws.{there-apart}
+use Rattle.row_model.specs.Rows.{ArePlaced}
 use Rattle.std_laws.proofs.Counts.{filter-short}
-use Rattle.std_laws.proofs.Every.{every-filtered, every-from-get, every-map}
+use Rattle.std_laws.proofs.Every.{every-at, every-filtered, every-from-get, every-left, every-map}
 use Rattle.std_laws.proofs.Images.{map-same}
 use Rattle.std_laws.proofs.Members.{filter-member, get-contains, member-none, member-only}
-use Rattle.std_laws.proofs.Places.{get-before, get-dropped}
+use Rattle.std_laws.proofs.Places.{get-before, get-dropped, map-get}
 use Rattle.std_laws.proofs.Sums.{sum-both, sum-cons, sum-push, sum-under}
 use Rattle.std_laws.proofs.Tests.{nat_eq-itself, nat_eq-true}
 
@@ -137,18 +139,32 @@ least-either d rows trial a b one other cost =
     by : (n l m r s : ℕ) → (cost + n * (l + m)) - n * (r + s) ≡ (cost + n * (m + l)) - n * (s + r)
     by n l m r s = omega arith
 
--- what seats have of which only the last may be that of one of two
-pub marked-front : (d : Netlist) (mark : ℕ × NetPin → ℕ) (a b : ℕ) (seats front : List Seat) (last : Seat) → AreOthers a b seats → seats ≡ front ++ last ∷ []
-    → marked_in d mark (instances_instead a b seats) ≡ marked_in d mark (map (λ (s : Seat). s.instance) front) + marked_pins d mark (instead a b last.instance)
-marked-front d mark a b seats front last others is =
+-- the instances of seats of which only the last may be that of one of two
+front-instead : (a b : ℕ) (seats front : List Seat) (last : Seat) → AreOthers a b seats → seats ≡ front ++ last ∷ []
+    → instances_instead a b seats ≡ map (λ (s : Seat). s.instance) front ++ instead a b last.instance ∷ []
+front-instead a b seats front last others is =
     let f = λ (s : Seat). instead a b s.instance in
     let long = ap length is ∙ length-append front (last ∷ []) in
     let same = map-same (λ (s : Seat). f s ≡ s.instance) f (λ (s : Seat). s.instance) (λ s one. one) front
     (every-from-get (λ (s : Seat). f s ≡ s.instance) front
     (λ k s at. others.each k s (omega (arith, long, slice_get_within front k s at)) (ap (λ (l : List Seat). slice_get l k) is ∙ get-before front (last ∷ []) k s at))) in
-    let whole : map f seats ≡ map (λ (s : Seat). s.instance) front ++ f last ∷ [] = ap (map f) is ∙ map-append f front (last ∷ []) ∙ ap (λ (l : List ℕ). l ++ f last ∷ []) same in
-    ap (marked_in d mark) whole ∙ ap sum (map-append (marked_pins d mark) (map (λ (s : Seat). s.instance) front) (f last ∷ []))
-    ∙ sum-push (map (marked_pins d mark) (map (λ (s : Seat). s.instance) front)) (marked_pins d mark (f last))
+    ap (map f) is ∙ map-append f front (last ∷ []) ∙ ap (λ (l : List ℕ). l ++ f last ∷ []) same
+
+-- and what they have
+pub marked-front : (d : Netlist) (mark : ℕ × NetPin → ℕ) (a b : ℕ) (seats front : List Seat) (last : Seat) → AreOthers a b seats → seats ≡ front ++ last ∷ []
+    → marked_in d mark (instances_instead a b seats) ≡ marked_in d mark (map (λ (s : Seat). s.instance) front) + marked_pins d mark (instead a b last.instance)
+marked-front d mark a b seats front last others is =
+    let behind = instead a b last.instance in
+    ap (marked_in d mark) (front-instead a b seats front last others is) ∙ ap sum (map-append (marked_pins d mark) (map (λ (s : Seat). s.instance) front) (behind ∷ []))
+    ∙ sum-push (map (marked_pins d mark) (map (λ (s : Seat). s.instance) front)) (marked_pins d mark behind)
+
+-- so these are those of a design where all are
+pub there-front : (d : Netlist) (a b : ℕ) (seats front : List Seat) (last : Seat) → AreOthers a b seats → seats ≡ front ++ last ∷ [] → AreInstances d (instances_instead a b seats)
+    → AreInstances d (map (λ (s : Seat). s.instance) front) × (instead a b last.instance < length d.instances)
+there-front d a b seats front last others is there =
+    let P = λ (n : ℕ). n < length d.instances in
+    let whole = subst (AllByRecursion P) (front-instead a b seats front last others is) there in
+    (every-left P (map (λ (s : Seat). s.instance) front) (instead a b last.instance ∷ []) whole, every-at P (map (λ (s : Seat). s.instance) front) [] (instead a b last.instance) whole)
 
 -- behind an instance that gives its place to another, only the last may be this
 pub others-behind : (d : Netlist) (rows : List (List Seat)) (standings : List Spot) (a b : ℕ) → AreEntered d rows standings
@@ -178,3 +194,26 @@ others-behind d rows standings a b entered = record { each = each }
         let same : nat_eq one.row other.row ≡ true = nat_eq-true one.row other.row (sym (ap (λ (x : Spot). x.row) here)) in
         let end : to ≡ max one.place other.place + 1 = ap (λ (x : Bool). moved_end false x one.place other.place (row_length (slice_get rows one.row))) same in
         omega (arith, end, ap (λ (x : Spot). x.place) here, within, length-take (to - from) (drop from seats)))
+
+-- and those behind are of the design
+pub there-behind : (d : Netlist) (rows : List (List Seat)) (a b : ℕ) (one other : Spot) → IsNetlist d → ArePlaced d rows → a < length d.instances → b < length d.instances
+    → AreInstances d (instances_instead a b (shifted_seats rows one other))
+there-behind d rows a b one other good placed in_a in_b =
+    let f = λ (s : Seat). instead a b s.instance in
+    let P = λ (n : ℕ). n < length d.instances in
+    let from = one.place + 1 in
+    let seats = row_there (slice_get rows one.row) in
+    every-from-get P (instances_instead a b (shifted_seats rows one other))
+    (λ k n at.
+    let found = map-get f (shifted_seats rows one other) k n at in
+    let is_in = taken-within (shift_end rows one other - from) k (drop from seats) found.0 found.1 in
+    let there = (there-apart d rows good placed one.row).within (from + k) found.0 (sym (get-dropped seats from k) ∙ is_in.1) in
+    subst P found.2 (instead-within a b found.0.instance in_a in_b there))
+  where
+    instead-within : (a b n : ℕ) → a < length d.instances → b < length d.instances → n < length d.instances → instead a b n < length d.instances
+    instead-within a b n low_a low_b low = by (nat_eq n a) (nat_eq n b)
+      where
+        by : (x y : Bool) → cond x b (cond y a n) < length d.instances
+        by true y = low_b
+        by false true = low_a
+        by false false = low

@@ -1,5 +1,6 @@
 -- how the cells that a swap shifts lie in their nets, by a table in which the two that exchange their places did so already and no other is shifted
 use Rattle.std.specs.Prelude.{◌≡◌, ◌<◌, Some, ℕ, ◌+◌, ◌-◌, ◌*◌, ◌==◌, List, Bool, length, map, sum, take, drop, false, slice_get, if◌then◌else◌, nat_lt}
+use Rattle.std.specs.List.{AllByRecursion}
 use Rattle.design_model.specs.Netlist.{Netlist}
 use Rattle.row_board.specs.Cost.{difference}
 use Rattle.row_board.specs.Extreme.{across, alone_at_end, at_end, extreme_of}
@@ -52,6 +53,10 @@ shifted_seats rows one other = seats_between (one.place + 1) (shift_end rows one
 
 abbrev pub instances_instead : ℕ → ℕ → List Seat → List ℕ
 instances_instead a b seats = map (λ (s : Seat). instead a b s.instance) seats
+
+-- instances are those of a design
+abbrev pub AreInstances : Netlist → List ℕ → Type 0
+AreInstances d instances = AllByRecursion (λ (n : ℕ). n < length d.instances) instances
 
 -- of seats only the last may be that of one of two
 pub record AreOthers (a b : ℕ) (seats : List Seat) : Type 0 where

@@ -2,7 +2,7 @@
 
 ghost use Rattle.list_facts.specs.Lists.{list_there};
 ghost use Rattle.row_board.specs.FlatLists.{first_lists};
-ghost use Rattle.std.specs.Prelude.{◌≡◌, ◌++◌, ◌∷◌, [], slice_get, IfOk, OnOk};
+ghost use Rattle.std.specs.Prelude.{◌≡◌, ◌<◌, ◌++◌, ◌∷◌, [], length, slice_get, IfOk, OnOk};
 
 use list_facts::Lists;
 use std::alloc::{AllocError, Global};
@@ -72,6 +72,15 @@ impl<T: Copy> FlatLists<T> {
             to: self.items.len() as u32,
         });
         Ok(())
+    }
+
+    /// The items of a list that is there. Takes no memory.
+    pub(crate) fn known(&self, n: usize) -> &[T]
+        requires { n < length self.now }
+        ensures { result.now ≡ list_there (slice_get self.now n) }
+    {
+        let part = self.parts[n];
+        &self.items[part.from as usize..part.to as usize]
     }
 
     /// The items of a list, none where there is no such list. Takes no memory.

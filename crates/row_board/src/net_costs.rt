@@ -4,7 +4,6 @@ ghost use Rattle.row_board.specs.PinPlaces.{columns_by, rows_by};
 ghost use Rattle.std.specs.Prelude.{◌≡◌, IfOk};
 
 use crate::extreme::Side;
-use crate::extremes::Ends;
 use crate::nets::Nets;
 use crate::pin_places::{column_of, places_of, put_columns, put_rows, standing_of};
 use crate::spreads::Spreads;
@@ -14,6 +13,13 @@ use design_model::Design;
 use limits::{MOST_KIND_COLUMNS, MOST_PINS};
 use std::alloc::{AllocError, Global};
 use std::marker::Model;
+
+/// Pins weighed against one another: over are those that may make their nets shorter, under are those that do not or surely make theirs longer.
+#[derive(Clone, Copy)]
+pub(crate) struct Balance {
+    pub(crate) over: u64,
+    pub(crate) under: u64,
+}
 
 /// What the nets of a design cost by a table of where its instances stand, which is kept while instances are put elsewhere. Contracts see the design, the weights and the
 /// table.
@@ -68,15 +74,16 @@ impl<'d> NetCosts<'d> {
     ghost use Rattle.row_board.specs.Trial.{ends_net, ends_net_alone, joined, marked_pins};
     ghost use Rattle.row_board.specs.Weights.{AreFew};
     ghost use Rattle.row_model.specs.Widths.{columns_of};
-    ghost use Rattle.std.specs.Prelude.{◌≡◌, ◌<◌, ◌≤◌, ◌+◌, ◌*◌, ℕ, length, slice_set, sum, IfOk};
+    ghost use Rattle.std.specs.Prelude.{◌≡◌, ◌<◌, ◌≤◌, ◌+◌, ◌*◌, ◌^◌, ℕ, length, slice_set, sum, IfOk};
 
-    /// What the nets of a design cost by this table. The one error is want of memory.
+    /// What the nets of a design cost by this table, which has each of its instances. The one error is want of memory.
     pub(crate) fn new(
         alloc: Global,
         design: &'d Design,
         weights: Weights,
         standings: Vec<Standing>,
     ) -> Result<NetCosts<'d>, AllocError>
+        requires { length standings.items ≡ length design.now.instances }
         ensures { IfOk result (λ made. made ≡ record { design = design.entry.now; weights = weights; standings = standings.items }) }
     {
         // The bounds of the design's type are known once a field is read.
@@ -156,30 +163,38 @@ impl<'d> NetCosts<'d> {
         self.nets.most_pins()
     }
 
-    /// How many pins of an instance are joined with others by their nets. Takes no memory.
+    /// How many pins of an instance of the design are joined with others by their nets. Takes no memory.
     pub(crate) fn joined(&self, instance: u32) -> u64
+        requires { instance < length self.now.design.instances }
         ensures is { result ≡ marked_pins self.now.design (joined self.now.design) instance }
         ensures few { result ≤ MOST_PINS }
     {
         self.nets.joined(instance)
     }
 
-    /// How many pins of an instance end their nets on a side, and how many alone end theirs across. Takes no memory, and steps as the number of its pins.
+    /// A balance once the pins of an instance of the design are in it: those that end their nets on a side are over, those that are joined with others are under, and once more those that alone end
+    /// their nets across. Takes no memory, and steps as the number of its pins.
     #[inline(always)]
-    pub(crate) fn ends(&self, side: Side, instance: u32) -> Ends
-        ensures ends { result.ends ≡ marked_pins self.now.design (ends_net self.now.design self.now.standings side) instance }
-        ensures alone { result.alone ≡ marked_pins self.now.design (ends_net_alone self.now.design self.now.standings (across side)) instance }
-        ensures few { result.ends ≤ MOST_PINS }
-        ensures few_alone { result.alone ≤ MOST_PINS }
+    pub(crate) fn weighed(&self, side: Side, instance: u32, before: Balance) -> Balance
+        requires there { instance < length self.now.design.instances }
+        requires low { before.over < 2 ^ 63 }
+        requires low_under { before.under < 2 ^ 63 }
+        ensures over { result.over ≡ before.over + marked_pins self.now.design (ends_net self.now.design self.now.standings side) instance }
+        ensures under { result.under ≡ before.under + (marked_pins self.now.design (joined self.now.design) instance + marked_pins self.now.design (ends_net_alone self.now.design self.now.standings (across side)) instance) }
+        ensures few { result.over ≤ before.over + MOST_PINS }
+        ensures few_under { result.under ≤ before.under + 2 * MOST_PINS }
     {
-        let standing = self.standing(instance);
-        let mut found = Ends { ends: 0, alone: 0 };
+        let standing = self.standings[instance as usize];
+        let mut found = Balance {
+            over: before.over,
+            under: before.under + self.nets.joined(instance),
+        };
         let mut rest = self.nets.of(instance);
         while let Some((pin, after)) = rest.split_first() {
             let column = column_of(standing, *pin);
             let more = self.columns.ends(side, pin.net as usize, column);
-            found.ends += more.ends;
-            found.alone += more.alone;
+            found.over += more.ends;
+            found.under += more.alone;
             rest = after;
         }
         found

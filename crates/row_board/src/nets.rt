@@ -143,12 +143,13 @@ impl<'d> Nets<'d> {
         self.by_net.at(net)
     }
 
-    /// The pins of an instance, none of one that the design does not have.
+    /// The pins of an instance of the design.
     pub(crate) fn of(&self, instance: u32) -> &[InstancePin]
+        requires { instance < length self.now.instances }
         ensures placed { AreInstancePins (net_pins self.now) (length self.now.nets) instance result.now }
         ensures in_order { map (own_pin instance) result.now ≡ map (pin_with_net self.now) (pins_of_instance self.now instance) }
     {
-        self.by_instance.at(instance as usize)
+        self.by_instance.known(instance as usize)
     }
 
     /// A number of pins that no instance has more of.
@@ -159,14 +160,12 @@ impl<'d> Nets<'d> {
         self.most_pins as u64
     }
 
-    /// How many pins of an instance are joined with others by their nets.
+    /// How many pins of an instance of the design are joined with others by their nets.
     pub(crate) fn joined(&self, instance: u32) -> u64
+        requires { instance < length self.now.instances }
         ensures { result ≡ marked_pins self.now (joined self.now) instance }
     {
-        match self.joined.get(instance as usize) {
-            Some(count) => u64::from(*count),
-            None => 0,
-        }
+        u64::from(self.joined[instance as usize])
     }
 
     /// The width of an instance of the design in columns, 0 of any other.

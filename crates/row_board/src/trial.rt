@@ -5,7 +5,7 @@ ghost use Rattle.row_board.specs.Cost.{cost_of, difference};
 ghost use Rattle.row_board.specs.Extreme.{across};
 ghost use Rattle.row_board.specs.NetCosts.{table_costs};
 ghost use Rattle.row_board.specs.RowLengthsView.{misses_of};
-ghost use Rattle.row_board.specs.Trial.{AreOthers, ends_net, ends_net_alone, instances_instead, instead, joined, least_cost, longer_in, marked_in, marked_pins, seats_between, shifted_from, shifted_seats, shorter_in};
+ghost use Rattle.row_board.specs.Trial.{AreInstances, AreOthers, ends_net, ends_net_alone, instances_instead, instead, joined, least_cost, longer_in, marked_in, seats_between, shifted_from, shifted_seats, shorter_in};
 ghost use Rattle.row_model.specs.Changes.{swapped};
 ghost use Rattle.row_model.specs.Rows.{ArePlaced};
 ghost use Rattle.row_model.specs.Widths.{columns_of};
@@ -14,7 +14,7 @@ ghost use Rattle.std.specs.Prelude.{◌≡◌, ◌≢◌, ◌<◌, ◌≤◌, �
 
 use crate::extreme::Side;
 use crate::moving::moved_seats;
-use crate::net_costs::NetCosts;
+use crate::net_costs::{Balance, NetCosts};
 use crate::row_lengths::{RowLengths, difference};
 use crate::seats::row_at;
 use crate::standings::Standing;
@@ -57,6 +57,7 @@ fn instead(a: u32, b: u32, instance: u32) -> u32
 #[inline(never)]
 fn all_joined(costs: &NetCosts, seats: &[Seat], a: u32, b: u32) -> u64
     requires short { length seats.now ≤ MOST_INSTANCES }
+    requires there { AreInstances costs.now.design (instances_instead a b seats.now) }
     requires others { AreOthers a b seats.now }
     ensures is { result ≡ marked_in costs.now.design (joined costs.now.design) (instances_instead a b seats.now) }
     ensures few { result ≤ MOST_PINS * length seats.now }
@@ -73,22 +74,13 @@ fn all_joined(costs: &NetCosts, seats: &[Seat], a: u32, b: u32) -> u64
     found
 }
 
-// What is left of an excess of pins that may make their nets shorter over those that surely make them longer, once the pins of an instance are read, of which each that is joined with
-// others was taken to end its net on a side, and none to end it alone across.
-#[inline(always)]
-fn left_after(costs: &NetCosts, instance: u32, side: Side, excess: u64) -> u64
-    requires { excess < 2 ^ 62 }
-    ensures is { excess + marked_pins costs.now.design (ends_net costs.now.design costs.now.standings side) instance ≤ result + (marked_pins costs.now.design (joined costs.now.design) instance + marked_pins costs.now.design (ends_net_alone costs.now.design costs.now.standings (across side)) instance) }
-    ensures few { result ≤ excess }
-{
-    let found = costs.ends(side, instance);
-    (excess + found.ends).saturating_sub(costs.joined(instance) + found.alone)
-}
-
-// What is left once the pins of the instances of seats are read, which once two have exchanged their places stand there. They are read until nothing is left.
+// What is left of an excess of pins that may make their nets shorter over those that surely make them longer, once the pins of the instances of seats are read, which once two have exchanged
+// their places stand there: each that is joined with others was taken to end its net on a side, and none to end it alone across. They are read until nothing is left.
 #[inline(always)]
 fn left_on(costs: &NetCosts, seats: &[Seat], a: u32, b: u32, side: Side, excess: u64) -> u64
     requires small { excess < 2 ^ 62 }
+    requires short { length seats.now ≤ MOST_INSTANCES }
+    requires there { AreInstances costs.now.design (instances_instead a b seats.now) }
     requires others { AreOthers a b seats.now }
     ensures is { excess + marked_in costs.now.design (ends_net costs.now.design costs.now.standings side) (instances_instead a b seats.now) ≤ result + (marked_in costs.now.design (joined costs.now.design) (instances_instead a b seats.now) + marked_in costs.now.design (ends_net_alone costs.now.design costs.now.standings (across side)) (instances_instead a b seats.now)) }
     ensures few { result ≤ excess }
@@ -96,22 +88,28 @@ fn left_on(costs: &NetCosts, seats: &[Seat], a: u32, b: u32, side: Side, excess:
     let Some((last, front)) = seats.split_last() else {
         return excess;
     };
-    let mut left = left_after(costs, instead(a, b, last.instance), side, excess);
+    let none = Balance {
+        over: excess,
+        under: 0,
+    };
+    let mut found = costs.weighed(side, instead(a, b, last.instance), none);
     let mut rest = front;
     while let Some((seat, after)) = rest.split_first() {
-        if left == 0 {
+        if found.over <= found.under {
             return 0;
         }
-        left = left_after(costs, seat.instance, side, left);
+        found = costs.weighed(side, seat.instance, found);
         rest = after;
     }
-    left
+    found.over.saturating_sub(found.under)
 }
 
 // The same, by steps of their own for each side.
 #[inline(never)]
 fn left_over(costs: &NetCosts, seats: &[Seat], a: u32, b: u32, side: Side, excess: u64) -> u64
     requires small { excess < 2 ^ 62 }
+    requires short { length seats.now ≤ MOST_INSTANCES }
+    requires there { AreInstances costs.now.design (instances_instead a b seats.now) }
     requires others { AreOthers a b seats.now }
     ensures is { excess + marked_in costs.now.design (ends_net costs.now.design costs.now.standings side) (instances_instead a b seats.now) ≤ result + (marked_in costs.now.design (joined costs.now.design) (instances_instead a b seats.now) + marked_in costs.now.design (ends_net_alone costs.now.design costs.now.standings (across side)) (instances_instead a b seats.now)) }
     ensures few { result ≤ excess }
@@ -176,6 +174,8 @@ fn spare_pins(cost: u64, limit: u64, shift: u64) -> u64
 fn are_spared(costs: &NetCosts, seats: &[Seat], others: &[Seat], a: u32, b: u32, spare: u64) -> bool
     requires short { length seats.now ≤ MOST_INSTANCES }
     requires short_others { length others.now ≤ MOST_INSTANCES }
+    requires there { AreInstances costs.now.design (instances_instead a b seats.now) }
+    requires there_others { AreInstances costs.now.design (instances_instead b a others.now) }
     requires front { AreOthers a b seats.now }
     requires front_others { AreOthers b a others.now }
     ensures { OnTrue result (shorter_in costs.now.design costs.now.standings a b seats.now + shorter_in costs.now.design costs.now.standings b a others.now ≤ spare + (longer_in costs.now.design costs.now.standings a b seats.now + longer_in costs.now.design costs.now.standings b a others.now)) }
@@ -205,6 +205,8 @@ fn is_above(
     requires placed { ArePlaced costs.now.design rows.now }
     requires small { cost < 2 ^ 61 }
     requires above { limit < cost }
+    requires there { AreInstances costs.now.design (instances_instead a b (shifted_seats rows.now one other)) }
+    requires there_others { AreInstances costs.now.design (instances_instead b a (shifted_seats rows.now other one)) }
     requires front { AreOthers a b (shifted_seats rows.now one other) }
     requires front_others { AreOthers b a (shifted_seats rows.now other one) }
     ensures { OnTrue result (limit < least_cost costs.now.design rows.now costs.now.standings a b one other cost) }
@@ -229,6 +231,8 @@ fn is_above_first(
     requires placed { ArePlaced costs.now.design rows.now }
     requires small { cost < 2 ^ 61 }
     requires above { limit < cost }
+    requires there { AreInstances costs.now.design (instances_instead a b (shifted_seats rows.now one other)) }
+    requires there_others { AreInstances costs.now.design (instances_instead b a (shifted_seats rows.now other one)) }
     requires front { AreOthers a b (shifted_seats rows.now one other) }
     requires front_others { AreOthers b a (shifted_seats rows.now other one) }
     ensures { OnTrue result (limit < least_cost costs.now.design rows.now costs.now.standings a b one other cost) }

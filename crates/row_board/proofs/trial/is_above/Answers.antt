@@ -1,8 +1,8 @@
-use Rattle.std.proofs.Common.{◌≤◌, ◌+◌, List, subst}
+use Rattle.std.proofs.Common.{◌≤◌, ◌+◌, List, sym, subst}
 use Rattle.std.proofs.lemmas.Bool.{OnTrue_at, OnTrue_from}
 use Rattle.std.specs.Prelude.{◌<◌}
 use Rattle.row_model.specs.declared.rows.Seat.{Seat}
-use Rattle.row_board.specs.Trial.{least_cost, longer_in, shifted_seats, shorter_in}
+use Rattle.row_board.specs.Trial.{instances_instead, least_cost, longer_in, shifted_seats, shorter_in, AreInstances}
 use Rattle.row_board.proofs.JoinLaws.{above-told}
 use Rattle.row_board.proofs.trial.is_above.Goals as goal
 
@@ -23,3 +23,11 @@ returns c =
     (subst (λ (l : List Seat). shorter a b l + shorter b a c.shifted_seats-others.result.now ≤ spare + (longer a b l + longer b a c.shifted_seats-others.result.now))
     c.shifted_seats-seats.ensures.is
     (OnTrue_at test c.are_spared.ensures))))
+
+pub are_spared-requires-clause-there : goal.are_spared-requires-clause-there
+are_spared-requires-clause-there c =
+    subst (λ (l : List Seat). AreInstances c.args.costs.now.design (instances_instead c.args.a c.args.b l)) (sym c.shifted_seats-seats.ensures.is) c.requires.there
+
+pub are_spared-requires-clause-there_others : goal.are_spared-requires-clause-there_others
+are_spared-requires-clause-there_others c =
+    subst (λ (l : List Seat). AreInstances c.args.costs.now.design (instances_instead c.args.b c.args.a l)) (sym c.shifted_seats-others.ensures.is) c.requires.there_others

@@ -5,13 +5,13 @@ use Rattle.row_board.specs.NetCosts.{table_costs, Tabled}
 use Rattle.row_board.specs.RowLengths.{Lengths}
 use Rattle.row_board.specs.Standings.{standing_of, traded, AreEntered}
 use Rattle.row_board.specs.Spot.{Spot}
-use Rattle.row_board.specs.Trial.{least_cost, shifted_seats, AreOthers}
+use Rattle.row_board.specs.Trial.{instances_instead, least_cost, shifted_seats, AreInstances, AreOthers}
 use Rattle.row_board.specs.Weights.{Weighing}
 use Rattle.row_model.specs.Changes.{swapped}
 use Rattle.row_board.proofs.BoardLaws.{lengths-few}
 use Rattle.design_model.specs.Netlist.{Netlist}
 use Rattle.row_model.specs.declared.rows.Seat.{Seat}
-use Rattle.row_board.proofs.JoinLaws.{others-behind}
+use Rattle.row_board.proofs.JoinLaws.{others-behind, there-behind}
 use Rattle.row_board.proofs.TradeLaws.{dear-told, put-back, uneven-known}
 use Rattle.std_laws.proofs.Tests.{nat_lt-above}
 use Rattle.row_board.proofs.trial.is_dear.Goals as goal
@@ -40,6 +40,18 @@ pub is_above_first-dear-requires-clause-front_others : goal.is_above_first-dear-
 is_above_first-dear-requires-clause-front_others c =
     let t = c.args.costs.now in
     behind-told t.design c.args.rows.now t.standings c.args.b c.args.a c.standing-other.result c.standing-one.result c.standing-other.ensures c.standing-one.ensures c.requires.board.seated.entered
+
+pub is_above_first-dear-requires-clause-there : goal.is_above_first-dear-requires-clause-there
+is_above_first-dear-requires-clause-there c =
+    let t = c.args.costs.now in
+    subst (λ (v : Tabled). AreInstances v.design (instances_instead c.args.a c.args.b (shifted_seats c.args.rows.now c.standing-one.result c.standing-other.result))) (sym c.trade.ensures)
+    (there-behind t.design c.args.rows.now c.args.a c.args.b c.standing-one.result c.standing-other.result c.design-design.ensures.good c.requires.board.seated.placed c.requires.a c.requires.b)
+
+pub is_above_first-dear-requires-clause-there_others : goal.is_above_first-dear-requires-clause-there_others
+is_above_first-dear-requires-clause-there_others c =
+    let t = c.args.costs.now in
+    subst (λ (v : Tabled). AreInstances v.design (instances_instead c.args.b c.args.a (shifted_seats c.args.rows.now c.standing-other.result c.standing-one.result))) (sym c.trade.ensures)
+    (there-behind t.design c.args.rows.now c.args.b c.args.a c.standing-other.result c.standing-one.result c.design-design.ensures.good c.requires.board.seated.placed c.requires.b c.requires.a)
 
 pub returns-clause-dear : goal.returns-clause-dear
 returns-clause-dear c = elim c.if-cost-limit.branch [

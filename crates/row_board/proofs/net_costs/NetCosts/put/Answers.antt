@@ -1,4 +1,5 @@
-use Rattle.std.proofs.Common.{◌≡◌, ◌<◌, Some, length, refl, ap, arith, slice_get}
+use Rattle.std.proofs.Common.{◌≡◌, ◌<◌, Some, length, refl, ap, ◌∙◌, arith, slice_get}
+use Rattle.std.proofs.lemmas.List.{length-set}
 use Rattle.std.proofs.lemmas.Option.{slice_get_read}
 use Rattle.row_board.specs.Spot.{Spot}
 use Rattle.row_board.proofs.PinPlaceLaws.{columns-put, rows-put}
@@ -13,6 +14,7 @@ invariant_of-self c =
     record {
       good = c.self.invariant.good;
       weights = c.self.invariant.weights;
+      count = length-set i.standings.items c.args.instance c.args.standing ∙ c.self.invariant.count;
       columns = columns-put i.nets i.standings.items c.args.instance c.args.standing c.of-pins.result.now i.columns c.put_columns.new.columns within c.of-pins.ensures.placed
           c.self.invariant.columns c.put_columns.ensures.most c.put_columns.ensures.lists;
       rows = rows-put i.nets i.standings.items c.args.instance c.args.standing c.index-was.result.now c.was.inside.row c.standing.inside.row c.of-pins.result.now i.rows

@@ -15,6 +15,6 @@ returns c =
     let in_order = anywhere (λ (pins : List InstancePin). map (own_pin i) pins ≡ map (pin_with_net d) (pins_of_instance d i)) c.self.inside.by_instance i
     (λ within. is.in_order.each i (omega (arith, within, is.long))) (λ past. own-nowhere d i is.good (omega (arith, past, is.long))) in
     record {
-      placed = rw (c.at.ensures, ← c.self.view_is) placed;
-      in_order = rw (c.at.ensures, ← c.self.view_is) in_order;
+      placed = rw (c.known.ensures, ← c.self.view_is) placed;
+      in_order = rw (c.known.ensures, ← c.self.view_is) in_order;
     }
