@@ -1,7 +1,7 @@
 #!/usr/bin/env python3
 """How large layouts are by the schedule of annealing, and by the best of several placements.
 
-    python3 bench/schedules.py PROGRAM [--seeds 2] [--rows NAME,..]
+    python3 bench/schedules.py PROGRAM [--seeds 2] [--tries N]
 
 PROGRAM is a built cellroute. Five designs of 120 to 1,500 cells are laid out: two of `make`, and three shaped like a processor (`clocked` of speed.py). A line for each schedule has the areas under the rules of
 `examples/everyday.toml` with these keys changed, divided by those under the sample rules, which anneal nothing, design by design and in the mean, and the processor's seconds for all five.
