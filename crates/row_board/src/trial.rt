@@ -82,7 +82,7 @@ fn left_on(costs: &NetCosts, seats: &[Seat], a: u32, b: u32, side: Side, excess:
     requires short { length seats.now ≤ MOST_INSTANCES }
     requires there { AreInstances costs.now.design (instances_instead a b seats.now) }
     requires others { AreOthers a b seats.now }
-    ensures is { excess + marked_in costs.now.design (ends_net costs.now.design costs.now.standings side) (instances_instead a b seats.now) ≤ result + (marked_in costs.now.design (joined costs.now.design) (instances_instead a b seats.now) + marked_in costs.now.design (ends_net_alone costs.now.design costs.now.standings (across side)) (instances_instead a b seats.now)) }
+    ensures is { result ≡ (excess + marked_in costs.now.design (ends_net costs.now.design costs.now.standings side) (instances_instead a b seats.now)) - (marked_in costs.now.design (joined costs.now.design) (instances_instead a b seats.now) + marked_in costs.now.design (ends_net_alone costs.now.design costs.now.standings (across side)) (instances_instead a b seats.now)) }
     ensures few { result ≤ excess }
 {
     let Some((last, front)) = seats.split_last() else {
@@ -111,7 +111,7 @@ fn left_over(costs: &NetCosts, seats: &[Seat], a: u32, b: u32, side: Side, exces
     requires short { length seats.now ≤ MOST_INSTANCES }
     requires there { AreInstances costs.now.design (instances_instead a b seats.now) }
     requires others { AreOthers a b seats.now }
-    ensures is { excess + marked_in costs.now.design (ends_net costs.now.design costs.now.standings side) (instances_instead a b seats.now) ≤ result + (marked_in costs.now.design (joined costs.now.design) (instances_instead a b seats.now) + marked_in costs.now.design (ends_net_alone costs.now.design costs.now.standings (across side)) (instances_instead a b seats.now)) }
+    ensures is { result ≡ (excess + marked_in costs.now.design (ends_net costs.now.design costs.now.standings side) (instances_instead a b seats.now)) - (marked_in costs.now.design (joined costs.now.design) (instances_instead a b seats.now) + marked_in costs.now.design (ends_net_alone costs.now.design costs.now.standings (across side)) (instances_instead a b seats.now)) }
     ensures few { result ≤ excess }
 {
     match side {
